@@ -1,0 +1,16 @@
+pub mod Accepted
+pub mod Beneath
+pub mod Checkpoints
+pub mod Counts
+pub mod Edits
+pub mod Examples
+pub mod FileTrees
+pub mod Files
+pub mod Grafts
+pub mod Kept
+pub mod Listings
+pub mod Lookups
+pub mod Orders
+pub mod Shapes
+pub mod Steps
+pub mod Versions

@@ -1,0 +1,23 @@
+//! The values that every layer speaks of: paths, calls, replies and refusals.
+#![tactic(auto)]
+
+mod calls;
+mod checkpoint_names;
+mod faults;
+mod flags;
+mod laws;
+mod names;
+mod paths;
+mod sequences;
+
+pub use calls::{Call, Reply, Stat, Version, View};
+pub use checkpoint_names::CpName;
+pub use faults::Fault;
+pub use flags::OpenFlags;
+pub use laws::{edit_laws, file_laws, graft_laws, history_laws, lookup_laws, step_laws};
+pub use names::Name;
+pub use paths::{Path, is_lawful_name};
+pub use sequences::{Bytes, Sequence};
+
+#[cfg(test)]
+mod tests;

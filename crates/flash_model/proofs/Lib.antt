@@ -1,0 +1,3 @@
+pub mod NoFields
+pub mod Filtered
+pub mod Erasing

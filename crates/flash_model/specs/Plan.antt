@@ -1,0 +1,106 @@
+-- A plan of device faults: which entry is due, which wait.
+use Rattle.std.specs.Prelude.{◌≡◌, ℕ, ◌+◌, ◌≤◌, Bool, true, false, not, ◌&&◌, ◌||◌, ◌==◌, nat_lt, if◌then◌else◌, List, [], ◌∷◌, ◌++◌, length, reverse, find, filter, Option, None, option_map}
+use Rattle.std.specs.List.{list_any}
+use Rattle.flash_model.specs.declared.device.DevFault.{DevFault}
+use Rattle.flash_model.specs.declared.device.DevFault.TheVariants.{Failed}
+use Rattle.flash_model.specs.declared.plans.Operation.{Operation}
+use Rattle.flash_model.specs.declared.plans.Operation.TheVariants.{Read, Program, Erase}
+use Rattle.flash_model.specs.declared.plans.FaultKind.{FaultKind}
+use Rattle.flash_model.specs.declared.plans.FaultKind.TheVariants.{ReadFail, ProgramFail, EraseFail}
+use Rattle.flash_model.specs.declared.plans.PlannedFault.{PlannedFault}
+use Rattle.flash_model.specs.declared.plans.Counters.{Counters}
+
+-- the class of operations that a kind of fault befalls
+abbrev pub operation_of : FaultKind → Operation
+operation_of ReadFail = Read
+operation_of ProgramFail = Program
+operation_of EraseFail = Erase
+
+-- the answer of an operation that a fault befalls
+abbrev pub answer_of : FaultKind → DevFault
+answer_of ReadFail = Failed
+answer_of ProgramFail = Failed
+answer_of EraseFail = Failed
+
+-- one and the same class
+abbrev pub is_same : Operation → Operation → Bool
+is_same Read Read = true
+is_same Program Program = true
+is_same Erase Erase = true
+is_same _ _ = false
+
+-- how many operations of a class have begun
+abbrev pub count_of : Counters → Operation → ℕ
+count_of c Read = c.reads
+count_of c Program = c.programs
+count_of c Erase = c.erases
+
+-- the greatest count, at which a counter stays
+abbrev pub greatest : ℕ
+greatest = 18446744073709551615
+
+-- one more, up to the greatest count
+abbrev pub counted : ℕ → ℕ
+counted n = if nat_lt n greatest then n + 1 else n
+
+-- the counters when one more operation of a class has begun
+abbrev pub count_more : Counters → Operation → Counters
+count_more c Read = record c { reads = counted c.reads }
+count_more c Program = record c { programs = counted c.programs }
+count_more c Erase = record c { erases = counted c.erases }
+
+-- a plan at work: the operations that have begun, and the entries that wait, in the order of their coming
+pub record Schedule : Type 0 where
+  pub counters : Counters
+  pub waiting : List PlannedFault
+
+-- an entry for the operation of this class with this number
+abbrev pub is_for : Operation → ℕ → PlannedFault → Bool
+is_for class n entry = is_same (operation_of entry.kind) class && (entry.number == n)
+
+-- an entry of another class, or whose number is still to come when n of its class have begun
+abbrev pub is_ahead : Operation → ℕ → PlannedFault → Bool
+is_ahead class n entry = not (is_same (operation_of entry.kind) class) || nat_lt n entry.number
+
+-- the kind that befalls the operation of this class with this number: that of the last entry for it
+abbrev pub kind_at : Operation → ℕ → List PlannedFault → Option FaultKind
+kind_at class n entries = option_map (λ entry. entry.kind) (find (is_for class n) (reverse entries))
+
+-- the kind that is due at the next operation of a class, if it still counts
+abbrev pub kind_due : Schedule → Operation → Option FaultKind
+kind_due s class =
+    if nat_lt (count_of s.counters class) greatest then kind_at class (count_of s.counters class + 1) s.waiting else None
+
+-- the plan when one more operation of a class has begun: entries whose number has come no longer wait
+abbrev pub begun : Schedule → Operation → Schedule
+begun s class = record {
+  counters = count_more s.counters class;
+  waiting = filter (is_ahead class (counted (count_of s.counters class))) s.waiting;
+}
+
+-- a plan before any operation: an entry of number 0 has passed
+abbrev pub plan_of_entries : List PlannedFault → Schedule
+plan_of_entries entries = record {
+  counters = record { reads = 0; programs = 0; erases = 0 };
+  waiting = filter (λ entry. nat_lt 0 entry.number) entries;
+}
+
+-- the number of the k-th operation after now of a kind's class
+abbrev pub number_of : Schedule → ℕ → FaultKind → ℕ
+number_of s k kind = count_of s.counters (operation_of kind) + k
+
+-- the plan with one entry more, in the place of those of its class and number
+abbrev pub planned : Schedule → ℕ → FaultKind → Schedule
+planned s k kind = record s {
+  waiting = filter (λ entry. not (is_for (operation_of kind) (number_of s k kind) entry)) s.waiting
+      ++ record { number = number_of s k kind; kind = kind } ∷ [];
+}
+
+-- where so many entries wait there is no room for another
+abbrev pub most_waiting : ℕ
+most_waiting = 64
+
+-- 64 entries wait, and none of them is of this class and number
+pub record IsFull (s : Schedule) (k : ℕ) (kind : FaultKind) : Type 0 where
+  pub many : most_waiting ≤ length s.waiting
+  pub new : list_any (is_for (operation_of kind) (number_of s k kind)) s.waiting ≡ false

@@ -1,0 +1,46 @@
+-- A flash in memory that fails as planned: the device that it is, and the plan that it follows.
+use Rattle.std.specs.Prelude.{◌≡◌, ℕ, true, false, slice_index_or, Option, Some, option_map, if◌then◌else◌}
+use Rattle.flash_model.specs.declared.device.DevFault.{DevFault}
+use Rattle.flash_model.specs.declared.device.DevFault.TheVariants.{PowerCut}
+use Rattle.flash_model.specs.declared.sizes.Geometry.{Geometry}
+use Rattle.flash_model.specs.declared.plans.Operation.{Operation}
+use Rattle.flash_model.specs.declared.simulation.SimFlash.{SimFlash}
+use Rattle.flash_model.specs.Device.{Device, erased}
+use Rattle.flash_model.specs.Stored.{page_at}
+use Rattle.flash_model.specs.Plan.{Schedule, kind_due, begun, answer_of}
+
+-- the device
+abbrev pub device_of : SimFlash → Device
+device_of flash = record {
+  geometry = flash.geometry;
+  pages = page_at flash.pages.items;
+  powered = flash.powered;
+  worn = λ block. slice_index_or flash.worn.items block false;
+  failed_reads = flash.failed_reads.number;
+  failures = flash.failures.number;
+  cuts = flash.cuts.number;
+  operations = flash.operations.number;
+}
+
+-- the plan at work
+abbrev pub plan_of : SimFlash → Schedule
+plan_of flash = flash.plan
+
+-- why the next operation of a class is not done: with the power off for want of it, else by what is due
+abbrev pub refusal_due : SimFlash → Operation → Option DevFault
+refusal_due flash class = if flash.powered then option_map answer_of (kind_due flash.plan class) else Some PowerCut
+
+-- the plan after the next operation of a class: it counts with the power on
+abbrev pub plan_after : SimFlash → Operation → Schedule
+plan_after flash class = if flash.powered then begun flash.plan class else flash.plan
+
+-- a new flash: all pages erased, power on, no block worn, and nothing happened yet
+pub record IsNew (sizes : Geometry) (d : Device) : Type 0 where
+  pub geometry : d.geometry ≡ sizes
+  pub pages : (p : ℕ) → d.pages p ≡ erased
+  pub powered : d.powered ≡ true
+  pub worn : (b : ℕ) → d.worn b ≡ false
+  pub failed_reads : d.failed_reads ≡ 0
+  pub failures : d.failures ≡ 0
+  pub cuts : d.cuts ≡ 0
+  pub operations : d.operations ≡ 0

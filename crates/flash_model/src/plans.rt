@@ -1,0 +1,123 @@
+//! Plans of device faults: which operations fail, and how.
+ghost use Rattle.std.specs.Prelude.{◌≡◌};
+ghost use Rattle.flash_model.specs.Plan.{operation_of, is_same, is_for, is_ahead, count_of, count_more, counted};
+
+/// The classes of device operations, each counted by itself.
+#[derive(Clone, Copy, Debug, PartialEq, Eq)]
+pub enum Operation {
+    /// A read of a page.
+    Read,
+    /// A program of a page.
+    Program,
+    /// An erase of a block.
+    Erase,
+}
+
+impl Operation {
+    fn is_same(self, other: Operation) -> bool
+        ensures { result ≡ is_same self other }
+    {
+        match self {
+            Operation::Read => matches!(other, Operation::Read),
+            Operation::Program => matches!(other, Operation::Program),
+            Operation::Erase => matches!(other, Operation::Erase),
+        }
+    }
+}
+
+/// What befalls an operation by plan.
+#[derive(Clone, Copy, Debug, PartialEq, Eq)]
+pub enum FaultKind {
+    /// A read fails.
+    ReadFail,
+    /// A program fails: the page becomes unreadable.
+    ProgramFail,
+    /// An erase fails: the pages of even place in the block become unreadable, and the others stay.
+    EraseFail,
+}
+
+impl FaultKind {
+    /// The class of operations that it befalls.
+    pub fn operation(self) -> Operation
+        ensures { result ≡ operation_of self }
+    {
+        match self {
+            FaultKind::ReadFail => Operation::Read,
+            FaultKind::ProgramFail => Operation::Program,
+            FaultKind::EraseFail => Operation::Erase,
+        }
+    }
+}
+
+/// An entry of a plan: the kind of fault, and the number, from 1 on, of the operation of its class
+/// that it befalls. Operations are counted while power is on.
+#[derive(Clone, Copy, Debug, PartialEq, Eq)]
+pub struct PlannedFault {
+    /// The number of the operation among those of its class.
+    pub number: u128,
+    /// What befalls it.
+    pub kind: FaultKind,
+}
+
+impl PlannedFault {
+    pub(crate) fn is_for(&self, class: Operation, number: u128) -> bool
+        ensures { result ≡ is_for class number self.now }
+    {
+        self.kind.operation().is_same(class) && self.number == number
+    }
+
+    pub(crate) fn is_ahead(&self, class: Operation, number: u64) -> bool
+        ensures { result ≡ is_ahead class number self.now }
+    {
+        !self.kind.operation().is_same(class) || (number as u128) < self.number
+    }
+}
+
+/// How many operations of each class have begun with the power on. A counter that has come to the
+/// greatest `u64` stays there.
+#[derive(Clone, Copy, Debug, PartialEq, Eq)]
+pub struct Counters {
+    /// Reads.
+    pub reads: u64,
+    /// Programs.
+    pub programs: u64,
+    /// Erases.
+    pub erases: u64,
+}
+
+impl Counters {
+    pub(crate) fn count(self, class: Operation) -> u64
+        ensures { result ≡ count_of self class }
+    {
+        match class {
+            Operation::Read => self.reads,
+            Operation::Program => self.programs,
+            Operation::Erase => self.erases,
+        }
+    }
+
+    pub(crate) fn more(self, class: Operation) -> Counters
+        ensures { result ≡ count_more self class }
+    {
+        match class {
+            Operation::Read => Counters {
+                reads: counted(self.reads),
+                ..self
+            },
+            Operation::Program => Counters {
+                programs: counted(self.programs),
+                ..self
+            },
+            Operation::Erase => Counters {
+                erases: counted(self.erases),
+                ..self
+            },
+        }
+    }
+}
+
+fn counted(count: u64) -> u64
+    ensures { result ≡ counted count }
+{
+    if count < u64::MAX { count + 1 } else { count }
+}

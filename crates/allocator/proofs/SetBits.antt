@@ -1,0 +1,133 @@
+-- The set that the bits of words show: its members, one member more, and none.
+use Rattle.std.proofs.Common.{◌≡◌, ◌≢◌, ℕ, ◌+◌, ◌*◌, ◌/◌, ◌%◌, ◌^◌, ◌<◌, ◌≤◌, Bool, true, false, ◌&&◌, ◌||◌, eqb, ltb, List, length, replicate, get_or, set, refl, sym, ap, ◌∙◌, inl, inr, arith, w64}
+use Rattle.std.proofs.lemmas.Bool.{eq-eqb, ne_eqb, lt-ltb, le-ltb, cases_lt, cases_order}
+use Rattle.std.proofs.lemmas.Cmp.{nat_cmp_total}
+use Rattle.std.proofs.lemmas.Grind.{get_or_default_zero}
+use Rattle.std.proofs.lemmas.List.{get_or-set_same, get_or-set_other, get_or-replicate, get_or_past, length-replicate}
+use Rattle.std.proofs.lemmas.List.Elements.{All-from_get_or}
+use Rattle.std.proofs.lemmas.List.Folds.{list_any_none, list_any_at}
+use Rattle.std.proofs.lemmas.List.FromFn.{length-range_with_len, get_or-range_with_len}
+use Rattle.std.proofs.lemmas.Nat.Bits.{bit_at-zero, bit_at_set_same, bit_at_set_other, shr_and_one}
+use Rattle.std.specs.Cmp.{unsigned_tied}
+use Rattle.std.specs.FinMap.{nat_cmp-IsAntisymmetric}
+use Rattle.std.specs.FinSet as fin
+use Rattle.std.specs.Int.{bit_at}
+use Rattle.std.specs.Int.RustNames.{bit_or, bit_and}
+use Rattle.std.specs.List.{range_with_len}
+use Rattle.std.specs.Ordering.{nat_cmp}
+use Rattle.allocator.specs.Bits.{is_set, members_of}
+use Rattle.allocator.specs.BlockSet.{BlockSet}
+
+pub contains-range : (n q : ℕ) → fin.contains (fin.from_list {R = nat_cmp} (range_with_len 0 n)) q ≡ ltb q n
+contains-range n q =
+    let long : length (range_with_len 0 n) ≡ n = length-range_with_len 0 n in
+    fin.contains-from_list_nat (range_with_len 0 n) q ∙ elim (cases_lt q n) [
+      | inl below ↦
+          let at : get_or (range_with_len 0 n) q 0 ≡ q = get_or-range_with_len 0 n q 0 below ∙ omega arith in
+          list_any_at (λ y. eqb y q) (range_with_len 0 n) q 0 (omega arith) (eq-eqb _ _ at) ∙ sym (lt-ltb q n below)
+      | inr past ↦
+          let other : (k : ℕ) → k < length (range_with_len 0 n) → eqb (get_or (range_with_len 0 n) k 0) q ≡ false =
+          λ k lt. ne_eqb _ _ (let at : get_or (range_with_len 0 n) k 0 ≡ 0 + k = get_or-range_with_len 0 n k 0 (omega arith) in omega arith) in
+          list_any_none (λ y. eqb y q) _ (All-from_get_or (λ y. eqb y q ≡ false) (range_with_len 0 n) 0 other) ∙ sym (le-ltb q n past)
+    ]
+
+pub contains-members_of : (n : ℕ) (words : List ℕ) (q : ℕ) → fin.contains (members_of n words) q ≡ (ltb q n && is_set words q)
+unfolding members_of
+contains-members_of n words q =
+    fin.contains-retain _ (is_set words) q (λ x tie. ap (is_set words) (sym (nat_cmp-IsAntisymmetric q x tie)))
+    ∙ ap (λ b. b && is_set words q) (contains-range n q)
+
+-- what is read at a block of the flash
+pub is_member : (n : ℕ) (words : List ℕ) (m q word : ℕ) → n ≤ 64 * m → m ≡ length words → q < n → word ≡ get_or words (q / 64) word
+    → eqb (bit_and (word / 2 ^ (q % 64)) 1) 1 ≡ fin.contains (members_of n words) q
+is_member n words m q word room long below read =
+    let at : word ≡ get_or words (q / 64) 0 = read ∙ get_or_default_zero words (q / 64) word (omega arith) in
+    ap (λ x. eqb x 1) (shr_and_one word (q % 64) ∙ ap (λ x. bit_at x (q % 64)) at)
+    ∙ sym (contains-members_of n words q ∙ ap (λ b. b && is_set words q) (lt-ltb q n below))
+
+pub no_member : (n : ℕ) (words : List ℕ) (q : ℕ) → n ≤ q → fin.contains (members_of n words) q ≡ false
+no_member n words q past = contains-members_of n words q ∙ ap (λ b. b && is_set words q) (le-ltb q n past)
+
+and_none : (b : Bool) → (b && false) ≡ false
+and_none true = refl
+and_none false = refl
+
+-- no bit of words that are 0 is set
+pub members_of-replicate : (n k : ℕ) → members_of n (replicate k 0) ≡ fin.empty
+members_of-replicate n k =
+    fin.same_set nat_cmp_total nat_cmp-IsAntisymmetric _ _ (λ q.
+    let zero_word : get_or (replicate k 0) (q / 64) 0 ≡ 0 = elim (cases_lt (q / 64) k) [
+      | inl within ↦ get_or-replicate k (q / 64) 0 0 within
+      | inr past ↦ get_or_past (replicate k 0) (q / 64) 0 (omega (arith, length-replicate {A = ℕ} k 0))
+    ] in
+    let clear : is_set (replicate k 0) q ≡ false = ap (λ w. eqb (bit_at w (q % 64)) 1) zero_word ∙ ap (λ b. eqb b 1) (bit_at-zero (q % 64)) in
+    contains-members_of n (replicate k 0) q ∙ ap (λ b. ltb q n && b) clear ∙ and_none (ltb q n) ∙ sym (fin.contains-empty nat_cmp q))
+
+-- the word in which a block's bit is set
+abbrev pub marked : List ℕ → ℕ → ℕ
+marked words b = bit_or (get_or words (b / 64) 0) (1 * 2 ^ (b % 64) % 2 ^ 64)
+
+is_set_same : (words : List ℕ) (b : ℕ) → b / 64 < length words → is_set (set words (b / 64) (marked words b)) b ≡ true
+is_set_same words b within =
+    ap (λ w. eqb (bit_at w (b % 64)) 1) (get_or-set_same words (b / 64) (marked words b) 0 within)
+    ∙ ap (λ x. eqb x 1) (bit_at_set_same w64 (get_or words (b / 64) 0) (b % 64) (omega arith))
+
+other_word : (words : List ℕ) (b q : ℕ) → q / 64 ≢ b / 64 → is_set (set words (b / 64) (marked words b)) q ≡ is_set words q
+other_word words b q apart = ap (λ w. eqb (bit_at w (q % 64)) 1) (get_or-set_other words (b / 64) (q / 64) (marked words b) 0 apart)
+
+is_set_other : (words : List ℕ) (b q : ℕ) → q ≢ b → b / 64 < length words → is_set (set words (b / 64) (marked words b)) q ≡ is_set words q
+is_set_other words b q other within =
+    elim (cases_order (q / 64) (b / 64)) [
+      | inl same ↦
+          let apart : q % 64 ≢ b % 64 = λ e. other (omega (arith, e)) in
+          ap (λ i. eqb (bit_at (get_or (set words (b / 64) (marked words b)) i 0) (q % 64)) 1) same
+          ∙ ap (λ w. eqb (bit_at w (q % 64)) 1) (get_or-set_same words (b / 64) (marked words b) 0 within)
+          ∙ ap (λ x. eqb x 1) (bit_at_set_other w64 (get_or words (b / 64) 0) (b % 64) (omega arith) (q % 64) apart)
+          ∙ ap (λ i. eqb (bit_at (get_or words i 0) (q % 64)) 1) (sym same)
+      | inr (inl less) ↦ other_word words b q (omega arith)
+      | inr (inr more) ↦ other_word words b q (omega arith)
+    ]
+
+kept : (n : ℕ) (words : List ℕ) (b q : ℕ) → q ≢ b → b / 64 < length words
+    → (ltb q n && is_set (set words (b / 64) (marked words b)) q) ≡ fin.contains (fin.insert (members_of n words) b) q
+kept n words b q other within =
+    ap (λ t. ltb q n && t) (is_set_other words b q other within)
+    ∙ sym (fin.contains-insert nat_cmp_total _ b q
+    ∙ ap (λ t. t || fin.contains (members_of n words) q) (unsigned_tied q b ∙ ne_eqb q b other)
+    ∙ contains-members_of n words q)
+
+-- to set a block's bit is to put the block into the set
+pub members_of-set : (n : ℕ) (words : List ℕ) (m b word : ℕ) → n ≤ 64 * m → m ≡ length words → b < n → word ≡ get_or words (b / 64) word
+    → members_of n (set words (b / 64) (bit_or word (1 * 2 ^ (b % 64) % 2 ^ 64))) ≡ fin.insert (members_of n words) b
+members_of-set n words m b word room long below read =
+    let at : word ≡ get_or words (b / 64) 0 = read ∙ get_or_default_zero words (b / 64) word (omega arith) in
+    let within : b / 64 < length words = omega arith in
+    let marks : bit_or word (1 * 2 ^ (b % 64) % 2 ^ 64) ≡ marked words b = ap (λ w. bit_or w (1 * 2 ^ (b % 64) % 2 ^ 64)) at in
+    ap (λ w. members_of n (set words (b / 64) w)) marks
+    ∙ fin.same_set nat_cmp_total nat_cmp-IsAntisymmetric _ _ (λ q.
+    contains-members_of n (set words (b / 64) (marked words b)) q ∙ elim (cases_order q b) [
+      | inl same ↦
+          ap (λ k. ltb k n && is_set (set words (b / 64) (marked words b)) k) same
+          ∙ ap (λ t. t && is_set (set words (b / 64) (marked words b)) b) (lt-ltb b n below)
+          ∙ is_set_same words b within
+          ∙ sym (fin.contains-insert nat_cmp_total _ b q ∙ ap (λ t. t || fin.contains (members_of n words) q) (unsigned_tied q b ∙ eq-eqb q b same))
+      | inr (inl less) ↦ kept n words b q (omega arith) within
+      | inr (inr more) ↦ kept n words b q (omega arith) within
+    ])
+
+-- the value that callers see, and one with a block more
+abbrev pub seen : ℕ → List ℕ → BlockSet
+seen n words = record { blocks = n; members = members_of n words }
+
+abbrev pub with_block : BlockSet → ℕ → BlockSet
+with_block s b = record { blocks = s.blocks; members = fin.insert s.members b }
+
+abbrev pub with_members : ℕ → fin.FinSet nat_cmp → BlockSet
+with_members n members = record { blocks = n; members = members }
+
+pub seen-set : (n : ℕ) (words : List ℕ) (s : BlockSet) (m b word : ℕ) → seen n words ≡ s
+    → n ≤ 64 * m → m ≡ length words → b < s.blocks → word ≡ get_or words (b / 64) word
+    → seen n (set words (b / 64) (bit_or word (1 * 2 ^ (b % 64) % 2 ^ 64))) ≡ with_block s b
+seen-set n words s m b word is room long below read =
+    let count : n ≡ s.blocks = ap (λ (t : BlockSet). t.blocks) is in
+    ap (with_members n) (members_of-set n words m b word room long (omega arith) read) ∙ ap (λ t. with_block t b) is

@@ -1,0 +1,5 @@
+use Rattle.allocator.proofs.RingOrder.{IsRing-empty}
+use Rattle.allocator.proofs.rings.Ring.new.Goals as goal
+
+pub invariant_of-result : goal.invariant_of-result
+invariant_of-result c = rw c.in_ok-used.ensures.ok (IsRing-empty _ _ c.requires.size c.requires.last)

@@ -1,0 +1,4 @@
+pub mod BlockSet
+pub mod Bits
+pub mod Ring
+pub mod FreeCount

@@ -1,0 +1,60 @@
+-- Which blocks are used, and which one is taken next.
+use Rattle.std.specs.Prelude.{◌≡◌, ℕ, ◌+◌, ◌-◌, ◌<◌, ◌≤◌, Bool, true, false, not, ◌||◌, ◌++◌, if◌then◌else◌, nat_lt, List, count_by, Option, Some, None, refl}
+use Rattle.std.specs.Coded.{Coded, code_by, coded×, coded_ℕ}
+use Rattle.std.specs.FinSet as set
+use Rattle.std.specs.List.{range_with_len}
+use Rattle.std.specs.Ordering.{nat_cmp}
+
+-- how many blocks the flash has, those that are used, the last one taken, and how many were taken
+pub record Ring : Type 0 where
+  pub blocks : ℕ
+  pub used : set.FinSet nat_cmp
+  pub last : ℕ
+  pub takes : ℕ
+
+-- it is stored as the tuple of its fields
+abbrev pub ring_code : Coded Ring
+ring_code =
+    code_by ((ℕ × set.FinSet nat_cmp) × (ℕ × ℕ)) (coded× (coded× coded_ℕ (set.code coded_ℕ)) (coded× coded_ℕ coded_ℕ))
+    (λ r. ((r.blocks, r.used), (r.last, r.takes))) (λ p. record { blocks = p.0.0; used = p.0.1; last = p.1.0; takes = p.1.1 }) (λ _. refl)
+
+-- block b of a flash of n blocks holds data: blocks 0 to 7 do not
+abbrev pub IsDataBlock : ℕ → ℕ → Type 0
+IsDataBlock n b = (8 ≤ b) × (b < n)
+
+-- the data blocks in ascending order
+abbrev pub data_blocks : ℕ → List ℕ
+data_blocks n = range_with_len 8 (n - 8)
+
+-- the flash has a lawful size, and the used blocks and the last one taken are data blocks
+pub record IsRing (blocks : ℕ) (used : set.FinSet nat_cmp) (last : ℕ) : Type 0 where
+  pub size : (16 ≤ blocks) × (blocks ≤ 65536)
+  pub last_block : IsDataBlock blocks last
+  pub used_blocks : (b : ℕ) → set.contains used b ≡ true → IsDataBlock blocks b
+
+-- block b may not be taken: it is used or bad
+abbrev pub is_busy : Ring → set.FinSet nat_cmp → ℕ → Bool
+is_busy r bad b = set.contains r.used b || set.contains bad b
+
+-- how many data blocks are neither used nor bad
+abbrev pub free_count : Ring → set.FinSet nat_cmp → ℕ
+free_count r bad = count_by (λ b. not (is_busy r bad b)) (data_blocks r.blocks)
+
+-- the data blocks in ring order after `last`: to n - 1, and then from 8 on to `last` itself
+abbrev pub ring_order : ℕ → ℕ → List ℕ
+ring_order n last = range_with_len (last + 1) (n - (last + 1)) ++ range_with_len 8 (last + 1 - 8)
+
+-- how far b comes after `last` in ring order, which goes on at 8 after n - 1: from 1 to n - 8 for `last` itself
+abbrev pub distance : ℕ → ℕ → ℕ → ℕ
+distance n last b = if nat_lt last b then b - last else b + (n - 8) - last
+
+-- data block b is not busy, and each one that comes before it is
+pub record IsNext (busy : ℕ → Bool) (n last b : ℕ) : Type 0 where
+  pub data_block : IsDataBlock n b
+  pub free : busy b ≡ false
+  pub first : (c : ℕ) → IsDataBlock n c → distance n last c < distance n last b → busy c ≡ true
+
+-- the first data block in ring order after `last` that is not busy; none where all are busy
+abbrev pub IsFirstFree : (ℕ → Bool) → ℕ → ℕ → Option ℕ → Type 0
+IsFirstFree busy n last None = (b : ℕ) → IsDataBlock n b → busy b ≡ true
+IsFirstFree busy n last (Some b) = IsNext busy n last b

@@ -1,0 +1,79 @@
+//! A set of blocks, with a bit for each block of the flash.
+ghost use Rattle.std.specs.Prelude.{◌≡◌, ◌<◌, IfOk, IfErr};
+ghost use Rattle.std.specs.FinSet as set;
+
+use fs_types::Fault;
+use std::alloc::Global;
+use std::marker::Model;
+
+/// A set of blocks of one flash.
+#[derive(Drop)]
+pub struct BlockSet {
+    blocks: u32,
+    words: Vec<u64>,
+}
+
+impl Model for BlockSet {
+    ghost use Rattle.std.specs.Prelude.{◌*◌, ◌≤◌};
+    ghost use Rattle.std.specs.Vec.{vec_len};
+    ghost use Rattle.allocator.specs.BlockSet.{BlockSet as Blocks, block_set_code};
+    ghost use Rattle.allocator.specs.Bits.{members_of};
+
+    ghost Value = { Blocks };
+
+    ghost coded = { block_set_code };
+
+    ghost view = { λ s. record { blocks = s.blocks; members = members_of s.blocks s.words.items } };
+
+    ghost invariant = { λ s. s.blocks ≤ 64 * vec_len s.words };
+}
+
+impl BlockSet {
+    /// The empty set for a flash of `blocks` blocks. It has the room for all of them.
+    pub fn new(alloc: Global, blocks: u32) -> Result<BlockSet, Fault>
+        ensures ok { IfOk result (λ s. s ≡ record { blocks = blocks; members = set.empty }) }
+        ensures err { IfErr result (λ fault. fault ≡ Fault.NoMemory) }
+    {
+        let words = vec![in alloc; 0; blocks.div_ceil(64) as usize]?;
+        Ok(BlockSet { blocks, words })
+    }
+
+    /// How many blocks the flash has.
+    pub fn blocks(&self) -> u32
+        ensures { result ≡ self.now.blocks }
+    {
+        self.blocks
+    }
+
+    /// Whether `block` is in the set. A block that the flash does not have is not.
+    pub fn contains(&self, block: u32) -> bool
+        ensures { result ≡ set.contains self.now.members block }
+    {
+        block < self.blocks && self.words[block as usize / 64] >> (block % 64) & 1 == 1
+    }
+
+    /// Puts `block` into the set.
+    pub fn insert(&mut self, block: u32)
+        requires { block < self.old.blocks }
+        ensures { self.new ≡ record self.old { members = set.insert self.old.members block } }
+    {
+        self.words[block as usize / 64] |= 1 << (block % 64);
+    }
+}
+
+#[cfg(test)]
+mod tests {
+    use super::*;
+    use std::test::Fail;
+
+    #[test]
+    fn holds_what_was_put_in(rt: HostRuntime) -> Result<(), Fail> {
+        let mut set = BlockSet::new(rt.alloc(), 65_536)?;
+        assert_eq!(rt; set.blocks(), 65_536);
+        assert_eq!(rt; set.contains(65_535), false);
+        set.insert(65_535);
+        assert_eq!(rt; set.contains(65_535), true);
+        assert_eq!(rt; set.contains(65_534), false);
+        Ok(())
+    }
+}

@@ -1,0 +1,7 @@
+pub mod HeaderLaws
+pub mod Filled
+pub mod Fields
+pub mod DirectoryLaws
+pub mod Steps
+pub mod Passed
+pub mod Edited

@@ -1,0 +1,28 @@
+-- How the entries of a directory lie around a name, and a directory with one entry changed.
+use Rattle.std.specs.Prelude.{◌≡◌, ℕ, ◌-◌, true, length, take, Option, Some, None, List, [], ◌∷◌, ◌++◌, if◌then◌else◌}
+use Rattle.std.specs.List.{list_all}
+use Rattle.fs_types.specs.Names.{Name, same_name}
+use Rattle.node_format.specs.Items.{Item, is_before, named}
+use Rattle.node_format.specs.Directories.{items_at, directory_at, AreSpelled}
+use Rattle.node_format.specs.declared.places.Place.{Place}
+
+-- the bytes before the others are the spelling of so many entries
+abbrev pub AreFront : ℕ → List ℕ → List ℕ → Type 0
+AreFront count bytes others = AreSpelled count (take (length bytes - length others) bytes) (items_at count (take (length bytes - length others) bytes))
+
+-- the entry of a name that leads to a place, or none
+abbrev pub entry_to : Name → Option Place → List Item
+entry_to name None = []
+entry_to name (Some place) = (record { name = name; place = place }) ∷ []
+
+-- the entries are those before a name, the one of the name if it leads somewhere, and those after it
+pub record IsSplit (items : List Item) (name : Name) (front : List Item) (found : Option Place) (back : List Item) : Type 0 where
+  pub parts : items ≡ front ++ (entry_to name found ++ back)
+  pub before : list_all (λ item. is_before item.name name) front ≡ true
+  pub after : list_all (λ item. is_before name item.name) back ≡ true
+
+-- the bytes are a directory in which the name leads to the place, or nowhere, and all others lead where they did
+pub record IsEdited (old : List Item) (name : Name) (place : Option Place) (bytes : List ℕ) : Type 0 where
+  pub items : List Item
+  pub spelled : directory_at bytes ≡ Some items
+  pub leads : (other : Name) → named items other ≡ (if same_name name other then place else named old other)

@@ -1,0 +1,149 @@
+-- What is true of the entries of each directory.
+use Rattle.std.proofs.Common.{◌≡◌, ℕ, zero, suc, ◌<◌, Bool, true, false, cond, eqb, ltb, ◌⊎◌, inl, inr, List, [], ◌∷◌, length, drop, Option, Some, None, refl, sym, ap, subst, ◌∙◌, arith}
+use Rattle.std.specs.Prelude.{Contains, slice_index_or, nat_eq}
+use Rattle.std.specs.Option.{option_map_or}
+use Rattle.std.specs.List.{list_all}
+use Rattle.std.specs.Ordering.{is_lt}
+use Rattle.std.proofs.lemmas.Bool.{eqb-true, eq-eqb}
+use Rattle.std.proofs.lemmas.Cmp.{nat_list_cmp_total, tied_itself}
+use Rattle.fs_types.specs.Names.{Name, same_name}
+use Rattle.node_format.specs.Headers.{field, directory_magic}
+use Rattle.node_format.specs.Items.{Item, is_before, are_ascending, named}
+use Rattle.node_format.specs.Directories.{item_at, items_at, are_filled, entries_at, directory_at}
+use Rattle.node_format.specs.Order.{both_true, and_true, all_after}
+use Rattle.node_format.specs.declared.places.Place.{Place}
+
+-- a test that let through
+passed : {A : Type 0} (b : Bool) (r : Option A) (y : A) → cond b r None ≡ Some y → (b ≡ true) × (r ≡ Some y)
+passed true r y e = (refl, e)
+passed false r y e = absurd cc
+
+-- a test that did not refuse
+not_refused : {A : Type 0} (b : Bool) (r : Option A) (y : A) → cond b None r ≡ Some y → (b ≡ false) × (r ≡ Some y)
+not_refused true r y e = absurd cc
+not_refused false r y e = (refl, e)
+
+kept_true : (b c : Bool) → cond b c false ≡ true → (b ≡ true) × (c ≡ true)
+kept_true true c e = (refl, e)
+kept_true false c e = absurd cc
+
+-- which way a test went
+chosen : {A : Type 0} (b : Bool) (x y z : A) → cond b x y ≡ z → ((b ≡ true) × (x ≡ z)) ⊎ ((b ≡ false) × (y ≡ z))
+chosen true x y z e = inl (refl, e)
+chosen false x y z e = inr (refl, e)
+
+abbrev some_items : List Item → Option (List Item)
+some_items items = Some items
+
+items_are : (xs ys : List Item) → some_items xs ≡ some_items ys → xs ≡ ys
+items_are xs ys e = cc
+
+abbrev some_place : Place → Option Place
+some_place place = Some place
+
+place_is : (x y : Place) → some_place x ≡ some_place y → x ≡ y
+place_is x y e = cc
+
+-- the parts of a directory that was read
+record IsRead (bytes : List ℕ) (items : List Item) : Type 0 where
+  magic : field bytes 0 ≡ directory_magic
+  filled : are_filled (field bytes 4) [] (drop 16 bytes) ≡ true
+  read : items_at (field bytes 4) (drop 16 bytes) ≡ items
+
+read_parts : (bytes : List ℕ) (items : List Item) → directory_at bytes ≡ Some items → IsRead bytes items
+unfolding directory_at entries_at
+read_parts bytes items e =
+    let rest = drop 16 bytes in
+    let a = not_refused (ltb (length bytes) 16) _ items e in
+    let b = passed (eqb (field bytes 0) directory_magic) _ items a.1 in
+    let c = not_refused (ltb 32 (field bytes 4)) _ items b.1 in
+    let d = passed (eqb (field bytes 8) (length rest)) _ items c.1 in
+    let f = passed (are_filled (field bytes 4) [] rest) (Some (items_at (field bytes 4) rest)) items d.1 in
+    record { magic = eqb-true _ _ b.0; filled = f.0; read = items_are (items_at (field bytes 4) rest) items f.1 }
+
+-- a directory has the magic of one
+pub directory_at-magic : (bytes : List ℕ) (items : List Item) → directory_at bytes ≡ Some items → field bytes 0 ≡ directory_magic
+directory_at-magic bytes items e = (read_parts bytes items e).magic
+
+-- entries in order after a name
+record Ascend (before : Name) (items : List Item) : Type 0 where
+  after : list_all (λ other. is_before before other.name) items ≡ true
+  ascending : are_ascending items ≡ true
+
+filled_ascend : (count : ℕ) (before : Name) (bytes : List ℕ) → are_filled count before bytes ≡ true → Ascend before (items_at count bytes)
+unfolding are_filled items_at
+filled_ascend zero before bytes e = record { after = refl; ascending = refl }
+filled_ascend (suc count) before bytes e = on (item_at bytes) e (λ b after. filled_ascend count b after)
+  where
+    on : (read : Option (Item × List ℕ)) → option_map_or (λ x. cond (is_before before x.0.name) (are_filled count x.0.name x.1) false) read false ≡ true
+        → ((b : Name) (after : List ℕ) → are_filled count b after ≡ true → Ascend b (items_at count after))
+        → Ascend before (option_map_or (λ x. x.0 ∷ items_at count x.1) read [])
+    on None filled again = absurd cc
+    on (Some x) filled again =
+        let g = kept_true (is_before before x.0.name) (are_filled count x.0.name x.1) filled in
+        let others = again x.0.name x.1 g.1 in
+        record {
+          after = and_true _ _ g.0 (all_after before x.0.name (items_at count x.1) g.0 others.after);
+          ascending = and_true _ _ others.after others.ascending;
+        }
+
+-- the names of a directory ascend
+pub directory_at-ascending : (bytes : List ℕ) (items : List Item) → directory_at bytes ≡ Some items → are_ascending items ≡ true
+directory_at-ascending bytes items e =
+    let parts = read_parts bytes items e in
+    ap are_ascending (sym parts.read) ∙ (filled_ascend (field bytes 4) [] (drop 16 bytes) parts.filled).ascending
+
+-- ---- names
+
+pub same_name-true : (a b : Name) → same_name a b ≡ true → a ≡ b
+same_name-true [] [] e = refl
+same_name-true [] (y ∷ b) e = absurd cc
+same_name-true (x ∷ a) [] e = absurd cc
+same_name-true (x ∷ a) (y ∷ b) e =
+    let parts = both_true (nat_eq x y) (same_name a b) e in
+    λ i. eqb-true x y parts.0 i ∷ same_name-true a b parts.1 i
+
+pub same_name-self : (a : Name) → same_name a a ≡ true
+same_name-self [] = refl
+same_name-self (x ∷ a) = and_true _ _ (eq-eqb x x refl) (same_name-self a)
+
+not_before_itself : (a : Name) → is_before a a ≡ true → ⊥
+not_before_itself a e = let tie = ap is_lt (tied_itself nat_list_cmp_total a) in absurd cc
+
+false_by : (b : Bool) → (b ≡ true → ⊥) → b ≡ false
+false_by true h = absurd (h refl)
+false_by false h = refl
+
+-- a name that comes before another is not the same
+pub before-differs : (a b : Name) → is_before a b ≡ true → same_name a b ≡ false
+before-differs a b e = false_by (same_name a b) (λ same. not_before_itself b (subst (λ (n : Name). is_before n b ≡ true) (same_name-true a b same) e))
+
+-- nor one that comes after it
+pub after-differs : (a b : Name) → is_before a b ≡ true → same_name b a ≡ false
+after-differs a b e = false_by (same_name b a) (λ same. not_before_itself a (subst (λ (n : Name). is_before a n ≡ true) (same_name-true b a same) e))
+
+-- a name that leads to a place has an entry
+pub named-contained : (items : List Item) (name : Name) (place : Place) → named items name ≡ Some place → (item : Item) × Contains items item × (item.place ≡ place)
+named-contained [] name place e = absurd cc
+named-contained (item ∷ items) name place e =
+    elim (chosen (same_name item.name name) (Some item.place) (named items name) (Some place) e) [
+      | inl here ↦ (item, (0, omega arith, refl), place_is item.place place here.1)
+      | inr later ↦ let found = named-contained items name place later.1 in (found.0, (suc found.1.0, omega (arith, found.1.1), found.1.2), found.2)
+    ]
+
+-- an entry among entries that ascend is led to by its name
+pub contained-named : (items : List Item) (item : Item) → are_ascending items ≡ true → Contains items item → named items item.name ≡ Some item.place
+contained-named [] item order (k, lt, e) = absurd (omega arith)
+contained-named (first ∷ items) item order (zero, lt, e) =
+    let same : same_name first.name item.name ≡ true = ap (λ (x : Item). same_name x.name item.name) e ∙ same_name-self item.name in
+    rw same (ap (λ (x : Item). Some x.place) e)
+contained-named (first ∷ items) item order (suc k, lt, e) =
+    let parts = both_true (list_all (λ other. is_before first.name other.name) items) (are_ascending items) order in
+    let less : k < length items = omega arith in
+    let differs = before-differs first.name item.name (all_at items item first.name k less e parts.0) in
+    rw differs (contained-named items item parts.1 (k, less, e))
+  where
+    all_at : (xs : List Item) (x : Item) (before : Name) (j : ℕ) → j < length xs → slice_index_or xs j x ≡ x → list_all (λ other. is_before before other.name) xs ≡ true → is_before before x.name ≡ true
+    all_at [] x before j lt e all = absurd (omega arith)
+    all_at (y ∷ xs) x before zero lt e all = ap (λ (z : Item). is_before before z.name) (sym e) ∙ (both_true (is_before before y.name) (list_all (λ other. is_before before other.name) xs) all).0
+    all_at (y ∷ xs) x before (suc j) lt e all = all_at xs x before j (omega arith) e (both_true (is_before before y.name) (list_all (λ other. is_before before other.name) xs) all).1

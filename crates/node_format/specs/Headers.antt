@@ -1,0 +1,46 @@
+-- The header of a node, its first 16 bytes; numbers are little-endian.
+use Rattle.std.specs.Prelude.{◌≡◌, ℕ, ◌+◌, ◌==◌, nat_lt, nat_le, Option, Some, None, List, length, codes, if◌then◌else◌}
+use Rattle.byteorder.specs.Endian.{little_from}
+
+-- the bytes before the data of a body node: its header and 16 pointer places of 4 bytes
+abbrev pub body_front : ℕ
+body_front = 80
+
+-- the bytes before the entries of a directory node: its header
+abbrev pub directory_front : ℕ
+directory_front = 16
+
+-- the most entries of a directory
+abbrev pub most_entries : ℕ
+most_entries = 32
+
+-- the number in the four bytes from a place
+abbrev pub field : List ℕ → ℕ → ℕ
+field bytes place = little_from place 4 bytes
+
+-- a body node's header: magic, index, used bytes, zero
+abbrev pub body_magic : ℕ
+body_magic = little_from 0 4 (codes "UFNB")
+
+-- a directory node's header: magic, count of entries, used bytes, zero
+abbrev pub directory_magic : ℕ
+directory_magic = little_from 0 4 (codes "UFND")
+
+-- a body node uses at least one byte, and fits in its block
+abbrev pub body_size : ℕ → ℕ → Option ℕ
+body_size block used = if nat_lt 0 used then (if nat_le (body_front + used) block then Some (body_front + used) else None) else None
+
+-- a directory node has at most 32 entries, and fits in its block
+abbrev pub directory_size : ℕ → ℕ → ℕ → Option ℕ
+directory_size block count used = if nat_le count most_entries then (if nat_le (directory_front + used) block then Some (directory_front + used) else None) else None
+
+-- the size of the node that begins with these bytes, in a block of so many; none where its header is not well formed
+abbrev pub node_size : ℕ → List ℕ → Option ℕ
+node_size block bytes =
+    if field bytes 0 == body_magic then body_size block (field bytes 8)
+    else if field bytes 0 == directory_magic then directory_size block (field bytes 4) (field bytes 8)
+    else None
+
+-- the bytes are those of one node, in a block of so many
+abbrev pub IsNode : ℕ → List ℕ → Type 0
+IsNode block bytes = node_size block bytes ≡ Some (length bytes)

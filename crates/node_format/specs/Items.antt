@@ -1,0 +1,44 @@
+-- The entries of a directory: names in byte order, each with what it names.
+use Rattle.std.specs.Prelude.{ℕ, ◌+◌, ◌^◌, Bool, true, false, ◌&&◌, nat_lt, nat_le, Option, Some, None, List, [], ◌∷◌, ◌++◌, length, if◌then◌else◌}
+use Rattle.std.specs.List.{list_all}
+use Rattle.std.specs.Ordering.{is_lt}
+use Rattle.fs_types.specs.Names.{Name, is_name, same_name, name_cmp}
+use Rattle.node_format.specs.Headers.{most_entries}
+use Rattle.node_format.specs.declared.places.Place.{Place}
+use Rattle.node_format.specs.declared.places.Place.TheVariants.{Dir, File}
+
+-- an entry of a directory: a name, and the place that it names
+pub record Item : Type 0 where
+  pub name : Name
+  pub place : Place
+
+-- the most bytes of a file
+abbrev pub most_length : ℕ
+most_length = 16777216
+
+-- a place has numbers of four bytes, and a file is not too long
+abbrev pub is_place : Place → Bool
+is_place (Dir block) = nat_lt block (2 ^ 32)
+is_place (File head size) = nat_lt head (2 ^ 32) && nat_le size most_length
+
+-- an entry has a lawful name and a place
+abbrev pub is_item : Item → Bool
+is_item item = is_name item.name && is_place item.place
+
+-- the first name comes before the second in byte order
+abbrev pub is_before : Name → Name → Bool
+is_before a b = is_lt (name_cmp a b)
+
+-- each name comes before all later ones
+abbrev pub are_ascending : List Item → Bool
+are_ascending [] = true
+are_ascending (item ∷ items) = list_all (λ other. is_before item.name other.name) items && are_ascending items
+
+-- the entries of a directory: at most 32, each lawful, in strict byte order
+abbrev pub are_entries : List Item → Bool
+are_entries items = nat_le (length items) most_entries && (list_all is_item items && are_ascending items)
+
+-- the place that a name leads to
+abbrev pub named : List Item → Name → Option Place
+named [] name = None
+named (item ∷ items) name = if same_name item.name name then Some item.place else named items name

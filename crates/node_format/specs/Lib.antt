@@ -1,0 +1,6 @@
+pub mod Headers
+pub mod Items
+pub mod Directories
+pub mod Edits
+pub mod Order
+pub mod EntryLaws

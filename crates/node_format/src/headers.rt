@@ -1,0 +1,64 @@
+ghost use Rattle.std.specs.Prelude.{◌≡◌, ◌≤◌, length, take};
+ghost use Rattle.node_format.specs.Headers as spec;
+
+use byteorder::{ByteOrder, LittleEndian};
+
+/// The magic of a body node, `UFNB`.
+const BODY_MAGIC: u32 = 0x424e_4655;
+
+/// The magic of a directory node, `UFND`.
+pub(crate) const DIRECTORY_MAGIC: u32 = 0x444e_4655;
+
+/// The bytes before the data of a body node.
+const BODY_FRONT: u32 = 80;
+
+/// The bytes before the entries of a directory node.
+const DIRECTORY_FRONT: u32 = 16;
+
+/// The most entries of a directory.
+pub(crate) const MOST_ENTRIES: u32 = 32;
+
+/// The size in bytes of the node whose first bytes are given, or None where its header is not well
+/// formed. Only the first 16 bytes are looked at.
+pub fn node_size(block_bytes: u32, header: &[u8]) -> Option<u32>
+    requires header { 16 ≤ length header.now }
+    requires least { 4096 ≤ block_bytes }
+    requires most { block_bytes ≤ 262144 }
+    ensures size { result ≡ spec.node_size block_bytes header.now }
+    ensures local { result ≡ spec.node_size block_bytes (take 16 header.now) }
+{
+    let magic = LittleEndian::read_u32(header);
+    let count = LittleEndian::read_u32(&header[4..]);
+    let used = LittleEndian::read_u32(&header[8..]);
+    if magic == BODY_MAGIC {
+        return body_size(block_bytes, used);
+    }
+    if magic == DIRECTORY_MAGIC {
+        return directory_size(block_bytes, count, used);
+    }
+    None
+}
+
+/// A body node uses at least one byte, and fits in its block.
+fn body_size(block_bytes: u32, used: u32) -> Option<u32>
+    requires least { 4096 ≤ block_bytes }
+    requires most { block_bytes ≤ 262144 }
+    ensures { result ≡ spec.body_size block_bytes used }
+{
+    if used == 0 || used > block_bytes - BODY_FRONT {
+        return None;
+    }
+    Some(BODY_FRONT + used)
+}
+
+/// A directory node has at most 32 entries, and fits in its block.
+fn directory_size(block_bytes: u32, count: u32, used: u32) -> Option<u32>
+    requires least { 4096 ≤ block_bytes }
+    requires most { block_bytes ≤ 262144 }
+    ensures { result ≡ spec.directory_size block_bytes count used }
+{
+    if count > MOST_ENTRIES || used > block_bytes - DIRECTORY_FRONT {
+        return None;
+    }
+    Some(DIRECTORY_FRONT + used)
+}

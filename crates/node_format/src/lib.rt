@@ -1,0 +1,15 @@
+//! The bytes of a node: its header, and a directory's entries.
+#![tactic(auto)]
+
+mod entries;
+mod headers;
+mod places;
+mod writing;
+
+pub use entries::{Entries, Entry};
+pub use headers::node_size;
+pub use places::Place;
+pub use writing::empty_directory;
+
+#[cfg(test)]
+mod tests;

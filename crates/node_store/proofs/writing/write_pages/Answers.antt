@@ -1,0 +1,44 @@
+use Rattle.std.proofs.Common.{◌≡◌, ◌+◌, ◌*◌, ◌<◌, ◌++◌, length, take, drop, replicate, vec_len, ap, ◌∙◌}
+use Rattle.std.proofs.lemmas.Result.{err_from_is_err_and}
+use Rattle.std.proofs.lemmas.List.{take_rest}
+use Rattle.flash_model.specs.declared.sizes.Geometry.{Geometry}
+use Rattle.node_store.specs.NodePages.{page_bytes}
+use Rattle.node_store.specs.WritingLaws.{program_next, program_fails, place_below}
+use Rattle.node_store.proofs.writing.write_pages.Goals as goal
+use Rattle.node_store.proofs.writing.write_pages.Goals.{After-program}
+use Rattle.node_store.proofs.writing.write_pages.Given.{Over}
+
+module _ (g : Over) (c : After-program g) where
+  -- the page is one of the block
+  below : c.loop-place.place < (g.F.Flash.device c.args.flash.now).geometry.pages
+  below =
+      place_below (g.F.Flash.device c.args.flash.now).geometry c.geometry-geometry.result c.loop-place.place (length c.args.bytes.now)
+      c.geometry-geometry.ensures c.requires.lawful c.requires.fits (rw c.div_ceil-count.ensures at c.loop-place-test.true)
+
+  number : c.page_number.result ≡ c.args.block * (g.F.Flash.device c.args.flash.now).geometry.pages + c.loop-place.place
+  number = c.page_number.ensures.value ∙ ap (λ (k : Geometry). c.args.block * k.pages + c.loop-place.place) c.geometry-geometry.ensures
+
+  -- it was filled with its part of the bytes
+  filled : c.deref.result.now ≡ page_bytes (g.F.Flash.device c.args.flash.now).geometry.page c.loop-place.place c.args.bytes.now
+  filled =
+      let page = (g.F.Flash.device c.args.flash.now).geometry.page in
+      c.deref.ensures.value ∙ c.fill_page.ensures.filled
+      ∙ ap (λ rest. take (vec_len c.loop-place.page) (rest ++ replicate (vec_len c.loop-place.page) 0))
+      (take_rest c.args.bytes.now (c.loop-place.place * c.geometry-geometry.result.page))
+      ∙ ap (λ n. take n (drop (c.loop-place.place * c.geometry-geometry.result.page) c.args.bytes.now ++ replicate n 0))
+      (c.loop-place.invariant.page ∙ c.requires.whole)
+      ∙ ap (λ (k : Geometry). take page (drop (c.loop-place.place * k.page) c.args.bytes.now ++ replicate page 0)) c.geometry-geometry.ensures
+
+pub loop-place-preserved : goal.loop-place-preserved
+loop-place-preserved g c =
+    let t = (goal.at.loop-place-preserved g c).After-program in
+    record {
+      writing = program_next _ _ _ _ _ _ _ _ _ c.loop-place.invariant.writing (below g t) (number g t) (filled g t) c.in_ok-program.ensures;
+      page = c.fill_page.ensures.len ∙ c.loop-place.invariant.page;
+    }
+
+pub returns-in_err-program-clause-writes : goal.returns-in_err-program-clause-writes
+returns-in_err-program-clause-writes g c =
+    let t = (goal.at.returns-in_err-program-clause-writes g c).After-program in
+    let p = err_from_is_err_and c.from_residual.result c.from_residual.ensures.1 in
+    rw (p.1, p.2) (program_fails _ _ _ _ _ _ _ _ _ c.loop-place.invariant.writing (below g t) (number g t) c.in_err-program.ensures)

@@ -1,0 +1,11 @@
+pub mod Faults
+pub mod NodePages
+pub mod Reading
+pub mod ReadingLaws
+pub mod Writing
+pub mod WritingLaws
+pub mod Storage
+pub mod StorageLaws
+pub mod Stores
+pub mod StoreLaws
+pub mod NodeLaws

@@ -1,0 +1,52 @@
+-- The node in a block: the bytes of its pages from place 0 on, as many as the node needs.
+use Rattle.std.specs.Prelude.{◌≡◌, ℕ, zero, suc, ◌+◌, ◌*◌, ◌<◌, ◌&&◌, nat_le, nat_lt, if◌then◌else◌, List, [], length, ◌++◌, take, drop, replicate, Option, Some, None, option_map, option_and_then}
+use Rattle.std.specs.Int.{div_ceil}
+use Rattle.flash_model.specs.declared.sizes.Geometry.{Geometry}
+use Rattle.flash_model.specs.Geometry.{block_bytes}
+use Rattle.flash_model.specs.Device.{Device, Page, bytes_of}
+use Rattle.node_format.specs.Headers.{node_size}
+
+-- the blocks below this one are anchors, and hold no nodes
+abbrev pub first_data : ℕ
+first_data = 8
+
+-- joined bytes with those of one page more, none unless it has data
+abbrev pub and_page : Option (List ℕ) → Page → Option (List ℕ)
+and_page (Some bytes) (bytes_of more) = Some (bytes ++ more)
+and_page _ _ = None
+
+-- the bytes of so many pages from a first one on, none unless each has data
+abbrev pub joined : (ℕ → Page) → ℕ → ℕ → Option (List ℕ)
+joined pages first zero = Some []
+joined pages first (suc n) = and_page (joined pages first n) (pages (first + n))
+
+-- how many pages so many bytes need
+abbrev pub pages_for : ℕ → ℕ → ℕ
+pages_for page size = div_ceil size page
+
+-- the size of the node that begins in a page, in a block of so many bytes
+abbrev pub size_in : ℕ → Page → Option ℕ
+size_in limit (bytes_of bytes) = node_size limit bytes
+size_in limit _ = None
+
+-- so many bytes of the pages from a first one on, none unless the pages that they need have data
+abbrev pub bytes_at : Geometry → (ℕ → Page) → ℕ → ℕ → Option (List ℕ)
+bytes_at g pages first size = option_map (take size) (joined pages first (pages_for g.page size))
+
+-- the node in the pages from a first one on
+abbrev pub node_at : Geometry → (ℕ → Page) → ℕ → Option (List ℕ)
+node_at g pages first = option_and_then (bytes_at g pages first) (size_in (block_bytes g) (pages first))
+
+-- the part of the bytes that lies in the page at a place, filled up with zeros
+abbrev pub page_bytes : ℕ → ℕ → List ℕ → List ℕ
+page_bytes page place bytes = take page (drop (place * page) bytes ++ replicate page 0)
+
+-- the pages of a block hold the bytes, from place 0 on
+pub record HasPages (d : Device) (b : ℕ) (bytes : List ℕ) : Type 0 where
+  pub each : (j : ℕ) → j < pages_for d.geometry.page (length bytes)
+      → d.pages (b * d.geometry.pages + j) ≡ bytes_of (page_bytes d.geometry.page j bytes)
+
+-- the bytes of the node in a data block, none where it holds none
+abbrev pub node_of : Device → ℕ → Option (List ℕ)
+node_of d b =
+    if nat_le first_data b && nat_lt b d.geometry.blocks then node_at d.geometry d.pages (b * d.geometry.pages) else None

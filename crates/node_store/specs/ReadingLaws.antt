@@ -1,0 +1,109 @@
+-- Reads after reads are reads, and leave each node.
+use Rattle.std.specs.Prelude.{◌≡◌, ℕ, zero, suc, ◌+◌, ◌*◌, ◌<◌, ◌≤◌, List, Option, Some, None, Result, Ok, Err, option_and_then, refl}
+use Rattle.std.proofs.Common.{sym, ◌∙◌, ap, subst, inl, inr, arith}
+use Rattle.std.proofs.lemmas.Bool.{cases_eq}
+use Rattle.std.proofs.lemmas.Nat.{mul-le}
+use Rattle.fs_types.specs.declared.faults.Fault.{Fault}
+use Rattle.fs_types.specs.declared.faults.Fault.TheVariants.{ReadFailed, PowerCut, Damaged}
+use Rattle.flash_model.specs.Device.{Device, Page}
+use Rattle.flash_model.specs.declared.sizes.Geometry.{Geometry}
+use Rattle.flash_model.specs.Geometry.{IsGeometry, block_bytes, page_count}
+use Rattle.node_format.specs.Headers.{node_size}
+use Rattle.node_store.specs.NodePages.{first_data, and_page, joined, pages_for, bytes_at, node_of}
+use Rattle.node_store.specs.NodeLaws.{node_of-same, node_of-first, has_room, size_within, pages_for-most}
+use Rattle.node_store.specs.Reading.{OnlyReads, Brings}
+
+pub OnlyReads_itself : (d : Device) → OnlyReads d d
+OnlyReads_itself d = record {
+  geometry = refl;
+  pages = λ p. refl;
+  worn = λ b. refl;
+  failures = refl;
+  failed_reads = omega arith;
+  cuts = omega arith;
+  was_on = λ on. on;
+  stays_off = λ off. refl;
+}
+
+pub OnlyReads_on : (d e f : Device) → OnlyReads d e → OnlyReads e f → OnlyReads d f
+OnlyReads_on d e f r s = record {
+  geometry = s.geometry ∙ r.geometry;
+  pages = λ p. s.pages p ∙ r.pages p;
+  worn = λ b. s.worn b ∙ r.worn b;
+  failures = s.failures ∙ r.failures;
+  failed_reads = omega arith;
+  cuts = omega arith;
+  was_on = λ on. r.was_on (s.was_on on);
+  stays_off = λ off. s.stays_off (ap (λ (x : Device). x.powered) (r.stays_off off) ∙ off) ∙ r.stays_off off;
+}
+
+-- reads leave the nodes of all blocks
+pub OnlyReads_nodes : (d e : Device) → IsGeometry d.geometry → OnlyReads d e → node_of e ≡ node_of d
+OnlyReads_nodes d e lawful r = λ i b. node_of-same d e b lawful r.geometry (λ p own. r.pages p) i
+
+-- a refusal after reads is a refusal from before them, where nothing is there then
+pub Brings_on : (fault : Fault) (old mid new : Device) (part whole : Option (List ℕ)) (was shown : List ℕ)
+    → OnlyReads old mid → (part ≡ None → whole ≡ None)
+    → Brings mid new part was (Err fault) → Brings old new whole shown (Err fault)
+Brings_on ReadFailed old mid new part whole was shown r none b = omega arith
+Brings_on PowerCut old mid new part whole was shown r none b = b
+Brings_on Damaged old mid new part whole was shown r none b = none b
+Brings_on _ old mid new part whole was shown r none b = absurd b
+
+-- without the pages up to one place there are none up to a later one
+pub joined_none : (pages : ℕ → Page) (first n : ℕ) → joined pages first n ≡ None → joined pages first (suc n) ≡ None
+joined_none pages first n h = ap (λ o. and_page o (pages (first + n))) h
+
+pub joined_none_to : (pages : ℕ → Page) (first n m : ℕ) → n ≤ m → joined pages first n ≡ None → joined pages first m ≡ None
+joined_none_to pages first n zero le h = let none : n ≡ 0 = omega arith in subst (λ k. joined pages first k ≡ None) none h
+joined_none_to pages first n (suc m) le h =
+    elim (cases_eq n (suc m)) [
+      | inl same ↦ subst (λ k. joined pages first k ≡ None) same h
+      | inr apart ↦ joined_none pages first m (joined_none_to pages first n m (omega arith) h)
+    ]
+
+-- where the next page joins nothing after reads, the pages up to it and beyond joined nothing before
+pub no_next : (old mid : Device) (first place end : ℕ) (so_far : List ℕ) → OnlyReads old mid → place < end
+    → joined old.pages first place ≡ Some so_far → and_page (Some so_far) (mid.pages (first + place)) ≡ None
+    → joined old.pages first end ≡ None
+no_next old mid first place end so_far r below before none =
+    joined_none_to old.pages first (suc place) end (omega arith)
+    (ap (λ o. and_page o (old.pages (first + place))) before ∙ ap (and_page (Some so_far)) (sym (r.pages (first + place))) ∙ none)
+
+-- what reads after reads bring of what was there before them
+pub Brings_from : (old mid new : Device) (part whole : Option (List ℕ)) (shown : List ℕ) (result : Result (Unit {0}) Fault)
+    → OnlyReads old mid → whole ≡ part → Brings mid new part shown result → Brings old new whole shown result
+Brings_from old mid new part whole shown (Ok u) r same b = same ∙ b
+Brings_from old mid new part whole shown (Err fault) r same b =
+    Brings_on fault old mid new part whole shown shown r (λ none. same ∙ none) b
+
+-- the pages of a node are in its block, so in the flash
+pub rest_in_range : (g h : Geometry) (b first size : ℕ) (head : List ℕ) → IsGeometry g → h ≡ g → b < g.blocks → first ≡ b * g.pages + 0
+    → node_size (block_bytes g) head ≡ Some size → first + pages_for h.page size ≤ page_count h
+rest_in_range g h b first size head lawful same below at tells =
+    let room = has_room g lawful in
+    let within = size_within (block_bytes g) size head tells in
+    let most = pages_for-most g.page g.pages size (omega arith) within.most in
+    let block : suc b * g.pages ≤ g.blocks * g.pages = mul-le (suc b) g.pages g.blocks g.pages below (omega arith) in
+    let fits : first + pages_for g.page size ≤ page_count g = omega arith in
+    subst (λ (k : Geometry). first + pages_for k.page size ≤ page_count k) (sym same) fits
+
+-- and they are no more bytes than a block has
+pub rest_has_room : (g h : Geometry) (size : ℕ) (head : List ℕ) → IsGeometry g → h ≡ g
+    → node_size (block_bytes g) head ≡ Some size → pages_for h.page size * h.page ≤ block_bytes g
+rest_has_room g h size head lawful same tells =
+    let room = has_room g lawful in
+    let within = size_within (block_bytes g) size head tells in
+    let most = pages_for-most g.page g.pages size (omega arith) within.most in
+    let fits : pages_for g.page size * g.page ≤ g.pages * g.page = mul-le (pages_for g.page size) g.page g.pages g.page most (omega arith) in
+    subst (λ (k : Geometry). pages_for k.page size * k.page ≤ block_bytes g) (sym same) fits
+
+-- a node begins with its first page, as reads between left it
+pub node_after_first : (old mid : Device) (b first size : ℕ) (head : List ℕ) → OnlyReads old mid → first_data ≤ b → b < old.geometry.blocks
+    → first ≡ b * old.geometry.pages + 0 → joined old.pages first 1 ≡ Some head → node_size (block_bytes old.geometry) head ≡ Some size
+    → node_of old b ≡ bytes_at mid.geometry mid.pages first size
+node_after_first old mid b first size head r least below at begins tells =
+    node_of-first old b first head least below at begins
+    ∙ ap (option_and_then (bytes_at old.geometry old.pages first)) tells
+    ∙ ap (λ (h : Geometry). bytes_at h old.pages first size) (sym r.geometry)
+    ∙ ap (λ (pages : ℕ → Page). bytes_at mid.geometry pages first size) (λ i p. sym (r.pages p) i)

@@ -1,0 +1,101 @@
+-- A flash with the set of its bad blocks and the ring of its used ones: what calls of a store lead to.
+use Rattle.std.specs.Prelude.{◌≡◌, ℕ, ◌+◌, ◌<◌, ◌≤◌, Bool, true, false, List, Option, Some, None, Result, Ok, Err}
+use Rattle.std.specs.FinSet as set
+use Rattle.std.specs.Ordering.{nat_cmp}
+use Rattle.fs_types.specs.declared.faults.Fault.{Fault}
+use Rattle.fs_types.specs.declared.faults.Fault.TheVariants.{FlashFull, ReadOnly, PowerCut}
+use Rattle.flash_model.specs.Device.{Device, block_of}
+use Rattle.allocator.specs.Ring.{Ring, IsDataBlock, free_count}
+use Rattle.node_store.specs.NodePages.{first_data, node_of}
+use Rattle.node_store.specs.Reading.{OnlyReads}
+
+-- the parts that a store works on
+pub record Storage : Type 0 where
+  pub device : Device
+  pub bad : set.FinSet nat_cmp
+  pub ring : Ring
+
+abbrev pub storage : Device → set.FinSet nat_cmp → Ring → Storage
+storage d bads r = record { device = d; bad = bads; ring = r }
+
+-- a block is kept where the ring has it as used
+abbrev pub is_kept : Storage → ℕ → Bool
+is_kept s b = set.contains s.ring.used b
+
+-- a take gives a data block that was neither used nor bad, and leaves one free block less
+pub record IsTaken (old : Ring) (bad : set.FinSet nat_cmp) (b : ℕ) (new : Ring) : Type 0 where
+  pub data_block : IsDataBlock old.blocks b
+  pub fresh : set.contains old.used b ≡ false
+  pub good : set.contains bad b ≡ false
+  pub blocks : new.blocks ≡ old.blocks
+  pub used : set.contains new.used b ≡ true
+  pub kept : (c : ℕ) → set.contains old.used c ≡ true → set.contains new.used c ≡ true
+  pub takes : new.takes ≡ old.takes + 1
+  pub paid : free_count new bad + new.takes ≡ free_count old bad + old.takes
+
+-- the most blocks that the bad list has
+abbrev pub most_bad : ℕ
+most_bad = 256
+
+-- what calls lead to, whatever they answer
+pub record Evolved (s t : Storage) : Type 0 where
+  pub geometry : t.device.geometry ≡ s.device.geometry
+  pub blocks : t.ring.blocks ≡ s.ring.blocks
+  -- no page of a kept block or of an anchor changes
+  pub kept_pages : (p : ℕ) → is_kept s (block_of s.device p) ≡ true → t.device.pages p ≡ s.device.pages p
+  pub anchor_pages : (p : ℕ) → block_of s.device p < first_data → t.device.pages p ≡ s.device.pages p
+  pub kept : (b : ℕ) → is_kept s b ≡ true → is_kept t b ≡ true
+  -- the bad list grows by exactly the failures, and by blocks that are worn, which the ring has as used
+  pub stays_bad : (b : ℕ) → set.contains s.bad b ≡ true → set.contains t.bad b ≡ true
+  pub bad_used : (b : ℕ) → set.contains t.bad b ≡ true → set.contains s.bad b ≡ false → is_kept t b ≡ true
+  pub bad_worn : (b : ℕ) → set.contains t.bad b ≡ true → set.contains s.bad b ≡ false → t.device.worn b ≡ true
+  pub worn : (b : ℕ) → s.device.worn b ≡ true → t.device.worn b ≡ true
+  pub failures : t.device.failures + set.len s.bad ≡ s.device.failures + set.len t.bad
+  pub failed_reads : s.device.failed_reads ≤ t.device.failed_reads
+  pub cuts : s.device.cuts ≤ t.device.cuts
+  pub was_on : t.device.powered ≡ true → s.device.powered ≡ true
+  pub stays_off : s.device.powered ≡ false → t.device ≡ s.device
+  -- each take leaves one free block less
+  pub taken : free_count t.ring t.bad + t.ring.takes ≡ free_count s.ring s.bad + s.ring.takes
+
+-- between two states came reads alone
+pub record IsUntouched (s t : Storage) : Type 0 where
+  pub device : OnlyReads s.device t.device
+  pub bad : t.bad ≡ s.bad
+  pub ring : t.ring ≡ s.ring
+
+-- a block that was not kept is kept, and holds the node; there is room in the bad list
+pub record IsAdded (s : Storage) (bytes : List ℕ) (t : Storage) (b : ℕ) : Type 0 where
+  pub fresh : is_kept s b ≡ false
+  pub kept : is_kept t b ≡ true
+  pub node : node_of t.device b ≡ Some bytes
+  pub room : set.len t.bad < most_bad
+
+-- a write adds the node, or is refused: no block is free, the bad list is at its limit, or power is off
+abbrev pub Adds : Storage → List ℕ → Storage → Result ℕ Fault → Type 0
+Adds s bytes t (Ok b) = IsAdded s bytes t b
+Adds s bytes t (Err FlashFull) = (free_count t.ring t.bad ≡ 0) × (set.len t.bad < most_bad)
+Adds s bytes t (Err ReadOnly) = set.len t.bad ≡ most_bad
+Adds s bytes t (Err PowerCut) = (t.device.powered ≡ false) × (set.len t.bad < most_bad)
+Adds s bytes t (Err _) = ⊥
+
+-- the takes that no bad block paid for: of the block that was written, or in which power went
+abbrev pub unpaid : Result ℕ Fault → ℕ
+unpaid (Ok b) = 1
+unpaid (Err PowerCut) = 1
+unpaid (Err _) = 0
+
+-- so many takes more than bad blocks came
+abbrev pub Pays : Storage → Storage → ℕ → Type 0
+Pays s t takes = t.ring.takes + set.len s.bad ≡ s.ring.takes + set.len t.bad + takes
+
+-- an attempt adds the node, or its block is bad and others may be tried, or it is refused as a write is
+abbrev pub Tries : Storage → List ℕ → Storage → Result (Option ℕ) Fault → Type 0
+Tries s bytes t (Ok (Some b)) = IsAdded s bytes t b
+Tries s bytes t (Ok None) = (free_count t.ring t.bad < free_count s.ring s.bad) × (set.len t.bad < most_bad)
+Tries s bytes t (Err fault) = Adds s bytes t (Err fault)
+
+abbrev pub unpaid_try : Result (Option ℕ) Fault → ℕ
+unpaid_try (Ok (Some b)) = 1
+unpaid_try (Ok None) = 0
+unpaid_try (Err fault) = unpaid (Err fault)

@@ -1,0 +1,231 @@
+-- How takes, writes of blocks and reads evolve a storage.
+use Rattle.std.specs.Prelude.{◌≡◌, ◌≢◌, ℕ, zero, suc, ◌+◌, ◌-◌, ◌/◌, ◌<◌, ◌≤◌, Bool, true, false, ◌||◌, cond, not, List, Result, Ok, Err, count_by, refl}
+use Rattle.std.specs.FinSet as set
+use Rattle.std.specs.Ordering.{nat_cmp}
+use Rattle.std.specs.Cmp.{unsigned_tied}
+use Rattle.std.specs.List.{range_with_len}
+use Rattle.std.proofs.Common.{sym, ◌∙◌, ap, subst, inl, inr, arith, eqb}
+use Rattle.std.proofs.lemmas.Bool.{cases_eq, cases_Bool, both_ways, ne_eqb, or_right, or_left, or_cases, eqb-true}
+use Rattle.std.proofs.lemmas.Cmp.{nat_cmp_total}
+use Rattle.std.proofs.lemmas.List.Sums.{sum_by-cons}
+use Rattle.flash_model.specs.declared.sizes.Geometry.{Geometry}
+use Rattle.flash_model.specs.declared.device.DevFault.{DevFault}
+use Rattle.flash_model.specs.declared.device.DevFault.TheVariants.{Failed}
+use Rattle.flash_model.specs.Geometry.{IsGeometry, block_bytes}
+use Rattle.flash_model.specs.Device.{Device, block_of, failed}
+use Rattle.allocator.specs.Ring.{Ring, IsDataBlock, is_busy, free_count}
+use Rattle.allocator.specs.FreeCount.{free_count-alike}
+use Rattle.node_store.specs.NodePages.{first_data}
+use Rattle.node_format.specs.Headers.{IsNode}
+use Rattle.node_store.specs.NodeLaws.{node_of-pages}
+use Rattle.node_store.specs.ReadingLaws.{OnlyReads_itself, OnlyReads_on}
+use Rattle.node_store.specs.Writing.{WritesBlock}
+use Rattle.node_store.specs.Storage.{Storage, storage, is_kept, most_bad, IsTaken, Evolved, IsUntouched, IsAdded, Pays}
+
+pub Evolved_itself : (s : Storage) → Evolved s s
+Evolved_itself s = record {
+  geometry = refl;
+  blocks = refl;
+  kept_pages = λ p kept. refl;
+  anchor_pages = λ p below. refl;
+  kept = λ b kept. kept;
+  stays_bad = λ b bad. bad;
+  bad_used = λ b bad good. absurd (both_ways (set.contains s.bad b) good bad);
+  bad_worn = λ b bad good. absurd (both_ways (set.contains s.bad b) good bad);
+  worn = λ b was. was;
+  failures = refl;
+  failed_reads = omega arith;
+  cuts = omega arith;
+  was_on = λ on. on;
+  stays_off = λ off. refl;
+  taken = refl;
+}
+
+pub Evolved_on : (s t u : Storage) → Evolved s t → Evolved t u → Evolved s u
+Evolved_on s t u e f =
+    let same : (p : ℕ) → block_of t.device p ≡ block_of s.device p = λ p. ap (λ (g : Geometry). p / g.pages) e.geometry in
+    record {
+      geometry = f.geometry ∙ e.geometry;
+      blocks = f.blocks ∙ e.blocks;
+      kept_pages = λ p kept. f.kept_pages p (ap (is_kept t) (same p) ∙ e.kept (block_of s.device p) kept) ∙ e.kept_pages p kept;
+      anchor_pages = λ p below. f.anchor_pages p (subst (λ b. b < first_data) (sym (same p)) below) ∙ e.anchor_pages p below;
+      kept = λ b kept. f.kept b (e.kept b kept);
+      stays_bad = λ b bad. f.stays_bad b (e.stays_bad b bad);
+      bad_used = λ b bad good. elim (cases_Bool (set.contains t.bad b)) [
+        | inl then_bad ↦ f.kept b (e.bad_used b then_bad good)
+        | inr then_good ↦ f.bad_used b bad then_good
+      ];
+      bad_worn = λ b bad good. elim (cases_Bool (set.contains t.bad b)) [
+        | inl then_bad ↦ f.worn b (e.bad_worn b then_bad good)
+        | inr then_good ↦ f.bad_worn b bad then_good
+      ];
+      worn = λ b was. f.worn b (e.worn b was);
+      failures = omega arith;
+      failed_reads = omega arith;
+      cuts = omega arith;
+      was_on = λ on. e.was_on (f.was_on on);
+      stays_off = λ off. f.stays_off (ap (λ (x : Device). x.powered) (e.stays_off off) ∙ off) ∙ e.stays_off off;
+      taken = f.taken ∙ e.taken;
+    }
+
+-- a block that is not kept later was not kept before
+pub Evolved_fresh : (s t : Storage) (b : ℕ) → Evolved s t → is_kept t b ≡ false → is_kept s b ≡ false
+Evolved_fresh s t b e fresh =
+    elim (cases_Bool (is_kept s b)) [ inl was ↦ absurd (both_ways (is_kept t b) fresh (e.kept b was)) | inr not_so ↦ not_so ]
+
+pub Untouched_itself : (s : Storage) → IsUntouched s s
+Untouched_itself s = record { device = OnlyReads_itself s.device; bad = refl; ring = refl }
+
+pub Untouched_on : (s t u : Storage) → IsUntouched s t → IsUntouched t u → IsUntouched s u
+Untouched_on s t u e f = record {
+  device = OnlyReads_on s.device t.device u.device e.device f.device;
+  bad = f.bad ∙ e.bad;
+  ring = f.ring ∙ e.ring;
+}
+
+-- reads evolve a storage
+pub Untouched_evolved : (s t : Storage) → IsUntouched s t → Evolved s t
+Untouched_evolved s t u = record {
+  geometry = u.device.geometry;
+  blocks = ap (λ (r : Ring). r.blocks) u.ring;
+  kept_pages = λ p kept. u.device.pages p;
+  anchor_pages = λ p below. u.device.pages p;
+  kept = λ b kept. ap (λ (r : Ring). set.contains r.used b) u.ring ∙ kept;
+  stays_bad = λ b bad. ap (λ bads. set.contains bads b) u.bad ∙ bad;
+  bad_used = λ b bad good. absurd (both_ways (set.contains t.bad b) (ap (λ bads. set.contains bads b) u.bad ∙ good) bad);
+  bad_worn = λ b bad good. absurd (both_ways (set.contains t.bad b) (ap (λ bads. set.contains bads b) u.bad ∙ good) bad);
+  worn = λ b was. u.device.worn b ∙ was;
+  failures = ap (λ n. n + set.len s.bad) u.device.failures ∙ ap (λ bads. s.device.failures + set.len bads) (sym u.bad);
+  failed_reads = u.device.failed_reads;
+  cuts = u.device.cuts;
+  was_on = u.device.was_on;
+  stays_off = u.device.stays_off;
+  taken = ap (λ (r : Ring). free_count r t.bad + r.takes) u.ring ∙ ap (λ bads. free_count s.ring bads + s.ring.takes) u.bad;
+}
+
+-- a kept block is another
+apart_from : (s : Storage) (b c : ℕ) → is_kept s b ≡ false → is_kept s c ≡ true → c ≢ b
+apart_from s b c fresh kept same = both_ways (is_kept s c) (ap (is_kept s) same ∙ fresh) kept
+
+-- a take, and a write of the block in which no operation failed
+pub took_good : (s : Storage) (b : ℕ) (ring : Ring) (bytes : List ℕ) (d : Device) (result : Result (Unit {0}) DevFault)
+    → IsTaken s.ring s.bad b ring → WritesBlock s.device b bytes d result → failed result ≡ 0
+    → Evolved s (record { device = d; bad = s.bad; ring = ring })
+took_good s b ring bytes d result take w none = record {
+  geometry = w.geometry;
+  blocks = take.blocks;
+  kept_pages = λ p kept. w.others p (apart_from s b (block_of s.device p) take.fresh kept);
+  anchor_pages = λ p below. w.others p (λ same. absurd (omega (arith, take.data_block.0)));
+  kept = take.kept;
+  stays_bad = λ c bad. bad;
+  bad_used = λ c bad good. absurd (both_ways (set.contains s.bad c) good bad);
+  bad_worn = λ c bad good. absurd (both_ways (set.contains s.bad c) good bad);
+  worn = w.worn;
+  failures = let fails = w.failures in omega arith;
+  failed_reads = omega arith;
+  cuts = w.cuts;
+  was_on = w.was_on;
+  stays_off = w.stays_off;
+  taken = take.paid;
+}
+
+-- the bad list with one block more
+listed : (bad : set.FinSet nat_cmp) (b c : ℕ) → set.contains (set.insert bad b) c ≡ (eqb c b || set.contains bad c)
+listed bad b c = set.contains-insert nat_cmp_total bad b c ∙ ap (λ t. t || set.contains bad c) (unsigned_tied c b)
+
+stays_listed : (bad : set.FinSet nat_cmp) (b c : ℕ) → set.contains bad c ≡ true → set.contains (set.insert bad b) c ≡ true
+stays_listed bad b c was = listed bad b c ∙ or_right (eqb c b) (set.contains bad c) was
+
+new_listed : (bad : set.FinSet nat_cmp) (b c : ℕ) → set.contains (set.insert bad b) c ≡ true → set.contains bad c ≡ false → c ≡ b
+new_listed bad b c now good =
+    elim (or_cases (eqb c b) (set.contains bad c) (sym (listed bad b c) ∙ now)) [
+      | inl same ↦ eqb-true c b same
+      | inr bad_before ↦ absurd (both_ways (set.contains bad c) good bad_before)
+    ]
+
+-- a used block is as busy when it is listed
+busy_alike : (r : Ring) (bad : set.FinSet nat_cmp) (b c : ℕ) → set.contains r.used b ≡ true → is_busy r (set.insert bad b) c ≡ is_busy r bad c
+busy_alike r bad b c used =
+    elim (cases_eq c b) [
+      | inl same ↦
+          let here : set.contains r.used c ≡ true = ap (set.contains r.used) same ∙ used in
+          or_left (set.contains r.used c) (set.contains (set.insert bad b) c) here ∙ sym (or_left (set.contains r.used c) (set.contains bad c) here)
+      | inr apart ↦ ap (λ t. set.contains r.used c || t) (listed bad b c ∙ ap (λ t. t || set.contains bad c) (ne_eqb c b apart))
+    ]
+
+-- as many blocks are free when a used one is listed
+pub free_alike : (r : Ring) (bad : set.FinSet nat_cmp) (b : ℕ) → set.contains r.used b ≡ true → free_count r (set.insert bad b) ≡ free_count r bad
+free_alike r bad b used = free_count-alike r r (set.insert bad b) bad refl (λ c at. busy_alike r bad b c used)
+
+-- the list is one longer with a block that was good
+pub len_listed : (bad : set.FinSet nat_cmp) (b : ℕ) → set.contains bad b ≡ false → set.len (set.insert bad b) ≡ set.len bad + 1
+len_listed bad b good = set.len-insert nat_cmp_total bad b ∙ ap (λ t. cond t (set.len bad) (set.len bad + 1)) good
+
+-- a take, a write in which an operation failed, and the block in the list
+pub took_bad : (s : Storage) (b : ℕ) (ring : Ring) (bytes : List ℕ) (d : Device) → IsTaken s.ring s.bad b ring
+    → WritesBlock s.device b bytes d (Err Failed) → Evolved s (record { device = d; bad = set.insert s.bad b; ring = ring })
+took_bad s b ring bytes d take w = record {
+  geometry = w.geometry;
+  blocks = take.blocks;
+  kept_pages = λ p kept. w.others p (apart_from s b (block_of s.device p) take.fresh kept);
+  anchor_pages = λ p below. w.others p (λ same. absurd (omega (arith, take.data_block.0)));
+  kept = take.kept;
+  stays_bad = stays_listed s.bad b;
+  bad_used = λ c bad good. ap (set.contains ring.used) (new_listed s.bad b c bad good) ∙ take.used;
+  bad_worn = λ c bad good. ap d.worn (new_listed s.bad b c bad good) ∙ w.ends;
+  worn = w.worn;
+  failures = let fails = w.failures in let more = len_listed s.bad b take.good in omega arith;
+  failed_reads = omega arith;
+  cuts = w.cuts;
+  was_on = w.was_on;
+  stays_off = w.stays_off;
+  taken = ap (λ n. n + ring.takes) (free_alike ring s.bad b take.used) ∙ take.paid;
+}
+
+abbrev one_if : Bool → ℕ
+one_if t = cond t 1 0
+
+-- a test that holds nowhere counts nothing
+none_counted : (p : ℕ → Bool) (a n : ℕ) → ((c : ℕ) → a ≤ c → c < a + n → p c ≡ false) → count_by p (range_with_len a n) ≡ 0
+none_counted p a zero none = refl
+none_counted p a (suc n) none =
+    let rest = none_counted p (a + 1) n (λ c low high. none c (omega arith) (omega arith)) in
+    sum_by-cons (λ c. one_if (p c)) a (range_with_len (a + 1) n) ∙ ap (λ k. one_if (p a) + k) rest
+    ∙ ap (λ t. one_if t + 0) (none a (omega arith) (omega arith))
+
+-- where every data block is used or bad, none is free
+pub none_free : (r : Ring) (bad : set.FinSet nat_cmp) → ((b : ℕ) → IsDataBlock r.blocks b → is_busy r bad b ≡ true) → free_count r bad ≡ 0
+none_free r bad busy =
+    none_counted (λ b. not (is_busy r bad b)) 8 (r.blocks - 8) (λ c low high. ap not (busy c (low, omega arith)))
+
+-- a take, and a write that was done, add the node
+pub took_added : (s : Storage) (b : ℕ) (ring : Ring) (bytes : List ℕ) (d : Device) (u : Unit {0}) → IsGeometry s.device.geometry
+    → s.ring.blocks ≡ s.device.geometry.blocks → IsNode (block_bytes s.device.geometry) bytes → set.len s.bad < most_bad
+    → IsTaken s.ring s.bad b ring → WritesBlock s.device b bytes d (Ok u) → IsAdded s bytes (storage d s.bad ring) b
+took_added s b ring bytes d u lawful blocks node room take w =
+    let same = sym w.geometry in
+    let below : b < d.geometry.blocks =
+    subst (λ n. b < n) (blocks ∙ ap (λ (g : Geometry). g.blocks) same) take.data_block.1 in
+    record {
+      fresh = take.fresh;
+      kept = take.used;
+      node = node_of-pages d b bytes (subst IsGeometry same lawful) take.data_block.0 below
+          (subst (λ (g : Geometry). IsNode (block_bytes g) bytes) same node) w.ends;
+      room = room;
+    }
+
+-- what takes cost, by how the write of the block ended
+pub pays_good : (s : Storage) (b : ℕ) (ring : Ring) (d : Device) → IsTaken s.ring s.bad b ring → Pays s (storage d s.bad ring) 1
+pays_good s b ring d take = let takes = take.takes in omega arith
+
+pub pays_bad : (s : Storage) (b : ℕ) (ring : Ring) (d : Device) → IsTaken s.ring s.bad b ring → Pays s (storage d (set.insert s.bad b) ring) 0
+pays_bad s b ring d take = let takes = take.takes in let more = len_listed s.bad b take.good in omega arith
+
+-- one free block less, though the block is bad
+pub less_free : (s : Storage) (b : ℕ) (ring : Ring) → IsTaken s.ring s.bad b ring
+    → free_count ring (set.insert s.bad b) < free_count s.ring s.bad
+less_free s b ring take =
+    let takes = take.takes in
+    let paid = take.paid in
+    let alike = free_alike ring s.bad b take.used in
+    omega arith

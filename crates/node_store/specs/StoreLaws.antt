@@ -1,0 +1,81 @@
+-- The laws of a store's states.
+use Rattle.std.specs.Prelude.{◌≡◌, ℕ, ◌≤◌, true, vec_capacity, refl}
+use Rattle.std.specs.FinSet as set
+use Rattle.std.proofs.Common.{sym, ◌∙◌, ap, subst, arith}
+use Rattle.fs_types.specs.declared.faults.Fault.{Fault}
+use Rattle.fs_types.specs.declared.faults.Fault.TheVariants.{FlashFull, ReadOnly, ReadFailed, PowerCut, NoMemory}
+use Rattle.flash_model.specs.declared.sizes.Geometry.{Geometry}
+use Rattle.flash_model.specs.Geometry.{IsGeometry, block_bytes}
+use Rattle.flash_model.specs.Device.{Device}
+use Rattle.node_store.specs.declared.stores.Store.{Store}
+use Rattle.node_store.specs.NodePages.{node_of}
+use Rattle.node_store.specs.NodeLaws.{node_of-same}
+use Rattle.node_store.specs.Storage.{Storage, is_kept, Evolved}
+use Rattle.node_store.specs.StorageLaws.{Untouched_itself, Untouched_on, Evolved_itself, Evolved_on}
+use Rattle.node_store.specs.Stores.{parts, IsSound, Follows, Causes}
+
+-- a kept block keeps its node
+pub Evolved_node : (s t : Storage) (b : ℕ) → IsGeometry s.device.geometry → Evolved s t → is_kept s b ≡ true
+    → node_of t.device b ≡ node_of s.device b
+Evolved_node s t b lawful e kept =
+    node_of-same s.device t.device b lawful e.geometry (λ p own. e.kept_pages p (ap (is_kept s) own ∙ kept))
+
+module _ {F : Type 0} (device : F → Device) where
+  pub Follows_itself : (s : Store F) → Follows device s s
+  Follows_itself s = record {
+    same_flash = refl;
+    same_bad = refl;
+    same_ring = refl;
+    same_page = refl;
+    same_node = refl;
+    page_len = refl;
+    node_room = omega arith;
+    evolved = Evolved_itself (parts device s);
+    more_writes = omega arith;
+    paid = omega arith;
+    untouched = λ same. Untouched_itself (parts device s);
+    at_limit = λ full. Untouched_itself (parts device s);
+  }
+
+  pub Follows_on : (s t u : Store F) → Follows device s t → Follows device t u → Follows device s u
+  Follows_on s t u f g = record {
+    same_flash = g.same_flash ∙ f.same_flash;
+    same_bad = g.same_bad ∙ f.same_bad;
+    same_ring = g.same_ring ∙ f.same_ring;
+    same_page = g.same_page ∙ f.same_page;
+    same_node = g.same_node ∙ f.same_node;
+    page_len = g.page_len ∙ f.page_len;
+    node_room = omega arith;
+    evolved = Evolved_on (parts device s) (parts device t) (parts device u) f.evolved g.evolved;
+    more_writes = omega arith;
+    paid = omega arith;
+    untouched = λ same.
+        Untouched_on (parts device s) (parts device t) (parts device u) (f.untouched (omega arith)) (g.untouched (omega arith));
+    at_limit = λ full.
+        let first = f.at_limit full in
+        Untouched_on (parts device s) (parts device t) (parts device u) first (g.at_limit (ap (λ bads. set.len bads) first.bad ∙ full));
+  }
+
+  pub Causes_on : (s t u : Store F) (fault : Fault) → Follows device s t → Causes device t u fault → Causes device s u fault
+  Causes_on s t u FlashFull f c =
+      let taken = f.evolved.taken in
+      let few = c.reason.few_free in
+      record { reason = record { none_free = c.reason.none_free; few_free = omega arith; room = c.reason.room } }
+  Causes_on s t u ReadFailed f c =
+      let before = f.evolved.failed_reads in
+      let after = c.reason in
+      record { reason = omega arith }
+  Causes_on s t u ReadOnly f c = record { reason = c.reason }
+  Causes_on s t u PowerCut f c = record { reason = c.reason }
+  Causes_on s t u NoMemory f c = record { reason = tt }
+  Causes_on s t u _ f c = absurd c.reason
+
+  pub Sound_on : (s t : Store F) → Follows device s t → IsSound device s → IsSound device t
+  Sound_on s t f sound =
+      let same = f.evolved.geometry in
+      record {
+        lawful = subst IsGeometry (sym same) sound.lawful;
+        ring_blocks = f.evolved.blocks ∙ sound.ring_blocks ∙ ap (λ (g : Geometry). g.blocks) (sym same);
+        page_len = f.page_len ∙ sound.page_len ∙ ap (λ (g : Geometry). g.page) (sym same);
+        node_room = subst (λ (g : Geometry). block_bytes g ≤ vec_capacity t.node.now) (sym same) (let room = sound.node_room in let more = f.node_room in omega arith);
+      }

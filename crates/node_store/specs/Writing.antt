@@ -1,0 +1,37 @@
+-- What an attempt to write bytes to a block leaves.
+use Rattle.std.specs.Prelude.{◌≡◌, ◌≢◌, ℕ, ◌+◌, ◌*◌, ◌<◌, ◌≤◌, true, false, List, Result, Ok, Err}
+use Rattle.flash_model.specs.declared.device.DevFault.{DevFault}
+use Rattle.flash_model.specs.declared.device.DevFault.TheVariants.{Failed, PowerCut}
+use Rattle.flash_model.specs.Device.{Device, bytes_of, erased, block_of, failed}
+use Rattle.node_store.specs.NodePages.{page_bytes, HasPages}
+
+-- the block has the bytes, or is worn, or power is off
+abbrev pub Ends : Device → ℕ → List ℕ → Result (Unit {0}) DevFault → Type 0
+Ends new b bytes (Ok _) = HasPages new b bytes
+Ends new b bytes (Err Failed) = new.worn b ≡ true
+Ends new b bytes (Err PowerCut) = new.powered ≡ false
+
+-- the pages of one block alone changed, and at most one operation failed, the last one
+pub record WritesBlock (old : Device) (b : ℕ) (bytes : List ℕ) (new : Device) (result : Result (Unit {0}) DevFault) : Type 0 where
+  pub geometry : new.geometry ≡ old.geometry
+  pub others : (p : ℕ) → block_of old p ≢ b → new.pages p ≡ old.pages p
+  pub worn : (c : ℕ) → old.worn c ≡ true → new.worn c ≡ true
+  pub failures : new.failures ≡ old.failures + failed result
+  pub failed_reads : new.failed_reads ≡ old.failed_reads
+  pub cuts : old.cuts ≤ new.cuts
+  pub was_on : new.powered ≡ true → old.powered ≡ true
+  pub stays_off : old.powered ≡ false → new ≡ old
+  pub ends : Ends new b bytes result
+
+-- the pages before a place have their bytes, those from it on are erased, and no operation failed so far
+pub record IsWriting (old : Device) (b : ℕ) (bytes : List ℕ) (place : ℕ) (new : Device) : Type 0 where
+  pub geometry : new.geometry ≡ old.geometry
+  pub others : (p : ℕ) → block_of old p ≢ b → new.pages p ≡ old.pages p
+  pub written : (j : ℕ) → j < place → new.pages (b * old.geometry.pages + j) ≡ bytes_of (page_bytes old.geometry.page j bytes)
+  pub blank : (j : ℕ) → place ≤ j → j < old.geometry.pages → new.pages (b * old.geometry.pages + j) ≡ erased
+  pub worn : (c : ℕ) → new.worn c ≡ old.worn c
+  pub failures : new.failures ≡ old.failures
+  pub failed_reads : new.failed_reads ≡ old.failed_reads
+  pub cuts : old.cuts ≤ new.cuts
+  pub was_on : new.powered ≡ true → old.powered ≡ true
+  pub stays_off : old.powered ≡ false → new ≡ old

@@ -1,0 +1,177 @@
+-- How erases and programs make up an attempt to write a block.
+use Rattle.std.specs.Prelude.{◌≡◌, ◌≢◌, ℕ, ◌+◌, ◌*◌, ◌/◌, ◌<◌, ◌≤◌, true, List, length, Result, Ok, Err, refl}
+use Rattle.std.proofs.Common.{sym, ◌∙◌, ap, subst, inl, inr, arith}
+use Rattle.std.proofs.lemmas.Bool.{cases_eq}
+use Rattle.flash_model.specs.declared.sizes.Geometry.{Geometry}
+use Rattle.flash_model.specs.declared.device.DevFault.{DevFault}
+use Rattle.flash_model.specs.declared.device.DevFault.TheVariants.{Failed, PowerCut}
+use Rattle.flash_model.specs.Device.{Device, bytes_of, erased, block_of, Operates, Programs, Erases}
+use Rattle.flash_model.specs.Geometry.{IsGeometry, block_bytes}
+use Rattle.flash_model.specs.Blocks.{block_of-at}
+use Rattle.node_store.specs.NodePages.{page_bytes, pages_for}
+use Rattle.node_store.specs.NodeLaws.{has_room, pages_for-most}
+use Rattle.node_store.specs.Writing.{WritesBlock, IsWriting}
+
+-- before the first program
+pub IsWriting_start : (d : Device) (b : ℕ) (bytes : List ℕ)
+    → ((j : ℕ) → j < d.geometry.pages → d.pages (b * d.geometry.pages + j) ≡ erased) → IsWriting d b bytes 0 d
+IsWriting_start d b bytes blank = record {
+  geometry = refl;
+  others = λ p apart. refl;
+  written = λ j below. absurd (omega arith);
+  blank = λ j from below. blank j below;
+  worn = λ c. refl;
+  failures = refl;
+  failed_reads = refl;
+  cuts = omega arith;
+  was_on = λ on. on;
+  stays_off = λ off. refl;
+}
+
+-- what an operation does to the power and the cuts
+was_on : {T : Type 0} (old new : Device) (result : Result T DevFault) (reads fails : ℕ) → Operates old new result reads fails
+    → new.powered ≡ true → old.powered ≡ true
+was_on old new result reads fails o on = o.was_on (sym o.power ∙ on)
+
+-- the program of the next page
+pub program_next : (old mid new : Device) (b place p : ℕ) (bytes page : List ℕ) (u : Unit {0}) → IsWriting old b bytes place mid
+    → place < old.geometry.pages → p ≡ b * old.geometry.pages + place → page ≡ page_bytes old.geometry.page place bytes
+    → Programs mid p page new (Ok u) → IsWriting old b bytes (place + 1) new
+program_next old mid new b place p bytes page u w below at is programs = record {
+  geometry = programs.operates.geometry ∙ w.geometry;
+  others = λ q apart. programs.others q (λ same. apart (ap (block_of old) (same ∙ at) ∙ block_of-at old b place below)) ∙ w.others q apart;
+  written = λ j under. elim (cases_eq j place) [
+    | inl same ↦ ap (λ k. new.pages (b * old.geometry.pages + k)) same ∙ ap new.pages (sym at) ∙ programs.page ∙ ap bytes_of is
+        ∙ ap (λ k. bytes_of (page_bytes old.geometry.page k bytes)) (sym same)
+    | inr apart ↦
+        let other : b * old.geometry.pages + j ≢ p = λ same. apart (omega arith) in
+        let before : j < place = omega arith in
+        programs.others (b * old.geometry.pages + j) other ∙ w.written j before
+  ];
+  blank = λ j from under.
+      let other : b * old.geometry.pages + j ≢ p = λ same. absurd (omega arith) in
+      programs.others (b * old.geometry.pages + j) other ∙ w.blank j (omega arith) under;
+  worn = λ c. programs.worn c ∙ w.worn c;
+  failures = programs.operates.failures ∙ omega arith;
+  failed_reads = programs.operates.failed_reads ∙ omega arith;
+  cuts = omega arith;
+  was_on = λ on. w.was_on (was_on mid new (Ok u) 0 0 programs.operates on);
+  stays_off = λ off. programs.operates.off (ap (λ (x : Device). x.powered) (w.stays_off off) ∙ off) ∙ w.stays_off off;
+}
+
+-- after the last page
+pub all_written : (old new : Device) (b : ℕ) (bytes : List ℕ) (u : Unit {0})
+    → IsWriting old b bytes (pages_for old.geometry.page (length bytes)) new → WritesBlock old b bytes new (Ok u)
+all_written old new b bytes u w = record {
+  geometry = w.geometry;
+  others = w.others;
+  worn = λ c was. w.worn c ∙ was;
+  failures = w.failures ∙ omega arith;
+  failed_reads = w.failed_reads;
+  cuts = w.cuts;
+  was_on = w.was_on;
+  stays_off = w.stays_off;
+  ends = record {
+    each = subst (λ (g : Geometry). (j : ℕ) → j < pages_for g.page (length bytes) → new.pages (b * g.pages + j) ≡ bytes_of (page_bytes g.page j bytes)) (sym w.geometry) w.written;
+  };
+}
+
+-- the block of a failed operation is worn, and those that were stay so
+record WornAt (old new : Device) (b : ℕ) : Type 0 where
+  here : new.worn b ≡ true
+  stays : (c : ℕ) → old.worn c ≡ true → new.worn c ≡ true
+
+worn_at : (old new : Device) (b : ℕ) → new.worn b ≡ true → ((c : ℕ) → c ≢ b → new.worn c ≡ old.worn c) → WornAt old new b
+worn_at old new b here others = record {
+  here = here;
+  stays = λ c was. elim (cases_eq c b) [ inl same ↦ ap new.worn same ∙ here | inr apart ↦ others c apart ∙ was ];
+}
+
+-- a program that was not done
+pub program_fails : (old mid new : Device) (b place p : ℕ) (bytes page : List ℕ) (fault : DevFault) → IsWriting old b bytes place mid
+    → place < old.geometry.pages → p ≡ b * old.geometry.pages + place
+    → Programs mid p page new (Err fault) → WritesBlock old b bytes new (Err fault)
+program_fails old mid new b place p bytes page Failed w below at programs =
+    let block : block_of mid p ≡ b = ap (λ (g : Geometry). p / g.pages) w.geometry ∙ ap (block_of old) at ∙ block_of-at old b place below in
+    let worn = worn_at mid new b (ap new.worn (sym block) ∙ programs.worn.0) (λ c apart. programs.worn.1 c (λ same. apart (same ∙ block))) in
+    record {
+      geometry = programs.operates.geometry ∙ w.geometry;
+      others = λ q apart. programs.others q (λ same. apart (ap (block_of old) (same ∙ at) ∙ block_of-at old b place below)) ∙ w.others q apart;
+      worn = λ c was. worn.stays c (w.worn c ∙ was);
+      failures = programs.operates.failures ∙ omega arith;
+      failed_reads = programs.operates.failed_reads ∙ omega arith;
+      cuts = omega arith;
+      was_on = λ on. w.was_on (was_on mid new (Err Failed) 0 1 programs.operates on);
+      stays_off = λ off. programs.operates.off (ap (λ (x : Device). x.powered) (w.stays_off off) ∙ off) ∙ w.stays_off off;
+      ends = worn.here;
+    }
+program_fails old mid new b place p bytes page PowerCut w below at programs = record {
+  geometry = programs.operates.geometry ∙ w.geometry;
+  others = λ q apart. programs.others q (λ same. apart (ap (block_of old) (same ∙ at) ∙ block_of-at old b place below)) ∙ w.others q apart;
+  worn = λ c was. programs.worn c ∙ w.worn c ∙ was;
+  failures = programs.operates.failures ∙ omega arith;
+  failed_reads = programs.operates.failed_reads ∙ omega arith;
+  cuts = omega arith;
+  was_on = λ on. w.was_on (was_on mid new (Err PowerCut) 0 0 programs.operates on);
+  stays_off = λ off. programs.operates.off (ap (λ (x : Device). x.powered) (w.stays_off off) ∙ off) ∙ w.stays_off off;
+  ends = programs.operates.power;
+}
+
+-- an erase that was not done
+pub erase_fails : (old new : Device) (b : ℕ) (bytes : List ℕ) (fault : DevFault) → Erases old b new (Err fault) → WritesBlock old b bytes new (Err fault)
+erase_fails old new b bytes Failed erases =
+    let worn = worn_at old new b erases.worn.0 erases.worn.1 in
+    record {
+      geometry = erases.operates.geometry;
+      others = erases.others;
+      worn = worn.stays;
+      failures = erases.operates.failures;
+      failed_reads = erases.operates.failed_reads ∙ omega arith;
+      cuts = omega arith;
+      was_on = was_on old new (Err Failed) 0 1 erases.operates;
+      stays_off = erases.operates.off;
+      ends = worn.here;
+    }
+erase_fails old new b bytes PowerCut erases = record {
+  geometry = erases.operates.geometry;
+  others = erases.others;
+  worn = λ c was. erases.worn c ∙ was;
+  failures = erases.operates.failures;
+  failed_reads = erases.operates.failed_reads ∙ omega arith;
+  cuts = omega arith;
+  was_on = was_on old new (Err PowerCut) 0 0 erases.operates;
+  stays_off = erases.operates.off;
+  ends = erases.operates.power;
+}
+
+-- an erase that was done leaves blank pages
+pub erase_blank : (old new : Device) (b : ℕ) (u : Unit {0}) → Erases old b new (Ok u)
+    → (j : ℕ) → j < new.geometry.pages → new.pages (b * new.geometry.pages + j) ≡ erased
+erase_blank old new b u erases j below =
+    let same : block_of old (b * new.geometry.pages + j) ≡ b =
+    ap (λ (g : Geometry). (b * new.geometry.pages + j) / g.pages) (sym erases.operates.geometry) ∙ block_of-at new b j below in
+    erases.own (b * new.geometry.pages + j) same
+
+-- an erase, and then the programs
+pub erase_then : (old mid new : Device) (b : ℕ) (bytes : List ℕ) (u : Unit {0}) (result : Result (Unit {0}) DevFault)
+    → Erases old b mid (Ok u) → WritesBlock mid b bytes new result → WritesBlock old b bytes new result
+erase_then old mid new b bytes u result erases w = record {
+  geometry = w.geometry ∙ erases.operates.geometry;
+  others = λ p apart.
+      w.others p (λ same. apart (ap (λ (g : Geometry). p / g.pages) (sym erases.operates.geometry) ∙ same)) ∙ erases.others p apart;
+  worn = λ c was. w.worn c (erases.worn c ∙ was);
+  failures = w.failures ∙ omega arith;
+  failed_reads = w.failed_reads ∙ erases.operates.failed_reads ∙ omega arith;
+  cuts = omega arith;
+  was_on = λ on. was_on old mid (Ok u) 0 0 erases.operates (w.was_on on);
+  stays_off = λ off. w.stays_off (ap (λ (x : Device). x.powered) (erases.operates.off off) ∙ off) ∙ erases.operates.off off;
+  ends = w.ends;
+}
+
+-- a page that the bytes need is in the block
+pub place_below : (g h : Geometry) (place size : ℕ) → h ≡ g → IsGeometry g → size ≤ block_bytes g → place < pages_for h.page size → place < g.pages
+place_below g h place size same lawful fits below =
+    let room = has_room g lawful in
+    let most = pages_for-most g.page g.pages size (omega arith) fits in
+    let count : pages_for h.page size ≡ pages_for g.page size = ap (λ (k : Geometry). pages_for k.page size) same in
+    omega arith

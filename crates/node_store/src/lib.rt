@@ -1,0 +1,13 @@
+//! Nodes on raw flash: what each data block holds, how a node is read, and how one is added.
+#![tactic(auto)]
+
+mod adding;
+mod nodes;
+mod reading;
+mod stores;
+#[cfg(test)]
+mod tests;
+mod writing;
+
+pub use nodes::Nodes;
+pub use stores::Store;

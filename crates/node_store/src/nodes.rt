@@ -1,0 +1,132 @@
+//! The trait of what keeps nodes in blocks.
+ghost use Rattle.std.specs.Prelude.{◌≡◌, ◌≢◌, ℕ, ◌+◌, ◌≤◌, ◌<◌, Bool, true, false, List, Option, Some, None, OnOk, IfOk, IfErr, IsErrOf};
+ghost use Rattle.fs_types.specs.declared.faults.Fault.{Fault};
+ghost use Rattle.fs_types.specs.declared.faults.Fault.TheVariants.{NoMemory, Damaged};
+ghost use Rattle.node_format.specs.Headers.{IsNode};
+ghost use Rattle.node_store.specs.Faults.{IsReadFault, IsWriteFault};
+
+use fs_types::Fault;
+
+/// What keeps nodes in blocks: a node is read by its block, and written to a block that was not
+/// kept. A kept block stays kept, and keeps its node, whatever is called.
+///
+/// `follows` says that one state came of another by calls, and `causes` why a refusal may come
+/// between two states, so that code over any such type hands on what it cannot see.
+pub trait Nodes {
+    // the bytes of the node in a block, none where it holds none
+    ghost node: { Self → ℕ → Option (List ℕ) };
+
+    // the blocks that no write takes
+    ghost kept: { Self → ℕ → Bool };
+
+    // the bytes that `lent` gives, and whether it may be called
+    ghost shown: { Self → List ℕ };
+
+    ghost lends: { Self → Type 0 };
+
+    // how many reads and writes were asked, refused ones too
+    ghost reads: { Self → ℕ };
+
+    ghost writes: { Self → ℕ };
+
+    // the bytes of a block, and the number of blocks
+    ghost limit: { Self → ℕ };
+
+    ghost blocks: { Self → ℕ };
+
+    // what calls ask of the state, and leave
+    ghost is_sound: { Self → Type 0 };
+
+    // the second state came of the first by calls
+    ghost follows: { Self → Self → Type 0 };
+
+    // a refusal may come between the two states
+    ghost causes: { Self → Self → Fault → Type 0 };
+
+    /// The bytes of a block: no node has more.
+    fn block_bytes(&self) -> u32
+        requires { is_sound self.now }
+        ensures value { result ≡ limit self.now }
+        ensures least { 4096 ≤ result }
+        ensures most { result ≤ 262144 };
+
+    /// The number of blocks, anchors included.
+    fn block_count(&self) -> u32
+        ensures { result ≡ blocks self.now };
+
+    /// Brings the node in a block, for `lent` to lend. Any number may be asked: `Damaged` where the
+    /// block holds no node, anchors and numbers past the last block among them.
+    fn read(&mut self, block: u32) -> Result<(), Fault>
+        requires { is_sound self.old }
+        ensures shown { OnOk result (node self.old block ≡ Some (shown self.new)) }
+        ensures lends { OnOk result (lends self.new) }
+
+        // Damaged where there is no node, and only there.
+        ensures damaged { IsErrOf result Fault.Damaged → node self.old block ≡ None }
+        ensures why { IfErr result (λ fault. fault ≢ Fault.Damaged → causes self.old self.new fault) }
+        ensures faults { IfErr result IsReadFault }
+
+        // Whatever is answered, no block changes.
+        ensures same_nodes { node self.new ≡ node self.old }
+        ensures same_kept { kept self.new ≡ kept self.old }
+        ensures reads { reads self.new ≡ reads self.old + 1 }
+        ensures writes { writes self.new ≡ writes self.old }
+        ensures follows { follows self.old self.new }
+        ensures sound { is_sound self.new }
+        ensures limit { limit self.new ≡ limit self.old }
+        ensures blocks { blocks self.new ≡ blocks self.old };
+
+    /// The bytes of the node that the last read brought. A read answered Ok before, and no read or
+    /// write came since.
+    fn lent(&self) -> &[u8]
+        requires { lends self.now }
+        ensures { result.now ≡ shown self.now };
+
+    /// Writes a node to a block that was not kept, and answers the block.
+    fn write(&mut self, bytes: &[u8]) -> Result<u32, Fault>
+        requires sound { is_sound self.old }
+        requires whole { IsNode (limit self.old) bytes.now }
+        ensures fresh { IfOk result (λ block. kept self.old block ≡ false) }
+        ensures kept { IfOk result (λ block. kept self.new block ≡ true) }
+        ensures written { IfOk result (λ block. node self.new block ≡ Some bytes.now) }
+        ensures why { IfErr result (λ fault. causes self.old self.new fault) }
+        ensures faults { IfErr result IsWriteFault }
+
+        // Whatever is answered, each block that was kept stays so, with its node: the laws of `follows` say so.
+        ensures reads { reads self.new ≡ reads self.old }
+        ensures writes { writes self.new ≡ writes self.old + 1 }
+        ensures follows { follows self.old self.new }
+        ensures sound { is_sound self.new }
+        ensures limit { limit self.new ≡ limit self.old }
+        ensures blocks { blocks self.new ≡ blocks self.old };
+
+    ghost follows_itself: { (s : Self) → follows s s };
+
+    ghost follows_on: { (s t u : Self) → follows s t → follows t u → follows s u };
+
+    ghost causes_on: { (s t u : Self) (fault : Fault) → follows s t → causes t u fault → causes s u fault };
+
+    // a call may want memory at any time
+    ghost memory_may_want: { (s t : Self) → causes s t NoMemory };
+
+    ghost stays_sound: { (s t : Self) → follows s t → is_sound s → is_sound t };
+
+    ghost same_limit: { (s t : Self) → follows s t → limit t ≡ limit s };
+
+    ghost same_blocks: { (s t : Self) → follows s t → blocks t ≡ blocks s };
+
+    ghost stays_kept: { (s t : Self) (b : ℕ) → follows s t → kept s b ≡ true → kept t b ≡ true };
+
+    // a block that is not kept later was not kept before
+    ghost was_fresh: { (s t : Self) (b : ℕ) → follows s t → kept t b ≡ false → kept s b ≡ false };
+
+    ghost same_node: { (s t : Self) (b : ℕ) → is_sound s → follows s t → kept s b ≡ true → node t b ≡ node s b };
+
+    // what a block holds are the bytes of one node
+    ghost whole: { (s : Self) (b : ℕ) (bytes : List ℕ) → is_sound s → node s b ≡ Some bytes → IsNode (limit s) bytes };
+
+    // anchors, and numbers past the last block, hold no node
+    ghost none_below: { (s : Self) (b : ℕ) → b < 8 → node s b ≡ None };
+
+    ghost none_beyond: { (s : Self) (b : ℕ) → blocks s ≤ b → node s b ≡ None };
+}

@@ -1,0 +1,113 @@
+//! Nodes in the data blocks of a flash.
+use crate::adding::write_node;
+use crate::nodes::Nodes;
+use crate::reading::read_node;
+use allocator::Ring;
+use bad_blocks::BadBlocks;
+use counts::Count;
+use flash_model::Flash;
+use fs_types::Fault;
+
+/// Keeps nodes in the data blocks of a lent flash. The kept blocks are those that the ring has as
+/// used.
+///
+/// A write takes a block, erases it and programs its pages. A block of which an operation failed
+/// goes into the bad list, and the next one is taken.
+#[derive(Drop)]
+pub struct Store<'a, F: Flash> {
+    /// The flash.
+    pub flash: &'a mut F,
+    /// The bad blocks.
+    pub bad: &'a mut BadBlocks,
+    /// The used blocks, for as many as the flash has.
+    pub ring: &'a mut Ring,
+    /// Room for the bytes of a page: as long as a page.
+    pub page: &'a mut Vec<u8>,
+    /// The node that the last read brought. It has the capacity of a block.
+    pub node: &'a mut Vec<u8>,
+    /// How many reads were asked.
+    pub reads: Count,
+    /// How many writes were asked.
+    pub writes: Count,
+}
+
+impl<F: Flash> Nodes for Store<'_, F> {
+    ghost use Rattle.std.proofs.Common.{ap};
+    ghost use Rattle.std.specs.FinSet as set;
+    ghost use Rattle.flash_model.specs.Geometry.{block_bytes as bytes_of_block};
+    ghost use Rattle.node_store.specs.NodePages.{node_of};
+    ghost use Rattle.node_store.specs.NodeLaws.{node_of-whole, node_of-anchor, node_of-beyond};
+    ghost use Rattle.node_store.specs.StorageLaws.{Evolved_fresh};
+    ghost use Rattle.node_store.specs.Stores.{parts, IsSound, Follows, Causes};
+    ghost use Rattle.node_store.specs.StoreLaws.{Evolved_node, Follows_itself, Follows_on, Causes_on, Sound_on};
+
+    ghost node = { λ s. node_of (F.device s.flash.now) };
+
+    ghost kept = { λ s. set.contains s.ring.now.used };
+
+    ghost shown = { λ s. s.node.now.items };
+
+    ghost lends = { λ _. Unit {0} };
+
+    ghost reads = { λ s. s.reads.n };
+
+    ghost writes = { λ s. s.writes.n };
+
+    ghost limit = { λ s. bytes_of_block (F.device s.flash.now).geometry };
+
+    ghost blocks = { λ s. (F.device s.flash.now).geometry.blocks };
+
+    ghost is_sound = { IsSound F.device };
+
+    ghost follows = { Follows F.device };
+
+    ghost causes = { Causes F.device };
+
+    fn block_bytes(&self) -> u32 {
+        self.flash.geometry().block_bytes() as u32
+    }
+
+    fn block_count(&self) -> u32 {
+        self.flash.geometry().blocks
+    }
+
+    fn read(&mut self, block: u32) -> Result<(), Fault> {
+        self.reads = self.reads.more();
+        read_node(self.flash, block, self.page, self.node)
+    }
+
+    fn lent(&self) -> &[u8] {
+        self.node
+    }
+
+    fn write(&mut self, bytes: &[u8]) -> Result<u32, Fault> {
+        self.writes = self.writes.more();
+        write_node(self.flash, self.bad, self.ring, self.page, bytes)
+    }
+
+    ghost follows_itself = { Follows_itself F.device };
+
+    ghost follows_on = { Follows_on F.device };
+
+    ghost causes_on = { Causes_on F.device };
+
+    ghost memory_may_want = { λ s t. record { reason = tt } };
+
+    ghost stays_sound = { Sound_on F.device };
+
+    ghost same_limit = { λ s t f. ap bytes_of_block f.evolved.geometry };
+
+    ghost same_blocks = { λ s t f. ap (λ g. g.blocks) f.evolved.geometry };
+
+    ghost stays_kept = { λ s t b f kept. f.evolved.kept b kept };
+
+    ghost was_fresh = { λ s t b f. Evolved_fresh (parts F.device s) (parts F.device t) b f.evolved };
+
+    ghost same_node = { λ s t b sound f. Evolved_node (parts F.device s) (parts F.device t) b sound.lawful f.evolved };
+
+    ghost whole = { λ s b bytes sound. node_of-whole (F.device s.flash.now) b bytes sound.lawful (F.whole_pages s.flash.now) };
+
+    ghost none_below = { λ s. node_of-anchor (F.device s.flash.now) };
+
+    ghost none_beyond = { λ s. node_of-beyond (F.device s.flash.now) };
+}

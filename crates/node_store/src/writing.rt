@@ -1,0 +1,59 @@
+//! Writing bytes to a block: its erase, and the programs of the pages that the bytes need.
+ghost use Rattle.std.specs.Prelude.{◌≡◌, ℕ, ◌+◌, ◌*◌, ◌≤◌, ◌<◌, ◌++◌, length, take, replicate, vec_len};
+ghost use Rattle.flash_model.specs.Device.{erased};
+ghost use Rattle.flash_model.specs.Geometry.{IsGeometry, block_bytes};
+ghost use Rattle.node_store.specs.Writing.{WritesBlock};
+
+use flash_model::{DevFault, Flash};
+
+/// Fills a page with bytes, as many as there are and fit, and with zeros behind them.
+fn fill_page(page: &mut Vec<u8>, bytes: &[u8])
+    ensures len { vec_len page.new ≡ vec_len page.old }
+    ensures filled { page.new.items ≡ take (vec_len page.old) (bytes.now ++ replicate (vec_len page.old) 0) }
+{
+    for place in 0..page.len() {
+        page[place] = bytes.get(place).copied().unwrap_or(0);
+    }
+}
+
+/// Programs the pages that the bytes need, from place 0 of the block on.
+fn write_pages<F: Flash>(
+    flash: &mut F,
+    block: u32,
+    page: &mut Vec<u8>,
+    bytes: &[u8],
+) -> Result<(), DevFault>
+    requires lawful { IsGeometry (F.device flash.old).geometry }
+    requires in_range { block < (F.device flash.old).geometry.blocks }
+    requires whole { vec_len page.old ≡ (F.device flash.old).geometry.page }
+    requires fits { length bytes.now ≤ block_bytes (F.device flash.old).geometry }
+    requires blank { (j : ℕ) → j < (F.device flash.old).geometry.pages → (F.device flash.old).pages (block * (F.device flash.old).geometry.pages + j) ≡ erased }
+    ensures writes { WritesBlock (F.device flash.old) block bytes.now (F.device flash.new) result }
+    ensures page { vec_len page.new ≡ vec_len page.old }
+{
+    let geometry = flash.geometry();
+    let count = bytes.len().div_ceil(geometry.page as usize);
+    for place in 0..count {
+        fill_page(page, &bytes[place * geometry.page as usize..]);
+        flash.program(geometry.page_number(block, place as u32), page)?;
+    }
+    Ok(())
+}
+
+/// Erases a block and writes bytes to it.
+pub fn write_block<F: Flash>(
+    flash: &mut F,
+    block: u32,
+    page: &mut Vec<u8>,
+    bytes: &[u8],
+) -> Result<(), DevFault>
+    requires lawful { IsGeometry (F.device flash.old).geometry }
+    requires in_range { block < (F.device flash.old).geometry.blocks }
+    requires whole { vec_len page.old ≡ (F.device flash.old).geometry.page }
+    requires fits { length bytes.now ≤ block_bytes (F.device flash.old).geometry }
+    ensures writes { WritesBlock (F.device flash.old) block bytes.now (F.device flash.new) result }
+    ensures page { vec_len page.new ≡ vec_len page.old }
+{
+    flash.erase(block)?;
+    write_pages(flash, block, page, bytes)
+}

@@ -1,0 +1,4 @@
+pub mod Bodies
+pub mod Reached
+pub mod Rewritten
+pub mod Trees

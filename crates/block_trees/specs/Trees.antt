@@ -1,0 +1,53 @@
+-- The tree of a root block: what each path leads to through directory nodes.
+use Rattle.std.specs.Prelude.{◌≡◌, ℕ, ◌≤◌, Option, Some, None, unwrap_or, List, [], ◌∷◌, length}
+use Rattle.std.specs.Option.{option_map, option_and_then}
+use Rattle.fs_types.specs.Names.{Name, Path}
+use Rattle.fs_types.specs.Contents.{Contents, Entry}
+use Rattle.node_format.specs.Items.{Item, named}
+use Rattle.node_format.specs.Directories.{directory_at}
+use Rattle.node_format.specs.declared.places.Place.{Place}
+use Rattle.node_format.specs.declared.places.Place.TheVariants.{Dir, File}
+use Rattle.block_trees.specs.Bodies.{Blocks, body, IsBody}
+
+-- the entries of the directory node in a block, none where it holds no directory node
+abbrev pub entries_of : Option (List ℕ) → Option (List Item)
+entries_of node = option_and_then directory_at node
+
+abbrev pub items_of : Option (List ℕ) → List Item
+items_of node = unwrap_or (entries_of node) []
+
+-- what a name in a directory leads to
+abbrev pub child : Blocks → Place → Name → Option Place
+child f (Dir block) n = named (items_of (f block)) n
+child f (File head size) n = None
+
+-- what a path leads to
+abbrev pub leads : Blocks → Place → Path → Option Place
+leads f at [] = Some at
+leads f at (n ∷ p) = option_and_then (λ next. leads f next p) (child f at n)
+
+-- a place as what stands there
+abbrev pub entry_at : ℕ → Blocks → Place → Entry
+entry_at room f (Dir block) = Entry.Dir
+entry_at room f (File head size) = Entry.File (body room f head size)
+
+-- what stands at each path below a place
+abbrev pub tree_at : ℕ → Blocks → Place → Contents
+tree_at room f at p = option_map (entry_at room f) (leads f at p)
+
+-- the tree of a root
+abbrev pub tree : ℕ → Blocks → ℕ → Contents
+tree room f root = tree_at room f (Dir root)
+
+-- a directory has a directory node, a file has a body
+abbrev pub IsWhole : ℕ → Blocks → Place → Type 0
+IsWhole room f (Dir block) = (items : List Item) × (entries_of (f block) ≡ Some items)
+IsWhole room f (File head size) = IsBody room f head size
+
+-- all that paths lead to is whole, and no path has more names than `depth`; so no directory is below itself
+abbrev pub HasTree : ℕ → Blocks → Place → ℕ → Type 0
+HasTree room f from depth = (p : Path) (at : Place) → leads f from p ≡ Some at → IsWhole room f at × (length p ≤ depth)
+
+-- a root has a tree of at most 16 names a path
+abbrev pub IsRoot : ℕ → Blocks → ℕ → Type 0
+IsRoot room f root = HasTree room f (Dir root) 16

@@ -1,0 +1,105 @@
+//! What a path leads to.
+ghost use Rattle.std.specs.Prelude.{◌≡◌, ℕ, ◌+◌, ◌≤◌, true, false, length, drop, Some, None, Ok, Err, IfOk, IfErr, IsErrOf};
+ghost use Rattle.fs_types.specs.declared.faults.Fault.TheVariants.{NoEntry, NotDirectory, Damaged};
+ghost use Rattle.node_store.specs.Faults.{IsReadFault};
+ghost use Rattle.block_trees.specs.Trees.{entries_of};
+ghost use Rattle.directory.specs.Lookups as spec;
+ghost use Rattle.directory.specs.Found.{place_of};
+
+use fs_types::{Fault, Name, Path};
+use node_format::{Entries, Place};
+use node_store::Nodes;
+
+/// What a path leads to.
+#[derive(Clone, Copy, Debug, PartialEq, Eq)]
+pub enum Found {
+    /// The last component is missing.
+    Missing,
+    /// A file, by the block of the last node of its body, and its length in bytes.
+    File { head: u32, length: u32 },
+    /// A directory, by the block of its node.
+    Dir { block: u32 },
+}
+
+impl Found {
+    fn of(place: Option<Place>) -> Self
+        ensures { place_of result ≡ place }
+    {
+        match place {
+            None => Found::Missing,
+            Some(Place::File { head, length }) => Found::File { head, length },
+            Some(Place::Dir { block }) => Found::Dir { block },
+        }
+    }
+}
+
+/// What a name leads to in the directory of a block.
+pub(crate) fn place_in<N: Nodes>(
+    nodes: &mut N,
+    block: u32,
+    name: &Name,
+) -> Result<Option<Place>, Fault>
+    requires { N.is_sound nodes.old }
+    ensures found { IfOk result (λ place. spec.place_in (entries_of (N.node nodes.old block)) name.now ≡ Ok place) }
+    ensures damaged { IsErrOf result Damaged → entries_of (N.node nodes.old block) ≡ None }
+    ensures why { IfErr result (λ fault. spec.is_path_fault fault ≡ false → N.causes nodes.old nodes.new fault) }
+    ensures faults { IfErr result IsReadFault }
+    ensures same_nodes { N.node nodes.new ≡ N.node nodes.old }
+    ensures same_kept { N.kept nodes.new ≡ N.kept nodes.old }
+    ensures reads { N.reads nodes.new ≡ N.reads nodes.old + 1 }
+    ensures writes { N.writes nodes.new ≡ N.writes nodes.old }
+    ensures follows { N.follows nodes.old nodes.new }
+    ensures sound { N.is_sound nodes.new }
+    ensures limit { N.limit nodes.new ≡ N.limit nodes.old }
+    ensures blocks { N.blocks nodes.new ≡ N.blocks nodes.old }
+{
+    nodes.read(block)?;
+    let Some(entries) = Entries::of(nodes.lent()) else {
+        return Err(Fault::Damaged);
+    };
+    Ok(entries.named(name.as_bytes()))
+}
+
+/// The directory that a place is, for a component that is not the last.
+pub(crate) fn directory_at(place: Option<Place>) -> Result<u32, Fault>
+    ensures { result ≡ spec.directory_at place }
+{
+    match place {
+        None => Err(Fault::NoEntry),
+        Some(Place::File { .. }) => Err(Fault::NotDirectory),
+        Some(Place::Dir { block }) => Ok(block),
+    }
+}
+
+/// What a path below a root leads to. Any content of the nodes is looked up, directories that reach
+/// themselves too: one node is read for each component.
+///
+/// Refused with `NoEntry` where a component but the last is missing, with `NotDirectory` where one
+/// but the last is a file, with `Damaged` where the block of a directory holds no directory node,
+/// and with what a read is refused with.
+pub fn lookup<N: Nodes>(nodes: &mut N, root: u32, path: &Path) -> Result<Found, Fault>
+    requires { N.is_sound nodes.old }
+    ensures found { IfOk result (λ found. spec.look_up (N.node nodes.old) root path.now ≡ Ok (place_of found)) }
+    ensures refused { IfErr result (λ fault. spec.is_path_fault fault ≡ true → spec.look_up (N.node nodes.old) root path.now ≡ Err fault) }
+    ensures why { IfErr result (λ fault. spec.is_path_fault fault ≡ false → N.causes nodes.old nodes.new fault) }
+    ensures faults { IfErr result spec.IsLookupFault }
+    ensures same_nodes { N.node nodes.new ≡ N.node nodes.old }
+    ensures same_kept { N.kept nodes.new ≡ N.kept nodes.old }
+    ensures reads { N.reads nodes.new ≤ N.reads nodes.old + length path.now }
+    ensures writes { N.writes nodes.new ≡ N.writes nodes.old }
+    ensures follows { N.follows nodes.old nodes.new }
+    ensures sound { N.is_sound nodes.new }
+    ensures limit { N.limit nodes.new ≡ N.limit nodes.old }
+    ensures blocks { N.blocks nodes.new ≡ N.blocks nodes.old }
+{
+    let names = path.names();
+    let mut block = root;
+    for (i, name) in names.iter().enumerate() {
+        let place = place_in(nodes, block, name)?;
+        if i + 1 == names.len() {
+            return Ok(Found::of(place));
+        }
+        block = directory_at(place)?;
+    }
+    Ok(Found::Dir { block })
+}

@@ -1,0 +1,4 @@
+pub mod Beneath
+pub mod Entries
+pub mod Ways
+pub mod Followed

@@ -1,0 +1,9 @@
+use Rattle.std.proofs.Common.{◌≡◌, ◌∙◌, sym, ap}
+use Rattle.fs_types.specs.Contents.{beneath}
+use Rattle.plain_machine.proofs.Beneath.{joined_path}
+use Rattle.plain_machine.proofs.names.moved_path.Goals as goal
+
+pub joined-requires : goal.joined-requires
+joined-requires c =
+    joined_path c.args.old.now c.args.new.now c.args.path.now c.in-Some.rest.now
+    (ap (beneath c.args.old.now) (sym c.names.ensures.names) ∙ sym c.in-Some.ensures) c.requires.lawful c.names.ensures.lawful c.requires.shallow

@@ -1,0 +1,46 @@
+-- How machines, and what they are made of, are stored as lists and pairs.
+use Rattle.std.specs.Prelude.{ℕ, Bool, Option, Some, None, List, refl}
+use Rattle.std.specs.Coded.{Coded, code_by, coded×, coded_ℕ, coded_bool, coded_list, coded_option}
+use Rattle.std.specs.FinMap as finmap
+use Rattle.fs_types.specs.Names.{Path, path_cmp}
+use Rattle.fs_types.specs.Contents.{Entry}
+use Rattle.fs_types.specs.Contents.Entry.{Dir, File}
+use Rattle.fs_types.specs.Trees.{Tree}
+use Rattle.fs_types.specs.History.{Past}
+use Rattle.fs_types.specs.Descriptors.{Descriptor, Descriptors}
+use Rattle.fs_types.specs.Machine.{Machine}
+use Rattle.fs_types.specs.declared.calls.Version.{Version}
+use Rattle.fs_types.specs.declared.flags.OpenFlags.{OpenFlags}
+use Rattle.plain_machine.specs.Plain.{entry_of, bytes_in, entry_of-bytes_in}
+
+-- a path is the list of its names
+abbrev pub path_code : Coded Path
+path_code = coded_list (coded_list coded_ℕ)
+
+-- a directory is no list of bytes
+abbrev pub entry_code : Coded Entry
+entry_code = code_by (Option (List ℕ)) (coded_option (coded_list coded_ℕ)) bytes_in entry_of entry_of-bytes_in
+
+abbrev pub tree_code : Coded Tree
+tree_code = finmap.code path_code entry_code
+
+abbrev pub version_code : Coded (Version Tree)
+version_code = code_by (ℕ × Tree) (coded× coded_ℕ tree_code) (λ v. (v.serial, v.root)) (λ p. record { serial = p.0; root = p.1 }) (λ _. refl)
+
+-- a history is the tuple of its fields
+abbrev pub history_code : Coded (Past Tree)
+history_code =
+    code_by (List (Version Tree) × (ℕ × (Bool × (ℕ × (List (List ℕ × Tree) × ℕ)))))
+    (coded× (coded_list version_code) (coded× coded_ℕ (coded× coded_bool (coded× coded_ℕ (coded× (coded_list (coded× (coded_list coded_ℕ) tree_code)) coded_ℕ)))))
+    (λ h. (h.versions, (h.cursor, (h.dropped, (h.next, (h.checkpoints, h.limit))))))
+    (λ p. record { versions = p.0; cursor = p.1.0; dropped = p.1.1.0; next = p.1.1.1.0; checkpoints = p.1.1.1.1.0; limit = p.1.1.1.1.1 })
+    (λ _. refl)
+
+abbrev pub descriptor_code : Coded Descriptor
+descriptor_code = code_by (Path × ℕ) (coded× path_code coded_ℕ) (λ d. (d.path, d.flags.0)) (λ p. record { path = p.0; flags = record { 0 = p.1 } }) (λ _. refl)
+
+abbrev pub descriptors_code : Coded Descriptors
+descriptors_code = coded_list (coded_option descriptor_code)
+
+abbrev pub machine_code : Coded Machine
+machine_code = code_by (Past Tree × Descriptors) (coded× history_code descriptors_code) (λ m. (m.history, m.descriptors)) (λ p. record { history = p.0; descriptors = p.1 }) (λ _. refl)

@@ -1,0 +1,122 @@
+-- What the plain machine answers and leaves.
+use Rattle.std.specs.Prelude.{◌≡◌, ℕ, ◌+◌, ◌-◌, ◌^◌, ◌<◌, not, Bool, true, false, ◌==◌, ◌&&◌, ◌⊎◌, nat_lt, Option, Some, None, Result, Ok, Err, List, [], ◌∷◌, ◌++◌, length, is_some, refl, if◌then◌else◌}
+use Rattle.std.specs.FinMap.{from_entries, insert}
+use Rattle.std.specs.List.Sorted.{IsStrictlySortedBy}
+use Rattle.std.specs.Map.{keys_of}
+use Rattle.std.specs.Option.{option_map_or}
+use Rattle.fs_types.specs.Names.{Name, Path, path_cmp}
+use Rattle.fs_types.specs.Contents.{Entry, beneath}
+use Rattle.fs_types.specs.Contents.Entry.{Dir, File}
+use Rattle.fs_types.specs.Trees.{Tree, entry_count}
+use Rattle.fs_types.specs.History.{Past, fresh, redo_refusal, forget_refusal}
+use Rattle.fs_types.specs.Descriptors.{Descriptor, Descriptors}
+use Rattle.fs_types.specs.Machine.{Machine, Space, Stepped, step, is_accepted, makes_version, tree_after, bytes_at}
+use Rattle.fs_types.specs.declared.calls.Call.{Call}
+use Rattle.fs_types.specs.declared.calls.Reply.{Reply}
+use Rattle.fs_types.specs.declared.faults.Fault.{Fault}
+use Rattle.fs_types.specs.declared.faults.Fault.TheVariants.{TooBig, NotEmpty, Overflow, NoMemory}
+
+-- a directory has no bytes
+abbrev pub entry_of : Option (List ℕ) → Entry
+entry_of None = Dir
+entry_of (Some bytes) = File bytes
+
+abbrev pub bytes_in : Entry → Option (List ℕ)
+bytes_in Dir = None
+bytes_in (File bytes) = Some bytes
+
+pub entry_of-bytes_in : (x : Entry) → entry_of (bytes_in x) ≡ x
+entry_of-bytes_in Dir = refl
+entry_of-bytes_in (File bytes) = refl
+
+-- the name that is all that is left of a path
+abbrev pub only_name : Option Path → Option Name
+only_name None = None
+only_name (Some []) = None
+only_name (Some (n ∷ [])) = Some n
+only_name (Some (n ∷ m ∷ rest)) = None
+
+-- a path stands right in a directory
+abbrev pub is_child : Path → Path → Bool
+is_child directory p = is_some (only_name (beneath directory p))
+
+-- where a path stands after a move, or None where another takes its place
+abbrev pub path_moved_at : Path → Path → Option Path → Option Path → Option Path
+path_moved_at new p (Some rest) _ = Some (new ++ rest)
+path_moved_at new p None (Some rest) = None
+path_moved_at new p None None = Some p
+
+abbrev pub path_moved : Path → Path → Path → Option Path
+path_moved old new p = path_moved_at new p (beneath old p) (beneath new p)
+
+-- the map with the entries of a list put into it, the last one first
+abbrev pub insert_all : List (Path × Entry) → Tree → Tree
+insert_all [] t = t
+insert_all (e ∷ es) t = insert (insert_all es t) e.0 e.1
+
+-- the tree that a list of entries makes; of two for one path the first counts
+abbrev pub tree_of : List (Path × Entry) → Tree
+tree_of es = from_entries {R = path_cmp} es
+
+-- entries in order make this tree
+pub record IsTreeOf (es : List (Path × Entry)) (t : Tree) : Type 0 where
+  pub sorted : IsStrictlySortedBy path_cmp (keys_of es)
+  pub made : tree_of es ≡ t
+
+-- a path at `old` or below it would have more than 16 names, where `old` becomes so many
+abbrev pub is_deep : Path → ℕ → Path → Bool
+is_deep old depth p = option_map_or (λ rest. nat_lt 16 (depth + length rest)) (beneath old p) false
+
+-- a machine of a history and open files
+abbrev pub machine_with : Past Tree → Descriptors → Machine
+machine_with history descriptors = record { history = history; descriptors = descriptors }
+
+-- a machine with this present tree
+abbrev pub machine_at : Tree → Descriptors → Machine
+machine_at t descriptors = machine_with (fresh 2 t) descriptors
+
+-- a flash of nothing, for calls that do not tell of it
+abbrev pub no_space : Space
+no_space = record { blocks = 0; bad = 0; free = 0; anchors = 0 }
+
+-- a call that makes a version, if it is not refused, has a serial for it
+abbrev pub HasSerial : Machine → Call → Type 0
+HasSerial m call = is_some (tree_after m call) ≡ true → m.history.next < 2 ^ 64 - 1
+
+-- an ftruncate to this length changes the file that is open
+abbrev pub ftruncates : Tree → Option Descriptor → ℕ → Bool
+ftruncates t d n = option_map_or (λ d. not (length (bytes_at t d.path) == n)) d false
+
+-- why a call can't move in the history or shorten it
+abbrev pub moving_refusal : Past Tree → Call → Option Fault
+moving_refusal h Call.Redo = redo_refusal h
+moving_refusal h (Call.Forget count) = forget_refusal h count
+moving_refusal h _ = None
+
+-- the file that a call opens, if it is an open
+abbrev pub file_of : Call → Option Descriptor
+file_of (Call.Open path flags) = Some (record { path = path; flags = flags })
+file_of _ = None
+
+-- why so many bytes don't fit a file from an offset on; no bytes always do
+abbrev pub size_refusal : ℕ → List ℕ → Option Fault
+size_refusal offset bytes = if length bytes == 0 then None else if nat_lt 16777216 (offset + length bytes) then Some TooBig else None
+
+-- why a directory is not empty
+abbrev pub emptiness_refusal : Tree → Path → Option Fault
+emptiness_refusal t p = if nat_lt 0 (entry_count t p) then Some NotEmpty else None
+
+-- a change whose serial would pass the greatest u64
+abbrev pub overflows : Machine → Call → Bool
+overflows m call = makes_version m call && (m.history.next == 18446744073709551615)
+
+-- the machine's step, where a change that overflows is refused
+abbrev pub bounded_step : Space → Machine → Call → Stepped
+bounded_step space m call = if overflows m call then record { reply = Err Overflow; machine = m } else step space m call
+
+-- a call answers and leaves what the machine's step does; or it would not be refused, memory is not to be
+-- had, and all stays
+abbrev pub IsPlainStep : Space → Machine → Call → Result Reply Fault → Machine → Type 0
+IsPlainStep space m call result n =
+    (record { reply = result; machine = n } ≡ bounded_step space m call)
+    ⊎ ((result ≡ Err NoMemory) × (n ≡ m) × (is_accepted m call ≡ true) × (overflows m call ≡ false))

@@ -1,0 +1,272 @@
+//! What calls leave that change something. Memory is taken first, so that nothing is changed without it.
+ghost use Rattle.std.specs.Prelude.{◌≡◌, Bool, not, ◌==◌, ◌&&◌, length, [], Some, None, is_some, IfOk, OnOk, OnErr};
+ghost use Rattle.fs_types.specs.Contents.{Entry, overwritten, resized};
+ghost use Rattle.fs_types.specs.Trees.{bare, put, remove};
+ghost use Rattle.fs_types.specs.Descriptors.{none_open, descriptor_at};
+ghost use Rattle.fs_types.specs.History.{checkpoint_root};
+ghost use Rattle.fs_types.specs.Machine as machine;
+ghost use Rattle.fs_types.specs.declared.calls.Call.{Call};
+ghost use Rattle.plain_machine.specs.Plain.{machine_with, machine_at, ftruncates, file_of, moving_refusal};
+
+use crate::histories::History;
+use crate::nodes::Node;
+use crate::open_files::{OpenFile, OpenFiles};
+use crate::replies::bytes_at;
+use crate::trees::Tree;
+use bitflags::Flags;
+use fs_types::{Bytes, Call, CpName, OpenFlags, Path};
+use std::alloc::{AllocError, Global};
+
+/// Whether the call makes a version, where it is not refused.
+pub fn changes(history: &History, files: &OpenFiles, call: &Call) -> bool
+    ensures { result ≡ is_some (machine.tree_after (machine_with history.now files.now) call.now) }
+{
+    match call {
+        Call::Open { path, flags } => open_changes(history.present(), path, *flags),
+        Call::Pwrite {
+            descriptor,
+            bytes,
+            ..
+        } => pwrite_changes(files, *descriptor, bytes),
+        Call::Ftruncate { descriptor, length } => {
+            ftruncate_changes(history.present(), files, *descriptor, *length)
+        }
+        Call::Rename { old, new } => old != new,
+        Call::Unlink { .. } => true,
+        Call::Mkdir { .. } => true,
+        Call::Rmdir { .. } => true,
+        Call::Rollback { name } => history.checkpoint_root(name).is_some(),
+        _ => false,
+    }
+}
+
+fn open_changes(tree: &Tree, path: &Path, flags: OpenFlags) -> bool
+    ensures { result ≡ machine.open_changes tree.now path.now flags }
+{
+    if tree.get(path.names()).is_none() {
+        return true;
+    }
+    flags.contains(OpenFlags::TRUNC) && !bytes_at(tree, path).is_empty()
+}
+
+fn pwrite_changes(files: &OpenFiles, number: u64, bytes: &Bytes) -> bool
+    ensures { result ≡ (is_some (descriptor_at files.now number) && not (length bytes.now == 0)) }
+{
+    files.get(number).is_some() && !bytes.as_slice().is_empty()
+}
+
+fn ftruncate_changes(tree: &Tree, files: &OpenFiles, number: u64, length: u64) -> bool
+    ensures { result ≡ ftruncates tree.now (descriptor_at files.now number) length }
+{
+    match files.get(number) {
+        Some(file) => bytes_at(tree, file.path()).len() as u64 != length,
+        None => false,
+    }
+}
+
+/// The tree with these bytes in the file at a path.
+fn with_file(tree: &Tree, path: &Path, bytes: Vec<u8>) -> Result<Tree, AllocError>
+    ensures { IfOk result (λ next. next ≡ machine.file_put tree.now path.now bytes.items) }
+{
+    let mut next = tree.clone()?;
+    next.put(path.clone()?, Node::file(bytes))?;
+    Ok(next)
+}
+
+/// Bytes after others are put at an offset; a gap past the end is zeros.
+fn overwritten(
+    alloc: Global,
+    old: &[u8],
+    offset: usize,
+    bytes: &[u8],
+) -> Result<Vec<u8>, AllocError>
+    ensures { IfOk result (λ new. new.items ≡ overwritten old.now offset bytes.now) }
+{
+    let mut new = resized(alloc, old, offset)?;
+    new.extend_from_slice(bytes)?;
+    if old.len() > new.len() {
+        new.extend_from_slice(&old[new.len()..])?;
+    }
+    Ok(new)
+}
+
+/// Bytes cut to a length, or with zeros up to it.
+fn resized(alloc: Global, old: &[u8], length: usize) -> Result<Vec<u8>, AllocError>
+    ensures { IfOk result (λ new. new.items ≡ resized old.now length) }
+{
+    if length <= old.len() {
+        return Vec::from_slice(alloc, &old[..length]);
+    }
+    let mut new = Vec::from_slice(alloc, old)?;
+    new.resize(length, 0)?;
+    Ok(new)
+}
+
+/// The tree that a change makes; none where the call makes no version.
+pub fn tree_after(
+    alloc: Global,
+    history: &History,
+    files: &OpenFiles,
+    call: &Call,
+) -> Result<Option<Tree>, AllocError>
+    requires { machine.refusal (machine_with history.now files.now) call.now ≡ None }
+    ensures { IfOk result (λ next. next ≡ machine.tree_after (machine_with history.now files.now) call.now) }
+{
+    let tree = history.present();
+    match call {
+        Call::Open { path, flags } => opened(alloc, tree, path, *flags),
+        Call::Pwrite {
+            descriptor,
+            offset,
+            bytes,
+        } => written(alloc, tree, files, *descriptor, *offset, bytes.as_slice()),
+        Call::Ftruncate { descriptor, length } => {
+            truncated(alloc, tree, files, *descriptor, *length)
+        }
+        Call::Rename { old, new } => renamed(alloc, tree, files, old, new),
+        Call::Unlink { path } => Ok(Some(without(tree, path)?)),
+        Call::Mkdir { path } => Ok(Some(with_directory(tree, path)?)),
+        Call::Rmdir { path } => Ok(Some(without(tree, path)?)),
+        Call::Rollback { name } => rolled_back(history, name),
+        _ => Ok(None),
+    }
+}
+
+fn opened(
+    alloc: Global,
+    tree: &Tree,
+    path: &Path,
+    flags: OpenFlags,
+) -> Result<Option<Tree>, AllocError>
+    ensures { IfOk result (λ next. next ≡ machine.tree_after (machine_at tree.now none_open) (Call.Open path.now flags)) }
+{
+    if !open_changes(tree, path, flags) {
+        return Ok(None);
+    }
+    Ok(Some(with_file(tree, path, Vec::new(alloc))?))
+}
+
+fn written(
+    alloc: Global,
+    tree: &Tree,
+    files: &OpenFiles,
+    number: u64,
+    offset: u64,
+    bytes: &[u8],
+) -> Result<Option<Tree>, AllocError>
+    ensures { IfOk result (λ next. next ≡ machine.tree_after (machine_at tree.now files.now) (Call.Pwrite number offset bytes.now)) }
+{
+    let Some(file) = files.get(number) else {
+        return Ok(None);
+    };
+    if bytes.is_empty() {
+        return Ok(None);
+    }
+    let old = bytes_at(tree, file.path());
+    let new = overwritten(alloc, old, offset as usize, bytes)?;
+    Ok(Some(with_file(tree, file.path(), new)?))
+}
+
+fn truncated(
+    alloc: Global,
+    tree: &Tree,
+    files: &OpenFiles,
+    number: u64,
+    length: u64,
+) -> Result<Option<Tree>, AllocError>
+    ensures { IfOk result (λ next. next ≡ machine.tree_after (machine_at tree.now files.now) (Call.Ftruncate number length)) }
+{
+    let Some(file) = files.get(number) else {
+        return Ok(None);
+    };
+    let old = bytes_at(tree, file.path());
+    if old.len() as u64 == length {
+        return Ok(None);
+    }
+    let new = resized(alloc, old, length as usize)?;
+    Ok(Some(with_file(tree, file.path(), new)?))
+}
+
+fn renamed(
+    alloc: Global,
+    tree: &Tree,
+    files: &OpenFiles,
+    old: &Path,
+    new: &Path,
+) -> Result<Option<Tree>, AllocError>
+    requires { machine.refusal (machine_at tree.now files.now) (Call.Rename old.now new.now) ≡ None }
+    ensures { IfOk result (λ next. next ≡ machine.tree_after (machine_at tree.now files.now) (Call.Rename old.now new.now)) }
+{
+    if old == new {
+        return Ok(None);
+    }
+    Ok(Some(tree.moved(alloc, old.names(), new.names())?))
+}
+
+fn without(tree: &Tree, path: &Path) -> Result<Tree, AllocError>
+    ensures { IfOk result (λ next. next ≡ remove tree.now path.now) }
+{
+    let mut next = tree.clone()?;
+    next.remove(path);
+    Ok(next)
+}
+
+fn with_directory(tree: &Tree, path: &Path) -> Result<Tree, AllocError>
+    ensures { IfOk result (λ next. next ≡ put tree.now path.now Entry.Dir) }
+{
+    let mut next = tree.clone()?;
+    next.put(path.clone()?, Node::dir())?;
+    Ok(next)
+}
+
+fn rolled_back(history: &History, name: &CpName) -> Result<Option<Tree>, AllocError>
+    ensures { IfOk result (λ next. next ≡ checkpoint_root history.now name.now) }
+{
+    match history.checkpoint_root(name) {
+        Some(root) => Ok(Some(root.clone()?)),
+        None => Ok(None),
+    }
+}
+
+/// What a call leaves of the history that makes no version; unchanged where memory is not to be had.
+pub fn move_history(history: &mut History, call: &Call) -> Result<(), AllocError>
+    requires { moving_refusal history.old call.now ≡ None }
+    ensures ok { OnOk result (history.new ≡ machine.history_moved history.old call.now) }
+    ensures err { OnErr result (history.new ≡ history.old) }
+{
+    match call {
+        Call::Undo => history.undo(),
+        Call::Redo => history.redo(),
+        Call::Goto { serial } => history.go_to(*serial),
+        Call::Forget { count } => history.forget(*count),
+        Call::Checkpoint { name } => history.checkpoint(name.clone()?)?,
+        Call::RemoveCheckpoint { name } => history.remove_checkpoint(name),
+        _ => {}
+    }
+    Ok(())
+}
+
+/// The file that a call opens, if it is an open.
+pub fn opened_file(call: &Call) -> Result<Option<OpenFile>, AllocError>
+    ensures { IfOk result (λ file. file ≡ file_of call.now) }
+{
+    match call {
+        Call::Open { path, flags } => Ok(Some(OpenFile::new(path.clone()?, *flags))),
+        _ => Ok(None),
+    }
+}
+
+/// What a call leaves of the open files.
+pub fn settle_files(files: &mut OpenFiles, call: &Call, file: Option<OpenFile>)
+    requires { file ≡ file_of call.now }
+    ensures { files.new ≡ machine.descriptors_after (machine_at bare files.old) call.now }
+{
+    if let Call::Close { descriptor } = call {
+        files.close(*descriptor);
+    }
+    if let Some(file) = file {
+        if let Some(number) = files.least_free() {
+            files.open(number, file);
+        }
+    }
+}

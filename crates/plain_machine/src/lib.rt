@@ -1,0 +1,20 @@
+//! The file system as its definition says it, over whole trees and a whole history in memory.
+#![tactic(auto)]
+
+mod effects;
+mod histories;
+mod machines;
+mod maps;
+mod names;
+mod nodes;
+mod open_files;
+mod refusals;
+mod replies;
+mod spaces;
+mod trees;
+
+pub use machines::PlainMachine;
+pub use spaces::Space;
+
+#[cfg(test)]
+mod tests;

@@ -1,0 +1,96 @@
+//! The machine, and its step.
+ghost use Rattle.std.specs.Prelude.{◌≡◌, ◌≤◌, Some, None, IfOk, IfErr, OnOk, OnErr};
+ghost use Rattle.fs_types.specs.Trees.{bare};
+ghost use Rattle.fs_types.specs.History.{fresh};
+ghost use Rattle.fs_types.specs.Machine as machine;
+ghost use Rattle.fs_types.specs.declared.faults.Fault.{Fault};
+ghost use Rattle.plain_machine.specs.Plain.{machine_with, HasSerial, IsPlainStep};
+ghost use Rattle.plain_machine.specs.Spaces.{space_of};
+
+use crate::histories::History;
+use crate::open_files::OpenFiles;
+use crate::refusals::refusal;
+use crate::spaces::Space;
+use crate::trees::Tree;
+use crate::{effects, replies};
+use fs_types::{Call, Fault, Reply};
+use std::alloc::{AllocError, Global};
+use std::marker::Model;
+
+/// A whole file system in memory: a history of trees, and the open files.
+#[derive(Drop)]
+pub struct PlainMachine {
+    history: History,
+    files: OpenFiles,
+}
+
+impl Model for PlainMachine {
+    ghost use Rattle.fs_types.specs.Machine.{Machine};
+    ghost use Rattle.plain_machine.specs.Codes.{machine_code};
+
+    ghost Value = { Machine };
+
+    ghost coded = { machine_code };
+
+    ghost view = { λ m. record { history = m.history; descriptors = m.files } };
+}
+
+impl PlainMachine {
+    /// A fresh system, which keeps `limit` versions, 2 to 64. The only error is [`Fault::NoMemory`].
+    pub fn new(alloc: Global, limit: usize) -> Result<PlainMachine, Fault>
+        requires low { 2 ≤ limit }
+        requires high { limit ≤ 64 }
+        ensures machine { IfOk result (λ m. m ≡ machine.mounted (fresh limit bare)) }
+        ensures refused { IfErr result (λ fault. fault ≡ Fault.NoMemory) }
+    {
+        Ok(PlainMachine {
+            history: History::new(alloc, limit, Tree::bare(alloc)?)?,
+            files: OpenFiles::new(),
+        })
+    }
+
+    /// Carries out a call, in a file system on a flash of which so much is used.
+    ///
+    /// Beside the refusals of the call: [`Fault::Overflow`] exactly where the call would make a version
+    /// and the next serial is the greatest `u64`; and [`Fault::NoMemory`], which leaves all as it was.
+    pub fn step(&mut self, alloc: Global, space: Space, call: &Call) -> Result<Reply, Fault>
+        ensures { IsPlainStep (space_of space) self.old call.now result self.new }
+    {
+        if let Some(fault) = refusal(&self.history, &self.files, call) {
+            return Err(fault);
+        }
+        if self.history.next() == u64::MAX {
+            if effects::changes(&self.history, &self.files, call) {
+                return Err(Fault::Overflow);
+            }
+        }
+        let reply = carry_out(alloc, &mut self.history, &mut self.files, space, call)?;
+        Ok(reply)
+    }
+}
+
+/// Carries out a call that is not refused.
+fn carry_out(
+    alloc: Global,
+    history: &mut History,
+    files: &mut OpenFiles,
+    space: Space,
+    call: &Call,
+) -> Result<Reply, AllocError>
+    requires accepted { machine.refusal (machine_with history.old files.old) call.now ≡ None }
+    requires serial { HasSerial (machine_with history.old files.old) call.now }
+    ensures reply { IfOk result (λ reply. reply ≡ machine.reply_of (space_of space) (machine_with history.old files.old) call.now) }
+    ensures history { OnOk result (history.new ≡ machine.history_after (machine_with history.old files.old) call.now) }
+    ensures files { OnOk result (files.new ≡ machine.descriptors_after (machine_with history.old files.old) call.now) }
+    ensures err_history { OnErr result (history.new ≡ history.old) }
+    ensures err_files { OnErr result (files.new ≡ files.old) }
+{
+    let reply = replies::reply(alloc, history, files, space, call)?;
+    let file = effects::opened_file(call)?;
+    match effects::tree_after(alloc, history, files, call)? {
+        Some(tree) => history.change(tree)?,
+        None => effects::move_history(history, call)?,
+    }
+    effects::settle_files(files, call, file);
+    Ok(reply)
+}

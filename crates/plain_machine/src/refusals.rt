@@ -1,0 +1,365 @@
+//! Why a call is refused. Each function makes its checks in their order.
+ghost use Rattle.std.specs.Prelude.{◌≡◌, [], Option, Some, None, IfOk, IfErr};
+ghost use Rattle.std.specs.FinMap as finmap;
+ghost use Rattle.fs_types.specs.Contents.{Entry};
+ghost use Rattle.fs_types.specs.Trees.{bare};
+ghost use Rattle.fs_types.specs.Descriptors as descriptors;
+ghost use Rattle.fs_types.specs.Machine as machine;
+ghost use Rattle.fs_types.specs.declared.calls.Call.{Call};
+ghost use Rattle.fs_types.specs.declared.faults.Fault.{Fault};
+ghost use Rattle.plain_machine.specs.Plain.{machine_with, machine_at, size_refusal, emptiness_refusal};
+
+use crate::histories::History;
+use crate::names::{is_beginning, parent};
+use crate::nodes::Node;
+use crate::open_files::OpenFiles;
+use crate::trees::Tree;
+use bitflags::Flags;
+use fs_types::{Bytes, Call, Fault, Name, OpenFlags, Path, View};
+
+/// The first refusal of a call, if any.
+pub fn refusal(history: &History, files: &OpenFiles, call: &Call) -> Option<Fault>
+    ensures { result ≡ machine.refusal (machine_with history.now files.now) call.now }
+{
+    let tree = history.present();
+    match call {
+        Call::Open { path, flags } => open_refusal(tree, files, path, *flags),
+        Call::Close { descriptor } => descriptor_refusal(files, *descriptor),
+        Call::Pread { descriptor, .. } => pread_refusal(files, *descriptor),
+        Call::Pwrite {
+            descriptor,
+            offset,
+            bytes,
+        } => pwrite_refusal(files, *descriptor, *offset, bytes),
+        Call::Ftruncate { descriptor, length } => ftruncate_refusal(files, *descriptor, *length),
+        Call::Rename { old, new } => rename_refusal(tree, files, old, new),
+        Call::Unlink { path } => unlink_refusal(tree, files, path),
+        Call::Mkdir { path } => mkdir_refusal(tree, path),
+        Call::Rmdir { path } => rmdir_refusal(tree, path),
+        Call::Fsync { descriptor } => descriptor_refusal(files, *descriptor),
+        Call::Sync => None,
+        Call::Stat { view, path } => stat_refusal(history, view, path),
+        Call::List { view, path } => list_refusal(history, view, path),
+        Call::ReadAt { view, path, .. } => read_at_refusal(history, view, path),
+        Call::Log => None,
+        Call::Df => None,
+        Call::Undo => travel_refusal(files, history.undo_refusal()),
+        Call::Redo => travel_refusal(files, history.redo_refusal()),
+        Call::Goto { serial } => travel_refusal(files, history.serial_refusal(*serial)),
+        Call::Rollback { name } => travel_refusal(files, history.name_refusal(name)),
+        Call::Forget { count } => history.forget_refusal(*count),
+        Call::Checkpoint { name } => history.checkpoint_refusal(name),
+        Call::RemoveCheckpoint { name } => history.name_refusal(name),
+    }
+}
+
+/// The node at a path, or why there is none.
+fn found<'a>(tree: &'a Tree, path: &[Name]) -> Result<&'a Node, Fault>
+    ensures node { IfOk result (λ node. (refuse : Entry → Option Fault) → machine.found_refusal tree.now path.now refuse ≡ refuse node.now) }
+    ensures refused { IfErr result (λ fault. (refuse : Entry → Option Fault) → machine.found_refusal tree.now path.now refuse ≡ Some fault) }
+{
+    if let Some(fault) = tree.lookup_refusal(path) {
+        return Err(fault);
+    }
+    match tree.get(path) {
+        Some(node) => Ok(node),
+        None => Err(Fault::NoEntry),
+    }
+}
+
+fn open_refusal(tree: &Tree, files: &OpenFiles, path: &Path, flags: OpenFlags) -> Option<Fault>
+    ensures { result ≡ machine.refusal (machine_at tree.now files.now) (Call.Open path.now flags) }
+{
+    if !are_lawful(flags) {
+        return Some(Fault::Invalid);
+    }
+    if let Some(fault) = tree.lookup_refusal(path.names()) {
+        return Some(fault);
+    }
+    match tree.get(path.names()) {
+        None => creation_refusal(tree, files, path, flags),
+        Some(node) => reopening_refusal(files, node, flags),
+    }
+}
+
+/// For reading or writing, exclusive only with creation, truncating only for writing, and no other bit.
+fn are_lawful(flags: OpenFlags) -> bool
+    ensures { result ≡ descriptors.are_lawful flags }
+{
+    let writes = flags.contains(OpenFlags::WRITE);
+    if !writes && !flags.contains(OpenFlags::READ) {
+        return false;
+    }
+    if flags.contains(OpenFlags::EXCL) && !flags.contains(OpenFlags::CREAT) {
+        return false;
+    }
+    if flags.contains(OpenFlags::TRUNC) && !writes {
+        return false;
+    }
+    flags.bits() < 32
+}
+
+fn creation_refusal(tree: &Tree, files: &OpenFiles, path: &Path, flags: OpenFlags) -> Option<Fault>
+    ensures { result ≡ machine.open_refusal (machine_at tree.now files.now) path.now flags None }
+{
+    if !flags.contains(OpenFlags::CREAT) {
+        return Some(Fault::NoEntry);
+    }
+    if tree.is_full(parent(path.names())) {
+        return Some(Fault::DirectoryFull);
+    }
+    number_refusal(files)
+}
+
+fn reopening_refusal(files: &OpenFiles, node: &Node, flags: OpenFlags) -> Option<Fault>
+    ensures { result ≡ machine.open_refusal (machine_at bare files.now) [] flags (Some node.now) }
+{
+    if flags.contains(OpenFlags::CREAT) && flags.contains(OpenFlags::EXCL) {
+        return Some(Fault::Exists);
+    }
+    if node.is_dir() {
+        return Some(Fault::IsDirectory);
+    }
+    number_refusal(files)
+}
+
+/// Why there is no free number.
+fn number_refusal(files: &OpenFiles) -> Option<Fault>
+    ensures { result ≡ machine.number_refusal (machine_at bare files.now) }
+{
+    match files.least_free() {
+        None => Some(Fault::TooManyOpen),
+        Some(_) => None,
+    }
+}
+
+fn descriptor_refusal(files: &OpenFiles, number: u64) -> Option<Fault>
+    ensures { result ≡ machine.refusal (machine_at bare files.now) (Call.Close number) }
+{
+    match files.get(number) {
+        None => Some(Fault::BadDescriptor),
+        Some(_) => None,
+    }
+}
+
+fn pread_refusal(files: &OpenFiles, number: u64) -> Option<Fault>
+    ensures { result ≡ machine.refusal (machine_at bare files.now) (Call.Pread number 0 0) }
+{
+    match files.get(number) {
+        Some(file) if file.flags().contains(OpenFlags::READ) => None,
+        _ => Some(Fault::BadDescriptor),
+    }
+}
+
+fn pwrite_refusal(files: &OpenFiles, number: u64, offset: u64, bytes: &Bytes) -> Option<Fault>
+    ensures { result ≡ machine.refusal (machine_at bare files.now) (Call.Pwrite number offset bytes.now) }
+{
+    match files.get(number) {
+        Some(file) if file.flags().contains(OpenFlags::WRITE) => {
+            size_refusal(offset, bytes.as_slice())
+        }
+        _ => Some(Fault::BadDescriptor),
+    }
+}
+
+/// Why so many bytes don't fit a file from an offset on; no bytes always do.
+fn size_refusal(offset: u64, bytes: &[u8]) -> Option<Fault>
+    ensures { result ≡ size_refusal offset bytes.now }
+{
+    if bytes.is_empty() {
+        return None;
+    }
+    if offset > MAX_LENGTH || bytes.len() as u64 > MAX_LENGTH - offset {
+        return Some(Fault::TooBig);
+    }
+    None
+}
+
+/// The greatest length of a file in bytes.
+const MAX_LENGTH: u64 = 16_777_216;
+
+fn ftruncate_refusal(files: &OpenFiles, number: u64, length: u64) -> Option<Fault>
+    ensures { result ≡ machine.refusal (machine_at bare files.now) (Call.Ftruncate number length) }
+{
+    let Some(file) = files.get(number) else {
+        return Some(Fault::BadDescriptor);
+    };
+    if !file.flags().contains(OpenFlags::WRITE) {
+        return Some(Fault::Invalid);
+    }
+    if length > MAX_LENGTH {
+        return Some(Fault::TooBig);
+    }
+    None
+}
+
+fn rename_refusal(tree: &Tree, files: &OpenFiles, old: &Path, new: &Path) -> Option<Fault>
+    ensures { result ≡ machine.refusal (machine_at tree.now files.now) (Call.Rename old.now new.now) }
+{
+    let node = match found(tree, old.names()) {
+        Ok(node) => node,
+        Err(fault) => return Some(fault),
+    };
+    if old == new {
+        return None;
+    }
+    if node.is_dir() && is_beginning(old.names(), new.names()) {
+        return Some(Fault::Invalid);
+    }
+    if let Some(fault) = tree.lookup_refusal(new.names()) {
+        return Some(fault);
+    }
+    if let Some(fault) = replace_refusal(tree, new, node) {
+        return Some(fault);
+    }
+    move_refusal(tree, files, old, new)
+}
+
+/// Only what is of the same kind is replaced, and only an empty directory.
+fn replace_refusal(tree: &Tree, new: &Path, node: &Node) -> Option<Fault>
+    ensures { result ≡ machine.replace_refusal tree.now new.now node.now (finmap.get tree.now new.now) }
+{
+    let there = tree.get(new.names())?;
+    if !node.is_dir() {
+        return if there.is_dir() {
+            Some(Fault::IsDirectory)
+        } else {
+            None
+        };
+    }
+    if !there.is_dir() {
+        return Some(Fault::NotDirectory);
+    }
+    emptiness_refusal(tree, new)
+}
+
+/// Why a directory is not empty.
+fn emptiness_refusal(tree: &Tree, path: &Path) -> Option<Fault>
+    ensures { result ≡ emptiness_refusal tree.now path.now }
+{
+    if tree.entry_count(path.names()) > 0 {
+        return Some(Fault::NotEmpty);
+    }
+    None
+}
+
+fn move_refusal(tree: &Tree, files: &OpenFiles, old: &Path, new: &Path) -> Option<Fault>
+    ensures { result ≡ machine.move_refusal (machine_at tree.now files.now) old.now new.now }
+{
+    if tree.is_too_deep(old.names(), new.names()) {
+        return Some(Fault::NameTooLong);
+    }
+    if files.is_open_within(old) || files.is_open(new) {
+        return Some(Fault::Busy);
+    }
+    if tree.get(new.names()).is_some() {
+        return None;
+    }
+    if parent(old.names()) == parent(new.names()) {
+        return None;
+    }
+    if tree.is_full(parent(new.names())) {
+        return Some(Fault::DirectoryFull);
+    }
+    None
+}
+
+fn unlink_refusal(tree: &Tree, files: &OpenFiles, path: &Path) -> Option<Fault>
+    ensures { result ≡ machine.refusal (machine_at tree.now files.now) (Call.Unlink path.now) }
+{
+    let node = match found(tree, path.names()) {
+        Ok(node) => node,
+        Err(fault) => return Some(fault),
+    };
+    if node.is_dir() {
+        return Some(Fault::NotPermitted);
+    }
+    if files.is_open(path) {
+        return Some(Fault::Busy);
+    }
+    None
+}
+
+fn mkdir_refusal(tree: &Tree, path: &Path) -> Option<Fault>
+    ensures { result ≡ machine.refusal (machine_at tree.now descriptors.none_open) (Call.Mkdir path.now) }
+{
+    if path.is_root() {
+        return Some(Fault::Exists);
+    }
+    if let Some(fault) = tree.lookup_refusal(path.names()) {
+        return Some(fault);
+    }
+    if tree.get(path.names()).is_some() {
+        return Some(Fault::Exists);
+    }
+    if tree.is_full(parent(path.names())) {
+        return Some(Fault::DirectoryFull);
+    }
+    None
+}
+
+fn rmdir_refusal(tree: &Tree, path: &Path) -> Option<Fault>
+    ensures { result ≡ machine.refusal (machine_at tree.now descriptors.none_open) (Call.Rmdir path.now) }
+{
+    if path.is_root() {
+        return Some(Fault::Busy);
+    }
+    let node = match found(tree, path.names()) {
+        Ok(node) => node,
+        Err(fault) => return Some(fault),
+    };
+    if !node.is_dir() {
+        return Some(Fault::NotDirectory);
+    }
+    emptiness_refusal(tree, path)
+}
+
+/// The node that a view shows at a path, or why there is none.
+fn found_in<'a>(history: &'a History, view: &View, path: &Path) -> Result<&'a Node, Fault>
+    ensures node { IfOk result (λ node. (refuse : Entry → Option Fault) → machine.view_path_refusal (machine_with history.now descriptors.none_open) view.now path.now refuse ≡ refuse node.now) }
+    ensures refused { IfErr result (λ fault. (refuse : Entry → Option Fault) → machine.view_path_refusal (machine_with history.now descriptors.none_open) view.now path.now refuse ≡ Some fault) }
+{
+    match history.find(view) {
+        Ok(tree) => found(tree, path.names()),
+        Err(fault) => Err(fault),
+    }
+}
+
+fn stat_refusal(history: &History, view: &View, path: &Path) -> Option<Fault>
+    ensures { result ≡ machine.refusal (machine_with history.now descriptors.none_open) (Call.Stat view.now path.now) }
+{
+    match found_in(history, view, path) {
+        Ok(_) => None,
+        Err(fault) => Some(fault),
+    }
+}
+
+fn list_refusal(history: &History, view: &View, path: &Path) -> Option<Fault>
+    ensures { result ≡ machine.refusal (machine_with history.now descriptors.none_open) (Call.List view.now path.now) }
+{
+    match found_in(history, view, path) {
+        Ok(node) if node.is_dir() => None,
+        Ok(_) => Some(Fault::NotDirectory),
+        Err(fault) => Some(fault),
+    }
+}
+
+fn read_at_refusal(history: &History, view: &View, path: &Path) -> Option<Fault>
+    ensures { result ≡ machine.refusal (machine_with history.now descriptors.none_open) (Call.ReadAt view.now path.now 0 0) }
+{
+    match found_in(history, view, path) {
+        Ok(node) if node.is_dir() => Some(Fault::IsDirectory),
+        Ok(_) => None,
+        Err(fault) => Some(fault),
+    }
+}
+
+/// A call that moves the present version is refused while a file is open.
+fn travel_refusal(files: &OpenFiles, refused: Option<Fault>) -> Option<Fault>
+    ensures { result ≡ machine.travel_refusal (machine_at bare files.now) refused }
+{
+    if files.any_open() {
+        return Some(Fault::Busy);
+    }
+    refused
+}

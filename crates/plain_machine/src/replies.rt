@@ -1,0 +1,171 @@
+//! What calls answer that change nothing.
+ghost use Rattle.std.specs.Prelude.{◌≡◌, [], Some, None, IfOk};
+ghost use Rattle.std.specs.FinMap.{get};
+ghost use Rattle.fs_types.specs.Trees.{children};
+ghost use Rattle.fs_types.specs.Descriptors.{none_open};
+ghost use Rattle.fs_types.specs.Machine as machine;
+ghost use Rattle.fs_types.specs.declared.calls.Call.{Call};
+ghost use Rattle.fs_types.specs.declared.calls.Reply.{Reply};
+ghost use Rattle.plain_machine.specs.Plain.{machine_with, machine_at, no_space};
+ghost use Rattle.plain_machine.specs.Spaces.{space_of};
+
+use crate::histories::History;
+use crate::open_files::OpenFiles;
+use crate::spaces::Space;
+use crate::trees::Tree;
+use fs_types::{Call, Path, Reply, Sequence, Stat, View};
+use std::alloc::{AllocError, Global};
+
+/// The bytes of the file at a path; none where no file is.
+pub fn bytes_at<'a>(tree: &'a Tree, path: &Path) -> &'a [u8]
+    ensures { result.now ≡ machine.bytes_at tree.now path.now }
+{
+    match tree.get(path.names()) {
+        Some(node) => node.bytes(),
+        None => &[],
+    }
+}
+
+/// At most `count` bytes from `offset` on.
+fn read_from(bytes: &[u8], offset: u64, count: u64) -> &[u8]
+    ensures { result.now ≡ machine.read_from bytes.now offset count }
+{
+    if offset >= bytes.len() as u64 {
+        return &[];
+    }
+    let rest = &bytes[offset as usize..];
+    if count >= rest.len() as u64 {
+        return rest;
+    }
+    &rest[..count as usize]
+}
+
+fn bytes_reply(alloc: Global, bytes: &[u8]) -> Result<Reply, AllocError>
+    ensures { IfOk result (λ reply. reply ≡ Reply.Bytes bytes.now) }
+{
+    Ok(Reply::Bytes(Sequence::from_slice(alloc, bytes)?))
+}
+
+/// What an accepted call answers, of the machine as it is before the call.
+pub fn reply(
+    alloc: Global,
+    history: &History,
+    files: &OpenFiles,
+    space: Space,
+    call: &Call,
+) -> Result<Reply, AllocError>
+    requires { machine.refusal (machine_with history.now files.now) call.now ≡ None }
+    ensures { IfOk result (λ reply. reply ≡ machine.reply_of (space_of space) (machine_with history.now files.now) call.now) }
+{
+    match call {
+        Call::Open { .. } => Ok(Reply::Fd(files.least_free().unwrap_or(0))),
+        Call::Pread {
+            descriptor,
+            offset,
+            count,
+        } => pread(
+            alloc,
+            history.present(),
+            files,
+            *descriptor,
+            *offset,
+            *count,
+        ),
+        Call::Pwrite { bytes, .. } => Ok(Reply::Count(bytes.as_slice().len() as u64)),
+        Call::Stat { view, path } => Ok(stat(history, view, path)),
+        Call::List { view, path } => list(alloc, history, view, path),
+        Call::ReadAt {
+            view,
+            path,
+            offset,
+            count,
+        } => read_at(alloc, history, view, path, *offset, *count),
+        Call::Log => log(alloc, history),
+        Call::Df => Ok(Reply::Df {
+            blocks: space.blocks,
+            bad: space.bad,
+            free: space.free,
+            anchors: space.anchors,
+        }),
+        _ => Ok(Reply::Empty),
+    }
+}
+
+fn pread(
+    alloc: Global,
+    tree: &Tree,
+    files: &OpenFiles,
+    number: u64,
+    offset: u64,
+    count: u64,
+) -> Result<Reply, AllocError>
+    ensures { IfOk result (λ reply. reply ≡ machine.reply_of no_space (machine_at tree.now files.now) (Call.Pread number offset count)) }
+{
+    match files.get(number) {
+        Some(file) => {
+            let bytes: &[u8] = bytes_at(tree, file.path());
+            bytes_reply(alloc, read_from(bytes, offset, count))
+        }
+        None => bytes_reply(alloc, &[]),
+    }
+}
+
+fn stat(history: &History, view: &View, path: &Path) -> Reply
+    requires { machine.refusal (machine_with history.now none_open) (Call.Stat view.now path.now) ≡ None }
+    ensures { result ≡ machine.reply_of no_space (machine_with history.now none_open) (Call.Stat view.now path.now) }
+{
+    match history.find(view) {
+        Ok(tree) => Reply::Stat(stat_of(tree, path)),
+        Err(_) => Reply::Empty,
+    }
+}
+
+fn stat_of(tree: &Tree, path: &Path) -> Stat
+    ensures { result ≡ machine.stat_of tree.now path.now (get tree.now path.now) }
+{
+    match tree.get(path.names()) {
+        Some(node) if !node.is_dir() => Stat::File(node.bytes().len() as u64),
+        _ => Stat::Dir(tree.entry_count(path.names()) as u64),
+    }
+}
+
+fn list(alloc: Global, history: &History, view: &View, path: &Path) -> Result<Reply, AllocError>
+    requires { machine.refusal (machine_with history.now none_open) (Call.List view.now path.now) ≡ None }
+    ensures { IfOk result (λ reply. reply ≡ machine.reply_of no_space (machine_with history.now none_open) (Call.List view.now path.now)) }
+{
+    match history.find(view) {
+        Ok(tree) => Ok(Reply::Names(tree.children(alloc, path.names())?)),
+        Err(_) => Ok(Reply::Empty),
+    }
+}
+
+fn read_at(
+    alloc: Global,
+    history: &History,
+    view: &View,
+    path: &Path,
+    offset: u64,
+    count: u64,
+) -> Result<Reply, AllocError>
+    requires { machine.refusal (machine_with history.now none_open) (Call.ReadAt view.now path.now offset count) ≡ None }
+    ensures { IfOk result (λ reply. reply ≡ machine.reply_of no_space (machine_with history.now none_open) (Call.ReadAt view.now path.now offset count)) }
+{
+    match history.find(view) {
+        Ok(tree) => bytes_reply(alloc, read_from(bytes_at(tree, path), offset, count)),
+        Err(_) => Ok(Reply::Empty),
+    }
+}
+
+fn log(alloc: Global, history: &History) -> Result<Reply, AllocError>
+    ensures { IfOk result (λ reply. reply ≡ machine.log_of history.now) }
+{
+    let versions = history.serials(alloc)?;
+    let checkpoints = history.checkpoint_names(alloc)?;
+    Ok(Reply::Log {
+        next: history.next(),
+        dropped: history.dropped(),
+        versions,
+        cursor: history.cursor(),
+        checkpoints,
+    })
+}

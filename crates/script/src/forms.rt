@@ -1,0 +1,171 @@
+//! Lines by the words after the first.
+ghost use Rattle.std.specs.Prelude.{◌≡◌, ◌≢◌, Ok, Err, IfOk, IfErr, map};
+ghost use Rattle.script.specs.declared.misread.Misread.TheVariants.{NoMemory};
+ghost use Rattle.script.specs.Lines.{fault_line, open_line, pread_line, pwrite_line, ftruncate_line, rename_line, read_line, only_number, only_path, only_name, path_and_view, stat_line, list_line};
+
+use crate::arguments::{
+    named_view, one_word, one_word_and_view, parse_name, parse_path, three_words,
+    three_words_and_view, two_words, view_of,
+};
+use crate::kinds::kind_of;
+use crate::lines::Line;
+use crate::misread::Misread;
+use crate::words::{data, number, text};
+use bitflags::Flags;
+use fs_types::{Call, CpName, OpenFlags, Path, View};
+use std::alloc::Global;
+
+/// `open`: a path and flags.
+pub fn open(alloc: Global, words: &[&[u8]]) -> Result<Line, Misread>
+    ensures ok { IfOk result (λ line. open_line (map (λ w. w.now) words.now) ≡ Ok line) }
+    ensures err { IfErr result (λ e. e ≢ NoMemory → open_line (map (λ w. w.now) words.now) ≡ Err e) }
+{
+    let (path, flags) = two_words(words)?;
+    let path = text(alloc, path)?;
+    let flags = OpenFlags::from_bits_retain(number(flags)?);
+    let path = parse_path(alloc, path.as_slice())?;
+    Ok(Line::Call(Call::Open { path, flags }))
+}
+
+/// `pread`: a descriptor, an offset and a count.
+pub fn pread(words: &[&[u8]]) -> Result<Line, Misread>
+    ensures { result ≡ pread_line (map (λ w. w.now) words.now) }
+{
+    let (descriptor, offset, count) = three_words(words)?;
+    let descriptor = number(descriptor)?;
+    let offset = number(offset)?;
+    let count = number(count)?;
+    Ok(Line::Call(Call::Pread {
+        descriptor,
+        offset,
+        count,
+    }))
+}
+
+/// `pwrite`: a descriptor, an offset and data.
+pub fn pwrite(alloc: Global, words: &[&[u8]]) -> Result<Line, Misread>
+    ensures ok { IfOk result (λ line. pwrite_line (map (λ w. w.now) words.now) ≡ Ok line) }
+    ensures err { IfErr result (λ e. e ≢ NoMemory → pwrite_line (map (λ w. w.now) words.now) ≡ Err e) }
+{
+    let (descriptor, offset, bytes) = three_words(words)?;
+    let descriptor = number(descriptor)?;
+    let offset = number(offset)?;
+    let bytes = data(alloc, bytes)?;
+    Ok(Line::Call(Call::Pwrite {
+        descriptor,
+        offset,
+        bytes,
+    }))
+}
+
+/// `ftruncate`: a descriptor and a length.
+pub fn ftruncate(words: &[&[u8]]) -> Result<Line, Misread>
+    ensures { result ≡ ftruncate_line (map (λ w. w.now) words.now) }
+{
+    let (descriptor, length) = two_words(words)?;
+    let descriptor = number(descriptor)?;
+    let length = number(length)?;
+    Ok(Line::Call(Call::Ftruncate { descriptor, length }))
+}
+
+/// `rename`: two paths.
+pub fn rename(alloc: Global, words: &[&[u8]]) -> Result<Line, Misread>
+    ensures ok { IfOk result (λ line. rename_line (map (λ w. w.now) words.now) ≡ Ok line) }
+    ensures err { IfErr result (λ e. e ≢ NoMemory → rename_line (map (λ w. w.now) words.now) ≡ Err e) }
+{
+    let (old, new) = two_words(words)?;
+    let old = text(alloc, old)?;
+    let new = text(alloc, new)?;
+    let old = parse_path(alloc, old.as_slice())?;
+    let new = parse_path(alloc, new.as_slice())?;
+    Ok(Line::Call(Call::Rename { old, new }))
+}
+
+/// `read`: a path, an offset, a count and perhaps a view.
+pub fn read(alloc: Global, words: &[&[u8]]) -> Result<Line, Misread>
+    ensures ok { IfOk result (λ line. read_line (map (λ w. w.now) words.now) ≡ Ok line) }
+    ensures err { IfErr result (λ e. e ≢ NoMemory → read_line (map (λ w. w.now) words.now) ≡ Err e) }
+{
+    let (path, offset, count, view) = three_words_and_view(words)?;
+    let path = text(alloc, path)?;
+    let offset = number(offset)?;
+    let count = number(count)?;
+    let view = named_view(alloc, view)?;
+    let path = parse_path(alloc, path.as_slice())?;
+    let view = view_of(&view)?;
+    Ok(Line::Call(Call::ReadAt {
+        view,
+        path,
+        offset,
+        count,
+    }))
+}
+
+/// One number.
+pub fn only_number(words: &[&[u8]]) -> Result<u64, Misread>
+    ensures { result ≡ only_number (map (λ w. w.now) words.now) }
+{
+    number(one_word(words)?)
+}
+
+/// One path.
+pub fn only_path(alloc: Global, words: &[&[u8]]) -> Result<Path, Misread>
+    ensures ok { IfOk result (λ path. only_path (map (λ w. w.now) words.now) ≡ Ok path) }
+    ensures err { IfErr result (λ e. e ≢ NoMemory → only_path (map (λ w. w.now) words.now) ≡ Err e) }
+{
+    let bytes = text(alloc, one_word(words)?)?;
+    parse_path(alloc, bytes.as_slice())
+}
+
+/// One name of a checkpoint.
+pub fn only_name(alloc: Global, words: &[&[u8]]) -> Result<CpName, Misread>
+    ensures ok { IfOk result (λ name. only_name (map (λ w. w.now) words.now) ≡ Ok name) }
+    ensures err { IfErr result (λ e. e ≢ NoMemory → only_name (map (λ w. w.now) words.now) ≡ Err e) }
+{
+    let bytes = text(alloc, one_word(words)?)?;
+    parse_name(bytes.as_slice())
+}
+
+/// A path, and perhaps a view.
+fn path_and_view(alloc: Global, words: &[&[u8]]) -> Result<(Path, View), Misread>
+    ensures ok { IfOk result (λ p. path_and_view (map (λ w. w.now) words.now) ≡ Ok p) }
+    ensures err { IfErr result (λ e. e ≢ NoMemory → path_and_view (map (λ w. w.now) words.now) ≡ Err e) }
+{
+    let (path, view) = one_word_and_view(words)?;
+    let path = text(alloc, path)?;
+    let view = named_view(alloc, view)?;
+    let path = parse_path(alloc, path.as_slice())?;
+    let view = view_of(&view)?;
+    Ok((path, view))
+}
+
+/// `stat`: a path and perhaps a view.
+pub fn stat(alloc: Global, words: &[&[u8]]) -> Result<Line, Misread>
+    ensures ok { IfOk result (λ line. stat_line (map (λ w. w.now) words.now) ≡ Ok line) }
+    ensures err { IfErr result (λ e. e ≢ NoMemory → stat_line (map (λ w. w.now) words.now) ≡ Err e) }
+{
+    let (path, view) = path_and_view(alloc, words)?;
+    Ok(Line::Call(Call::Stat { view, path }))
+}
+
+/// `ls`: a path and perhaps a view.
+pub fn list(alloc: Global, words: &[&[u8]]) -> Result<Line, Misread>
+    ensures ok { IfOk result (λ line. list_line (map (λ w. w.now) words.now) ≡ Ok line) }
+    ensures err { IfErr result (λ e. e ≢ NoMemory → list_line (map (λ w. w.now) words.now) ≡ Err e) }
+{
+    let (path, view) = path_and_view(alloc, words)?;
+    Ok(Line::Call(Call::List { view, path }))
+}
+
+/// `fault`: a number from 1 on, and a kind.
+pub fn fault(words: &[&[u8]]) -> Result<Line, Misread>
+    ensures { result ≡ fault_line (map (λ w. w.now) words.now) }
+{
+    let (k, kind) = two_words(words)?;
+    let k = number(k)?;
+    let kind = kind_of(kind).ok_or(Misread::Syntax)?;
+    if k == 0 {
+        return Err(Misread::Syntax);
+    }
+    Ok(Line::PlanFault { k, kind })
+}

@@ -1,0 +1,327 @@
+use crate::{Answer, LINE_LIMIT, LineReader, Taken, print_answer, read_line, write_out};
+use fs_types::{Bytes, CpName, Fault, Name, Reply, Sequence, Stat};
+use std::alloc::{AllocError, Global};
+use std::io;
+use std::io::{ErrorKind, Read, Write};
+use std::test::Fail;
+
+const LINES: [(&str, &str); 65] = [
+    (
+        "open /f 7",
+        "Call(Open { path: Path { names: [Name { bytes: [102] }] }, flags: OpenFlags(7) })",
+    ),
+    (
+        "open /f 18446744073709551615",
+        "Call(Open { path: Path { names: [Name { bytes: [102] }] }, flags: OpenFlags(18446744073709551615) })",
+    ),
+    ("open /f 18446744073709551616", "Syntax"),
+    ("close 0", "Call(Close { descriptor: 0 })"),
+    ("close 00", "Syntax"),
+    ("close 01", "Syntax"),
+    ("close", "Syntax"),
+    ("close 0 ", "Syntax"),
+    ("close  0", "Syntax"),
+    ("close +1", "Syntax"),
+    (
+        "pread 0 4999 9",
+        "Call(Pread { descriptor: 0, offset: 4999, count: 9 })",
+    ),
+    (
+        "pwrite 0 5000 4fFa",
+        "Call(Pwrite { descriptor: 0, offset: 5000, bytes: Sequence { items: [79, 250] } })",
+    ),
+    (
+        "pwrite 0 5000 -",
+        "Call(Pwrite { descriptor: 0, offset: 5000, bytes: Sequence { items: [] } })",
+    ),
+    ("pwrite 0 5000 4", "Syntax"),
+    ("pwrite 0 5000 4g", "Syntax"),
+    ("pwrite 0 5000 ", "Syntax"),
+    (
+        "ftruncate 0 4",
+        "Call(Ftruncate { descriptor: 0, length: 4 })",
+    ),
+    (
+        "rename /a /b",
+        "Call(Rename { old: Path { names: [Name { bytes: [97] }] }, new: Path { names: [Name { bytes: [98] }] } })",
+    ),
+    ("rename - b", "Refused(NoEntry)"),
+    ("rename b -", "Refused(Invalid)"),
+    ("rename b %", "Syntax"),
+    (
+        "unlink /f",
+        "Call(Unlink { path: Path { names: [Name { bytes: [102] }] } })",
+    ),
+    (
+        "mkdir /a/b",
+        "Call(Mkdir { path: Path { names: [Name { bytes: [97] }, Name { bytes: [98] }] } })",
+    ),
+    (
+        "mkdir /%6a%4A",
+        "Call(Mkdir { path: Path { names: [Name { bytes: [106, 74] }] } })",
+    ),
+    ("mkdir -", "Refused(NoEntry)"),
+    ("mkdir /a/", "Refused(Invalid)"),
+    ("mkdir //a", "Refused(Invalid)"),
+    ("mkdir /%00", "Refused(Invalid)"),
+    ("mkdir /%0", "Syntax"),
+    ("mkdir /%0g", "Syntax"),
+    ("mkdir ", "Syntax"),
+    (
+        "mkdir /a/a/a/a/a/a/a/a/a/a/a/a/a/a/a/a/a",
+        "Refused(NameTooLong)",
+    ),
+    ("mkdir /a\t", "Syntax"),
+    ("rmdir /", "Call(Rmdir { path: Path { names: [] } })"),
+    ("fsync 0", "Call(Fsync { descriptor: 0 })"),
+    ("sync", "Call(Sync)"),
+    ("sync 0", "Syntax"),
+    (
+        "stat /",
+        "Call(Stat { view: Present, path: Path { names: [] } })",
+    ),
+    (
+        "ls /",
+        "Call(List { view: Present, path: Path { names: [] } })",
+    ),
+    (
+        "ls / @1",
+        "Call(List { view: Serial(1), path: Path { names: [] } })",
+    ),
+    (
+        "ls / =v1",
+        "Call(List { view: Checkpoint(CpName { bytes: [118, 49] }), path: Path { names: [] } })",
+    ),
+    ("ls / @", "Syntax"),
+    ("ls / =", "Syntax"),
+    ("ls / =-", "Refused(Invalid)"),
+    ("ls - =-", "Refused(NoEntry)"),
+    ("ls / v1", "Syntax"),
+    (
+        "read /f 0 1",
+        "Call(ReadAt { view: Present, path: Path { names: [Name { bytes: [102] }] }, offset: 0, count: 1 })",
+    ),
+    (
+        "read /f 0 1 @3",
+        "Call(ReadAt { view: Serial(3), path: Path { names: [Name { bytes: [102] }] }, offset: 0, count: 1 })",
+    ),
+    ("undo", "Call(Undo)"),
+    ("redo", "Call(Redo)"),
+    ("goto 4", "Call(Goto { serial: 4 })"),
+    (
+        "rollback v1",
+        "Call(Rollback { name: CpName { bytes: [118, 49] } })",
+    ),
+    ("forget 3", "Call(Forget { count: 3 })"),
+    (
+        "checkpoint v1",
+        "Call(Checkpoint { name: CpName { bytes: [118, 49] } })",
+    ),
+    ("checkpoint -", "Refused(Invalid)"),
+    (
+        "rmcheckpoint v1",
+        "Call(RemoveCheckpoint { name: CpName { bytes: [118, 49] } })",
+    ),
+    ("log", "Call(Log)"),
+    ("df", "Call(Df)"),
+    ("reclaim 5", "ReclaimStep(5)"),
+    ("restart", "Restart"),
+    (
+        "fault 1 program-fail",
+        "PlanFault { k: 1, kind: ProgramFail }",
+    ),
+    ("fault 0 erase-fail", "Syntax"),
+    ("fault 1 fail", "Syntax"),
+    ("", "Syntax"),
+    ("format", "Syntax"),
+];
+
+/// The first line that is not read as its row says.
+fn first_misread<'a>(alloc: Global, rows: &[(&'a str, &str)]) -> Result<Option<&'a str>, Fail> {
+    for (line, wanted) in rows {
+        let read = read_line(alloc, line.as_bytes())?;
+        let read = format!(in alloc; "{read:?}")?;
+        if read.as_str() != *wanted {
+            return Ok(Some(line));
+        }
+    }
+    Ok(None)
+}
+
+#[test]
+fn lines(rt: HostRuntime) -> Result<(), Fail> {
+    assert_eq!(rt; first_misread(rt.alloc(), &LINES)?, None);
+    Ok(())
+}
+
+/// Whether this is what is printed for an answer.
+fn prints(alloc: Global, answer: Answer, text: &[u8]) -> Result<bool, Fail> {
+    let mut out = Vec::new(alloc);
+    print_answer(&mut out, &answer)?;
+    Ok(out.as_slice() == text)
+}
+
+fn log(alloc: Global, serials: &[u64], cursor: u64, name: &[u8]) -> Result<Answer, Fail> {
+    let checkpoints = match CpName::parse(name) {
+        Ok(name) => vec![in alloc; name]?,
+        Err(_) => Vec::new(alloc),
+    };
+    Ok(Answer::Done(Reply::Log {
+        next: 104,
+        dropped: checkpoints.is_empty(),
+        versions: Sequence::from_slice(alloc, serials)?,
+        cursor,
+        checkpoints: Sequence::from_vec(checkpoints),
+    }))
+}
+
+fn names(alloc: Global) -> Result<Answer, Fail> {
+    let mut names = Vec::new(alloc);
+    names.push((Name::new(alloc, b"a")?, true))?;
+    names.push((Name::new(alloc, b"%b\x7f")?, false))?;
+    Ok(Answer::Done(Reply::Names(Sequence::from_vec(names))))
+}
+
+#[test]
+fn lists(rt: HostRuntime) -> Result<(), Fail> {
+    let alloc = rt.alloc();
+    assert!(rt; prints(alloc, names(alloc)?, b"entries 2 a/ %25b%7F\n")?);
+    let text = b"log next 104 dropped 1 versions 1 2 *4 checkpoints\n";
+    assert!(rt; prints(alloc, log(alloc, &[1, 2, 4], 2, b"")?, text)?);
+    let text = b"log next 104 dropped 0 versions *102 103 checkpoints v1\n";
+    assert!(rt; prints(alloc, log(alloc, &[102, 103], 0, b"v1")?, text)?);
+    let data = Bytes::from_slice(alloc, b"\x00\xaf")?;
+    assert!(rt; prints(alloc, Answer::Done(Reply::Bytes(data)), b"data 00af\n")?);
+    let data = Bytes::new(alloc);
+    assert!(rt; prints(alloc, Answer::Done(Reply::Bytes(data)), b"data -\n")?);
+    Ok(())
+}
+
+#[test]
+fn numbers(rt: HostRuntime) -> Result<(), Fail> {
+    let alloc = rt.alloc();
+    assert!(rt; prints(alloc, Answer::Done(Reply::Fd(15)), b"fd 15\n")?);
+    assert!(rt; prints(alloc, Answer::Done(Reply::Count(1)), b"wrote 1\n")?);
+    assert!(rt; prints(alloc, Answer::Done(Reply::Stat(Stat::Dir(0))), b"dir 0\n")?);
+    assert!(rt;
+        prints(
+            alloc,
+            Answer::Done(Reply::Stat(Stat::File(5001))),
+            b"file 5001\n"
+        )?
+    );
+    let df = Reply::Df {
+        blocks: 24,
+        bad: 0,
+        free: 19,
+        anchors: 8,
+    };
+    assert!(rt;
+        prints(
+            alloc,
+            Answer::Done(df),
+            b"df data 24 bad 0 free 19 anchors 8\n"
+        )?
+    );
+    Ok(())
+}
+
+#[test]
+fn words(rt: HostRuntime) -> Result<(), Fail> {
+    let alloc = rt.alloc();
+    assert!(rt; prints(alloc, Answer::Done(Reply::Empty), b"ok\n")?);
+    assert!(rt; prints(alloc, Answer::Done(Reply::Step(true)), b"done\n")?);
+    assert!(rt; prints(alloc, Answer::Done(Reply::Step(false)), b"more\n")?);
+    assert!(rt;
+        prints(
+            alloc,
+            Answer::Refused(Fault::NothingToUndo),
+            b"err NOTHINGTOUNDO 17\n"
+        )?
+    );
+    assert!(rt; prints(alloc, Answer::Mounted, b"mounted\n")?);
+    assert!(rt; prints(alloc, Answer::Unmounted, b"unmounted\n")?);
+    assert!(rt; prints(alloc, Answer::Syntax, b"err SYNTAX\n")?);
+    Ok(())
+}
+
+/// Gives bytes one at a time: first an interruption, and at the end an error.
+#[derive(Drop)]
+struct Failing<'a>(&'a [u8], bool);
+
+impl Read for Failing<'_> {
+    fn read(&mut self, buf: &mut [u8]) -> io::Result<usize> {
+        if !self.1 {
+            self.1 = true;
+            return Err(io::Error::from(ErrorKind::Interrupted));
+        }
+        match self.0.read(buf) {
+            Ok(0) => Err(io::Error::from(ErrorKind::BrokenPipe)),
+            other => other,
+        }
+    }
+}
+
+impl Write for Failing<'_> {
+    fn write(&mut self, buf: &[u8]) -> io::Result<usize> {
+        if !self.1 {
+            self.1 = true;
+            return Err(io::Error::from(ErrorKind::Interrupted));
+        }
+        match self.0 {
+            [] => Err(io::Error::from(ErrorKind::BrokenPipe)),
+            [_, rest @ ..] => {
+                self.0 = rest;
+                Ok(buf.len().min(1))
+            }
+        }
+    }
+
+    fn flush(&mut self) -> io::Result<()> {
+        Ok(())
+    }
+}
+
+/// One line of the greatest length, an empty one, one that is too long, and one that ends with the input.
+fn long_input(alloc: Global) -> Result<Vec<u8>, AllocError> {
+    let mut input = vec![in alloc; b'x'; LINE_LIMIT]?;
+    input.extend_from_slice(b"\n\n")?;
+    for _ in 0..=LINE_LIMIT {
+        input.push(b'x')?;
+    }
+    input.extend_from_slice(b"\nsync")?;
+    Ok(input)
+}
+
+#[test]
+fn streams(rt: HostRuntime) -> Result<(), Fail> {
+    let input = long_input(rt.alloc())?;
+    let mut reader = input.as_slice();
+    let mut lines = LineReader::new(rt.alloc())?;
+    assert_eq!(rt; lines.next_line(&mut reader)?, Taken::Line);
+    assert_eq!(rt; lines.line().len(), LINE_LIMIT);
+    assert_eq!(rt; lines.next_line(&mut reader)?, Taken::Line);
+    assert_eq!(rt; lines.line().len(), 0);
+    assert_eq!(rt; lines.next_line(&mut reader)?, Taken::TooLong);
+    assert_eq!(rt; lines.next_line(&mut reader)?, Taken::Line);
+    assert_eq!(rt; lines.line(), b"sync".as_slice());
+    assert_eq!(rt; lines.next_line(&mut reader)?, Taken::End);
+    Ok(())
+}
+
+#[test]
+fn failures(rt: HostRuntime) -> Result<(), Fail> {
+    let mut lines = LineReader::new(rt.alloc())?;
+    let mut reader = Failing(b"undo\nre", false);
+    assert_eq!(rt; lines.next_line(&mut reader)?, Taken::Line);
+    assert_eq!(rt; lines.line(), b"undo".as_slice());
+    assert!(rt; lines.next_line(&mut reader).is_err());
+    assert!(rt; lines.next_line(&mut reader).is_err());
+
+    let mut out = Vec::new(rt.alloc());
+    write_out(&mut out, b"ok\n")?;
+    assert_eq!(rt; out.as_slice(), b"ok\n".as_slice());
+    assert!(rt; write_out(&mut Failing(b"xxx", false), b"ok\n").is_ok());
+    assert!(rt; write_out(&mut Failing(b"xx", false), b"ok\n").is_err());
+    Ok(())
+}

@@ -1,0 +1,84 @@
+//! The first words of lines.
+ghost use Rattle.std.specs.Prelude.{◌≡◌, map};
+ghost use Rattle.std.specs.Map.{lookup};
+ghost use Rattle.std.specs.Str.{bytes_eq};
+ghost use Rattle.script.specs.Verbs.{verbs};
+
+/// What a line asks for, by its first word.
+#[derive(Clone, Copy, Debug)]
+pub enum Verb {
+    Open,
+    Close,
+    Pread,
+    Pwrite,
+    Ftruncate,
+    Rename,
+    Unlink,
+    Mkdir,
+    Rmdir,
+    Fsync,
+    Sync,
+    Stat,
+    Ls,
+    Read,
+    Undo,
+    Redo,
+    Goto,
+    Rollback,
+    Forget,
+    Checkpoint,
+    Rmcheckpoint,
+    Log,
+    Df,
+    Reclaim,
+    Restart,
+    PlanFault,
+}
+
+const VERBS: [(&[u8], Verb); 26] = [
+    (b"open", Verb::Open),
+    (b"close", Verb::Close),
+    (b"pread", Verb::Pread),
+    (b"pwrite", Verb::Pwrite),
+    (b"ftruncate", Verb::Ftruncate),
+    (b"rename", Verb::Rename),
+    (b"unlink", Verb::Unlink),
+    (b"mkdir", Verb::Mkdir),
+    (b"rmdir", Verb::Rmdir),
+    (b"fsync", Verb::Fsync),
+    (b"sync", Verb::Sync),
+    (b"stat", Verb::Stat),
+    (b"ls", Verb::Ls),
+    (b"read", Verb::Read),
+    (b"undo", Verb::Undo),
+    (b"redo", Verb::Redo),
+    (b"goto", Verb::Goto),
+    (b"rollback", Verb::Rollback),
+    (b"forget", Verb::Forget),
+    (b"checkpoint", Verb::Checkpoint),
+    (b"rmcheckpoint", Verb::Rmcheckpoint),
+    (b"log", Verb::Log),
+    (b"df", Verb::Df),
+    (b"reclaim", Verb::Reclaim),
+    (b"restart", Verb::Restart),
+    (b"fault", Verb::PlanFault),
+];
+
+/// The verb of the first row with this spelling.
+fn find_verb(rows: &[(&[u8], Verb)], word: &[u8]) -> Option<Verb>
+    ensures { result ≡ lookup (bytes_eq word.now) (map (λ row. (row.0.now, row.1)) rows.now) }
+{
+    for (spelling, verb) in rows {
+        if word == *spelling {
+            return Some(*verb);
+        }
+    }
+    None
+}
+
+/// The verb that a word spells.
+pub fn verb_of(word: &[u8]) -> Option<Verb>
+    ensures { result ≡ lookup (bytes_eq word.now) verbs }
+{
+    find_verb(&VERBS, word)
+}

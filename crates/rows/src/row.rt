@@ -1,0 +1,134 @@
+//! A row: a script with the replies that are expected, and what it runs on.
+use crate::error::RowError;
+use flash_model::{FaultKind, Geometry, PlannedFault};
+use std::alloc::Global;
+
+/// Where a row is run.
+#[derive(Clone, Copy, PartialEq, Eq)]
+pub enum Side {
+    /// On the plain machine.
+    Plain,
+    /// On a flash in memory.
+    Flash,
+}
+
+/// A line of a script, with its reply.
+#[derive(Drop)]
+pub struct Step<'a> {
+    pub line: &'a str,
+    pub reply: &'a str,
+}
+
+/// A row as it is run on one side: as far as that side goes by now.
+#[derive(Drop)]
+pub struct Row<'a> {
+    pub geometry: Geometry,
+    pub history: u32,
+    pub plan: Vec<PlannedFault>,
+    pub steps: Vec<Step<'a>>,
+}
+
+/// The sizes that a row has where it does not say others.
+const DEFAULT_SIZES: Geometry = Geometry {
+    page: 256,
+    pages: 16,
+    blocks: 32,
+};
+
+impl<'a> Row<'a> {
+    /// Reads the text of a row as far as it runs on a side.
+    pub fn read(alloc: Global, text: &'a str, side: Side) -> Result<Self, RowError> {
+        let mut row = Row {
+            geometry: DEFAULT_SIZES,
+            history: 8,
+            plan: Vec::new(alloc),
+            steps: Vec::new(alloc),
+        };
+        let mut line = None;
+        let mut is_skipped = false;
+        for text_line in text.lines() {
+            if waits(text_line, side) {
+                return Ok(row);
+            }
+            is_skipped = is_skipped || skips(text_line, side);
+            if let Some(command) = text_line.strip_prefix("> ") {
+                line = Some(command);
+            } else if let Some(reply) = text_line.strip_prefix("< ") {
+                row.add(line.take(), reply, is_skipped)?;
+                is_skipped = false;
+            } else {
+                row.set(text_line)?;
+            }
+        }
+        Ok(row)
+    }
+
+    fn add(
+        &mut self,
+        line: Option<&'a str>,
+        reply: &'a str,
+        is_skipped: bool,
+    ) -> Result<(), RowError> {
+        let line = line.ok_or(RowError::Layout)?;
+        if !is_skipped {
+            self.steps.push(Step { line, reply })?;
+        }
+        Ok(())
+    }
+
+    /// Takes a setting; other lines tell a reader something.
+    fn set(&mut self, text_line: &str) -> Result<(), RowError> {
+        let Some((key, value)) = text_line.split_once(": ") else {
+            return Ok(());
+        };
+        match key {
+            "page" => self.geometry.page = number(value)?,
+            "pages" => self.geometry.pages = number(value)?,
+            "blocks" => self.geometry.blocks = number(value)?,
+            "history" => self.history = number(value)?,
+            "plan" => self.set_plan(value)?,
+            _ => {}
+        }
+        Ok(())
+    }
+
+    /// Plans a run of failures: the kind, the first number and the last.
+    fn set_plan(&mut self, value: &str) -> Result<(), RowError> {
+        let (kind, range) = value.split_once(" ").ok_or(RowError::Layout)?;
+        let (first, last) = range.split_once(" ").ok_or(RowError::Layout)?;
+        let kind = kind_of(kind).ok_or(RowError::Layout)?;
+        for number in number(first)?..=number(last)? {
+            self.plan.push(PlannedFault {
+                number: u128::from(number),
+                kind,
+            })?;
+        }
+        Ok(())
+    }
+}
+
+/// Whether the side does not go past this line yet.
+fn waits(text_line: &str, side: Side) -> bool {
+    match side {
+        Side::Plain => text_line.starts_with("plain waits for: "),
+        Side::Flash => text_line.starts_with("flash waits for: "),
+    }
+}
+
+/// Whether the plain machine leaves out the step after this line.
+fn skips(text_line: &str, side: Side) -> bool {
+    side == Side::Plain && text_line.starts_with("plain skips: ")
+}
+
+fn number(text: &str) -> Result<u32, RowError> {
+    text.parse::<u32>().map_err(|_| RowError::Layout)
+}
+
+fn kind_of(word: &str) -> Option<FaultKind> {
+    match word {
+        "read-fail" => Some(FaultKind::ReadFail),
+        "program-fail" => Some(FaultKind::ProgramFail),
+        "erase-fail" => Some(FaultKind::EraseFail),
+        _ => None,
+    }
+}

@@ -1,0 +1,152 @@
+//! A row run on the plain machine, and on a flash in memory.
+use crate::error::RowError;
+use crate::row::{Row, Step};
+use flash_model::SimFlash;
+use fs_types::Reply;
+use plain_machine::{PlainMachine, Space};
+use script::{Answer, Line, print_answer, read_line};
+use shell::run_script;
+use std::alloc::Global;
+use undofs::{Fs, is_built};
+
+/// The history of a script's system.
+const SCRIPT_HISTORY: u32 = 8;
+
+/// What a row gave that was not expected: the line, and what was answered to it.
+#[derive(Drop)]
+pub struct Difference {
+    /// The line.
+    pub line: String,
+    /// What was answered.
+    pub answer: String,
+}
+
+/// Runs a row on the plain machine, and answers the first difference.
+pub fn run_plain(alloc: Global, row: &Row<'_>) -> Result<Option<Difference>, RowError> {
+    let history = row.history as usize;
+    if history < 2 || 64 < history {
+        return Err(RowError::Layout);
+    }
+    let mut machine = PlainMachine::new(alloc, history)?;
+    for step in &row.steps {
+        let answer = answer_plain(alloc, &mut machine, step)?;
+        if let Some(difference) = compare_answer(alloc, step, &answer)? {
+            return Ok(Some(difference));
+        }
+    }
+    Ok(None)
+}
+
+/// What the plain machine knows nothing of: `df` is not run on it.
+const NO_SPACE: Space = Space {
+    blocks: 0,
+    bad: 0,
+    free: 0,
+    anchors: 0,
+};
+
+fn answer_plain(
+    alloc: Global,
+    machine: &mut PlainMachine,
+    step: &Step<'_>,
+) -> Result<Answer, RowError> {
+    let answer = match read_line(alloc, step.line.as_bytes())? {
+        Line::Call(call) => match machine.step(alloc, NO_SPACE, &call) {
+            Ok(reply) => Answer::Done(reply),
+            Err(fault) => Answer::Refused(fault),
+        },
+        Line::Refused(fault) => Answer::Refused(fault),
+        _ => Answer::Syntax,
+    };
+    Ok(answer)
+}
+
+/// Runs a row on a fresh flash in memory, and answers the first difference.
+pub fn run_on_flash(alloc: Global, row: &Row<'_>) -> Result<Option<Difference>, RowError> {
+    let mut flash = SimFlash::new(alloc, row.geometry, &row.plan)?;
+    if row.history == SCRIPT_HISTORY {
+        return run_as_script(alloc, row, &mut flash);
+    }
+    let mut system = Fs::fresh(alloc, &mut flash, row.history)?;
+    for step in &row.steps {
+        let answer = answer_call(alloc, &mut system, step)?;
+        if let Some(difference) = compare_answer(alloc, step, &answer)? {
+            return Ok(Some(difference));
+        }
+    }
+    Ok(None)
+}
+
+fn answer_call(
+    alloc: Global,
+    system: &mut Fs<'_, SimFlash>,
+    step: &Step<'_>,
+) -> Result<Answer, RowError> {
+    let answer = match read_line(alloc, step.line.as_bytes())? {
+        Line::Call(call) if is_built(&call) => match system.call(alloc, &call) {
+            Ok(reply) => Answer::Done(reply),
+            Err(fault) => Answer::Refused(fault),
+        },
+        Line::PlanFault { k, kind } if 0 < k => match system.plan_fault(k, kind) {
+            Ok(()) => Answer::Done(Reply::Empty),
+            Err(fault) => Answer::Refused(fault),
+        },
+        Line::Refused(fault) => Answer::Refused(fault),
+        _ => Answer::Syntax,
+    };
+    Ok(answer)
+}
+
+/// Compares an answer with the reply that is expected.
+fn compare_answer(
+    alloc: Global,
+    step: &Step<'_>,
+    answer: &Answer,
+) -> Result<Option<Difference>, RowError> {
+    let mut text = Vec::new(alloc);
+    print_answer(&mut text, answer)?;
+    let text = String::from_utf8(text).map_err(|_| RowError::Layout)?;
+    if text.trim_end() == step.reply {
+        return Ok(None);
+    }
+    Ok(Some(Difference {
+        line: step.line.to_string(alloc)?,
+        answer: text.trim_end().to_string(alloc)?,
+    }))
+}
+
+/// Runs the lines as one script, and compares all that it writes.
+fn run_as_script(
+    alloc: Global,
+    row: &Row<'_>,
+    flash: &mut SimFlash,
+) -> Result<Option<Difference>, RowError> {
+    let mut script = String::new(alloc);
+    for step in &row.steps {
+        script.push_str(step.line)?;
+        script.push('\n')?;
+    }
+    let mut reader = script.as_bytes();
+    let mut written: Vec<u8> = Vec::new(alloc);
+    run_script(alloc, &mut reader, &mut written, flash).map_err(|_| RowError::Ended)?;
+    let written = String::from_utf8(written).map_err(|_| RowError::Layout)?;
+    compare_lines(alloc, row, written.as_str())
+}
+
+fn compare_lines(
+    alloc: Global,
+    row: &Row<'_>,
+    written: &str,
+) -> Result<Option<Difference>, RowError> {
+    let mut answers = written.lines();
+    for step in &row.steps {
+        let answer = answers.next().unwrap_or("");
+        if answer != step.reply {
+            return Ok(Some(Difference {
+                line: step.line.to_string(alloc)?,
+                answer: answer.to_string(alloc)?,
+            }));
+        }
+    }
+    Ok(None)
+}

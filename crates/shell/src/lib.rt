@@ -1,0 +1,12 @@
+//! Scripts run on a flash, and the program's words.
+#![tactic(auto)]
+
+mod scripts;
+mod words;
+
+pub use script::{Answer, Line, print_answer, read_line};
+pub use scripts::{ScriptFault, run_script};
+pub use words::tool;
+
+#[cfg(test)]
+mod tests;

@@ -1,0 +1,181 @@
+//! What stands written where a script does not run to its end, and the statuses of the program.
+use crate::{ScriptFault, run_script, tool};
+use flash_model::{FaultKind, Flash, Geometry, PageView, PlannedFault, SimFlash};
+use fs_types::Fault;
+use std::alloc::Global;
+use std::io;
+use std::io::{ErrorKind, Read, Write};
+use std::test::Fail;
+
+const SIZES: Geometry = Geometry {
+    page: 256,
+    pages: 16,
+    blocks: 32,
+};
+
+/// A reader that gives its bytes and then fails.
+#[derive(Drop)]
+struct Broken<'a> {
+    bytes: &'a [u8],
+}
+
+impl Read for Broken<'_> {
+    fn read(&mut self, buffer: &mut [u8]) -> io::Result<usize> {
+        if self.bytes.is_empty() {
+            return Err(io::Error::from(ErrorKind::Other));
+        }
+        self.bytes.read(buffer)
+    }
+}
+
+/// A writer that takes so many bytes and then fails.
+#[derive(Drop)]
+struct Full {
+    bytes: Vec<u8>,
+    room: usize,
+}
+
+impl Write for Full {
+    fn write(&mut self, bytes: &[u8]) -> io::Result<usize> {
+        if self.bytes.len() >= self.room {
+            return Err(io::Error::from(ErrorKind::Other));
+        }
+        match bytes {
+            [first, ..] => {
+                self.bytes.push(*first)?;
+                Ok(1)
+            }
+            [] => Ok(0),
+        }
+    }
+
+    fn flush(&mut self) -> io::Result<()> {
+        Ok(())
+    }
+}
+
+#[test]
+fn a_refused_system_writes_nothing(rt: HostRuntime) -> Result<(), Fail> {
+    let mut plan = Vec::new(rt.alloc());
+    for number in 1..25u64 {
+        plan.push(PlannedFault {
+            number: u128::from(number),
+            kind: FaultKind::ProgramFail,
+        })?;
+    }
+    let mut flash = SimFlash::new(rt.alloc(), SIZES, &plan)?;
+    let mut script: &[u8] = b"ls /\n";
+    let mut out: Vec<u8> = Vec::new(rt.alloc());
+    let ended = run_script(rt.alloc(), &mut script, &mut out, &mut flash);
+    assert_eq!(rt; ended, Err(ScriptFault::Mount(Fault::FlashFull)));
+    assert_eq!(rt; out.len(), 0);
+    Ok(())
+}
+
+#[test]
+fn a_failed_reader_leaves_all_replies(rt: HostRuntime) -> Result<(), Fail> {
+    let mut flash = SimFlash::new(rt.alloc(), SIZES, &[])?;
+    let mut script = Broken {
+        bytes: b"mkdir /a\nls /\nundo",
+    };
+    let mut out: Vec<u8> = Vec::new(rt.alloc());
+    let ended = run_script(rt.alloc(), &mut script, &mut out, &mut flash);
+    assert_eq!(rt; ended, Err(ScriptFault::Read));
+    assert_eq!(rt; out.as_slice(), &b"ok\nentries 1 a/\n"[..]);
+    Ok(())
+}
+
+#[test]
+fn a_failed_writer_leaves_a_beginning(rt: HostRuntime) -> Result<(), Fail> {
+    let mut flash = SimFlash::new(rt.alloc(), SIZES, &[])?;
+    let mut script: &[u8] = b"mkdir /a\nls /\nundo\n";
+    let mut out = Full {
+        bytes: Vec::new(rt.alloc()),
+        room: 10,
+    };
+    let ended = run_script(rt.alloc(), &mut script, &mut out, &mut flash);
+    assert_eq!(rt; ended, Err(ScriptFault::Write));
+    assert_eq!(rt; out.bytes.as_slice(), &b"ok\nentries"[..]);
+    Ok(())
+}
+
+/// What the program answers to words: the status, and what it writes.
+fn status_of(
+    alloc: Global,
+    words: &[String],
+    script: &[u8],
+) -> Result<(u8, Vec<u8>, Vec<u8>), Fail> {
+    let mut script = script;
+    let mut out: Vec<u8> = Vec::new(alloc);
+    let mut err: Vec<u8> = Vec::new(alloc);
+    let status = tool(alloc, words, &mut script, &mut out, &mut err);
+    Ok((status, out, err))
+}
+
+#[test]
+fn words_are_understood(rt: HostRuntime) -> Result<(), Fail> {
+    let memory = vec![in rt.alloc(); "memory".to_string(rt.alloc())?]?;
+    let (status, out, err) = status_of(rt.alloc(), &memory, b"mkdir /a\nls /\n")?;
+    assert_eq!(rt; (status, err.len()), (0, 0));
+    assert_eq!(rt; out.as_slice(), &b"ok\nentries 1 a/\n"[..]);
+    let (status, out, err) = status_of(rt.alloc(), &[], b"ls /\n")?;
+    assert_eq!(rt; (status, out.len()), (2, 0));
+    assert_eq!(rt; err.as_slice(), &b"usage: uffs memory\n"[..]);
+    Ok(())
+}
+
+/// Whether the page of a number begins with these bytes, with zeros after them.
+fn is_filled(flash: &SimFlash, number: u32, wanted: &[u8]) -> bool {
+    if number as usize >= flash.geometry().page_count() {
+        return false;
+    }
+    match flash.page(number) {
+        PageView::Data(bytes) => {
+            bytes.starts_with(wanted) && bytes.iter().skip(wanted.len()).all(|b| *b == 0)
+        }
+        _ => false,
+    }
+}
+
+/// Whether the page of a number is unreadable.
+fn is_unreadable(flash: &SimFlash, number: u32) -> bool {
+    if number as usize >= flash.geometry().page_count() {
+        return false;
+    }
+    matches!(flash.page(number), PageView::Unreadable)
+}
+
+#[test]
+fn a_directory_is_written_before_its_root(rt: HostRuntime) -> Result<(), Fail> {
+    let mut flash = SimFlash::new(rt.alloc(), SIZES, &[])?;
+    let mut script: &[u8] = b"mkdir /a\n";
+    let mut out: Vec<u8> = Vec::new(rt.alloc());
+    run_script(rt.alloc(), &mut script, &mut out, &mut flash)?;
+    assert!(rt; is_filled(&flash, 128, b"UFND"));
+    assert!(rt; is_filled(&flash, 144, b"UFND"));
+    let root = b"UFND\x01\0\0\0\x0b\0\0\0\0\0\0\0\x02\x01a\x09\0\0\0\0\0\0\0";
+    assert!(rt; is_filled(&flash, 160, root));
+    Ok(())
+}
+
+/// Runs a script with one fault, and tells whether it left block 9 and wrote blocks 10 and 11.
+fn leaves_a_block(alloc: Global, script: &[u8]) -> Result<bool, Fail> {
+    let mut flash = SimFlash::new(alloc, SIZES, &[])?;
+    let mut script = script;
+    let mut out: Vec<u8> = Vec::new(alloc);
+    run_script(alloc, &mut script, &mut out, &mut flash)?;
+    let root = b"UFND\x01\0\0\0\x0b\0\0\0\0\0\0\0\x02\x01a\x0a\0\0\0\0\0\0\0";
+    Ok(
+        out.as_slice() == &b"ok\nok\n"[..]
+            && is_unreadable(&flash, 144)
+            && is_filled(&flash, 160, b"UFND")
+            && is_filled(&flash, 176, root),
+    )
+}
+
+#[test]
+fn a_block_that_fails_is_left(rt: HostRuntime) -> Result<(), Fail> {
+    assert!(rt; leaves_a_block(rt.alloc(), b"fault 1 program-fail\nmkdir /a\n")?);
+    assert!(rt; leaves_a_block(rt.alloc(), b"fault 1 erase-fail\nmkdir /a\n")?);
+    Ok(())
+}

@@ -1,0 +1,73 @@
+//! What the program `uffs` does with its words.
+use crate::scripts::{ScriptFault, run_script};
+use flash_model::{Geometry, SimFlash};
+use fs_types::Fault;
+use std::alloc::Global;
+use std::io::{Read, Write};
+
+/// The flash of `uffs memory`: 32 blocks of 16 pages of 256 bytes.
+pub const MEMORY_SIZES: Geometry = Geometry {
+    page: 256,
+    pages: 16,
+    blocks: 32,
+};
+
+/// Carries out the words that follow the program's name, and answers the status.
+///
+/// `memory` runs the script of `reader` on a fresh system on a flash in memory, and writes its
+/// replies to `out`. Status 0: it ran to its end, whatever the replies. 1: the input, the output or
+/// memory failed. 2: the words are not understood. 3: the system was refused. A line on `err` says
+/// why.
+pub fn tool<R: Read, W: Write, E: Write>(
+    alloc: Global,
+    words: &[String],
+    reader: &mut R,
+    out: &mut W,
+    err: &mut E,
+) -> u8 {
+    match words {
+        [word] if word.as_str() == "memory" => match run_in_memory(alloc, reader, out) {
+            Ok(()) => 0,
+            Err(fault) => explain(fault, err),
+        },
+        _ => {
+            let _ = writeln!(err, "usage: uffs memory");
+            2
+        }
+    }
+}
+
+fn run_in_memory<R: Read, W: Write>(
+    alloc: Global,
+    reader: &mut R,
+    out: &mut W,
+) -> Result<(), ScriptFault> {
+    match SimFlash::new(alloc, MEMORY_SIZES, &[]) {
+        Ok(mut flash) => run_script(alloc, reader, out, &mut flash),
+        Err(fault) => Err(ScriptFault::Mount(fault)),
+    }
+}
+
+/// Says on `err` why a script did not run to its end, and answers the status.
+fn explain<E: Write>(fault: ScriptFault, err: &mut E) -> u8 {
+    match fault {
+        ScriptFault::Read => {
+            let _ = writeln!(err, "uffs: input");
+            1
+        }
+        ScriptFault::Write => {
+            let _ = writeln!(err, "uffs: output");
+            1
+        }
+        ScriptFault::Memory | ScriptFault::Mount(Fault::NoMemory) => {
+            let _ = writeln!(err, "uffs: ENOMEM 25");
+            1
+        }
+        ScriptFault::Mount(fault) => {
+            let word = fault.word();
+            let number = fault.number();
+            let _ = writeln!(err, "uffs: {word} {number}");
+            3
+        }
+    }
+}

@@ -1,0 +1,17 @@
+-- The calls that are built.
+use Rattle.std.specs.Prelude.{◌≤◌, Bool, true, false, nat_le, length}
+use Rattle.fs_types.specs.declared.calls.Call.{Call}
+
+-- a call that is built; mkdir and list take paths of at most one name
+abbrev pub is_built : Call → Bool
+is_built (Call.Mkdir path) = nat_le (length path) 1
+is_built (Call.List view path) = nat_le (length path) 1
+is_built Call.Log = true
+is_built Call.Undo = true
+is_built Call.Redo = true
+is_built (Call.Goto serial) = true
+is_built (Call.Rollback name) = true
+is_built (Call.Forget count) = true
+is_built (Call.Checkpoint name) = true
+is_built (Call.RemoveCheckpoint name) = true
+is_built _ = false

@@ -1,6 +1,6 @@
 -- The bodies of files: chains of nodes, each with pointers to nodes before it. `room` is the number of
 -- data bytes that a node has where it is full.
-use Rattle.std.specs.Prelude.{◌≡◌, ℕ, zero, suc, ◌+◌, ◌-◌, ◌*◌, ◌/◌, ◌^◌, ◌<◌, ◌≤◌, ◌==◌, Option, Some, None, List, [], ◌++◌, length, take, drop, if◌then◌else◌}
+use Rattle.std.specs.Prelude.{◌≡◌, ℕ, zero, suc, ◌+◌, ◌-◌, ◌*◌, ◌/◌, ◌^◌, ◌≤◌, ◌==◌, Option, Some, None, List, [], ◌++◌, length, take, drop, if◌then◌else◌}
 use Rattle.node_format.specs.Headers.{field, body_front, body_magic}
 
 -- the bytes of the node in each block, none where it holds none

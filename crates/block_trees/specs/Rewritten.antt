@@ -1,5 +1,5 @@
 -- A path of directories written anew from a changed entry up to the root.
-use Rattle.std.specs.Prelude.{◌≡◌, ℕ, Bool, true, Option, Some, None, List, [], ◌∷◌, if◌then◌else◌}
+use Rattle.std.specs.Prelude.{◌≡◌, ℕ, Bool, true, false, Option, Some, List, [], ◌∷◌, if◌then◌else◌}
 use Rattle.fs_types.specs.Names.{Name, Path, same_name}
 use Rattle.node_format.specs.Items.{Item, named}
 use Rattle.node_format.specs.declared.places.Place.{Place}
@@ -19,3 +19,10 @@ IsRewritten old kept new from to (n ∷ []) at = (kept to ≡ true) × IsDirecto
 IsRewritten old kept new from to (n ∷ m ∷ p) at =
     (below : ℕ) × (next : ℕ) × (child old (Dir from) n ≡ Some (Dir below)) × (kept to ≡ true)
     × IsDirectoryEdit old new from to n (Some (Dir next)) × IsRewritten old kept new below next (m ∷ p) at
+
+-- the directories of a path that was written anew are kept, in blocks that were not kept before
+abbrev pub AreFresh : (ℕ → Bool) → (ℕ → Bool) → Blocks → ℕ → Path → Type 0
+AreFresh kept kept' new to [] = ⊥
+AreFresh kept kept' new to (name ∷ []) = (kept to ≡ false) × (kept' to ≡ true)
+AreFresh kept kept' new to (name ∷ next ∷ path) =
+    (below : ℕ) × (child new (Dir to) name ≡ Some (Dir below)) × (kept to ≡ false) × (kept' to ≡ true) × AreFresh kept kept' new below (next ∷ path)

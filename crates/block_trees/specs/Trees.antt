@@ -1,8 +1,11 @@
 -- The tree of a root block: what each path leads to through directory nodes.
-use Rattle.std.specs.Prelude.{◌≡◌, ℕ, ◌≤◌, Option, Some, None, unwrap_or, List, [], ◌∷◌, length}
+use Rattle.std.specs.Prelude.{◌≡◌, ℕ, zero, suc, ◌≤◌, Bool, true, false, Option, Some, None, unwrap_or, List, [], ◌∷◌, length, map}
 use Rattle.std.specs.Option.{option_map, option_and_then}
+use Rattle.std.specs.List.{flat_map}
+use Rattle.std.specs.FinMap.{from_entries}
 use Rattle.fs_types.specs.Names.{Name, Path}
 use Rattle.fs_types.specs.Contents.{Contents, Entry}
+use Rattle.fs_types.specs.Trees.{Tree}
 use Rattle.node_format.specs.Items.{Item, named}
 use Rattle.node_format.specs.Directories.{directory_at}
 use Rattle.node_format.specs.declared.places.Place.{Place}
@@ -51,3 +54,21 @@ HasTree room f from depth = (p : Path) (at : Place) → leads f from p ≡ Some 
 -- a root has a tree of at most 16 names a path
 abbrev pub IsRoot : ℕ → Blocks → ℕ → Type 0
 IsRoot room f root = HasTree room f (Dir root) 16
+
+-- a place with at most so many names below it: each path, with what stands there
+abbrev pub listed : ℕ → Blocks → ℕ → Place → List (Path × Entry)
+listed room f depth (File head size) = ([], Entry.File (body room f head size)) ∷ []
+listed room f zero (Dir block) = ([], Entry.Dir) ∷ []
+listed room f (suc depth) (Dir block) = ([], Entry.Dir) ∷ flat_map (λ item. map (λ e. (item.name ∷ e.0, e.1)) (listed room f depth item.place)) (items_of (f block))
+
+-- the tree of a root as a finite map
+abbrev pub root_tree : ℕ → Blocks → ℕ → Tree
+root_tree room f root = from_entries (listed room f 16 (Dir root))
+
+-- a name in a directory, with whether it is a directory itself
+abbrev pub is_dir_place : Place → Bool
+is_dir_place (Dir block) = true
+is_dir_place (File head size) = false
+
+abbrev pub names_of : List Item → List (Name × Bool)
+names_of items = map (λ item. (item.name, is_dir_place item.place)) items

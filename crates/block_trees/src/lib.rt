@@ -3,5 +3,11 @@
 
 ghost use Rattle.std.specs.Prelude.{◌≡◌};
 
+mod laws;
+mod maps;
+
+pub use laws::{edit_laws, frame_laws};
+pub use maps::map_laws;
+
 /// The deepest path has 16 names.
 pub const DEPTH: usize = 16;

@@ -1,1 +1,4 @@
 pub mod Rewrites
+pub mod EditedPaths
+pub mod NewDirectories
+pub mod LookupLaws

@@ -1,20 +1,18 @@
 -- A path rewritten by one directory more.
-use Rattle.std.proofs.Common.{◌≡◌, ℕ, zero, suc, ◌+◌, ◌<◌, ◌≤◌, ◌⊎◌, inl, inr, Bool, true, false, cond, Option, Some, None, Result, Ok, Err, List, [], ◌∷◌, length, refl, sym, ap, subst, ◌∙◌, arith}
-use Rattle.std.specs.Prelude.{◌&&◌, is_none, nat_le, Contains, unwrap_or, slice_index_or, IfOk, IfErr}
-use Rattle.std.specs.Option.{option_and_then}
+use Rattle.std.proofs.Common.{◌≡◌, ℕ, suc, ◌⊎◌, inl, inr, Bool, true, false, cond, Option, Some, None, Result, Ok, Err, List, [], ◌∷◌, refl, sym, ap, subst, ◌∙◌, arith}
+use Rattle.std.specs.Prelude.{Contains, unwrap_or, slice_index_or, IfOk, IfErr}
 use Rattle.std.proofs.lemmas.Bool.{eq-eqb}
 use Rattle.fs_types.specs.Names.{Name, Path, same_name}
 use Rattle.fs_types.specs.declared.faults.Fault.{Fault}
-use Rattle.fs_types.specs.declared.faults.Fault.TheVariants.{NoEntry, NotDirectory, Damaged, DirectoryFull}
 use Rattle.node_format.specs.Items.{Item, named}
 use Rattle.node_format.specs.declared.places.Place.{Place}
 use Rattle.node_format.specs.declared.places.Place.TheVariants.{Dir, File}
 use Rattle.block_trees.specs.Bodies.{Blocks}
 use Rattle.block_trees.specs.Trees.{entries_of, items_of, child}
 use Rattle.block_trees.specs.Reached.{IsHeld, Keeps, Reached, IsFirst, IsNamed, Names, PlaceNames}
-use Rattle.block_trees.specs.Rewritten.{IsDirectoryEdit, IsRewritten}
-use Rattle.directory.specs.Lookups.{place_in, directory_at, below_in}
-use Rattle.directory.specs.Edits.{edit_refusal, is_edit_fault, AreFresh}
+use Rattle.block_trees.specs.Rewritten.{IsDirectoryEdit, IsRewritten, AreFresh}
+use Rattle.directory.specs.Lookups.{directory_at, below_in}
+use Rattle.directory.specs.Edits.{edit_refusal, is_edit_fault}
 
 -- ---- what is reached
 

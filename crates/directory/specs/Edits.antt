@@ -1,14 +1,14 @@
 -- A path of directories written anew, so that it leads to another place.
-use Rattle.std.specs.Prelude.{◌≡◌, ℕ, ◌==◌, Bool, true, false, not, ◌&&◌, ◌||◌, nat_le, IsTrue, is_none, Option, Some, None, Result, Ok, Err, List, [], ◌∷◌, length, if◌then◌else◌}
+use Rattle.std.specs.Prelude.{◌≡◌, ◌⊎◌, ℕ, Bool, true, false, ◌&&◌, ◌||◌, nat_le, IsTrue, is_none, Option, Some, None, Result, Ok, Err, List, [], ◌∷◌, length, if◌then◌else◌}
 use Rattle.fs_types.specs.Names.{Name, Path}
 use Rattle.fs_types.specs.declared.faults.Fault.{Fault}
 use Rattle.fs_types.specs.declared.faults.Fault.TheVariants.{NoEntry, NotDirectory, Damaged, DirectoryFull, NoMemory}
 use Rattle.node_store.specs.Faults.{is_read_fault, is_write_fault}
 use Rattle.node_format.specs.Items.{Item, named}
 use Rattle.node_format.specs.declared.places.Place.{Place}
-use Rattle.node_format.specs.declared.places.Place.TheVariants.{Dir, File}
 use Rattle.block_trees.specs.Bodies.{Blocks}
-use Rattle.block_trees.specs.Trees.{entries_of, child}
+use Rattle.block_trees.specs.Trees.{entries_of}
+use Rattle.block_trees.specs.Reached.{Reached, PlaceNames}
 use Rattle.directory.specs.Lookups.{below_in}
 
 -- why a directory's entries cannot be edited: it is damaged, or a name is put in that is new and there are 32 entries
@@ -47,9 +47,7 @@ path_refusal f block [] place = None
 path_refusal f block (name ∷ []) place = edit_refusal (entries_of (f block)) name place
 path_refusal f block (name ∷ next ∷ path) place = on_way (below_in (entries_of (f block)) name) (λ below. path_refusal f below (next ∷ path) place)
 
--- the directories of a path that was written anew are kept, in blocks that were not kept before
-abbrev pub AreFresh : (ℕ → Bool) → (ℕ → Bool) → Blocks → ℕ → Path → Type 0
-AreFresh kept kept' new to [] = ⊥
-AreFresh kept kept' new to (name ∷ []) = (kept to ≡ false) × (kept' to ≡ true)
-AreFresh kept kept' new to (name ∷ next ∷ path) =
-    (below : ℕ) × (child new (Dir to) name ≡ Some (Dir below)) × (kept to ≡ false) × (kept' to ≡ true) × AreFresh kept kept' new below (next ∷ path)
+-- each block that the new root reaches was reached by the old one, or was not kept before, or is reached from the new entry
+abbrev pub OnlyReaches : Blocks → Blocks → (ℕ → Bool) → ℕ → ℕ → Option Place → Type 0
+OnlyReaches old new kept from to at =
+    (block : ℕ) → Reached new (to ∷ []) block → Reached old (from ∷ []) block ⊎ (kept block ≡ false) ⊎ ((root : ℕ) × (place : Place) × (at ≡ Some place) × PlaceNames place root × Reached new (root ∷ []) block)

@@ -1,3 +1,3 @@
 pub mod Lookups
-pub mod Found
 pub mod Edits
+pub mod Making

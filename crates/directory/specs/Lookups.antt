@@ -1,14 +1,17 @@
 -- Looking up a path: what it leads to, or why it is refused (POSIX.1-2017, pathname resolution).
-use Rattle.std.specs.Prelude.{◌≡◌, ℕ, Bool, true, false, IsTrue, Option, Some, None, Result, Ok, Err, List, [], ◌∷◌}
+use Rattle.std.specs.Prelude.{ℕ, nat_le, Bool, true, false, IsTrue, Option, Some, None, Result, Ok, Err, List, [], ◌∷◌, length}
 use Rattle.fs_types.specs.Names.{Name, Path}
+use Rattle.fs_types.specs.Contents.{Entry}
 use Rattle.fs_types.specs.declared.faults.Fault.{Fault}
 use Rattle.fs_types.specs.declared.faults.Fault.TheVariants.{NoEntry, NotDirectory, Damaged}
 use Rattle.node_store.specs.Faults.{is_read_fault}
 use Rattle.node_format.specs.Items.{Item, named}
 use Rattle.node_format.specs.declared.places.Place.{Place}
 use Rattle.node_format.specs.declared.places.Place.TheVariants.{Dir, File}
-use Rattle.block_trees.specs.Bodies.{Blocks}
+use Rattle.block_trees.specs.Bodies.{Blocks, body}
 use Rattle.block_trees.specs.Trees.{entries_of}
+use Rattle.directory.specs.declared.lookups.Found.{Found}
+use Rattle.directory.specs.declared.lookups.Found.TheVariants as found
 
 -- the value of a look up that was not refused goes on
 infixl 10 ◌>>=◌
@@ -31,11 +34,34 @@ directory_at (Some (Dir block)) = Ok block
 abbrev pub below_in : Option (List Item) → Name → Result ℕ Fault
 below_in items name = place_in items name >>= directory_at
 
+-- what a place is to a look up; where there is none, its directory may be full
+abbrev pub found_of : Option Place → Bool → Found
+found_of None is_full = found.Missing is_full
+found_of (Some (File head size)) is_full = found.File head size
+found_of (Some (Dir block)) is_full = found.Dir block
+
+-- what the last component leads to in a directory's entries; a directory of 32 entries is full
+abbrev pub found_in : Option (List Item) → Name → Result Found Fault
+found_in None name = Err Damaged
+found_in (Some items) name = Ok (found_of (named items name) (nat_le 32 (length items)))
+
 -- what a path below a directory leads to, or the refusal of its first component that is missing, a file or damaged
-abbrev pub look_up : Blocks → ℕ → Path → Result (Option Place) Fault
-look_up f block [] = Ok (Some (Dir block))
-look_up f block (name ∷ []) = place_in (entries_of (f block)) name
+abbrev pub look_up : Blocks → ℕ → Path → Result Found Fault
+look_up f block [] = Ok (found.Dir block)
+look_up f block (name ∷ []) = found_in (entries_of (f block)) name
 look_up f block (name ∷ next ∷ path) = below_in (entries_of (f block)) name >>= λ below. look_up f below (next ∷ path)
+
+-- what was found, as a place
+abbrev pub place_of : Found → Option Place
+place_of (found.Missing is_full) = None
+place_of (found.File head size) = Some (File head size)
+place_of (found.Dir block) = Some (Dir block)
+
+-- what was found, as what stands at the path
+abbrev pub entry_of : ℕ → Blocks → Found → Option Entry
+entry_of room f (found.Missing is_full) = None
+entry_of room f (found.File head size) = Some (Entry.File (body room f head size))
+entry_of room f (found.Dir block) = Some Entry.Dir
 
 -- the refusals that say what the nodes hold
 abbrev pub is_path_fault : Fault → Bool

@@ -9,12 +9,12 @@ ghost use Rattle.node_format.specs.Headers.{IsNode};
 ghost use Rattle.node_format.specs.declared.places.Place.{Place};
 ghost use Rattle.block_trees.specs.Trees.{entries_of, items_of};
 ghost use Rattle.node_format.specs.declared.places.Place.TheVariants.{Dir};
-ghost use Rattle.block_trees.specs.Reached.{IsHeld};
-ghost use Rattle.block_trees.specs.Rewritten.{IsDirectoryEdit, IsRewritten};
+ghost use Rattle.block_trees.specs.Reached.{IsHeld, Keeps};
+ghost use Rattle.block_trees.specs.Rewritten.{IsDirectoryEdit, IsRewritten, AreFresh};
 ghost use Rattle.directory.specs.Lookups.{below_in};
 ghost use Rattle.directory.specs.Edits as spec;
 
-use crate::lookups::{directory_at, place_in};
+use crate::lookups::{MOST_ENTRIES, directory_at, place_in};
 use fs_types::{Fault, Name, Path};
 use node_format::{Entries, Place};
 use node_store::Nodes;
@@ -36,7 +36,7 @@ fn edited(alloc: Global, bytes: &[u8], name: &Name, place: Option<Place>) -> Res
     let Some(place) = place else {
         return Ok(entries.without_entry(alloc, name.as_bytes())?);
     };
-    if entries.len() >= 32 && entries.named(name.as_bytes()).is_none() {
+    if entries.len() >= MOST_ENTRIES && entries.named(name.as_bytes()).is_none() {
         return Err(Fault::DirectoryFull);
     }
     Ok(entries.with_entry(alloc, name.as_bytes(), place)?)
@@ -110,7 +110,7 @@ fn rewrite<N: Nodes>(
     requires place { IfSome place (λ p. is_place p ≡ true) }
     requires held { IsHeld (N.node nodes.old) (N.kept nodes.old) (Dir block) }
     ensures rewritten { IfOk result (λ to. IsRewritten (N.node nodes.old) (N.kept nodes.new) (N.node nodes.new) block to (name.now ∷ rest.now) place) }
-    ensures fresh { IfOk result (λ to. spec.AreFresh (N.kept nodes.old) (N.kept nodes.new) (N.node nodes.new) to (name.now ∷ rest.now)) }
+    ensures fresh { IfOk result (λ to. AreFresh (N.kept nodes.old) (N.kept nodes.new) (N.node nodes.new) to (name.now ∷ rest.now)) }
     ensures allowed { IfOk result (λ _. spec.path_refusal (N.node nodes.old) block (name.now ∷ rest.now) place ≡ None) }
     ensures refused { IfErr result (λ fault. spec.is_edit_fault fault ≡ true → spec.path_refusal (N.node nodes.old) block (name.now ∷ rest.now) place ≡ Some fault) }
     ensures why { IfErr result (λ fault. spec.is_edit_fault fault ≡ false → N.causes nodes.old nodes.new fault) }
@@ -152,7 +152,9 @@ pub fn with_entry<N: Nodes>(
     requires place { is_place place ≡ true }
     requires held { IsHeld (N.node nodes.old) (N.kept nodes.old) (Dir root) }
     ensures rewritten { IfOk result (λ to. IsRewritten (N.node nodes.old) (N.kept nodes.new) (N.node nodes.new) root to path.now (Some place)) }
-    ensures fresh { IfOk result (λ to. spec.AreFresh (N.kept nodes.old) (N.kept nodes.new) (N.node nodes.new) to path.now) }
+    ensures fresh { IfOk result (λ to. AreFresh (N.kept nodes.old) (N.kept nodes.new) (N.node nodes.new) to path.now) }
+    ensures reaches { IfOk result (λ to. spec.OnlyReaches (N.node nodes.old) (N.node nodes.new) (N.kept nodes.old) root to (Some place)) }
+    ensures keeps { Keeps (N.kept nodes.old) (N.node nodes.old) (N.kept nodes.new) (N.node nodes.new) }
     ensures allowed { IfOk result (λ _. spec.path_refusal (N.node nodes.old) root path.now (Some place) ≡ None) }
     ensures refused { IfErr result (λ fault. spec.is_edit_fault fault ≡ true → spec.path_refusal (N.node nodes.old) root path.now (Some place) ≡ Some fault) }
     ensures why { IfErr result (λ fault. spec.is_edit_fault fault ≡ false → N.causes nodes.old nodes.new fault) }
@@ -184,7 +186,9 @@ pub fn without_entry<N: Nodes>(
     requires below { 0 < length path.now }
     requires held { IsHeld (N.node nodes.old) (N.kept nodes.old) (Dir root) }
     ensures rewritten { IfOk result (λ to. IsRewritten (N.node nodes.old) (N.kept nodes.new) (N.node nodes.new) root to path.now None) }
-    ensures fresh { IfOk result (λ to. spec.AreFresh (N.kept nodes.old) (N.kept nodes.new) (N.node nodes.new) to path.now) }
+    ensures fresh { IfOk result (λ to. AreFresh (N.kept nodes.old) (N.kept nodes.new) (N.node nodes.new) to path.now) }
+    ensures reaches { IfOk result (λ to. spec.OnlyReaches (N.node nodes.old) (N.node nodes.new) (N.kept nodes.old) root to None) }
+    ensures keeps { Keeps (N.kept nodes.old) (N.node nodes.old) (N.kept nodes.new) (N.node nodes.new) }
     ensures allowed { IfOk result (λ _. spec.path_refusal (N.node nodes.old) root path.now None ≡ None) }
     ensures refused { IfErr result (λ fault. spec.is_edit_fault fault ≡ true → spec.path_refusal (N.node nodes.old) root path.now None ≡ Some fault) }
     ensures why { IfErr result (λ fault. spec.is_edit_fault fault ≡ false → N.causes nodes.old nodes.new fault) }

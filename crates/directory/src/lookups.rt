@@ -4,17 +4,19 @@ ghost use Rattle.fs_types.specs.declared.faults.Fault.TheVariants.{NoEntry, NotD
 ghost use Rattle.node_store.specs.Faults.{IsReadFault};
 ghost use Rattle.block_trees.specs.Trees.{entries_of};
 ghost use Rattle.directory.specs.Lookups as spec;
-ghost use Rattle.directory.specs.Found.{place_of};
 
 use fs_types::{Fault, Name, Path};
 use node_format::{Entries, Place};
 use node_store::Nodes;
 
+/// The entries of a full directory.
+pub(crate) const MOST_ENTRIES: usize = 32;
+
 /// What a path leads to.
 #[derive(Clone, Copy, Debug, PartialEq, Eq)]
 pub enum Found {
-    /// The last component is missing.
-    Missing,
+    /// The last component is missing, from a directory that has room for it or 32 entries already.
+    Missing { is_full: bool },
     /// A file, by the block of the last node of its body, and its length in bytes.
     File { head: u32, length: u32 },
     /// A directory, by the block of its node.
@@ -22,11 +24,11 @@ pub enum Found {
 }
 
 impl Found {
-    fn of(place: Option<Place>) -> Self
-        ensures { place_of result ≡ place }
+    fn of(place: Option<Place>, is_full: bool) -> Self
+        ensures { result ≡ spec.found_of place is_full }
     {
         match place {
-            None => Found::Missing,
+            None => Found::Missing { is_full },
             Some(Place::File { head, length }) => Found::File { head, length },
             Some(Place::Dir { block }) => Found::Dir { block },
         }
@@ -71,6 +73,30 @@ pub(crate) fn directory_at(place: Option<Place>) -> Result<u32, Fault>
     }
 }
 
+/// What a name leads to in the directory of a block, as the last component of a path.
+fn found_in<N: Nodes>(nodes: &mut N, block: u32, name: &Name) -> Result<Found, Fault>
+    requires { N.is_sound nodes.old }
+    ensures found { IfOk result (λ found. spec.found_in (entries_of (N.node nodes.old block)) name.now ≡ Ok found) }
+    ensures damaged { IsErrOf result Damaged → entries_of (N.node nodes.old block) ≡ None }
+    ensures why { IfErr result (λ fault. spec.is_path_fault fault ≡ false → N.causes nodes.old nodes.new fault) }
+    ensures faults { IfErr result IsReadFault }
+    ensures same_nodes { N.node nodes.new ≡ N.node nodes.old }
+    ensures same_kept { N.kept nodes.new ≡ N.kept nodes.old }
+    ensures reads { N.reads nodes.new ≡ N.reads nodes.old + 1 }
+    ensures writes { N.writes nodes.new ≡ N.writes nodes.old }
+    ensures follows { N.follows nodes.old nodes.new }
+    ensures sound { N.is_sound nodes.new }
+    ensures limit { N.limit nodes.new ≡ N.limit nodes.old }
+    ensures blocks { N.blocks nodes.new ≡ N.blocks nodes.old }
+{
+    nodes.read(block)?;
+    let Some(entries) = Entries::of(nodes.lent()) else {
+        return Err(Fault::Damaged);
+    };
+    let is_full = entries.len() >= MOST_ENTRIES;
+    Ok(Found::of(entries.named(name.as_bytes()), is_full))
+}
+
 /// What a path below a root leads to. Any content of the nodes is looked up, directories that reach
 /// themselves too: one node is read for each component.
 ///
@@ -79,7 +105,7 @@ pub(crate) fn directory_at(place: Option<Place>) -> Result<u32, Fault>
 /// and with what a read is refused with.
 pub fn lookup<N: Nodes>(nodes: &mut N, root: u32, path: &Path) -> Result<Found, Fault>
     requires { N.is_sound nodes.old }
-    ensures found { IfOk result (λ found. spec.look_up (N.node nodes.old) root path.now ≡ Ok (place_of found)) }
+    ensures found { IfOk result (λ found. spec.look_up (N.node nodes.old) root path.now ≡ Ok found) }
     ensures refused { IfErr result (λ fault. spec.is_path_fault fault ≡ true → spec.look_up (N.node nodes.old) root path.now ≡ Err fault) }
     ensures why { IfErr result (λ fault. spec.is_path_fault fault ≡ false → N.causes nodes.old nodes.new fault) }
     ensures faults { IfErr result spec.IsLookupFault }
@@ -95,10 +121,11 @@ pub fn lookup<N: Nodes>(nodes: &mut N, root: u32, path: &Path) -> Result<Found, 
     let names = path.names();
     let mut block = root;
     for (i, name) in names.iter().enumerate() {
-        let place = place_in(nodes, block, name)?;
         if i + 1 == names.len() {
-            return Ok(Found::of(place));
+            let found = found_in(nodes, block, name)?;
+            return Ok(found);
         }
+        let place = place_in(nodes, block, name)?;
         block = directory_at(place)?;
     }
     Ok(Found::Dir { block })

@@ -1,12 +1,8 @@
-use Rattle.std.proofs.Common.{◌≡◌, ◌∷◌, ℕ, ◌<◌, Bool, true, false, List, Option, Some, Ok, length, ap, subst, sym, ◌∙◌, refl, arith, rules}
-use Rattle.fs_types.specs.declared.faults.Fault.{Fault}
+use Rattle.std.proofs.Common.{◌≡◌, ◌∷◌, ℕ, ◌<◌, Bool, length, ap, subst, sym, refl, arith, rules}
 use Rattle.block_trees.specs.Bodies.{Blocks}
-use Rattle.block_trees.specs.Trees.{entries_of}
 use Rattle.block_trees.specs.Reached.{IsHeld, Keeps, IsFirst}
-use Rattle.block_trees.specs.Rewritten.{IsRewritten}
+use Rattle.block_trees.specs.Rewritten.{IsRewritten, AreFresh}
 use Rattle.node_format.specs.declared.places.Place.TheVariants.{Dir}
-use Rattle.directory.specs.Lookups.{below_in}
-use Rattle.directory.specs.Edits.{is_edit_fault, AreFresh}
 use Rattle.directory.proofs.Rewrites.{Goes, held_below, child_below, path_rewritten, path_fresh, last_refusal, if_err}
 use Rattle.directory.proofs.edits.+rewrite.Goals as goal
 

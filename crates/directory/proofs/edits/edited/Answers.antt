@@ -1,4 +1,4 @@
-use Rattle.std.proofs.Common.{lit≤, arith}
+use Rattle.std.proofs.Common.{lit≤}
 use Rattle.node_store.specs.NodeLaws.{size_within}
 use Rattle.directory.proofs.edits.edited.Goals as goal
 

@@ -1,0 +1,5 @@
+use Rattle.block_trees.proofs.RootMaps.{map_law}
+use Rattle.block_trees.proofs.maps.map_laws.Goals as goal
+
+pub returns : goal.returns
+returns c = record { maps = map_law }

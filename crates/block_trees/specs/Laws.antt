@@ -1,0 +1,62 @@
+-- The laws of trees on a flash: what stays where blocks that no root reaches change, and what a path written anew gives.
+use Rattle.std.specs.Prelude.{◌≡◌, ◌⊎◌, ℕ, ◌-◌, ◌≤◌, Bool, false, Option, Some, None, [], ◌∷◌, length}
+use Rattle.std.specs.FinMap.{get}
+use Rattle.fs_types.specs.Names.{Path}
+use Rattle.fs_types.specs.Contents.{Contents, Entry, nothing, graft}
+use Rattle.fs_types.specs.Trees.{put, children}
+use Rattle.node_format.specs.declared.places.Place.{Place}
+use Rattle.node_format.specs.declared.places.Place.TheVariants.{Dir}
+use Rattle.block_trees.specs.Bodies.{Blocks}
+use Rattle.block_trees.specs.Trees.{items_of, entries_of, leads, tree_at, tree, HasTree, IsRoot, root_tree, names_of}
+use Rattle.block_trees.specs.Reached.{Reached, IsHeld, Keeps, PlaceNames}
+use Rattle.block_trees.specs.Rewritten.{IsRewritten, AreFresh}
+
+-- what a place leads to; nothing where there is no place
+abbrev pub tree_or_nothing : ℕ → Blocks → Option Place → Contents
+tree_or_nothing room f None = nothing
+tree_or_nothing room f (Some at) = tree_at room f at
+
+abbrev pub HasTreeOrNothing : ℕ → Blocks → Option Place → ℕ → Type 0
+HasTreeOrNothing room f None depth = Unit {0}
+HasTreeOrNothing room f (Some at) depth = HasTree room f at depth
+
+abbrev pub IsHeldOrNothing : Blocks → (ℕ → Bool) → Option Place → Type 0
+IsHeldOrNothing f kept None = Unit {0}
+IsHeldOrNothing f kept (Some at) = IsHeld f kept at
+
+-- where all that a place or a root reaches is kept, other blocks may change and nothing of it does
+pub record FrameLaw (old new : Blocks) (kept kept' : ℕ → Bool) : Type 0 where
+  pub held : (at : Place) → IsHeld old kept at → IsHeld new kept' at
+  pub reached : (root block : ℕ) → IsHeld old kept (Dir root) → Reached new (root ∷ []) block → Reached old (root ∷ []) block
+  pub shape : (room depth : ℕ) (at : Place) → IsHeld old kept at → HasTree room old at depth → HasTree room new at depth
+  pub same : (room depth : ℕ) (at : Place) → IsHeld old kept at → HasTree room old at depth → tree_at room new at ≡ tree_at room old at
+  pub roots : (room root : ℕ) → IsHeld old kept (Dir root) → IsRoot room old root → root_tree room new root ≡ root_tree room old root
+
+abbrev pub AllFrames : Type 0
+AllFrames = (old new : Blocks) (kept kept' : ℕ → Bool) → Keeps kept old kept' new → FrameLaw old new kept kept'
+
+-- a path written anew: the new tree is the old one with what the new entry leads to in the place of all below the
+-- path; it is a tree where that is one; all that the new root reaches is kept, and the old root reached it, or the
+-- new entry does, or it is in a block that was not kept before
+pub record EditLaw (old new : Blocks) (kept kept' : ℕ → Bool) (from to : ℕ) (path : Path) (at : Option Place) : Type 0 where
+  pub grafted : (room depth : ℕ) → HasTree room old (Dir from) depth → tree room new to ≡ graft (tree room old from) path (tree_or_nothing room new at)
+  pub shape : (room depth : ℕ) → HasTree room old (Dir from) depth → length path ≤ depth → HasTreeOrNothing room new at (depth - length path) → HasTree room new (Dir to) depth
+  pub held : IsHeldOrNothing new kept' at → IsHeld new kept' (Dir to)
+  pub reached : AreFresh kept kept' new to path → (block : ℕ) → Reached new (to ∷ []) block → Reached old (from ∷ []) block ⊎ (kept block ≡ false) ⊎ ((root : ℕ) × (place : Place) × (at ≡ Some place) × PlaceNames place root × Reached new (root ∷ []) block)
+
+abbrev pub AllEdits : Type 0
+AllEdits = (old new : Blocks) (kept kept' : ℕ → Bool) (from to : ℕ) (path : Path) (at : Option Place) → Keeps kept old kept' new → IsHeld old kept (Dir from) → IsRewritten old kept' new from to path at → EditLaw old new kept kept' from to path at
+
+-- a new empty directory at a path where nothing stood
+abbrev pub MkdirLaw : Type 0
+MkdirLaw = (room : ℕ) (old new : Blocks) (kept kept' : ℕ → Bool) (from to block : ℕ) (path : Path) → Keeps kept old kept' new → IsHeld old kept (Dir from) → IsRoot room old from
+    → tree room old from path ≡ None → length path ≤ 16 → entries_of (new block) ≡ Some [] → IsRewritten old kept' new from to path (Some (Dir block))
+    → IsRoot room new to × (root_tree room new to ≡ put (root_tree room old from) path Entry.Dir)
+
+-- the finite map of a root has at each path what stands there, and lists the entries of its directories
+pub record MapLaw (room : ℕ) (f : Blocks) (root : ℕ) : Type 0 where
+  pub same : get (root_tree room f root) ≡ tree room f root
+  pub lists : (path : Path) (block : ℕ) → leads f (Dir root) path ≡ Some (Dir block) → children (root_tree room f root) path ≡ names_of (items_of (f block))
+
+abbrev pub AllMaps : Type 0
+AllMaps = (room : ℕ) (f : Blocks) (root : ℕ) → IsRoot room f root → MapLaw room f root

@@ -1,0 +1,7 @@
+//! The laws of roots as finite maps from paths.
+ghost use Rattle.block_trees.specs.Laws.{AllMaps};
+
+/// What the finite map of a root has at each path, and what it lists of each directory.
+pub fn map_laws()
+    ensures maps { AllMaps }
+{}

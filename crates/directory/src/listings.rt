@@ -1,0 +1,66 @@
+//! The names in a directory.
+ghost use Rattle.std.specs.Prelude.{◌≡◌, ℕ, ◌+◌, Bool, true, false, List, Some, None, IfOk, IfErr, IsErrOf};
+ghost use Rattle.fs_types.specs.declared.faults.Fault.TheVariants.{NoMemory, Damaged};
+ghost use Rattle.node_store.specs.Faults.{IsReadFault};
+ghost use Rattle.node_format.specs.Items.{Item};
+ghost use Rattle.block_trees.specs.Trees.{entries_of, is_dir_place, names_of};
+ghost use Rattle.directory.specs.Lookups.{is_path_fault};
+
+use fs_types::{Fault, Name, Sequence};
+use node_format::{Entries, Place};
+use node_store::Nodes;
+use std::alloc::{AllocError, Global};
+
+fn is_directory(place: Place) -> bool
+    ensures { result ≡ is_dir_place place }
+{
+    match place {
+        Place::Dir { .. } => true,
+        Place::File { .. } => false,
+    }
+}
+
+/// The names of entries, each with whether it is a directory.
+fn names_in(alloc: Global, entries: Entries<'_>) -> Result<Sequence<(Name, bool)>, Fault>
+    ensures names { IfOk result (λ names. names ≡ names_of entries.entry) }
+    ensures memory { IfErr result (λ fault. fault ≡ NoMemory) }
+{
+    let mut names = Sequence::new(alloc);
+    for entry in entries {
+        let name = Name::new(alloc, entry.name())?;
+        names.push((name, is_directory(entry.place())))?;
+    }
+    Ok(names)
+}
+
+/// The names in the directory of a block, in byte order, each with whether it is a directory. One
+/// node is read.
+///
+/// Refused with `Damaged` where the block holds no directory node, with `NoMemory`, and with what a
+/// read is refused with.
+pub fn names<N: Nodes>(
+    alloc: Global,
+    nodes: &mut N,
+    block: u32,
+) -> Result<Sequence<(Name, bool)>, Fault>
+    requires { N.is_sound nodes.old }
+    ensures names { IfOk result (λ names. (items : List Item) × (entries_of (N.node nodes.old block) ≡ Some items) × (names ≡ names_of items)) }
+    ensures damaged { IsErrOf result Damaged → entries_of (N.node nodes.old block) ≡ None }
+    ensures why { IfErr result (λ fault. is_path_fault fault ≡ false → N.causes nodes.old nodes.new fault) }
+    ensures faults { IfErr result IsReadFault }
+    ensures same_nodes { N.node nodes.new ≡ N.node nodes.old }
+    ensures same_kept { N.kept nodes.new ≡ N.kept nodes.old }
+    ensures reads { N.reads nodes.new ≡ N.reads nodes.old + 1 }
+    ensures writes { N.writes nodes.new ≡ N.writes nodes.old }
+    ensures follows { N.follows nodes.old nodes.new }
+    ensures sound { N.is_sound nodes.new }
+    ensures limit { N.limit nodes.new ≡ N.limit nodes.old }
+    ensures blocks { N.blocks nodes.new ≡ N.blocks nodes.old }
+{
+    nodes.read(block)?;
+    let Some(entries) = Entries::of(nodes.lent()) else {
+        return Err(Fault::Damaged);
+    };
+    let names = names_in(alloc, entries)?;
+    Ok(names)
+}

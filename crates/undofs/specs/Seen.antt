@@ -1,14 +1,66 @@
--- What contracts see of a mounted system.
-use Rattle.std.specs.Prelude.{ℕ, Bool}
-use Rattle.fs_types.specs.History.{Past}
-use Rattle.flash_model.specs.declared.device.Flash.{Ghosts}
-use Rattle.undofs.specs.declared.system.Fs.{Fs}
+-- What contracts see of a flash and the working state on it: the machine that they are, and what refusals depend on.
+use Rattle.std.specs.Prelude.{◌≡◌, ◌≤◌, ℕ, ◌-◌, Bool, true, ◌||◌, nat_le, count_by}
+use Rattle.std.specs.List.{range_with_len}
+use Rattle.std.specs.FinSet as set
+use Rattle.std.specs.Ordering.{nat_cmp}
+use Rattle.fs_types.specs.History.{map_roots}
+use Rattle.fs_types.specs.Trees.{Tree}
+use Rattle.fs_types.specs.Machine.{Machine, Space, mounted}
+use Rattle.flash_model.specs.Device.{Device}
+use Rattle.flash_model.specs.Geometry.{block_bytes}
+use Rattle.allocator.specs.Ring.{data_blocks, free_count}
+use Rattle.node_format.specs.Headers.{body_front}
+use Rattle.node_store.specs.NodePages.{first_data, node_of}
+use Rattle.block_trees.specs.Trees.{root_tree}
+use Rattle.undofs.specs.declared.state.State.{State}
 
-module _ {F : Type 0} {flash : Ghosts F} where
-  -- the history, by the blocks of the roots
-  abbrev pub past : Fs F flash → Past ℕ
-  past fs = fs.state.history
+-- the data bytes that a body node has room for
+abbrev pub room_of : Device → ℕ
+room_of d = block_bytes d.geometry - body_front
 
-  -- a call has answered that the power is off
-  abbrev pub is_off : Fs F flash → Bool
-  is_off fs = fs.state.is_off
+-- the tree that is read off the pages from a root
+abbrev pub tree_on : Device → ℕ → Tree
+tree_on d root = root_tree (room_of d) (node_of d) root
+
+-- the machine: the history with the tree of each root in its place; no file is open
+abbrev pub machine_on : Device → State → Machine
+machine_on d state = mounted (map_roots (tree_on d) state.history)
+
+-- how many of the anchors, the blocks before the first data block, are bad
+abbrev pub bad_anchors : set.FinSet nat_cmp → ℕ
+bad_anchors bad = count_by (set.contains bad) (range_with_len 0 first_data)
+
+-- how many of the data blocks of a flash of so many blocks are bad
+abbrev pub bad_data : ℕ → set.FinSet nat_cmp → ℕ
+bad_data blocks bad = count_by (set.contains bad) (data_blocks blocks)
+
+-- read-only mode is on while 256 blocks or seven anchors are bad
+abbrev pub is_read_only : set.FinSet nat_cmp → Bool
+is_read_only bad = nat_le 256 (set.len bad) || nat_le 7 (bad_anchors bad)
+
+-- what is used of a flash: free blocks are those that the ring has as neither used nor bad
+abbrev pub space_on : Device → State → Space
+space_on d state = record { blocks = d.geometry.blocks - first_data; bad = bad_data d.geometry.blocks state.bad; free = free_count state.ring state.bad; anchors = first_data - bad_anchors state.bad }
+
+-- what the refusals of a call depend on
+pub record Seen : Type 0 where
+  pub powered : Bool
+  pub failed_reads : ℕ
+  pub read_only : Bool
+  pub room : ℕ
+  pub space : Space
+
+abbrev pub seen_on : Device → State → Seen
+seen_on d state = record { powered = d.powered; failed_reads = d.failed_reads; read_only = is_read_only state.bad; room = room_of d; space = space_on d state }
+
+-- the flash came of the other by operations
+pub record IsLaterFlash (old new : Device) : Type 0 where
+  pub geometry : new.geometry ≡ old.geometry
+  pub failed_reads : old.failed_reads ≤ new.failed_reads
+  pub was_on : new.powered ≡ true → old.powered ≡ true
+
+-- what is seen is of a flash that came of this one by operations
+pub record IsFrom (d : Device) (s : Seen) : Type 0 where
+  pub room : s.room ≡ room_of d
+  pub failed_reads : d.failed_reads ≤ s.failed_reads
+  pub was_on : s.powered ≡ true → d.powered ≡ true

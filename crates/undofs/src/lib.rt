@@ -1,9 +1,14 @@
 //! The file system: calls on a flash, with undo, redo and checkpoints.
 #![tactic(auto)]
 
-mod calls;
-mod roots;
+mod checks;
+mod events;
+mod history_calls;
+mod promises;
 mod state;
 mod system;
+mod tree_calls;
 
+pub use events::{Answer, Event};
+pub use promises::laws;
 pub use system::{Fs, is_built};

@@ -1,9 +1,19 @@
 //! The working state: all that a mounted system keeps in memory, apart from the flash.
-ghost use Rattle.std.specs.Prelude.{◌≡◌, ◌<◌, true, false, Err, IfOk, IfErr, OnOk};
+ghost use Rattle.std.specs.Prelude.{◌≡◌, ◌≢◌, ◌<◌, ◌≤◌, ◌↔◌, ◌⊎◌, true, false, Some, Err, [], IfOk, IfErr, vec_len, vec_capacity};
+ghost use Rattle.std.specs.FinSet as set;
+ghost use Rattle.fs_types.specs.History.{fresh};
+ghost use Rattle.fs_types.specs.Machine.{mounted};
+ghost use Rattle.fs_types.specs.Trees.{bare};
+ghost use Rattle.fs_types.specs.declared.faults.Fault.{Fault};
+ghost use Rattle.flash_model.specs.Geometry.{IsGeometry, block_bytes};
+ghost use Rattle.node_store.specs.NodePages.{node_of};
+ghost use Rattle.block_trees.specs.Trees.{entries_of};
 ghost use Rattle.undofs.specs.Mounted.{IsMounted};
+ghost use Rattle.undofs.specs.Seen.{machine_on, IsLaterFlash};
+ghost use Rattle.undofs.specs.Worked.{IsFreshFault};
 
 use allocator::Ring;
-use bad_blocks::{BadBlocks, LIMIT};
+use bad_blocks::BadBlocks;
 use counts::Count;
 use flash_model::Flash;
 use fs_types::Fault;
@@ -32,33 +42,41 @@ pub(crate) struct State {
 impl State {
     /// Writes the empty root of a fresh system of at most `limit` kept versions.
     pub(crate) fn fresh<F: Flash>(alloc: Global, flash: &mut F, limit: u32) -> Result<State, Fault>
-        ensures { IfOk result (IsMounted (F.device flash.new)) }
+        ensures later { IsLaterFlash (F.device flash.old) (F.device flash.new) }
+        ensures mounted { IfOk result (IsMounted (F.device flash.new)) }
+        ensures fresh { IfOk result (λ state. (machine_on (F.device flash.new) state ≡ mounted (fresh limit bare)) × (state.is_off ≡ false)) }
+        ensures sizes { (result ≡ Err Fault.BadGeometry) ↔ ¬ IsGeometry (F.device flash.old).geometry }
+        ensures limits { (result ≡ Err Fault.Invalid) ↔ (IsGeometry (F.device flash.old).geometry × ((limit < 2) ⊎ (64 < limit))) }
+        ensures refused { IfErr result (λ fault. fault ≢ Fault.BadGeometry → fault ≢ Fault.Invalid → IsFreshFault (F.device flash.new) fault) }
     {
-        let geometry = flash.geometry();
-        if !geometry.is_lawful() {
+        if !flash.geometry().is_lawful() {
             return Err(Fault::BadGeometry);
         }
         if limit < 2 || 64 < limit {
             return Err(Fault::Invalid);
         }
+        State::with_empty_root(alloc, flash, limit)
+    }
+
+    /// The same, where the sizes and the limit are lawful.
+    fn with_empty_root<F: Flash>(alloc: Global, flash: &mut F, limit: u32) -> Result<State, Fault>
+        requires lawful { IsGeometry (F.device flash.old).geometry }
+        requires at_least { 2 ≤ limit }
+        requires at_most { limit ≤ 64 }
+        ensures later { IsLaterFlash (F.device flash.old) (F.device flash.new) }
+        ensures mounted { IfOk result (IsMounted (F.device flash.new)) }
+        ensures fresh { IfOk result (λ state. (machine_on (F.device flash.new) state ≡ mounted (fresh limit bare)) × (state.is_off ≡ false)) }
+        ensures refused { IfErr result (IsFreshFault (F.device flash.new)) }
+    {
+        let geometry = flash.geometry();
         let mut bad = BadBlocks::new();
         let mut ring = Ring::new(alloc, geometry.blocks, geometry.blocks - 1)?;
         let mut page = vec![in alloc; 0; geometry.page as usize]?;
         let mut node = Vec::with_capacity(alloc, geometry.block_bytes())?;
-        let root = {
-            let mut store = Store {
-                flash,
-                bad: &mut bad,
-                ring: &mut ring,
-                page: &mut page,
-                node: &mut node,
-                reads: Count::zero(),
-                writes: Count::zero(),
-            };
-            store.write(&empty_directory())?
-        };
+        let root = write_root(flash, &mut bad, &mut ring, &mut page, &mut node)?;
+        let history = History::new(alloc, limit as usize, root)?;
         Ok(State {
-            history: History::new(alloc, limit as usize, root)?,
+            history,
             bad,
             ring,
             page,
@@ -66,58 +84,37 @@ impl State {
             is_off: false,
         })
     }
+}
 
-    /// Refuses a call where an earlier one answered that the power is off.
-    pub(crate) fn check_power(&self) -> Result<(), Fault>
-        ensures ok { OnOk result (self.now.is_off ≡ false) }
-        ensures off { IfErr result (λ fault. (fault ≡ Fault.PowerCut) × (self.now.is_off ≡ true)) }
-    {
-        if self.is_off {
-            Err(Fault::PowerCut)
-        } else {
-            Ok(())
-        }
-    }
-
-    /// Whether at least seven anchors or 256 blocks are bad.
-    pub(crate) fn is_read_only(&self) -> bool {
-        self.bad.len() >= LIMIT || self.bad_anchors() >= 7
-    }
-
-    fn bad_anchors(&self) -> usize {
-        self.bad.iter().filter(|block| **block < 8).count()
-    }
-
-    /// Refuses in read-only mode.
-    pub(crate) fn check_writable(&self) -> Result<(), Fault> {
-        if self.is_read_only() {
-            Err(Fault::ReadOnly)
-        } else {
-            Ok(())
-        }
-    }
-
-    /// Refuses a change in read-only mode, and where no serial is left for it.
-    pub(crate) fn check_change(&self) -> Result<(), Fault>
-        ensures serial { OnOk result (self.now.history.next < u64.MAX) }
-    {
-        self.check_writable()?;
-        if self.history.is_exhausted() {
-            Err(Fault::Overflow)
-        } else {
-            Ok(())
-        }
-    }
-
-    /// Remembers that the power is off, where a call answers that.
-    pub(crate) fn remember_cut<T>(&mut self, answer: Result<T, Fault>) -> Result<T, Fault>
-        ensures same { result ≡ answer }
-        ensures rest { self.new ≡ record self.old { is_off = self.new.is_off } }
-        ensures cut { result ≡ Err Fault.PowerCut → self.new.is_off ≡ true }
-    {
-        if let Err(Fault::PowerCut) = &answer {
-            self.is_off = true;
-        }
-        answer
-    }
+/// Writes an empty directory, and answers its block.
+fn write_root<F: Flash>(
+    flash: &mut F,
+    bad: &mut BadBlocks,
+    ring: &mut Ring,
+    page: &mut Vec<u8>,
+    node: &mut Vec<u8>,
+) -> Result<u32, Fault>
+    requires lawful { IsGeometry (F.device flash.old).geometry }
+    requires ring_blocks { ring.old.blocks ≡ (F.device flash.old).geometry.blocks }
+    requires page_len { vec_len page.old ≡ (F.device flash.old).geometry.page }
+    requires node_room { block_bytes (F.device flash.old).geometry ≤ vec_capacity node.old }
+    ensures later { IsLaterFlash (F.device flash.old) (F.device flash.new) }
+    ensures lawful { IsGeometry (F.device flash.new).geometry }
+    ensures ring_blocks { ring.new.blocks ≡ (F.device flash.new).geometry.blocks }
+    ensures page_len { vec_len page.new ≡ (F.device flash.new).geometry.page }
+    ensures node_room { block_bytes (F.device flash.new).geometry ≤ vec_capacity node.new }
+    ensures kept { IfOk result (λ root. set.contains ring.new.used root ≡ true) }
+    ensures empty { IfOk result (λ root. entries_of (node_of (F.device flash.new) root) ≡ Some []) }
+    ensures refused { IfErr result (IsFreshFault (F.device flash.new)) }
+{
+    let mut store = Store {
+        flash,
+        bad,
+        ring,
+        page,
+        node,
+        reads: Count::zero(),
+        writes: Count::zero(),
+    };
+    store.write(&empty_directory())
 }

@@ -1,7 +1,9 @@
 //! A mounted file system.
-ghost use Rattle.std.specs.Prelude.{◌≡◌, ◌≤◌, true};
+ghost use Rattle.std.specs.Prelude.{◌≡◌, true};
 ghost use Rattle.undofs.specs.Built.{is_built};
+ghost use Rattle.undofs.specs.Steps.{replied, empty, CallStep};
 ghost use Rattle.undofs.specs.Mounted.{IsMounted};
+ghost use Rattle.undofs.specs.Props.{mounted-prop};
 
 use crate::state::State;
 use flash_model::{FaultKind, Flash, Planned};
@@ -19,32 +21,39 @@ use std::alloc::Global;
 pub struct Fs<'f, F: Flash> {
     flash: &'f mut F,
     state: State,
-    ghost mounted: { IsMounted (F.device flash.now) state },
+    ghost mounted: { IsMounted (F.device flash.now) state } by { mounted-prop (F.device flash.now) state },
 }
 
 /// Whether the call is built by now.
 pub fn is_built(call: &Call) -> bool
     ensures { result ≡ is_built call.now }
 {
-    match call {
-        Call::Mkdir { path } | Call::List { path, .. } => path.names().len() <= 1,
-        Call::Log
-        | Call::Undo
-        | Call::Redo
-        | Call::Goto { .. }
-        | Call::Rollback { .. }
-        | Call::Forget { .. }
-        | Call::Checkpoint { .. }
-        | Call::RemoveCheckpoint { .. } => true,
-        _ => false,
-    }
+    matches!(
+        call,
+        Call::Mkdir { .. }
+            | Call::List { .. }
+            | Call::Log
+            | Call::Undo
+            | Call::Redo
+            | Call::Goto { .. }
+            | Call::Rollback { .. }
+            | Call::Forget { .. }
+            | Call::Checkpoint { .. }
+            | Call::RemoveCheckpoint { .. }
+    )
 }
 
 impl<'f, F: Flash> Fs<'f, F> {
-    ghost use Rattle.std.specs.Prelude.{ℕ, false, None, Err, IfOk, OnOk, OnErr};
-    ghost use Rattle.fs_types.specs.History.{fresh, changed, undo_refusal, undone, redo_refusal, redone, serial_refusal, gone_to, rolled_back, forgotten, with_checkpoint, without_checkpoint};
-    ghost use Rattle.history.specs.Answers.{answer};
-    ghost use Rattle.undofs.specs.Seen.{past, is_off};
+    ghost use Rattle.std.specs.Prelude.{◌↔◌, ◌<◌, ◌⊎◌, ℕ, false, Err, IfOk};
+    ghost use Rattle.fs_types.specs.History.{fresh};
+    ghost use Rattle.fs_types.specs.Trees.{bare};
+    ghost use Rattle.fs_types.specs.Machine.{mounted};
+    ghost use Rattle.fs_types.specs.declared.calls.Call.{Call};
+    ghost use Rattle.fs_types.specs.declared.calls.Reply.{Reply};
+    ghost use Rattle.flash_model.specs.Geometry.{IsGeometry};
+    ghost use Rattle.undofs.specs.Runs.{IsSeenOn};
+    ghost use Rattle.undofs.specs.Seen.{IsFrom};
+    ghost use Rattle.undofs.specs.Systems.{seen, machine, is_off, KeepsAllPages, flash_name};
 
     /// A fresh system with an empty root as its version of serial 1, which keeps at most `limit`
     /// versions. It is written to the first data block that works.
@@ -52,7 +61,13 @@ impl<'f, F: Flash> Fs<'f, F> {
     /// [`Fault::BadGeometry`] where the sizes are out of range, else [`Fault::Invalid`] where `limit`
     /// is not 2 to 64, else what the work meets: [`Fault::FlashFull`], [`Fault::ReadOnly`],
     /// [`Fault::PowerCut`], [`Fault::NoMemory`].
-    pub fn fresh(alloc: Global, flash: &'f mut F, limit: u32) -> Result<Fs<'f, F>, Fault> {
+    pub fn fresh(alloc: Global, flash: &'f mut F, limit: u32) -> Result<Fs<'f, F>, Fault>
+        ensures starts { IfOk result (λ fs. IsFrom (F.device flash.old) (seen fs)) }
+        ensures fresh { IfOk result (λ fs. (machine fs ≡ mounted (fresh limit bare)) × (is_off fs ≡ false)) }
+        ensures same_flash { IfOk result (λ fs. flash_name fs ≡ flash.entry.ghost_name) }
+        ensures sizes { (result ≡ Err Fault.BadGeometry) ↔ ¬ IsGeometry (F.device flash.old).geometry }
+        ensures limits { (result ≡ Err Fault.Invalid) ↔ (IsGeometry (F.device flash.old).geometry × ((limit < 2) ⊎ (64 < limit))) }
+    {
         let state = State::fresh(alloc, flash, limit)?;
         Ok(Fs { flash, state })
     }
@@ -63,124 +78,148 @@ impl<'f, F: Flash> Fs<'f, F> {
         alloc: Global,
         view: &View,
         path: &Path,
-    ) -> Result<Sequence<(Name, bool)>, Fault> {
+    ) -> Result<Sequence<(Name, bool)>, Fault>
+        ensures step { CallStep (seen self.old) (machine self.old) (is_off self.old) (Call.List view.now path.now) (replied Reply.Names result) (seen self.new) (machine self.new) (is_off self.new) }
+        ensures pages { (p : ℕ) → (F.device self.new.flash.now).pages p ≡ (F.device self.old.flash.now).pages p }
+        ensures same_flash { flash_name self.new ≡ flash_name self.old }
+    {
         self.state.list(alloc, self.flash, view, path)
     }
 
     /// Makes an empty directory (POSIX.1-2017 `mkdir`, without a mode).
     pub fn mkdir(&mut self, alloc: Global, path: &Path) -> Result<(), Fault>
-        ensures off { is_off self.old ≡ true → result ≡ Err Fault.PowerCut }
-        ensures ok { OnOk result ((root : ℕ) × (past self.new ≡ changed (past self.old) root)) }
-        ensures err { OnErr result (past self.new ≡ past self.old) }
+        ensures step { CallStep (seen self.old) (machine self.old) (is_off self.old) (Call.Mkdir path.now) (replied empty result) (seen self.new) (machine self.new) (is_off self.new) }
+        ensures pages { KeepsAllPages self.old self.new }
+        ensures same_flash { flash_name self.new ≡ flash_name self.old }
     {
         self.state.mkdir(alloc, self.flash, path)
     }
 
     /// The version before becomes the present one.
     pub fn undo(&mut self) -> Result<(), Fault>
-        ensures off { is_off self.old ≡ true → result ≡ Err Fault.PowerCut }
-        ensures answer { is_off self.old ≡ false → result ≡ answer (undo_refusal (past self.old)) }
-        ensures ok { OnOk result (past self.new ≡ undone (past self.old)) }
-        ensures err { OnErr result (past self.new ≡ past self.old) }
+        ensures step { CallStep (seen self.old) (machine self.old) (is_off self.old) Call.Undo (replied empty result) (seen self.new) (machine self.new) (is_off self.new) }
         ensures still { F.device self.new.flash.now ≡ F.device self.old.flash.now }
+        ensures same_flash { flash_name self.new ≡ flash_name self.old }
     {
         self.state.undo()
     }
 
     /// The version after becomes the present one.
     pub fn redo(&mut self) -> Result<(), Fault>
-        ensures off { is_off self.old ≡ true → result ≡ Err Fault.PowerCut }
-        ensures answer { is_off self.old ≡ false → result ≡ answer (redo_refusal (past self.old)) }
-        ensures ok { OnOk result (past self.new ≡ redone (past self.old)) }
-        ensures err { OnErr result (past self.new ≡ past self.old) }
+        ensures step { CallStep (seen self.old) (machine self.old) (is_off self.old) Call.Redo (replied empty result) (seen self.new) (machine self.new) (is_off self.new) }
         ensures still { F.device self.new.flash.now ≡ F.device self.old.flash.now }
+        ensures same_flash { flash_name self.new ≡ flash_name self.old }
     {
         self.state.redo()
     }
 
     /// The version with this serial becomes the present one.
     pub fn goto(&mut self, serial: u64) -> Result<(), Fault>
-        ensures off { is_off self.old ≡ true → result ≡ Err Fault.PowerCut }
-        ensures answer { is_off self.old ≡ false → result ≡ answer (serial_refusal (past self.old) serial) }
-        ensures ok { OnOk result (past self.new ≡ gone_to (past self.old) serial) }
-        ensures err { OnErr result (past self.new ≡ past self.old) }
+        ensures step { CallStep (seen self.old) (machine self.old) (is_off self.old) (Call.Goto serial) (replied empty result) (seen self.new) (machine self.new) (is_off self.new) }
         ensures still { F.device self.new.flash.now ≡ F.device self.old.flash.now }
+        ensures same_flash { flash_name self.new ≡ flash_name self.old }
     {
         self.state.goto(serial)
     }
 
     /// A change to the tree of a checkpoint.
     pub fn rollback(&mut self, name: &CpName) -> Result<(), Fault>
-        ensures off { is_off self.old ≡ true → result ≡ Err Fault.PowerCut }
-        ensures ok { OnOk result (past self.new ≡ rolled_back (past self.old) name.now) }
-        ensures err { OnErr result (past self.new ≡ past self.old) }
+        ensures step { CallStep (seen self.old) (machine self.old) (is_off self.old) (Call.Rollback name.now) (replied empty result) (seen self.new) (machine self.new) (is_off self.new) }
         ensures still { F.device self.new.flash.now ≡ F.device self.old.flash.now }
+        ensures same_flash { flash_name self.new ≡ flash_name self.old }
     {
         self.state.rollback(name)
     }
 
     /// The `count` oldest versions before the present one are dropped.
     pub fn forget(&mut self, count: u64) -> Result<(), Fault>
-        ensures off { is_off self.old ≡ true → result ≡ Err Fault.PowerCut }
-        ensures ok { OnOk result (past self.new ≡ forgotten (past self.old) count) }
-        ensures err { OnErr result (past self.new ≡ past self.old) }
+        ensures step { CallStep (seen self.old) (machine self.old) (is_off self.old) (Call.Forget count) (replied empty result) (seen self.new) (machine self.new) (is_off self.new) }
         ensures still { F.device self.new.flash.now ≡ F.device self.old.flash.now }
+        ensures same_flash { flash_name self.new ≡ flash_name self.old }
     {
         self.state.forget(count)
     }
 
     /// The present tree is kept under a name, until it is removed by that name.
     pub fn checkpoint(&mut self, name: &CpName) -> Result<(), Fault>
-        ensures off { is_off self.old ≡ true → result ≡ Err Fault.PowerCut }
-        ensures ok { OnOk result (past self.new ≡ with_checkpoint (past self.old) name.now) }
-        ensures err { OnErr result (past self.new ≡ past self.old) }
+        ensures step { CallStep (seen self.old) (machine self.old) (is_off self.old) (Call.Checkpoint name.now) (replied empty result) (seen self.new) (machine self.new) (is_off self.new) }
         ensures still { F.device self.new.flash.now ≡ F.device self.old.flash.now }
+        ensures same_flash { flash_name self.new ≡ flash_name self.old }
     {
         self.state.checkpoint(name)
     }
 
     /// The checkpoint of this name is given up.
     pub fn remove_checkpoint(&mut self, name: &CpName) -> Result<(), Fault>
-        ensures off { is_off self.old ≡ true → result ≡ Err Fault.PowerCut }
-        ensures ok { OnOk result (past self.new ≡ without_checkpoint (past self.old) name.now) }
-        ensures err { OnErr result (past self.new ≡ past self.old) }
+        ensures step { CallStep (seen self.old) (machine self.old) (is_off self.old) (Call.RemoveCheckpoint name.now) (replied empty result) (seen self.new) (machine self.new) (is_off self.new) }
         ensures still { F.device self.new.flash.now ≡ F.device self.old.flash.now }
+        ensures same_flash { flash_name self.new ≡ flash_name self.old }
     {
         self.state.remove_checkpoint(name)
     }
 
     /// The history: next serial, kept serials, the present one, and the checkpoints.
-    pub fn log(&self, alloc: Global) -> Result<Reply, Fault> {
+    pub fn log(&self, alloc: Global) -> Result<Reply, Fault>
+        ensures { CallStep (seen self.now) (machine self.now) (is_off self.now) Call.Log result (seen self.now) (machine self.now) (is_off self.now) }
+    {
         self.state.log(alloc)
     }
 
     /// Carries out a call that is built, and answers its reply.
     pub fn call(&mut self, alloc: Global, call: &Call) -> Result<Reply, Fault>
         requires { is_built call.now ≡ true }
+        ensures step { CallStep (seen self.old) (machine self.old) (is_off self.old) call.now result (seen self.new) (machine self.new) (is_off self.new) }
+        ensures pages { KeepsAllPages self.old self.new }
+        ensures same_flash { flash_name self.new ≡ flash_name self.old }
     {
         match call {
-            Call::Mkdir { path } => self.mkdir(alloc, path)?,
-            Call::List { view, path } => return Ok(Reply::Names(self.list(alloc, view, path)?)),
-            Call::Log => return self.log(alloc),
-            Call::Undo => self.undo()?,
-            Call::Redo => self.redo()?,
-            Call::Goto { serial } => self.goto(*serial)?,
-            Call::Rollback { name } => self.rollback(name)?,
-            Call::Forget { count } => self.forget(*count)?,
-            Call::Checkpoint { name } => self.checkpoint(name)?,
-            Call::RemoveCheckpoint { name } => self.remove_checkpoint(name)?,
+            Call::Mkdir { path } => empty_reply(self.mkdir(alloc, path)),
+            Call::List { view, path } => Ok(Reply::Names(self.list(alloc, view, path)?)),
+            Call::Log => self.log(alloc),
+            Call::Undo => empty_reply(self.undo()),
+            Call::Redo => empty_reply(self.redo()),
+            Call::Goto { serial } => empty_reply(self.goto(*serial)),
+            Call::Rollback { name } => empty_reply(self.rollback(name)),
+            Call::Forget { count } => empty_reply(self.forget(*count)),
+            Call::Checkpoint { name } => empty_reply(self.checkpoint(name)),
+            Call::RemoveCheckpoint { name } => empty_reply(self.remove_checkpoint(name)),
             _ => unreachable!(),
         }
-        Ok(Reply::Empty)
+    }
+
+    /// Ends the system, and gives its flash back.
+    pub fn into_flash(self) -> &'f mut F
+        ensures same_flash { result.ghost_name ≡ flash_name self.entry }
+        ensures stands { IsSeenOn (F.device result.now) (seen self.entry) (machine self.entry) }
+    {
+        self.flash
     }
 }
 
+fn empty_reply(answer: Result<(), Fault>) -> Result<Reply, Fault>
+    ensures { result ≡ replied empty answer }
+{
+    answer?;
+    Ok(Reply::Empty)
+}
+
 impl<'f, F: Planned> Fs<'f, F> {
+    ghost use Rattle.std.specs.Prelude.{◌↔◌, ◌≤◌, Err, OnOk, OnErr, IfErr};
+    ghost use Rattle.flash_model.specs.Plan.{planned, IsFull};
+    ghost use Rattle.undofs.specs.Systems.{flash_name};
+
     /// Plans the `k`-th operation of the kind's class from now on, counted from 1, to fail so.
     /// [`Fault::Invalid`] where 64 entries wait and this one replaces none. It works with the power
     /// off too.
     pub fn plan_fault(&mut self, k: u64, kind: FaultKind) -> Result<(), Fault>
         requires { 1 ≤ k }
+        ensures state { self.new.state ≡ self.old.state }
+        ensures still { F.device self.new.flash.now ≡ F.device self.old.flash.now }
+        ensures ok { OnOk result (F.schedule self.new.flash.now ≡ planned (F.schedule self.old.flash.now) k kind) }
+        ensures err { OnErr result (F.schedule self.new.flash.now ≡ F.schedule self.old.flash.now) }
+        ensures full { (result ≡ Err Fault.Invalid) ↔ IsFull (F.schedule self.old.flash.now) k kind }
+        ensures only { IfErr result (λ fault. fault ≡ Fault.Invalid) }
+        ensures same_flash { flash_name self.new ≡ flash_name self.old }
     {
         self.flash.plan_fault(k, kind)
     }

@@ -1,0 +1,43 @@
+-- A fresh system: its one version is the empty root.
+use Rattle.std.proofs.Common.{◌≡◌, ℕ, ◌≤◌, true, Some, [], sym, ap, subst, ◌∙◌, arith}
+use Rattle.std.proofs.lemmas.List.Elements.{All-push}
+use Rattle.std.specs.Prelude.{vec_len, vec_capacity}
+use Rattle.std.specs.FinSet as set
+use Rattle.fs_types.specs.History.{Past, fresh, map_roots}
+use Rattle.fs_types.specs.Machine.{mounted}
+use Rattle.fs_types.specs.Trees.{Tree, bare}
+use Rattle.fs_types.specs.declared.calls.Version.{Version}
+use Rattle.flash_model.specs.Device.{Device}
+use Rattle.flash_model.specs.Geometry.{IsGeometry, block_bytes}
+use Rattle.node_store.specs.NodePages.{node_of}
+use Rattle.block_trees.specs.Trees.{entries_of}
+use Rattle.block_trees.proofs.RootMaps.{empty_root}
+use Rattle.undofs.specs.Seen.{room_of, tree_on}
+use Rattle.undofs.specs.Mounted.{IsStanding, IsMounted}
+use Rattle.undofs.specs.declared.state.State.{State}
+use Rattle.block_trees.proofs.EmptyDirectories.{empty_held}
+use Rattle.undofs.proofs.Standing.{AllStand}
+
+-- an empty root stands
+empty_stands : (d : Device) (s : State) (root : ℕ) → entries_of (node_of d root) ≡ Some [] → set.contains s.ring.used root ≡ true → IsStanding d s.ring root
+empty_stands d s root empty kept = record {
+  held = empty_held (node_of d) root empty (set.contains s.ring.used) kept;
+  rooted = (empty_root (room_of d) (node_of d) root empty).0;
+}
+
+fresh_stand : (d : Device) (s : State) (limit root : ℕ) → IsStanding d s.ring root → AllStand d s.ring (fresh limit root)
+fresh_stand d s limit root stands = record {
+  versions = All-push (λ (v : Version ℕ). IsStanding d s.ring v.root) [] (record { serial = 1; root = root }) (λ k v below. absurd (omega arith)) stands;
+  checkpoints = λ k e below. absurd (omega arith);
+}
+
+pub fresh_mounted : (d : Device) (s : State) (limit root : ℕ) → IsGeometry d.geometry → s.ring.blocks ≡ d.geometry.blocks → vec_len s.page ≡ d.geometry.page → block_bytes d.geometry ≤ vec_capacity s.node
+    → s.history ≡ fresh limit root → entries_of (node_of d root) ≡ Some [] → set.contains s.ring.used root ≡ true → IsMounted d s
+fresh_mounted d s limit root lawful blocks len room is empty kept =
+    let all = subst (AllStand d s.ring) (sym is) (fresh_stand d s limit root (empty_stands d s root empty kept)) in
+    record { lawful = lawful; ring_blocks = blocks; page_len = len; node_room = room; versions = all.versions; checkpoints = all.checkpoints }
+
+pub fresh_machine : (d : Device) (h : Past ℕ) (limit root : ℕ) → h ≡ fresh limit root → entries_of (node_of d root) ≡ Some [] → mounted (map_roots (tree_on d) h) ≡ mounted (fresh limit bare)
+fresh_machine d h limit root is empty =
+    ap (λ (p : Past ℕ). mounted (map_roots (tree_on d) p)) is
+    ∙ ap (λ (t : Tree). mounted (fresh limit t)) (empty_root (room_of d) (node_of d) root empty).1

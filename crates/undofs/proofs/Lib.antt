@@ -1,0 +1,9 @@
+pub mod BadCounts
+pub mod FreshSystems
+pub mod Listings
+pub mod NewDirectories
+pub mod Refusals
+pub mod Roots
+pub mod RunLaws
+pub mod Standing
+pub mod Steps

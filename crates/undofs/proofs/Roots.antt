@@ -1,0 +1,78 @@
+-- What holds of each root of a history holds of each root that a call leaves.
+use Rattle.std.proofs.Common.{◌≡◌, ℕ, ◌+◌, Bool, true, false, cond, Option, Some, None, List, [], ◌∷◌, take, sym, ap, refl, ◌∙◌, subst}
+use Rattle.std.proofs.lemmas.List.Elements.{All-push, All-take, All-drop, All-head, All-tail}
+use Rattle.std.proofs.lemmas.Option.{get_or_from_slice_get, slice_get_within}
+use Rattle.std.specs.Prelude.{All, slice_get, unwrap_or}
+use Rattle.std.specs.Option.{option_map}
+use Rattle.std.specs.BTreeMap.{insert_entry, is_at}
+use Rattle.std.specs.Map.{lookup}
+use Rattle.fs_types.specs.Names.{Name, name_cmp}
+use Rattle.fs_types.specs.declared.calls.Version.{Version}
+use Rattle.fs_types.specs.History.{Past, present_root, checkpoint_root, changed, forgotten, with_checkpoint, without_checkpoint}
+use Rattle.fs_types.proofs.Beneath.{None≢Some, same_Some}
+use Rattle.fs_types.proofs.Checkpoints.{all-inserted, all-removed}
+use Rattle.fs_types.proofs.Versions.{by_change, checkpoints-changed, grown, version}
+
+-- a history with this root, if any, under a name
+abbrev with_root : {R : Type 0} → Past R → Name → Option R → Past R
+with_root p name o = unwrap_or (option_map (λ root. record p { checkpoints = insert_entry name_cmp p.checkpoints name root }) o) p
+
+module _ {R : Type 0} (P : R → Type 0) where
+  -- it holds of the root of each version
+  abbrev pub AllVersions : Past R → Type 0
+  AllVersions p = All (λ v. P v.root) p.versions
+
+  -- it holds of the root of each checkpoint
+  abbrev pub AllCheckpoints : Past R → Type 0
+  AllCheckpoints p = All (λ e. P e.1) p.checkpoints
+
+  -- the root of the present version
+  pub of_present : (p : Past R) (root : R) → AllVersions p → present_root p ≡ Some root → P root
+  of_present p root all e = go (slice_get p.versions p.cursor) refl e
+    where
+      go : (o : Option (Version R)) → slice_get p.versions p.cursor ≡ o → option_map (λ v. v.root) o ≡ Some root → P root
+      go None is e = absurd (None≢Some e)
+      go (Some v) is e = subst P (ap (λ w. w.root) (get_or_from_slice_get p.versions p.cursor v v is) ∙ same_Some e) (all p.cursor v (slice_get_within p.versions p.cursor v is))
+
+  -- the root of a checkpoint
+  found-root : (test : Name → Bool) (es : List (Name × R)) (root : R) → All (λ e. P e.1) es → lookup test es ≡ Some root → P root
+  found-root test [] root all e = absurd (None≢Some e)
+  found-root test (f ∷ es) root all e = go (test f.0) e (found-root test es root (All-tail (λ (e : Name × R). P e.1) f es all))
+    where
+      go : (b : Bool) → cond b (Some f.1) (lookup test es) ≡ Some root → (lookup test es ≡ Some root → P root) → P root
+      go true e rest = subst P (same_Some e) (All-head (λ (e : Name × R). P e.1) f es all)
+      go false e rest = rest e
+
+  pub of_checkpoint : (p : Past R) (name : Name) (root : R) → AllCheckpoints p → checkpoint_root p name ≡ Some root → P root
+  of_checkpoint p name root all e = found-root (is_at (name_cmp name)) p.checkpoints root all e
+
+  -- a change to a root of which it holds
+  pub all_changed : (p : Past R) (root : R) → AllVersions p → P root → AllVersions (changed p root)
+  all_changed p root all here = by_change p root AllVersions (λ few. more) (λ many. All-drop (λ (v : Version R). P v.root) 1 (grown p root) more)
+    where
+      more : All (λ v. P v.root) (grown p root)
+      more = All-push (λ (v : Version R). P v.root) (take (p.cursor + 1) p.versions) (version p.next root) (All-take (λ (v : Version R). P v.root) (p.cursor + 1) p.versions all) here
+
+  pub kept_changed : (p : Past R) (root : R) → AllCheckpoints p → AllCheckpoints (changed p root)
+  kept_changed p root all = subst (All (λ (e : Name × R). P e.1)) (sym (checkpoints-changed p root)) all
+
+  pub all_forgotten : (p : Past R) (count : ℕ) → AllVersions p → AllVersions (forgotten p count)
+  all_forgotten p count all = All-drop (λ (v : Version R). P v.root) count p.versions all
+
+  -- a checkpoint of the present root
+  pub all_with_checkpoint : (p : Past R) (name : Name) → AllVersions p → AllVersions (with_checkpoint p name)
+  all_with_checkpoint p name all = go (present_root p)
+    where
+      go : (o : Option R) → AllVersions (with_root p name o)
+      go None = all
+      go (Some root) = all
+
+  pub kept_with_checkpoint : (p : Past R) (name : Name) → AllVersions p → AllCheckpoints p → AllCheckpoints (with_checkpoint p name)
+  kept_with_checkpoint p name all kept = go (present_root p) refl
+    where
+      go : (o : Option R) → present_root p ≡ o → AllCheckpoints (with_root p name o)
+      go None is = kept
+      go (Some root) is = all-inserted P p.checkpoints name root (of_present p root all is) kept
+
+  pub kept_without_checkpoint : (p : Past R) (name : Name) → AllCheckpoints p → AllCheckpoints (without_checkpoint p name)
+  kept_without_checkpoint p name kept = all-removed P (is_at (name_cmp name)) p.checkpoints kept

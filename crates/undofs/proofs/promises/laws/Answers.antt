@@ -1,0 +1,8 @@
+use Rattle.undofs.proofs.RunLaws.{commit_law, prefix_law}
+use Rattle.undofs.proofs.promises.laws.Goals as goal
+
+pub returns-clause-commits : goal.returns-clause-commits
+returns-clause-commits c = commit_law
+
+pub returns-clause-prefix : goal.returns-clause-prefix
+returns-clause-prefix c = prefix_law

@@ -1,0 +1,74 @@
+//! What calls check before they work, and what they remember after it.
+ghost use Rattle.std.specs.Prelude.{◌≡◌, ◌<◌, ◌⊎◌, ◌||◌, true, false, IfErr, OnOk};
+ghost use Rattle.fs_types.specs.declared.faults.Fault.{Fault};
+ghost use Rattle.undofs.specs.Seen.{is_read_only, bad_anchors};
+ghost use Rattle.undofs.specs.Steps.{last_serial, is_cut_answer};
+
+use crate::state::State;
+use bad_blocks::LIMIT;
+use fs_types::Fault;
+
+impl State {
+    /// Refuses a call where an earlier one answered that the power is off.
+    pub(crate) fn check_power(&self) -> Result<(), Fault>
+        ensures ok { OnOk result (self.now.is_off ≡ false) }
+        ensures off { IfErr result (λ fault. (fault ≡ Fault.PowerCut) × (self.now.is_off ≡ true)) }
+    {
+        if self.is_off {
+            Err(Fault::PowerCut)
+        } else {
+            Ok(())
+        }
+    }
+
+    /// Whether at least seven anchors or 256 blocks are bad.
+    pub(crate) fn is_read_only(&self) -> bool
+        ensures { result ≡ is_read_only self.now.bad }
+    {
+        self.bad.len() >= LIMIT || self.bad_anchors() >= 7
+    }
+
+    /// How many of the anchors, blocks 0 to 7, are bad.
+    fn bad_anchors(&self) -> usize
+        ensures { result ≡ bad_anchors self.now.bad }
+    {
+        (0..8).filter(|block| self.bad.contains(*block)).count()
+    }
+
+    /// Refuses in read-only mode.
+    pub(crate) fn check_writable(&self) -> Result<(), Fault>
+        ensures ok { OnOk result (is_read_only self.now.bad ≡ false) }
+        ensures err { IfErr result (λ fault. (fault ≡ Fault.ReadOnly) × (is_read_only self.now.bad ≡ true)) }
+    {
+        if self.is_read_only() {
+            Err(Fault::ReadOnly)
+        } else {
+            Ok(())
+        }
+    }
+
+    /// Refuses a change in read-only mode, and where no serial is left for it.
+    pub(crate) fn check_change(&self) -> Result<(), Fault>
+        ensures writable { OnOk result (is_read_only self.now.bad ≡ false) }
+        ensures serial { OnOk result (self.now.history.next < last_serial) }
+        ensures err { IfErr result (λ fault. ((fault ≡ Fault.ReadOnly) × (is_read_only self.now.bad ≡ true)) ⊎ ((fault ≡ Fault.Overflow) × (self.now.history.next ≡ last_serial))) }
+    {
+        self.check_writable()?;
+        if self.history.is_exhausted() {
+            Err(Fault::Overflow)
+        } else {
+            Ok(())
+        }
+    }
+
+    /// Remembers that the power is off, where a call answers that.
+    pub(crate) fn remember_cut<T>(&mut self, answer: Result<T, Fault>) -> Result<T, Fault>
+        ensures same { result ≡ answer }
+        ensures off { self.new ≡ record self.old { is_off = self.old.is_off || is_cut_answer answer } }
+    {
+        if let Err(Fault::PowerCut) = &answer {
+            self.is_off = true;
+        }
+        answer
+    }
+}

@@ -1,0 +1,135 @@
+//! The calls on the history, on the working state alone: no device operation is done. Each checks in
+//! order: whether an earlier call answered that the power is off; its own refusals; read-only mode;
+//! and the greatest serial.
+ghost use Rattle.std.specs.Prelude.{◌≡◌, map, IfOk};
+ghost use Rattle.fs_types.specs.declared.calls.Call.{Call};
+ghost use Rattle.fs_types.specs.declared.calls.Reply.{Reply};
+ghost use Rattle.flash_model.specs.Device.{Device};
+ghost use Rattle.undofs.specs.Mounted.{IsMounted, StateStep};
+ghost use Rattle.undofs.specs.Steps.{replied, empty};
+
+use crate::state::State;
+use fs_types::{CpName, Fault, Reply, Sequence, Version};
+use history::MAX_CHECKPOINTS;
+use std::alloc::{AllocError, Global};
+use std::collections::BTreeMap;
+
+impl State {
+    /// The version before becomes the present one.
+    pub(crate) fn undo(&mut self) -> Result<(), Fault>
+        ensures mounted { (device : Device) → IsMounted device self.old → IsMounted device self.new }
+        ensures step { (device : Device) → StateStep device self.old Call.Undo (replied empty result) device self.new }
+    {
+        self.check_power()?;
+        self.history.undo()
+    }
+
+    /// The version after becomes the present one.
+    pub(crate) fn redo(&mut self) -> Result<(), Fault>
+        ensures mounted { (device : Device) → IsMounted device self.old → IsMounted device self.new }
+        ensures step { (device : Device) → StateStep device self.old Call.Redo (replied empty result) device self.new }
+    {
+        self.check_power()?;
+        self.history.redo()
+    }
+
+    /// The version with this serial becomes the present one.
+    pub(crate) fn goto(&mut self, serial: u64) -> Result<(), Fault>
+        ensures mounted { (device : Device) → IsMounted device self.old → IsMounted device self.new }
+        ensures step { (device : Device) → StateStep device self.old (Call.Goto serial) (replied empty result) device self.new }
+    {
+        self.check_power()?;
+        self.history.goto(serial)
+    }
+
+    /// A change to the tree of a checkpoint.
+    pub(crate) fn rollback(&mut self, name: &CpName) -> Result<(), Fault>
+        ensures mounted { (device : Device) → IsMounted device self.old → IsMounted device self.new }
+        ensures step { (device : Device) → StateStep device self.old (Call.Rollback name.now) (replied empty result) device self.new }
+    {
+        self.check_power()?;
+        let root = self.history.checkpoint_root(name)?;
+        self.check_change()?;
+        self.history.push(root);
+        Ok(())
+    }
+
+    /// The oldest versions before the present one are dropped.
+    pub(crate) fn forget(&mut self, count: u64) -> Result<(), Fault>
+        ensures mounted { (device : Device) → IsMounted device self.old → IsMounted device self.new }
+        ensures step { (device : Device) → StateStep device self.old (Call.Forget count) (replied empty result) device self.new }
+    {
+        self.check_power()?;
+        if count > self.history.cursor() as u64 {
+            return Err(Fault::Invalid);
+        }
+        self.check_writable()?;
+        self.history.forget(count)
+    }
+
+    /// The present tree is kept under a name.
+    pub(crate) fn checkpoint(&mut self, name: &CpName) -> Result<(), Fault>
+        ensures mounted { (device : Device) → IsMounted device self.old → IsMounted device self.new }
+        ensures step { (device : Device) → StateStep device self.old (Call.Checkpoint name.now) (replied empty result) device self.new }
+    {
+        self.check_power()?;
+        if self.history.checkpoints().contains_key(name) {
+            return Err(Fault::Exists);
+        }
+        if self.history.checkpoints().len() >= MAX_CHECKPOINTS {
+            return Err(Fault::CheckpointsFull);
+        }
+        self.check_writable()?;
+        self.history.checkpoint(name.clone()?)
+    }
+
+    /// The checkpoint of this name is given up.
+    pub(crate) fn remove_checkpoint(&mut self, name: &CpName) -> Result<(), Fault>
+        ensures mounted { (device : Device) → IsMounted device self.old → IsMounted device self.new }
+        ensures step { (device : Device) → StateStep device self.old (Call.RemoveCheckpoint name.now) (replied empty result) device self.new }
+    {
+        self.check_power()?;
+        self.history.checkpoint_root(name)?;
+        self.check_writable()?;
+        self.history.remove_checkpoint(name)
+    }
+
+    /// The history, as `log` tells it.
+    pub(crate) fn log(&self, alloc: Global) -> Result<Reply, Fault>
+        ensures { (device : Device) → StateStep device self.now Call.Log result device self.now }
+    {
+        self.check_power()?;
+        let versions = serials_of(alloc, self.history.versions())?;
+        let checkpoints = names_of(alloc, self.history.checkpoints())?;
+        Ok(Reply::Log {
+            next: self.history.next_serial(),
+            dropped: self.history.has_dropped(),
+            versions,
+            cursor: self.history.cursor() as u64,
+            checkpoints,
+        })
+    }
+}
+
+fn serials_of(alloc: Global, versions: &[Version<u32>]) -> Result<Sequence<u64>, AllocError>
+    ensures { IfOk result (λ serials. serials ≡ map (λ v. v.serial) versions.now) }
+{
+    let serials: Vec<u64> = versions
+        .iter()
+        .map(|version| version.serial)
+        .collect(alloc)?;
+    Ok(Sequence::from_vec(serials))
+}
+
+fn names_of(
+    alloc: Global,
+    checkpoints: &BTreeMap<CpName, u32>,
+) -> Result<Sequence<CpName>, AllocError>
+    ensures { IfOk result (λ names. names ≡ map (λ e. e.0) checkpoints.now.entries) }
+{
+    let mut names = Sequence::new(alloc);
+    for (name, _) in checkpoints {
+        names.push(name.clone()?)?;
+    }
+    Ok(names)
+}

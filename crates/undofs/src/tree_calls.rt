@@ -1,0 +1,212 @@
+//! The calls on trees, on the working state and the flash. Each checks in order: whether an earlier
+//! call answered that the power is off; its own refusals; read-only mode; the greatest serial; and
+//! then it works.
+ghost use Rattle.std.specs.Prelude.{◌≡◌, ℕ, true, false, None, Some, List, Ok, Err, IfOk, IfErr, OnOk, IsErrOf};
+ghost use Rattle.std.specs.FinSet as set;
+ghost use Rattle.fs_types.specs.History.{present_root};
+ghost use Rattle.fs_types.specs.Names.{is_path};
+ghost use Rattle.fs_types.specs.Machine.{refusal};
+ghost use Rattle.fs_types.specs.declared.calls.Call.{Call};
+ghost use Rattle.fs_types.specs.declared.calls.Reply.{Reply};
+ghost use Rattle.fs_types.specs.declared.faults.Fault.TheVariants.{Damaged};
+ghost use Rattle.node_format.specs.Items.{Item};
+ghost use Rattle.node_format.specs.declared.places.Place.TheVariants.{Dir};
+ghost use Rattle.node_store.specs.Faults.{IsReadFault};
+ghost use Rattle.node_store.specs.NodePages.{node_of};
+ghost use Rattle.block_trees.specs.Reached.{IsHeld};
+ghost use Rattle.block_trees.specs.Trees.{entries_of, names_of};
+ghost use Rattle.directory.specs.declared.lookups.Found.TheVariants.{Missing};
+ghost use Rattle.directory.specs.Lookups.{look_up, is_path_fault, IsLookupFault};
+ghost use Rattle.directory.specs.Making.{IsMade, IsMakeFault};
+ghost use Rattle.undofs.specs.Mounted.{IsMounted, StateStep, KeepsPages};
+ghost use Rattle.undofs.specs.Seen.{seen_on, machine_on};
+ghost use Rattle.undofs.specs.Steps.{replied, empty, is_cut_answer, Refuses, CallStep};
+ghost use Rattle.undofs.specs.Worked.{IsWorked, IsLooked, WorkCause};
+
+use crate::state::State;
+use counts::Count;
+use directory::{Found, lookup, make_directory, names};
+use flash_model::Flash;
+use fs_types::{Fault, Name, Path, Sequence, View};
+use node_store::Store;
+use std::alloc::Global;
+
+impl State {
+    /// The names in a directory of the tree that a view shows.
+    pub(crate) fn list<F: Flash>(
+        &mut self,
+        alloc: Global,
+        flash: &mut F,
+        view: &View,
+        path: &Path,
+    ) -> Result<Sequence<(Name, bool)>, Fault>
+        requires { IsMounted (F.device flash.old) self.old }
+        ensures mounted { IsMounted (F.device flash.new) self.new }
+        ensures step { StateStep (F.device flash.old) self.old (Call.List view.now path.now) (replied Reply.Names result) (F.device flash.new) self.new }
+        ensures pages { (p : ℕ) → (F.device flash.new).pages p ≡ (F.device flash.old).pages p }
+    {
+        self.check_power()?;
+        let names = self.list_view(alloc, flash, view, path);
+        self.remember_cut(names)
+    }
+
+    /// The names, where no call answered before that the power is off.
+    fn list_view<F: Flash>(
+        &mut self,
+        alloc: Global,
+        flash: &mut F,
+        view: &View,
+        path: &Path,
+    ) -> Result<Sequence<(Name, bool)>, Fault>
+        requires { IsMounted (F.device flash.old) self.old }
+        ensures looked { IsLooked (F.device flash.old) self.old (F.device flash.new) self.new }
+        ensures step { CallStep (seen_on (F.device flash.old) self.old) (machine_on (F.device flash.old) self.old) false (Call.List view.now path.now) (replied Reply.Names result) (seen_on (F.device flash.new) self.new) (machine_on (F.device flash.new) self.new) (is_cut_answer result) }
+    {
+        let root = self.history.find(view)?;
+        match self.look_up(flash, root, path)? {
+            Found::Missing { .. } => Err(Fault::NoEntry),
+            Found::File { .. } => Err(Fault::NotDirectory),
+            Found::Dir { block } => self.names_in(alloc, flash, block),
+        }
+    }
+
+    /// Makes an empty directory.
+    pub(crate) fn mkdir<F: Flash>(
+        &mut self,
+        alloc: Global,
+        flash: &mut F,
+        path: &Path,
+    ) -> Result<(), Fault>
+        requires { IsMounted (F.device flash.old) self.old }
+        ensures mounted { IsMounted (F.device flash.new) self.new }
+        ensures step { StateStep (F.device flash.old) self.old (Call.Mkdir path.now) (replied empty result) (F.device flash.new) self.new }
+        ensures pages { KeepsPages (F.device flash.old) self.old.history (F.device flash.new) }
+    {
+        self.check_power()?;
+        let made = self.add_directory(alloc, flash, path);
+        self.remember_cut(made)
+    }
+
+    /// Makes it, where no call answered before that the power is off.
+    fn add_directory<F: Flash>(
+        &mut self,
+        alloc: Global,
+        flash: &mut F,
+        path: &Path,
+    ) -> Result<(), Fault>
+        requires { IsMounted (F.device flash.old) self.old }
+        ensures mounted { IsMounted (F.device flash.new) self.new }
+        ensures step { CallStep (seen_on (F.device flash.old) self.old) (machine_on (F.device flash.old) self.old) false (Call.Mkdir path.now) (replied empty result) (seen_on (F.device flash.new) self.new) (machine_on (F.device flash.new) self.new) (is_cut_answer result) }
+        ensures is_off { self.new.is_off ≡ self.old.is_off }
+        ensures pages { KeepsPages (F.device flash.old) self.old.history (F.device flash.new) }
+    {
+        let root = self.history.root();
+        self.check_missing(flash, root, path)?;
+        self.check_change()?;
+        let root = self.write_directory(alloc, flash, root, path)?;
+        self.history.push(root);
+        Ok(())
+    }
+
+    /// Refuses the root, a path where something stands, and a new name in a full directory.
+    fn check_missing<F: Flash>(
+        &mut self,
+        flash: &mut F,
+        root: u32,
+        path: &Path,
+    ) -> Result<(), Fault>
+        requires mounted { IsMounted (F.device flash.old) self.old }
+        requires present { present_root self.old.history ≡ Some root }
+        ensures looked { IsLooked (F.device flash.old) self.old (F.device flash.new) self.new }
+        ensures lawful { OnOk result (is_path path.now ≡ true) }
+        ensures missing { OnOk result (look_up (node_of (F.device flash.new)) root path.now ≡ Ok (Missing false)) }
+        ensures accepted { OnOk result (refusal (machine_on (F.device flash.old) self.old) (Call.Mkdir path.now) ≡ None) }
+        ensures refused { IfErr result (λ fault. Refuses (seen_on (F.device flash.old) self.old) (machine_on (F.device flash.old) self.old) (Call.Mkdir path.now) fault (seen_on (F.device flash.new) self.new)) }
+    {
+        if path.names().is_empty() {
+            return Err(Fault::Exists);
+        }
+        match self.look_up(flash, root, path)? {
+            Found::Missing { is_full: false } => Ok(()),
+            Found::Missing { is_full: true } => Err(Fault::DirectoryFull),
+            Found::File { .. } => Err(Fault::Exists),
+            Found::Dir { .. } => Err(Fault::Exists),
+        }
+    }
+
+    /// What a path leads to from a root.
+    fn look_up<F: Flash>(&mut self, flash: &mut F, root: u32, path: &Path) -> Result<Found, Fault>
+        requires { IsMounted (F.device flash.old) self.old }
+        ensures looked { IsLooked (F.device flash.old) self.old (F.device flash.new) self.new }
+        ensures nodes { node_of (F.device flash.new) ≡ node_of (F.device flash.old) }
+        ensures found { IfOk result (λ found. look_up (node_of (F.device flash.old)) root path.now ≡ Ok found) }
+        ensures refused { IfErr result (λ fault. is_path_fault fault ≡ true → look_up (node_of (F.device flash.old)) root path.now ≡ Err fault) }
+        ensures why { IfErr result (λ fault. is_path_fault fault ≡ false → WorkCause (seen_on (F.device flash.old) self.old) fault (seen_on (F.device flash.new) self.new)) }
+        ensures faults { IfErr result IsLookupFault }
+    {
+        let mut store = Store {
+            flash,
+            bad: &mut self.bad,
+            ring: &mut self.ring,
+            page: &mut self.page,
+            node: &mut self.node,
+            reads: Count::zero(),
+            writes: Count::zero(),
+        };
+        lookup(&mut store, root, path)
+    }
+
+    /// The names in the directory of a block.
+    fn names_in<F: Flash>(
+        &mut self,
+        alloc: Global,
+        flash: &mut F,
+        block: u32,
+    ) -> Result<Sequence<(Name, bool)>, Fault>
+        requires { IsMounted (F.device flash.old) self.old }
+        ensures looked { IsLooked (F.device flash.old) self.old (F.device flash.new) self.new }
+        ensures names { IfOk result (λ names. (items : List Item) × (entries_of (node_of (F.device flash.old) block) ≡ Some items) × (names ≡ names_of items)) }
+        ensures damaged { IsErrOf result Damaged → entries_of (node_of (F.device flash.old) block) ≡ None }
+        ensures why { IfErr result (λ fault. is_path_fault fault ≡ false → WorkCause (seen_on (F.device flash.old) self.old) fault (seen_on (F.device flash.new) self.new)) }
+        ensures faults { IfErr result IsReadFault }
+    {
+        let mut store = Store {
+            flash,
+            bad: &mut self.bad,
+            ring: &mut self.ring,
+            page: &mut self.page,
+            node: &mut self.node,
+            reads: Count::zero(),
+            writes: Count::zero(),
+        };
+        names(alloc, &mut store, block)
+    }
+
+    /// Writes an empty directory at a path, and answers the block of the new root.
+    fn write_directory<F: Flash>(
+        &mut self,
+        alloc: Global,
+        flash: &mut F,
+        root: u32,
+        path: &Path,
+    ) -> Result<u32, Fault>
+        requires mounted { IsMounted (F.device flash.old) self.old }
+        requires held { IsHeld (node_of (F.device flash.old)) (set.contains self.old.ring.used) (Dir root) }
+        requires missing { look_up (node_of (F.device flash.old)) root path.now ≡ Ok (Missing false) }
+        ensures worked { IsWorked (F.device flash.old) self.old (F.device flash.new) self.new }
+        ensures made { IfOk result (λ to. IsMade (node_of (F.device flash.old)) (node_of (F.device flash.new)) (set.contains self.old.ring.used) (set.contains self.new.ring.used) root to path.now) }
+        ensures why { IfErr result (λ fault. WorkCause (seen_on (F.device flash.old) self.old) fault (seen_on (F.device flash.new) self.new)) }
+        ensures faults { IfErr result IsMakeFault }
+    {
+        let mut store = Store {
+            flash,
+            bad: &mut self.bad,
+            ring: &mut self.ring,
+            page: &mut self.page,
+            node: &mut self.node,
+            reads: Count::zero(),
+            writes: Count::zero(),
+        };
+        make_directory(alloc, &mut store, root, path)
+    }
+}

@@ -1,8 +1,14 @@
 //! A script run on a flash in memory.
+ghost use Rattle.std.specs.Prelude.{◌≡◌};
+ghost use Rattle.flash_model.specs.Simulation.{device_of};
+ghost use Rattle.undofs.specs.Systems.{seen, machine, is_off, flash_name};
+ghost use Rattle.shell.specs.Scripts.{Ends};
+ghost use Rattle.shell.specs.Turns.{Gets, Does, Writes, LinesEnd};
+
 use flash_model::SimFlash;
-use fs_types::{Call, Fault, Reply};
+use fs_types::{Fault, Reply};
 use script::{Answer, Line, LineReader, Taken, print_answer, read_line, write_out};
-use std::alloc::{AllocError, Global};
+use std::alloc::Global;
 use std::io::{Read, Write};
 use thiserror::Error;
 use undofs::{Fs, is_built};
@@ -28,12 +34,6 @@ pub enum ScriptFault {
     Memory,
 }
 
-impl From<AllocError> for ScriptFault {
-    fn from(_error: AllocError) -> ScriptFault {
-        ScriptFault::Memory
-    }
-}
-
 /// Runs a script on a fresh system on this flash, and writes a reply for each line as it is carried
 /// out. The lines and their replies are those of docs/scripts.md.
 ///
@@ -43,51 +43,112 @@ pub fn run_script<R: Read, W: Write>(
     reader: &mut R,
     writer: &mut W,
     flash: &mut SimFlash,
-) -> Result<(), ScriptFault> {
-    let mut system = match Fs::fresh(alloc, flash, HISTORY) {
-        Ok(system) => system,
-        Err(fault) => return Err(ScriptFault::Mount(fault)),
+) -> Result<(), ScriptFault>
+    ensures { Ends (device_of flash.old) (device_of flash.new) (R.remaining reader.old) (R.remaining reader.new) result (W.contents writer.old) (W.contents writer.new) }
+{
+    match Fs::fresh(alloc, flash, HISTORY) {
+        Ok(mut system) => {
+            let ended = run_lines(alloc, reader, writer, &mut system);
+            system.into_flash();
+            ended
+        }
+        Err(fault) => Err(ScriptFault::Mount(fault)),
+    }
+}
+
+/// Carries out the lines of the reader on a mounted system, and writes their answers.
+fn run_lines<R: Read, W: Write>(
+    alloc: Global,
+    reader: &mut R,
+    writer: &mut W,
+    system: &mut Fs<'_, SimFlash>,
+) -> Result<(), ScriptFault>
+    ensures ends { LinesEnd (seen system.old) (machine system.old) (is_off system.old) (R.remaining reader.old) (R.remaining reader.new) result (W.contents writer.old) (W.contents writer.new) (seen system.new) (machine system.new) (is_off system.new) }
+    ensures same_flash { flash_name system.new ≡ flash_name system.old }
+{
+    let mut lines = match LineReader::new(alloc) {
+        Ok(lines) => lines,
+        Err(_) => return Err(ScriptFault::Memory),
     };
-    let mut lines = LineReader::new(alloc)?;
     let mut text = Vec::new(alloc);
     for _ in 0..u64::MAX {
-        let line = match lines.next_line(reader) {
-            Ok(Taken::Line) => read_line(alloc, lines.line())?,
-            Ok(Taken::TooLong) => Line::Syntax,
-            Ok(Taken::End) => return Ok(()),
-            Err(_) => return Err(ScriptFault::Read),
+        let line = match next(alloc, &mut lines, reader) {
+            Ok(Some(line)) => line,
+            Ok(None) => return Ok(()),
+            Err(fault) => return Err(fault),
         };
-        let answer = carry_out(alloc, &mut system, line);
-        text.clear();
-        print_answer(&mut text, &answer)?;
-        if write_out(writer, &text).is_err() {
-            return Err(ScriptFault::Write);
+        let answer = carry_out(alloc, system, line);
+        match write_answer(writer, &mut text, &answer) {
+            Ok(()) => {}
+            Err(fault) => return Err(fault),
         }
     }
     Err(ScriptFault::Read)
 }
 
-/// Carries out what a line asks. What is not built yet has no form of a line.
-fn carry_out(alloc: Global, system: &mut Fs<'_, SimFlash>, line: Line) -> Answer {
-    match line {
-        Line::Call(call) => answer_call(alloc, system, &call),
-        Line::Refused(fault) => Answer::Refused(fault),
-        Line::PlanFault { k, kind } if 0 < k => match system.plan_fault(k, kind) {
-            Ok(()) => Answer::Done(Reply::Empty),
-            Err(fault) => Answer::Refused(fault),
+/// What the next line asks; `None` at the end.
+fn next<R: Read>(
+    alloc: Global,
+    lines: &mut LineReader,
+    reader: &mut R,
+) -> Result<Option<Line>, ScriptFault>
+    ensures { Gets (R.remaining reader.old) (R.remaining reader.new) result }
+{
+    match lines.next_line(reader) {
+        Ok(Taken::Line) => match read_line(alloc, lines.line()) {
+            Ok(line) => Ok(Some(line)),
+            Err(_) => Err(ScriptFault::Memory),
         },
-        Line::PlanFault { .. } | Line::ReclaimStep(_) | Line::Restart | Line::Syntax => {
-            Answer::Syntax
-        }
+        Ok(Taken::TooLong) => Ok(Some(Line::Syntax)),
+        Ok(Taken::End) => Ok(None),
+        Err(_) => Err(ScriptFault::Read),
     }
 }
 
-fn answer_call(alloc: Global, system: &mut Fs<'_, SimFlash>, call: &Call) -> Answer {
-    if !is_built(call) {
-        return Answer::Syntax;
+/// Carries out what a line asks. What is not built yet has no form of a line.
+fn carry_out(alloc: Global, system: &mut Fs<'_, SimFlash>, line: Line) -> Answer
+    ensures does { Does line (seen system.old) (machine system.old) (is_off system.old) result (seen system.new) (machine system.new) (is_off system.new) }
+    ensures same_flash { flash_name system.new ≡ flash_name system.old }
+{
+    match line {
+        Line::Call(call) => {
+            if !is_built(&call) {
+                return Answer::Syntax;
+            }
+            match system.call(alloc, &call) {
+                Ok(reply) => Answer::Done(reply),
+                Err(fault) => Answer::Refused(fault),
+            }
+        }
+        Line::Refused(fault) => Answer::Refused(fault),
+        Line::PlanFault { k, kind } => {
+            if k == 0 {
+                return Answer::Syntax;
+            }
+            match system.plan_fault(k, kind) {
+                Ok(()) => Answer::Done(Reply::Empty),
+                Err(fault) => Answer::Refused(fault),
+            }
+        }
+        Line::ReclaimStep(_) | Line::Restart | Line::Syntax => Answer::Syntax,
     }
-    match system.call(alloc, call) {
-        Ok(reply) => Answer::Done(reply),
-        Err(fault) => Answer::Refused(fault),
+}
+
+/// Writes the text of an answer, which is made in a buffer.
+fn write_answer<W: Write>(
+    writer: &mut W,
+    text: &mut Vec<u8>,
+    answer: &Answer,
+) -> Result<(), ScriptFault>
+    ensures { Writes (W.contents writer.old) (W.contents writer.new) answer.now result }
+{
+    text.clear();
+    match print_answer(text, answer) {
+        Ok(()) => {}
+        Err(_) => return Err(ScriptFault::Memory),
+    }
+    match write_out(writer, text) {
+        Ok(()) => Ok(()),
+        Err(_) => Err(ScriptFault::Write),
     }
 }

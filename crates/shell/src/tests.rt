@@ -179,3 +179,61 @@ fn a_block_that_fails_is_left(rt: HostRuntime) -> Result<(), Fail> {
     assert!(rt; leaves_a_block(rt.alloc(), b"fault 1 erase-fail\nmkdir /a\n")?);
     Ok(())
 }
+
+/// Room for directories down to the greatest depth.
+const LARGE: Geometry = Geometry {
+    page: 256,
+    pages: 16,
+    blocks: 256,
+};
+
+/// How many data blocks hold a node, by their first pages.
+fn node_count(flash: &SimFlash) -> usize {
+    (128..4096u32)
+        .step_by(16)
+        .filter(|page| is_node(flash, *page))
+        .count()
+}
+
+/// Whether the page of a number begins with the word of a directory node.
+fn is_node(flash: &SimFlash, number: u32) -> bool {
+    if number as usize >= flash.geometry().page_count() {
+        return false;
+    }
+    match flash.page(number) {
+        PageView::Data(bytes) => bytes.starts_with(b"UFND"),
+        _ => false,
+    }
+}
+
+/// Makes so many directories, each in the one before, and tells how many nodes stand written then; 0
+/// where one was refused.
+fn nodes_of_depth(alloc: Global, depth: usize) -> Result<usize, Fail> {
+    let mut flash = SimFlash::new(alloc, LARGE, &[])?;
+    let mut path = String::new(alloc);
+    let mut script = String::new(alloc);
+    let mut wanted: Vec<u8> = Vec::new(alloc);
+    for _ in 0..depth {
+        path.push_str("/d")?;
+        write!(&mut script, "mkdir {path}\n")?;
+        wanted.extend_from_slice(b"ok\n")?;
+    }
+    let mut reader = script.as_bytes();
+    let mut out: Vec<u8> = Vec::new(alloc);
+    run_script(alloc, &mut reader, &mut out, &mut flash)?;
+    if out.as_slice() != wanted.as_slice() {
+        return Ok(0);
+    }
+    Ok(node_count(&flash))
+}
+
+#[test]
+fn a_directory_costs_a_node_and_one_a_component(rt: HostRuntime) -> Result<(), Fail> {
+    let mut before = 1;
+    for depth in 1..=16usize {
+        let after = nodes_of_depth(rt.alloc(), depth)?;
+        assert_eq!(rt; after.checked_sub(before), Some(depth + 1), "at {depth}");
+        before = after;
+    }
+    Ok(())
+}

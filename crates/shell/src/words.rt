@@ -1,4 +1,7 @@
 //! What the program `uffs` does with its words.
+ghost use Rattle.std.specs.Prelude.{◌≡◌, map, string_bytes};
+ghost use Rattle.shell.specs.Words.{is_memory, fault_status, EndsInMemory, ToolBy};
+
 use crate::scripts::{ScriptFault, run_script};
 use flash_model::{Geometry, SimFlash};
 use fs_types::Fault;
@@ -24,16 +27,26 @@ pub fn tool<R: Read, W: Write, E: Write>(
     reader: &mut R,
     out: &mut W,
     err: &mut E,
-) -> u8 {
+) -> u8
+    ensures { ToolBy MEMORY_SIZES (is_memory (map string_bytes words.now)) (R.remaining reader.old) (R.remaining reader.new) result (W.contents out.old) (W.contents out.new) }
+{
+    if !is_memory(words) {
+        let _ = writeln!(err, "usage: uffs memory");
+        return 2;
+    }
+    match run_in_memory(alloc, reader, out) {
+        Ok(()) => 0,
+        Err(fault) => explain(fault, err),
+    }
+}
+
+/// Whether the words are `memory` alone.
+fn is_memory(words: &[String]) -> bool
+    ensures { result ≡ is_memory (map string_bytes words.now) }
+{
     match words {
-        [word] if word.as_str() == "memory" => match run_in_memory(alloc, reader, out) {
-            Ok(()) => 0,
-            Err(fault) => explain(fault, err),
-        },
-        _ => {
-            let _ = writeln!(err, "usage: uffs memory");
-            2
-        }
+        [word] => word.as_str() == "memory",
+        _ => false,
     }
 }
 
@@ -41,7 +54,9 @@ fn run_in_memory<R: Read, W: Write>(
     alloc: Global,
     reader: &mut R,
     out: &mut W,
-) -> Result<(), ScriptFault> {
+) -> Result<(), ScriptFault>
+    ensures { EndsInMemory MEMORY_SIZES (R.remaining reader.old) (R.remaining reader.new) result (W.contents out.old) (W.contents out.new) }
+{
     match SimFlash::new(alloc, MEMORY_SIZES, &[]) {
         Ok(mut flash) => run_script(alloc, reader, out, &mut flash),
         Err(fault) => Err(ScriptFault::Mount(fault)),
@@ -49,7 +64,9 @@ fn run_in_memory<R: Read, W: Write>(
 }
 
 /// Says on `err` why a script did not run to its end, and answers the status.
-fn explain<E: Write>(fault: ScriptFault, err: &mut E) -> u8 {
+fn explain<E: Write>(fault: ScriptFault, err: &mut E) -> u8
+    ensures { result ≡ fault_status fault }
+{
     match fault {
         ScriptFault::Read => {
             let _ = writeln!(err, "uffs: input");

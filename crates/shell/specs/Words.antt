@@ -1,0 +1,33 @@
+-- What the program's words lead to.
+use Rattle.std.specs.Prelude.{◌≡◌, ℕ, Bool, true, false, Option, Result, Ok, Err, List, [], ◌∷◌, codes}
+use Rattle.std.specs.Str.{bytes_eq}
+use Rattle.fs_types.specs.declared.faults.Fault.{Fault}
+use Rattle.flash_model.specs.Device.{Device}
+use Rattle.flash_model.specs.Simulation.{IsNew}
+use Rattle.flash_model.specs.declared.sizes.Geometry.{Geometry}
+use Rattle.shell.specs.Scripts.{EndsBy, Session}
+use Rattle.shell.specs.declared.scripts.ScriptFault.{ScriptFault}
+
+-- `memory` alone
+abbrev pub is_memory : List (List ℕ) → Bool
+is_memory (word ∷ []) = bytes_eq word (codes "memory")
+is_memory _ = false
+
+-- 1 where the input, the output or memory failed, and 3 where the system was refused
+abbrev pub fault_status : ScriptFault → ℕ
+fault_status (ScriptFault.Mount Fault.NoMemory) = 1
+fault_status (ScriptFault.Mount _) = 3
+fault_status _ = 1
+
+abbrev pub status_of : Result (Unit {0}) ScriptFault → ℕ
+status_of (Ok done) = 0
+status_of (Err fault) = fault_status fault
+
+-- how a script ends on a new flash of its own
+abbrev pub EndsInMemory : Geometry → Option (List ℕ) → Option (List ℕ) → Result (Unit {0}) ScriptFault → Option (List ℕ) → Option (List ℕ) → Type 0
+EndsInMemory sizes input left result old new = EndsBy (λ lines answers. (start : Device) × (end : Device) × IsNew sizes start × Session start end lines answers) input left result old new
+
+-- by whether the words are understood: the script of the input ended with this status; or nothing was read or written
+abbrev pub ToolBy : Geometry → Bool → Option (List ℕ) → Option (List ℕ) → ℕ → Option (List ℕ) → Option (List ℕ) → Type 0
+ToolBy sizes true input left status old new = (result : Result (Unit {0}) ScriptFault) × EndsInMemory sizes input left result old new × (status ≡ status_of result)
+ToolBy sizes false input left status old new = (left ≡ input) × (new ≡ old) × (status ≡ 2)

@@ -11,12 +11,13 @@ use Rattle.block_trees.specs.Bodies.{Blocks}
 use Rattle.block_trees.specs.Trees.{entries_of, items_of, child}
 use Rattle.block_trees.specs.Reached.{IsHeld, Keeps, Reached, IsFirst, IsNamed, Names}
 use Rattle.block_trees.specs.Rewritten.{IsDirectoryEdit, IsRewritten, AreFresh}
+use Rattle.block_trees.proofs.Reaching.{held_child}
 use Rattle.directory.specs.declared.lookups.Found.{Found}
 use Rattle.directory.specs.declared.lookups.Found.TheVariants as found
 use Rattle.directory.specs.Lookups.{below_in, found_of, found_in, look_up, ◌>>=◌}
 use Rattle.directory.specs.Edits.{edit_refusal, path_refusal, on_way, is_edit_fault, IsEditFault}
 use Rattle.directory.specs.Making.{IsMakeFault}
-use Rattle.directory.proofs.Rewrites.{held_below, child_below}
+use Rattle.directory.proofs.Rewrites.{child_below}
 
 -- ---- what is held stays
 
@@ -63,7 +64,7 @@ room_later f g k l keeps (n ∷ m ∷ p) root place held e =
     let step = on_below (below_in (entries_of (f root)) n) (λ below. look_up f below (m ∷ p)) (found.Missing false) e in
     ap (λ (node : Option (List ℕ)). on_way (below_in (entries_of node) n) (λ below. path_refusal g below (m ∷ p) (Some place))) (same_held f g k l keeps root held)
     ∙ ap (λ (below : Result ℕ Fault). on_way below (λ below. path_refusal g below (m ∷ p) (Some place))) step.1
-    ∙ room_later f g k l keeps (m ∷ p) step.0 place (held_below f k root step.0 n (child_below f root n step.0 step.1) held) step.2
+    ∙ room_later f g k l keeps (m ∷ p) step.0 place (held_child f k (Dir root) n (Dir step.0) (child_below f root n step.0 step.1) held) step.2
 
 -- ---- a rewriting after a write
 
@@ -77,7 +78,7 @@ rewritten_before f g h k l kept keeps (n ∷ []) from to at held (is_kept, edit)
 rewritten_before f g h k l kept keeps (n ∷ m ∷ p) from to at held (below, next, leads, is_kept, edit, rest) =
     let same = same_held f g k l keeps from held in
     let led : child f (Dir from) n ≡ Some (Dir below) = ap (λ (node : Option (List ℕ)). named (items_of node) n) (sym same) ∙ leads in
-    (below, next, led, is_kept, edit_before f g h from to n (Some (Dir next)) same edit, rewritten_before f g h k l kept keeps (m ∷ p) below next at (held_below f k from below n led held) rest)
+    (below, next, led, is_kept, edit_before f g h from to n (Some (Dir next)) same edit, rewritten_before f g h k l kept keeps (m ∷ p) below next at (held_child f k (Dir from) n (Dir below) led held) rest)
 
 pub fresh_before : (k l kept : ℕ → Bool) (h : Blocks) → ((b : ℕ) → l b ≡ false → k b ≡ false) → (path : Path) (to : ℕ) → AreFresh l kept h to path → AreFresh k kept h to path
 fresh_before k l kept h was [] to r = absurd r

@@ -1,59 +1,18 @@
 -- A path rewritten by one directory more.
-use Rattle.std.proofs.Common.{◌≡◌, ℕ, suc, ◌⊎◌, inl, inr, Bool, true, false, cond, Option, Some, None, Result, Ok, Err, List, [], ◌∷◌, refl, sym, ap, subst, ◌∙◌, arith}
-use Rattle.std.specs.Prelude.{Contains, unwrap_or, slice_index_or, IfOk, IfErr}
-use Rattle.std.proofs.lemmas.Bool.{eq-eqb}
+use Rattle.std.proofs.Common.{◌≡◌, ℕ, Bool, true, false, cond, Option, Some, None, Result, Ok, Err, List, [], ◌∷◌, refl, sym, ap, subst, ◌∙◌}
+use Rattle.std.specs.Prelude.{unwrap_or, IfOk, IfErr}
 use Rattle.fs_types.specs.Names.{Name, Path, same_name}
 use Rattle.fs_types.specs.declared.faults.Fault.{Fault}
+use Rattle.fs_types.proofs.Orders.{same_name-own}
 use Rattle.node_format.specs.Items.{Item, named}
 use Rattle.node_format.specs.declared.places.Place.{Place}
 use Rattle.node_format.specs.declared.places.Place.TheVariants.{Dir, File}
 use Rattle.block_trees.specs.Bodies.{Blocks}
 use Rattle.block_trees.specs.Trees.{entries_of, items_of, child}
-use Rattle.block_trees.specs.Reached.{IsHeld, Keeps, Reached, IsFirst, IsNamed, Names, PlaceNames}
+use Rattle.block_trees.specs.Reached.{Keeps}
 use Rattle.block_trees.specs.Rewritten.{IsDirectoryEdit, IsRewritten, AreFresh}
 use Rattle.directory.specs.Lookups.{directory_at, below_in}
 use Rattle.directory.specs.Edits.{edit_refusal, is_edit_fault}
-
--- ---- what is reached
-
-chosen : {A : Type 0} (b : Bool) (x y z : A) → cond b x y ≡ z → ((b ≡ true) × (x ≡ z)) ⊎ ((b ≡ false) × (y ≡ z))
-chosen true x y z e = inl (refl, e)
-chosen false x y z e = inr (refl, e)
-
-abbrev some_place : Place → Option Place
-some_place place = Some place
-
-place_is : (x y : Place) → some_place x ≡ some_place y → x ≡ y
-place_is x y e = cc
-
--- a name that leads to a place has an entry
-named_contains : (items : List Item) (name : Name) (place : Place) → named items name ≡ Some place → (item : Item) × Contains items item × (item.place ≡ place)
-named_contains [] name place e = absurd cc
-named_contains (item ∷ items) name place e =
-    elim (chosen (same_name item.name name) (Some item.place) (named items name) (Some place) e) [
-      | inl here ↦ (item, (0, omega arith, refl), place_is item.place place here.1)
-      | inr later ↦ let found = named_contains items name place later.1 in (found.0, (suc found.1.0, omega (arith, found.1.1), found.1.2), found.2)
-    ]
-
-only : (x y : ℕ) → Contains (x ∷ []) y → x ≡ y
-only x y (k, lt, e) =
-    let zeroth : k ≡ 0 = omega arith in
-    ap (λ (j : ℕ). slice_index_or (x ∷ []) j y) (sym zeroth) ∙ e
-
--- what a directory in a directory reaches, the outer one reaches
-reached_below : (f : Blocks) (block below : ℕ) → Names (f block) below → {b : ℕ} → Reached f (below ∷ []) b → Reached f (block ∷ []) b
-reached_below f block below names {b} (IsFirst first) =
-    subst (λ (x : ℕ). Reached f (block ∷ []) x) (only below b first) (IsNamed (IsFirst (0, omega arith, refl)) names)
-reached_below f block below names (IsNamed before by) = IsNamed (reached_below f block below names before) by
-
-dir_names : (place : Place) (below : ℕ) → place ≡ Dir below → PlaceNames place below
-dir_names place below e = subst (λ (p : Place). PlaceNames p below) (sym e) refl
-
-pub held_below : (f : Blocks) (kept : ℕ → Bool) (block below : ℕ) (name : Name) → child f (Dir block) name ≡ Some (Dir below) → IsHeld f kept (Dir block) → IsHeld f kept (Dir below)
-held_below f kept block below name leads held root is b reached =
-    let found = named_contains (items_of (f block)) name (Dir below) leads in
-    let names : Names (f block) below = inl (found.0, found.1, dir_names found.0.place below found.2) in
-    held block refl b (reached_below f block below names (subst (λ (r : ℕ). Reached f (r ∷ []) b) (sym is) reached))
 
 -- ---- one directory more
 
@@ -95,10 +54,6 @@ fresh_later k0 f1 f2 k1 k2 keeps (n ∷ []) to (fresh, kept) = (fresh, keeps.sta
 fresh_later k0 f1 f2 k1 k2 keeps (n ∷ m ∷ p) to (below, leads, fresh, kept, rest) =
     (below, ap (λ (node : Option (List ℕ)). named (items_of node) n) (keeps.same to kept) ∙ leads, fresh, keeps.stays to kept, fresh_later k0 f1 f2 k1 k2 keeps (m ∷ p) below rest)
 
-same_name-self : (a : Name) → same_name a a ≡ true
-same_name-self [] = refl
-same_name-self (x ∷ a) = rw (eq-eqb x x refl) (same_name-self a)
-
 pub rewritten_one : (f0 f1 f2 : Blocks) (k1 k2 : ℕ → Bool) (block to below next : ℕ) (name m : Name) (p : Path) (at : Option Place) → f1 block ≡ f0 block → child f0 (Dir block) name ≡ Some (Dir below)
     → Keeps k1 f1 k2 f2 → IsRewritten f0 k1 f1 below next (m ∷ p) at → IsDirectoryEdit f1 f2 block to name (Some (Dir next)) → k2 to ≡ true → IsRewritten f0 k2 f2 block to (name ∷ m ∷ p) at
 rewritten_one f0 f1 f2 k1 k2 block to below next name m p at same leads keeps lower (items, spelled, named_so) kept = (
@@ -113,7 +68,7 @@ rewritten_one f0 f1 f2 k1 k2 block to below next name m p at same leads keeps lo
 pub fresh_one : (f1 f2 : Blocks) (k0 k1 k2 : ℕ → Bool) (block to next : ℕ) (name m : Name) (p : Path) → Keeps k1 f1 k2 f2 → AreFresh k0 k1 f1 next (m ∷ p) → IsDirectoryEdit f1 f2 block to name (Some (Dir next))
     → k0 to ≡ false → k2 to ≡ true → AreFresh k0 k2 f2 to (name ∷ m ∷ p)
 fresh_one f1 f2 k0 k1 k2 block to next name m p keeps lower (items, spelled, named_so) fresh kept =
-    let leads : child f2 (Dir to) name ≡ Some (Dir next) = ap (λ (found : Option (List Item)). named (unwrap_or found []) name) spelled ∙ named_so name ∙ rw (same_name-self name) refl in
+    let leads : child f2 (Dir to) name ≡ Some (Dir next) = ap (λ (found : Option (List Item)). named (unwrap_or found []) name) spelled ∙ named_so name ∙ rw (same_name-own name) refl in
     (next, leads, fresh, kept, fresh_later k0 f1 f2 k1 k2 keeps (m ∷ p) next lower)
 
 -- ---- the states of a rewriting: at first (0), with the directories below written (1), and with this one too (2)

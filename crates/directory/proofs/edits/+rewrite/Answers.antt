@@ -3,13 +3,14 @@ use Rattle.block_trees.specs.Bodies.{Blocks}
 use Rattle.block_trees.specs.Reached.{IsHeld, Keeps, IsFirst}
 use Rattle.block_trees.specs.Rewritten.{IsRewritten, AreFresh}
 use Rattle.node_format.specs.declared.places.Place.TheVariants.{Dir}
-use Rattle.directory.proofs.Rewrites.{Goes, held_below, child_below, path_rewritten, path_fresh, last_refusal, if_err}
+use Rattle.block_trees.proofs.Reaching.{held_child}
+use Rattle.directory.proofs.Rewrites.{Goes, child_below, path_rewritten, path_fresh, last_refusal, if_err}
 use Rattle.directory.proofs.edits.+rewrite.Goals as goal
 
 pub rewrite-requires : goal.rewrite-requires
 rewrite-requires g t c κs within =
     let leads = child_below (g.N.Nodes.node c.args.nodes.now) c.args.block c.args.name.now c.in_ok-below.below c.in_ok-below.ensures.found in
-    let held = held_below (g.N.Nodes.node c.args.nodes.now) (g.N.Nodes.kept c.args.nodes.now) c.args.block c.in_ok-below.below c.args.name.now leads c.requires.held in
+    let held = held_child (g.N.Nodes.node c.args.nodes.now) (g.N.Nodes.kept c.args.nodes.now) (Dir c.args.block) c.args.name.now (Dir c.in_ok-below.below) leads c.requires.held in
     let here : IsHeld (g.N.Nodes.node c.directory_below.new.nodes) (g.N.Nodes.kept c.directory_below.new.nodes) (Dir c.in_ok-below.below) =
     subst (λ (k : ℕ → Bool). IsHeld (g.N.Nodes.node c.directory_below.new.nodes) k (Dir c.in_ok-below.below)) (sym c.directory_below.ensures.same_kept)
     (subst (λ (f : Blocks). IsHeld f (g.N.Nodes.kept c.args.nodes.now) (Dir c.in_ok-below.below)) (sym c.directory_below.ensures.same_nodes) held) in

@@ -4,5 +4,5 @@ mod ViewLemmas
 mod VerbLemmas
 mod SerialLemmas
 mod StreamLemmas
-mod LineLemmas
+pub mod LineLemmas
 mod SpellingLemmas

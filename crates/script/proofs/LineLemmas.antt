@@ -27,13 +27,14 @@ lines_of_some : (line : List ℕ) → NoLf line → 0 < length line → lines_of
 lines_of_some [] h some = absurd (omega arith)
 lines_of_some (b ∷ line) h some = lines_of_end b line h
 
-taken_lines : (old new : Option (List ℕ)) (line : List ℕ) → TakesLine old new line → BeginsWithLines old (line ∷ []) new
-taken_lines None new line h = tt
-taken_lines (Some xs) None line (h, inl lf) = absurd lf
-taken_lines (Some xs) None line (h, inr end) = absurd end.0
-taken_lines (Some xs) (Some ys) line (h, inl lf) =
+-- a line that was taken is the first one of known bytes
+pub taken_line : (old new : Option (List ℕ)) (line : List ℕ) → TakesLine old new line → BeginsWithLines old (line ∷ []) new
+taken_line None new line h = tt
+taken_line (Some xs) None line (h, inl lf) = absurd lf
+taken_line (Some xs) None line (h, inr end) = absurd end.0
+taken_line (Some xs) (Some ys) line (h, inl lf) =
     ap lines_of (lf ∙ append_assoc line (10 ∷ []) ys) ∙ lines_of_lf line ys (recursion_from_All (λ b. b ≢ 10) line h)
-taken_lines (Some xs) (Some ys) line (h, inr end) =
+taken_line (Some xs) (Some ys) line (h, inr end) =
     ap lines_of (end.0 ∙ ap (λ (l : List ℕ). line ++ l) end.1 ∙ append-nil line) ∙ lines_of_some line (recursion_from_All (λ b. b ≢ 10) line h) end.2
     ∙ ap (λ (l : List ℕ). line ∷ lines_of l) (sym end.1)
 
@@ -43,7 +44,7 @@ no_lines (Some xs) None h = absurd h
 no_lines (Some xs) (Some ys) h = ap lines_of h
 
 pub lines_from_taken : {E : Type 0} → (old new : Option (List ℕ)) (r : Result Taken E) (line : List ℕ) → Takes old new r line → TakesLines old new r line
-lines_from_taken old new (Ok Line) line h = taken_lines old new line h.0
-lines_from_taken old new (Ok TooLong) line h = (h.0, h.2, taken_lines old new h.0 h.1)
+lines_from_taken old new (Ok Line) line h = taken_line old new line h.0
+lines_from_taken old new (Ok TooLong) line h = (h.0, h.2, taken_line old new h.0 h.1)
 lines_from_taken old new (Ok End) line h = no_lines old new h.0
 lines_from_taken old new (Err error) line h = tt

@@ -24,15 +24,15 @@ use Rattle.block_trees.proofs.Frames.{frame_law, reached_before, tree_same}
 use Rattle.block_trees.proofs.RootMaps.{map_law}
 
 -- what to show of a choice, by the test
-by_test : (test : Bool) {P : Type 0} → (test ≡ true → P) → (test ≡ false → P) → P
+pub by_test : (test : Bool) {P : Type 0} → (test ≡ true → P) → (test ≡ false → P) → P
 by_test true is differs = is refl
 by_test false is differs = differs refl
 
 -- what an edited directory's names lead to
-edited_child : (old new : Blocks) (from to : ℕ) (n m : Name) (at : Option Place) → IsDirectoryEdit old new from to n at → child new (Dir to) m ≡ cond (same_name n m) at (child old (Dir from) m)
+pub edited_child : (old new : Blocks) (from to : ℕ) (n m : Name) (at : Option Place) → IsDirectoryEdit old new from to n at → child new (Dir to) m ≡ cond (same_name n m) at (child old (Dir from) m)
 edited_child old new from to n m at (items, spelled, leads) = ap (λ (found : Option (List Item)). named (unwrap_or found []) m) spelled ∙ leads m
 
-edited_here : (old new : Blocks) (from to : ℕ) (n : Name) (at : Option Place) → IsDirectoryEdit old new from to n at → child new (Dir to) n ≡ at
+pub edited_here : (old new : Blocks) (from to : ℕ) (n : Name) (at : Option Place) → IsDirectoryEdit old new from to n at → child new (Dir to) n ≡ at
 edited_here old new from to n at edit =
     edited_child old new from to n n at edit ∙ ap (λ (test : Bool). cond test at (child old (Dir from) n)) (same_name-own n)
 
@@ -50,7 +50,7 @@ edited_names old new from to next n at edit (inr names) =
     absurd (subst (λ (index : Option ℕ). BodyNames index (pointer_of (new to)) next) (directory_no_index (new to) edit.0 edit.1) names)
 
 -- what is below a place with a tree has one, of one name less a path
-child_tree : (room : ℕ) (f : Blocks) (depth : ℕ) (at : Place) (name : Name) (place : Place) → child f at name ≡ Some place → HasTree room f at depth → HasTree room f place (depth - 1)
+pub child_tree : (room : ℕ) (f : Blocks) (depth : ℕ) (at : Place) (name : Name) (place : Place) → child f at name ≡ Some place → HasTree room f at depth → HasTree room f place (depth - 1)
 child_tree room f depth at name place is has path there leads =
     let below = has (name ∷ path) there (ap (option_and_then (λ next. trees.leads f next path)) is ∙ leads) in
     (below.0, omega (arith, below.1))

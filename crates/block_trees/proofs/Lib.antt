@@ -1,6 +1,10 @@
+pub mod EditedMaps
 pub mod EditedTrees
 pub mod EmptyDirectories
 pub mod Entries
+pub mod EntryCounts
 pub mod Frames
+pub mod MovedTrees
 pub mod Reaching
 pub mod RootMaps
+pub mod TooDeep

@@ -37,7 +37,7 @@ first-append q (e ∷ es) fs =
       | false ↦ first-append q es fs
     ]
 
-same_name-turned : (n m : Name) → same_name n m ≡ same_name m n
+pub same_name-turned : (n m : Name) → same_name n m ≡ same_name m n
 same_name-turned n m = go (same_name n m) refl (same_name m n) refl
   where
     go : (b : Bool) → same_name n m ≡ b → (c : Bool) → same_name m n ≡ c → b ≡ c
@@ -69,7 +69,7 @@ ascending-items (Some bytes) = go (directory_at bytes) refl
     go (Some items) e = directory_at-ascending bytes items e
 
 -- a name before all the others leads to none of them
-not-named : (items : List Item) (n : Name) → list_all (λ other. is_before n other.name) items ≡ true → named items n ≡ None
+pub not-named : (items : List Item) (n : Name) → list_all (λ other. is_before n other.name) items ≡ true → named items n ≡ None
 not-named [] n h = refl
 not-named (item ∷ items) n h =
     let parts = both_true (is_before n item.name) (list_all (λ other. is_before n other.name) items) h in
@@ -141,7 +141,7 @@ below-names : (n : Name) (items : List Item) → below_all name_cmp n (names_of 
 below-names n [] = refl
 below-names n (item ∷ items) = ap (λ b. is_before n item.name && b) (below-names n items)
 
-sorted-names : (items : List Item) → is_sorted name_cmp (names_of items) ≡ are_ascending items
+pub sorted-names : (items : List Item) → is_sorted name_cmp (names_of items) ≡ are_ascending items
 sorted-names [] = refl
 sorted-names (item ∷ items) = λ i. below-names item.name items i && sorted-names items i
 
@@ -149,13 +149,13 @@ is_dir-place : (room : ℕ) (f : Blocks) (at : Place) → is_dir_place at ≡ is
 is_dir-place room f (Dir block) = refl
 is_dir-place room f (File head size) = refl
 
-find-names : (room : ℕ) (f : Blocks) (items : List Item) (n : Name) → find name_cmp n (names_of items) ≡ option_map is_dir (option_map (entry_at room f) (named items n))
+pub find-names : (room : ℕ) (f : Blocks) (items : List Item) (n : Name) → find name_cmp n (names_of items) ≡ option_map is_dir (option_map (entry_at room f) (named items n))
 find-names room f [] n = refl
 find-names room f (item ∷ items) n =
     (λ i. cond ((sym (name_ties n item.name) ∙ same_name-turned n item.name) i) (Some (is_dir-place room f item.place i)) (find-names room f items n i))
     ∙ elim (same_name item.name n) as (λ b. cond b (Some (is_dir (entry_at room f item.place))) (option_map is_dir (option_map (entry_at room f) (named items n))) ≡ option_map is_dir (option_map (entry_at room f) (cond b (Some item.place) (named items n)))) [ true ↦ refl | false ↦ refl ]
 
-leads-append : (f : Blocks) (at : Place) (p q : Path) → leads f at (p ++ q) ≡ option_and_then (λ next. leads f next q) (leads f at p)
+pub leads-append : (f : Blocks) (at : Place) (p q : Path) → leads f at (p ++ q) ≡ option_and_then (λ next. leads f next q) (leads f at p)
 leads-append f at [] q = refl
 leads-append f at (n ∷ p) q = go (child f at n) (λ next. leads-append f next p q)
   where

@@ -1,15 +1,17 @@
 -- The laws of trees on a flash: what stays where blocks that no root reaches change, and what a path written anew gives.
-use Rattle.std.specs.Prelude.{◌≡◌, ◌⊎◌, ℕ, ◌-◌, ◌≤◌, Bool, false, Option, Some, None, [], ◌∷◌, length}
+use Rattle.std.specs.Prelude.{◌≡◌, ◌≢◌, ◌⊎◌, ◌↔◌, ℕ, ◌-◌, ◌≤◌, Bool, false, Option, Some, None, IsSome, [], ◌∷◌, length}
 use Rattle.std.specs.FinMap.{get}
 use Rattle.fs_types.specs.Names.{Path}
-use Rattle.fs_types.specs.Contents.{Contents, Entry, nothing, graft}
-use Rattle.fs_types.specs.Trees.{put, children}
+use Rattle.fs_types.specs.Contents.{Contents, Entry, nothing, graft, IsLast}
+use Rattle.fs_types.specs.Contents as plain
+use Rattle.fs_types.specs.Trees.{put, remove, move, children}
+use Rattle.fs_types.specs.Machine.{is_too_deep}
 use Rattle.node_format.specs.declared.places.Place.{Place}
-use Rattle.node_format.specs.declared.places.Place.TheVariants.{Dir}
-use Rattle.block_trees.specs.Bodies.{Blocks}
+use Rattle.node_format.specs.declared.places.Place.TheVariants.{Dir, File}
+use Rattle.block_trees.specs.Bodies.{Blocks, body, IsBody}
 use Rattle.block_trees.specs.Trees.{items_of, entries_of, leads, tree_at, tree, HasTree, IsRoot, root_tree, names_of}
 use Rattle.block_trees.specs.Reached.{Reached, IsHeld, Keeps, PlaceNames}
-use Rattle.block_trees.specs.Rewritten.{IsRewritten, AreFresh}
+use Rattle.block_trees.specs.Rewritten.{IsRewritten, AreFresh, IsMoved}
 
 -- what a place leads to; nothing where there is no place
 abbrev pub tree_or_nothing : ℕ → Blocks → Option Place → Contents
@@ -52,6 +54,45 @@ abbrev pub MkdirLaw : Type 0
 MkdirLaw = (room : ℕ) (old new : Blocks) (kept kept' : ℕ → Bool) (from to block : ℕ) (path : Path) → Keeps kept old kept' new → IsHeld old kept (Dir from) → IsRoot room old from
     → tree room old from path ≡ None → length path ≤ 16 → entries_of (new block) ≡ Some [] → IsRewritten old kept' new from to path (Some (Dir block))
     → IsRoot room new to × (root_tree room new to ≡ put (root_tree room old from) path Entry.Dir)
+
+-- an entry taken out that nothing stands below
+abbrev pub RemoveLaw : Type 0
+RemoveLaw = (room : ℕ) (old new : Blocks) (kept kept' : ℕ → Bool) (from to : ℕ) (path : Path) → Keeps kept old kept' new → IsHeld old kept (Dir from) → IsRoot room old from
+    → IsLast (tree room old from) path → length path ≤ 16 → IsRewritten old kept' new from to path None
+    → IsRoot room new to × (root_tree room new to ≡ remove (root_tree room old from) path)
+
+-- a file at a path where no directory stood
+abbrev pub PutFileLaw : Type 0
+PutFileLaw = (room : ℕ) (old new : Blocks) (kept kept' : ℕ → Bool) (from to head size : ℕ) (path : Path) → Keeps kept old kept' new → IsHeld old kept (Dir from) → IsRoot room old from
+    → tree room old from path ≢ Some Entry.Dir → length path ≤ 16 → IsBody room new head size → IsRewritten old kept' new from to path (Some (File head size))
+    → IsRoot room new to × (root_tree room new to ≡ put (root_tree room old from) path (Entry.File (body room new head size)))
+
+-- each path below a place has so many names at most
+abbrev pub IsShallow : Blocks → Place → ℕ → Type 0
+IsShallow f at most = (path : Path) → IsSome (leads f at path) → length path ≤ most
+
+-- what stood at one path stands at another: the new tree is the old one moved; it is a tree where no path gets too
+-- long; all that the new root reaches is kept, and the old root reached it, or it is in a block that was not kept before
+pub record MoveLaw (old new : Blocks) (kept kept' : ℕ → Bool) (from to : ℕ) (old_path new_path : Path) (place : Place) : Type 0 where
+  pub moved : (room depth : ℕ) → HasTree room old (Dir from) depth → tree room new to ≡ plain.move (tree room old from) old_path new_path
+  pub shape : (room depth : ℕ) → HasTree room old (Dir from) depth → length new_path ≤ depth → IsShallow old place (depth - length new_path) → HasTree room new (Dir to) depth
+  pub held : IsHeld new kept' (Dir to)
+  pub reached : (block : ℕ) → Reached new (to ∷ []) block → Reached old (from ∷ []) block ⊎ (kept block ≡ false)
+
+abbrev pub AllMoves : Type 0
+AllMoves = (old new : Blocks) (kept kept' : ℕ → Bool) (from to : ℕ) (old_path new_path : Path) (place : Place) → Keeps kept old kept' new → IsHeld old kept (Dir from)
+    → leads old (Dir from) old_path ≡ Some place → IsMoved old new kept kept' from to old_path new_path place → MoveLaw old new kept kept' from to old_path new_path place
+
+-- a move as one of finite maps
+abbrev pub RenameLaw : Type 0
+RenameLaw = (room : ℕ) (old new : Blocks) (kept kept' : ℕ → Bool) (from to : ℕ) (old_path new_path : Path) (place : Place) → Keeps kept old kept' new → IsHeld old kept (Dir from) → IsRoot room old from
+    → leads old (Dir from) old_path ≡ Some place → length new_path ≤ 16 → IsShallow old place (16 - length new_path) → IsMoved old new kept kept' from to old_path new_path place
+    → IsRoot room new to × (root_tree room new to ≡ move (root_tree room old from) old_path new_path)
+
+-- whether a path at `old` or below would have more than 16 names at `new`, of the finite map of a root and of its nodes
+abbrev pub DepthLaw : Type 0
+DepthLaw = (room : ℕ) (f : Blocks) (root : ℕ) (old new : Path) (place : Place) → IsRoot room f root → leads f (Dir root) old ≡ Some place → length new ≤ 16
+    → (is_too_deep (root_tree room f root) old new ≡ false) ↔ IsShallow f place (16 - length new)
 
 -- the finite map of a root has at each path what stands there, and lists the entries of its directories
 pub record MapLaw (room : ℕ) (f : Blocks) (root : ℕ) : Type 0 where

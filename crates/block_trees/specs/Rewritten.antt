@@ -1,5 +1,5 @@
 -- A path of directories written anew from a changed entry up to the root.
-use Rattle.std.specs.Prelude.{◌≡◌, ℕ, Bool, true, false, Option, Some, List, [], ◌∷◌, if◌then◌else◌}
+use Rattle.std.specs.Prelude.{◌≡◌, ◌⊎◌, ℕ, Bool, true, false, Option, Some, None, List, [], ◌∷◌, if◌then◌else◌}
 use Rattle.fs_types.specs.Names.{Name, Path, same_name}
 use Rattle.node_format.specs.Items.{Item, named}
 use Rattle.node_format.specs.declared.places.Place.{Place}
@@ -26,3 +26,27 @@ AreFresh kept kept' new to [] = ⊥
 AreFresh kept kept' new to (name ∷ []) = (kept to ≡ false) × (kept' to ≡ true)
 AreFresh kept kept' new to (name ∷ next ∷ path) =
     (below : ℕ) × (child new (Dir to) name ≡ Some (Dir below)) × (kept to ≡ false) × (kept' to ≡ true) × AreFresh kept kept' new below (next ∷ path)
+
+-- in new the directory at `to` has the entries of the one at `from` in old, but that one name leads to one place and another to another (None: to nothing)
+abbrev pub IsSecondEdit : Blocks → Blocks → ℕ → ℕ → Name → Option Place → Name → Option Place → Type 0
+IsSecondEdit old new from to n at m at' =
+    (items : List Item) × (entries_of (new to) ≡ Some items) × ((k : Name) → named items k ≡ (if same_name m k then at' else if same_name n k then at else child old (Dir from) k))
+
+-- what a name of a directory leads to now, so that the names after it lead on to this place: the place itself where
+-- none come after it, else the directory below, written anew in blocks that were not kept
+abbrev pub IsBranch : Blocks → Blocks → (ℕ → Bool) → (ℕ → Bool) → ℕ → Name → Path → Option Place → Option Place → Type 0
+IsBranch old new kept kept' from n [] at now = now ≡ at
+IsBranch old new kept kept' from n (m ∷ p) at now =
+    (below : ℕ) × (next : ℕ) × (child old (Dir from) n ≡ Some (Dir below)) × (now ≡ Some (Dir next))
+    × IsRewritten old kept' new below next (m ∷ p) at × AreFresh kept kept' new next (m ∷ p)
+
+-- each directory along two paths was written anew, once where both go through it, to a kept block that was not kept
+-- before: the first path leads to nothing, the second to this place; neither begins the other
+abbrev pub IsMoved : Blocks → Blocks → (ℕ → Bool) → (ℕ → Bool) → ℕ → ℕ → Path → Path → Place → Type 0
+IsMoved old new kept kept' from to [] q place = ⊥
+IsMoved old new kept kept' from to (n ∷ p) [] place = ⊥
+IsMoved old new kept kept' from to (n ∷ p) (m ∷ q) place = (kept to ≡ false) × (kept' to ≡ true) × (
+    ((same_name n m ≡ true) × (below : ℕ) × (next : ℕ) × (child old (Dir from) n ≡ Some (Dir below))
+    × IsDirectoryEdit old new from to n (Some (Dir next)) × IsMoved old new kept kept' below next p q place)
+    ⊎ ((same_name n m ≡ false) × (gone : Option Place) × (here : Option Place) × IsSecondEdit old new from to n gone m here
+    × IsBranch old new kept kept' from n p None gone × IsBranch old new kept kept' from m q (Some place) here))

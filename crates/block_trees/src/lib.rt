@@ -6,7 +6,7 @@ ghost use Rattle.std.specs.Prelude.{◌≡◌};
 mod laws;
 mod maps;
 
-pub use laws::{edit_laws, frame_laws};
+pub use laws::{edit_laws, frame_laws, move_laws};
 pub use maps::map_laws;
 
 /// The deepest path has 16 names.

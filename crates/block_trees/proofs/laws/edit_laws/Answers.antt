@@ -1,4 +1,5 @@
 use Rattle.block_trees.proofs.EditedTrees.{edit_law, mkdir_law}
+use Rattle.block_trees.proofs.EditedMaps.{remove_law, put_file_law}
 use Rattle.block_trees.proofs.laws.edit_laws.Goals as goal
 
 pub returns-clause-edits : goal.returns-clause-edits
@@ -6,3 +7,9 @@ returns-clause-edits c = edit_law
 
 pub returns-clause-made : goal.returns-clause-made
 returns-clause-made c = mkdir_law
+
+pub returns-clause-removed : goal.returns-clause-removed
+returns-clause-removed c = remove_law
+
+pub returns-clause-file_put : goal.returns-clause-file_put
+returns-clause-file_put c = put_file_law

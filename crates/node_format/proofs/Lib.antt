@@ -5,3 +5,4 @@ pub mod DirectoryLaws
 pub mod Steps
 pub mod Passed
 pub mod Edited
+pub mod BodyFields

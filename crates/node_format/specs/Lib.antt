@@ -1,4 +1,5 @@
 pub mod Headers
+pub mod BodyNodes
 pub mod Items
 pub mod Directories
 pub mod Edits

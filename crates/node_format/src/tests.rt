@@ -47,3 +47,22 @@ fn entries_of_a_directory(rt: HostRuntime) -> Result<(), Fail> {
     assert_eq!(rt; node_size(4096, &WITH_DIR), Some(27));
     Ok(())
 }
+
+// A body node of index 2, with pointers to blocks 9 and 8, and the bytes `hi`.
+#[test]
+fn bytes_of_a_body_node(rt: HostRuntime) -> Result<(), Fail> {
+    let first = body_node(rt.alloc(), 0, &[], b"hi")?;
+    let mut expected = [0; 82];
+    expected[..12].copy_from_slice(b"UFNB\0\0\0\0\x02\0\0\0");
+    expected[80..].copy_from_slice(b"hi");
+    assert_eq!(rt; first.as_slice(), expected.as_slice());
+    let third = body_node(rt.alloc(), 2, &[9, 8], b"hi")?;
+    let node = BodyNode::of(&third).ok_or("a body node")?;
+    assert_eq!(rt; node.index(), 2);
+    assert_eq!(rt; node.used(), 2);
+    assert_eq!(rt; node.pointer(0), Some(9));
+    assert_eq!(rt; node.pointer(1), Some(8));
+    assert_eq!(rt; node.pointer(2), None);
+    assert_eq!(rt; node.bytes(), b"hi".as_slice());
+    Ok(())
+}

@@ -1,0 +1,174 @@
+//! A part of a file's body, read from the bytes of its node, and the bytes of a new one.
+ghost use Rattle.std.specs.Prelude.{◌≡◌, ℕ, ◌+◌, ◌*◌, ◌^◌, ◌<◌, ◌≤◌, ◌++◌, ◌↔◌, IsTrue, length, drop, slice_index, codes, Some, IfSome, OnOk, IfOk};
+ghost use Rattle.byteorder.specs.Endian.{little_bytes};
+ghost use Rattle.node_format.specs.Headers.{field, body_front, IsNode};
+ghost use Rattle.node_format.specs.BodyNodes.{place_count, IsBodyNode, HasPlace, IsBodySpelling};
+
+use std::alloc::{AllocError, Global};
+use std::marker::Model;
+
+/// The first bytes of a body node.
+const MAGIC: [u8; 4] = *b"UFNB";
+
+/// The bytes before the data.
+const FRONT: usize = 80;
+
+/// The pointer places.
+const PLACES: usize = 16;
+
+/// A node of a file's body: a part of the file's bytes, with the blocks of nodes before it, lent from
+/// the bytes of the node.
+#[derive(Drop)]
+pub struct BodyNode<'a> {
+    node: &'a [u8],
+}
+
+impl<'a> Model for BodyNode<'a> {
+    ghost use Rattle.std.specs.Prelude.{List, ℕ};
+    ghost use Rattle.node_format.specs.BodyNodes.{IsBodyNode};
+
+    ghost Value = { List ℕ };
+
+    ghost view = { λ b. b.node.now };
+
+    ghost invariant = { λ b. IsBodyNode b.node.now };
+}
+
+impl<'a> BodyNode<'a> {
+    /// The body node of exactly these bytes, or None where they are not those of one.
+    pub fn of(bytes: &'a [u8]) -> Option<Self>
+        ensures found { IfSome result (λ node. (node ≡ bytes.now) × IsBodyNode bytes.now) }
+        ensures only { IsBodyNode bytes.now → result ≡ Some bytes.now }
+    {
+        if bytes.len() <= FRONT {
+            return None;
+        }
+        if number_at(bytes, 0) != u32::from_le_bytes(MAGIC) {
+            return None;
+        }
+        if number_at(bytes, 8) as usize != bytes.len() - FRONT {
+            return None;
+        }
+        Some(BodyNode { node: bytes })
+    }
+
+    /// Its place among the nodes of its file, from 0.
+    pub fn index(&self) -> u32
+        ensures { result ≡ field self.now 4 }
+    {
+        number_at(self.node, 4)
+    }
+
+    /// How many data bytes it has, at least 1.
+    pub fn used(&self) -> u32
+        ensures used { result ≡ field self.now 8 }
+        ensures some { 1 ≤ result }
+        ensures size { length self.now ≡ body_front + result }
+    {
+        number_at(self.node, 8)
+    }
+
+    /// The block that a pointer place names: that of the node 2 to the `place` before this one. None
+    /// where 2 to the `place` does not divide the index, and for the first node.
+    pub fn pointer(&self, place: usize) -> Option<u32>
+        ensures found { IfSome result (λ block. (block ≡ field self.now (16 + 4 * place)) × HasPlace (field self.now 4) place) }
+        ensures only { HasPlace (field self.now 4) place → result ≡ Some (field self.now (16 + 4 * place)) }
+    {
+        if has_place(self.index(), place) {
+            Some(number_at(self.node, 16 + 4 * place))
+        } else {
+            None
+        }
+    }
+
+    /// The data bytes, as many as `used`.
+    pub fn bytes(&self) -> &'a [u8]
+        ensures { result.now ≡ drop body_front self.now }
+    {
+        &self.node[FRONT..]
+    }
+}
+
+/// Whether the node of an index has a pointer at a place.
+fn has_place(index: u32, place: usize) -> bool
+    ensures has { IsTrue result ↔ HasPlace index place }
+    ensures few { IsTrue result → place < 32 }
+{
+    if index == 0 {
+        return false;
+    }
+    if place >= 32 {
+        return false;
+    }
+    index % (1 << place) == 0
+}
+
+/// A byte, or 0 past the end.
+fn byte_at(bytes: &[u8], place: usize) -> u8
+    ensures { result ≡ slice_index bytes.now place }
+{
+    bytes.get(place).copied().unwrap_or(0)
+}
+
+/// The number in the four bytes from a place, where bytes past the end are 0.
+fn number_at(bytes: &[u8], place: usize) -> u32
+    requires { place < 2 ^ 32 }
+    ensures { result ≡ field bytes.now place }
+{
+    u32::from_le_bytes([
+        byte_at(bytes, place),
+        byte_at(bytes, place + 1),
+        byte_at(bytes, place + 2),
+        byte_at(bytes, place + 3),
+    ])
+}
+
+fn push_number(out: &mut Vec<u8>, number: u32) -> Result<(), AllocError>
+    ensures { OnOk result (out.new.items ≡ out.old.items ++ little_bytes 4 number) }
+{
+    out.extend_from_slice(&number.to_le_bytes())
+}
+
+/// The first 16 bytes of the body node of an index with so many data bytes.
+fn header(alloc: Global, index: u32, used: u32) -> Result<Vec<u8>, AllocError>
+    ensures { IfOk result (λ v. v.items ≡ codes "UFNB" ++ (little_bytes 4 index ++ (little_bytes 4 used ++ little_bytes 4 0))) }
+{
+    let mut out = Vec::new(alloc);
+    out.extend_from_slice(&MAGIC)?;
+    push_number(&mut out, index)?;
+    push_number(&mut out, used)?;
+    push_number(&mut out, 0)?;
+    Ok(out)
+}
+
+/// Adds the pointer places.
+fn push_places(out: &mut Vec<u8>, pointers: &[u32]) -> Result<(), AllocError>
+    ensures old { OnOk result ((place : ℕ) → place + 4 ≤ length out.old.items → field out.new.items place ≡ field out.old.items place) }
+    ensures places { OnOk result ((x : ℕ) → x < place_count → field out.new.items (length out.old.items + 4 * x) ≡ slice_index pointers.now x) }
+    ensures size { OnOk result (length out.new.items ≡ length out.old.items + 64) }
+{
+    for place in 0..PLACES {
+        push_number(out, pointers.get(place).copied().unwrap_or(0))?;
+    }
+    Ok(())
+}
+
+/// The bytes of the body node of an index, with the blocks that its first pointer places name, at most
+/// 16, and with its data, at least one byte.
+pub fn body_node(
+    alloc: Global,
+    index: u32,
+    pointers: &[u32],
+    bytes: &[u8],
+) -> Result<Vec<u8>, AllocError>
+    requires places { length pointers.now ≤ place_count }
+    requires some { 1 ≤ length bytes.now }
+    requires room { body_front + length bytes.now < 2 ^ 32 }
+    ensures spelled { IfOk result (λ node. IsBodySpelling node.items index pointers.now bytes.now) }
+    ensures node { IfOk result (λ node. (block : ℕ) → body_front + length bytes.now ≤ block → IsNode block node.items) }
+{
+    let mut out = header(alloc, index, bytes.len() as u32)?;
+    push_places(&mut out, pointers)?;
+    out.extend_from_slice(bytes)?;
+    Ok(out)
+}

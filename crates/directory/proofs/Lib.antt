@@ -1,4 +1,6 @@
 pub mod Rewrites
 pub mod EditedPaths
 pub mod NewDirectories
+pub mod MovedPaths
 pub mod LookupLaws
+pub mod Levels

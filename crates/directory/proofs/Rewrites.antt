@@ -39,7 +39,7 @@ no_refusal (Some items) name below place e = rw (below_named (Some items) name b
 pub child_below : (f : Blocks) (block : ℕ) (name : Name) (below : ℕ) → below_in (entries_of (f block)) name ≡ Ok below → child f (Dir block) name ≡ Some (Dir below)
 child_below f block name below e = below_named (entries_of (f block)) name below e
 
-edit_later : (f0 f1 f2 : Blocks) (from to : ℕ) (name : Name) (at : Option Place) → f2 to ≡ f1 to → IsDirectoryEdit f0 f1 from to name at → IsDirectoryEdit f0 f2 from to name at
+pub edit_later : (f0 f1 f2 : Blocks) (from to : ℕ) (name : Name) (at : Option Place) → f2 to ≡ f1 to → IsDirectoryEdit f0 f1 from to name at → IsDirectoryEdit f0 f2 from to name at
 edit_later f0 f1 f2 from to name at same (items, spelled, leads) = (items, ap entries_of same ∙ spelled, leads)
 
 pub rewritten_later : (f0 f1 f2 : Blocks) (k1 k2 : ℕ → Bool) → Keeps k1 f1 k2 f2 → (path : Path) (from to : ℕ) (at : Option Place) → IsRewritten f0 k1 f1 from to path at → IsRewritten f0 k2 f2 from to path at

@@ -1,3 +1,5 @@
 pub mod Lookups
 pub mod Edits
 pub mod Making
+pub mod Moves
+pub mod Depths

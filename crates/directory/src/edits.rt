@@ -21,7 +21,12 @@ use node_store::Nodes;
 use std::alloc::Global;
 
 /// The bytes of a directory with a name leading to a place, or to nothing.
-fn edited(alloc: Global, bytes: &[u8], name: &Name, place: Option<Place>) -> Result<Vec<u8>, Fault>
+pub(crate) fn edited(
+    alloc: Global,
+    bytes: &[u8],
+    name: &Name,
+    place: Option<Place>,
+) -> Result<Vec<u8>, Fault>
     requires { IfSome place (λ p. is_place p ≡ true) }
     ensures edited { IfOk result (λ new. IsEdited (items_of (Some bytes.now)) name.now place new.items) }
     ensures node { IfOk result (λ new. (block : ℕ) → 4096 ≤ block → IsNode block new.items) }
@@ -43,7 +48,7 @@ fn edited(alloc: Global, bytes: &[u8], name: &Name, place: Option<Place>) -> Res
 }
 
 /// Writes the directory of a block anew, with a name leading to a place, or to nothing.
-fn edit<N: Nodes>(
+pub(crate) fn edit<N: Nodes>(
     alloc: Global,
     nodes: &mut N,
     block: u32,
@@ -76,7 +81,11 @@ fn edit<N: Nodes>(
 }
 
 /// The block of the directory that a name on the way leads to.
-fn directory_below<N: Nodes>(nodes: &mut N, block: u32, name: &Name) -> Result<u32, Fault>
+pub(crate) fn directory_below<N: Nodes>(
+    nodes: &mut N,
+    block: u32,
+    name: &Name,
+) -> Result<u32, Fault>
     requires { N.is_sound nodes.old }
     ensures found { IfOk result (λ below. below_in (entries_of (N.node nodes.old block)) name.now ≡ Ok below) }
     ensures refused { IfErr result (λ fault. spec.is_edit_fault fault ≡ true → below_in (entries_of (N.node nodes.old block)) name.now ≡ Err fault) }
@@ -98,7 +107,7 @@ fn directory_below<N: Nodes>(nodes: &mut N, block: u32, name: &Name) -> Result<u
 /// Writes the directories along a path, a name and the names after it, anew, from the deepest up, so
 /// that its last name leads to a place, or to nothing. Answers the block of the new one in place of
 /// the first.
-fn rewrite<N: Nodes>(
+pub(crate) fn rewrite<N: Nodes>(
     alloc: Global,
     nodes: &mut N,
     block: u32,

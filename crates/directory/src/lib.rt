@@ -1,12 +1,16 @@
 //! Directories in trees of nodes: what paths lead to, and trees with one entry changed.
 #![tactic(auto)]
 
+mod depths;
 mod edits;
 mod listings;
 mod lookups;
 mod making;
+mod moves;
 
+pub use depths::is_deeper;
 pub use edits::{with_entry, without_entry};
-pub use listings::names;
+pub use listings::{entry_count, names};
 pub use lookups::{Found, lookup};
 pub use making::make_directory;
+pub use moves::moved;

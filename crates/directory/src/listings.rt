@@ -1,5 +1,5 @@
-//! The names in a directory.
-ghost use Rattle.std.specs.Prelude.{◌≡◌, ℕ, ◌+◌, Bool, true, false, List, Some, None, IfOk, IfErr, IsErrOf};
+//! The names in a directory, and how many they are.
+ghost use Rattle.std.specs.Prelude.{◌≡◌, ℕ, ◌+◌, Bool, true, false, List, length, Some, None, IfOk, IfErr, IsErrOf};
 ghost use Rattle.fs_types.specs.declared.faults.Fault.TheVariants.{NoMemory, Damaged};
 ghost use Rattle.node_store.specs.Faults.{IsReadFault};
 ghost use Rattle.node_format.specs.Items.{Item};
@@ -63,4 +63,30 @@ pub fn names<N: Nodes>(
     };
     let names = names_in(alloc, entries)?;
     Ok(names)
+}
+
+/// The number of entries in the directory of a block. One node is read.
+///
+/// Refused with `Damaged` where the block holds no directory node, and with what a read is refused
+/// with.
+pub fn entry_count<N: Nodes>(nodes: &mut N, block: u32) -> Result<usize, Fault>
+    requires { N.is_sound nodes.old }
+    ensures count { IfOk result (λ count. (items : List Item) × (entries_of (N.node nodes.old block) ≡ Some items) × (count ≡ length items)) }
+    ensures damaged { IsErrOf result Damaged → entries_of (N.node nodes.old block) ≡ None }
+    ensures why { IfErr result (λ fault. is_path_fault fault ≡ false → N.causes nodes.old nodes.new fault) }
+    ensures faults { IfErr result IsReadFault }
+    ensures same_nodes { N.node nodes.new ≡ N.node nodes.old }
+    ensures same_kept { N.kept nodes.new ≡ N.kept nodes.old }
+    ensures reads { N.reads nodes.new ≡ N.reads nodes.old + 1 }
+    ensures writes { N.writes nodes.new ≡ N.writes nodes.old }
+    ensures follows { N.follows nodes.old nodes.new }
+    ensures sound { N.is_sound nodes.new }
+    ensures limit { N.limit nodes.new ≡ N.limit nodes.old }
+    ensures blocks { N.blocks nodes.new ≡ N.blocks nodes.old }
+{
+    nodes.read(block)?;
+    let Some(entries) = Entries::of(nodes.lent()) else {
+        return Err(Fault::Damaged);
+    };
+    Ok(entries.len())
 }

@@ -2,20 +2,16 @@
 use Rattle.std.specs.Prelude.{ℕ, Bool, Option, Some, None, List, refl}
 use Rattle.std.specs.Coded.{Coded, code_by, coded×, coded_ℕ, coded_bool, coded_list, coded_option}
 use Rattle.std.specs.FinMap as finmap
-use Rattle.fs_types.specs.Names.{Path, path_cmp}
+use Rattle.fs_types.specs.Names.{path_cmp}
 use Rattle.fs_types.specs.Contents.{Entry}
 use Rattle.fs_types.specs.Contents.Entry.{Dir, File}
 use Rattle.fs_types.specs.Trees.{Tree}
 use Rattle.fs_types.specs.History.{Past}
-use Rattle.fs_types.specs.Descriptors.{Descriptor, Descriptors}
+use Rattle.fs_types.specs.Descriptors.{Descriptors}
 use Rattle.fs_types.specs.Machine.{Machine}
 use Rattle.fs_types.specs.declared.calls.Version.{Version}
-use Rattle.fs_types.specs.declared.flags.OpenFlags.{OpenFlags}
+use Rattle.open_files.specs.Codes.{path_code, descriptors_code}
 use Rattle.plain_machine.specs.Plain.{entry_of, bytes_in, entry_of-bytes_in}
-
--- a path is the list of its names
-abbrev pub path_code : Coded Path
-path_code = coded_list (coded_list coded_ℕ)
 
 -- a directory is no list of bytes
 abbrev pub entry_code : Coded Entry
@@ -35,12 +31,6 @@ history_code =
     (λ h. (h.versions, (h.cursor, (h.dropped, (h.next, (h.checkpoints, h.limit))))))
     (λ p. record { versions = p.0; cursor = p.1.0; dropped = p.1.1.0; next = p.1.1.1.0; checkpoints = p.1.1.1.1.0; limit = p.1.1.1.1.1 })
     (λ _. refl)
-
-abbrev pub descriptor_code : Coded Descriptor
-descriptor_code = code_by (Path × ℕ) (coded× path_code coded_ℕ) (λ d. (d.path, d.flags.0)) (λ p. record { path = p.0; flags = record { 0 = p.1 } }) (λ _. refl)
-
-abbrev pub descriptors_code : Coded Descriptors
-descriptors_code = coded_list (coded_option descriptor_code)
 
 abbrev pub machine_code : Coded Machine
 machine_code = code_by (Past Tree × Descriptors) (coded× history_code descriptors_code) (λ m. (m.history, m.descriptors)) (λ p. record { history = p.0; descriptors = p.1 }) (λ _. refl)

@@ -10,11 +10,11 @@ ghost use Rattle.plain_machine.specs.Plain.{machine_with, machine_at, ftruncates
 
 use crate::histories::History;
 use crate::nodes::Node;
-use crate::open_files::{OpenFile, OpenFiles};
 use crate::replies::bytes_at;
 use crate::trees::Tree;
 use bitflags::Flags;
 use fs_types::{Bytes, Call, CpName, OpenFlags, Path};
+use open_files::{OpenFile, OpenFiles};
 use std::alloc::{AllocError, Global};
 
 /// Whether the call makes a version, where it is not refused.

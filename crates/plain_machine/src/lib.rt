@@ -7,7 +7,6 @@ mod machines;
 mod maps;
 mod names;
 mod nodes;
-mod open_files;
 mod refusals;
 mod replies;
 mod spaces;

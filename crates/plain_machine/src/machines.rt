@@ -8,12 +8,12 @@ ghost use Rattle.plain_machine.specs.Plain.{machine_with, HasSerial, IsPlainStep
 ghost use Rattle.plain_machine.specs.Spaces.{space_of};
 
 use crate::histories::History;
-use crate::open_files::OpenFiles;
 use crate::refusals::refusal;
 use crate::spaces::Space;
 use crate::trees::Tree;
 use crate::{effects, replies};
 use fs_types::{Call, Fault, Reply};
+use open_files::OpenFiles;
 use std::alloc::{AllocError, Global};
 use std::marker::Model;
 

@@ -1,35 +1,13 @@
 //! Paths as lists of names: what is left of one after another, and what is made of two.
 ghost use Rattle.std.specs.Prelude.{◌≡◌, ◌+◌, ◌-◌, ◌++◌, true, false, length, is_some, IfOk, OnOk};
-ghost use Rattle.std.specs.Option.{option_copied, option_map};
+ghost use Rattle.std.specs.Option.{option_copied};
 ghost use Rattle.fs_types.specs.Names.{is_path};
-ghost use Rattle.fs_types.specs.Contents.{beneath, begins, parent_of};
+ghost use Rattle.fs_types.specs.Contents.{beneath, parent_of};
 ghost use Rattle.plain_machine.specs.Plain.{is_deep, only_name, path_moved};
 
 use fs_types::{Name, Path};
+use open_files::{is_beginning, rest_of};
 use std::alloc::{AllocError, Global};
-
-/// What is left of a path after a beginning of it.
-fn rest_of<'a>(front: &[Name], path: &'a [Name]) -> Option<&'a [Name]>
-    ensures { option_map (λ rest. rest.now) result ≡ beneath front.now path.now }
-{
-    let Some((name, front)) = front.split_first() else {
-        return Some(path);
-    };
-    let Some((first, rest)) = path.split_first() else {
-        return None;
-    };
-    if name != first {
-        return None;
-    }
-    rest_of(front, rest)
-}
-
-/// Whether the first path begins the second.
-pub fn is_beginning(front: &[Name], path: &[Name]) -> bool
-    ensures { result ≡ begins front.now path.now }
-{
-    rest_of(front, path).is_some()
-}
 
 /// The names of the directory that a path stands in.
 pub fn parent(path: &[Name]) -> &[Name]

@@ -10,12 +10,12 @@ ghost use Rattle.fs_types.specs.declared.faults.Fault.{Fault};
 ghost use Rattle.plain_machine.specs.Plain.{machine_with, machine_at, size_refusal, emptiness_refusal};
 
 use crate::histories::History;
-use crate::names::{is_beginning, parent};
+use crate::names::parent;
 use crate::nodes::Node;
-use crate::open_files::OpenFiles;
 use crate::trees::Tree;
 use bitflags::Flags;
 use fs_types::{Bytes, Call, Fault, Name, OpenFlags, Path, View};
+use open_files::{OpenFiles, are_lawful, is_beginning};
 
 /// The first refusal of a call, if any.
 pub fn refusal(history: &History, files: &OpenFiles, call: &Call) -> Option<Fault>
@@ -80,23 +80,6 @@ fn open_refusal(tree: &Tree, files: &OpenFiles, path: &Path, flags: OpenFlags) -
         None => creation_refusal(tree, files, path, flags),
         Some(node) => reopening_refusal(files, node, flags),
     }
-}
-
-/// For reading or writing, exclusive only with creation, truncating only for writing, and no other bit.
-fn are_lawful(flags: OpenFlags) -> bool
-    ensures { result ≡ descriptors.are_lawful flags }
-{
-    let writes = flags.contains(OpenFlags::WRITE);
-    if !writes && !flags.contains(OpenFlags::READ) {
-        return false;
-    }
-    if flags.contains(OpenFlags::EXCL) && !flags.contains(OpenFlags::CREAT) {
-        return false;
-    }
-    if flags.contains(OpenFlags::TRUNC) && !writes {
-        return false;
-    }
-    flags.bits() < 32
 }
 
 fn creation_refusal(tree: &Tree, files: &OpenFiles, path: &Path, flags: OpenFlags) -> Option<Fault>

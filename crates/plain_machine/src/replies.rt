@@ -10,10 +10,10 @@ ghost use Rattle.plain_machine.specs.Plain.{machine_with, machine_at, no_space};
 ghost use Rattle.plain_machine.specs.Spaces.{space_of};
 
 use crate::histories::History;
-use crate::open_files::OpenFiles;
 use crate::spaces::Space;
 use crate::trees::Tree;
 use fs_types::{Call, Path, Reply, Sequence, Stat, View};
+use open_files::OpenFiles;
 use std::alloc::{AllocError, Global};
 
 /// The bytes of the file at a path; none where no file is.

@@ -5,7 +5,7 @@ ghost use Rattle.fs_types.specs.Names.{same_path};
 ghost use Rattle.fs_types.specs.Contents.{begins};
 ghost use Rattle.fs_types.specs.Descriptors as descriptors;
 
-use crate::names::is_beginning;
+use crate::beginnings::is_beginning;
 use fs_types::{OpenFlags, Path};
 use std::marker::Model;
 
@@ -18,7 +18,7 @@ pub struct OpenFile {
 
 impl Model for OpenFile {
     ghost use Rattle.fs_types.specs.Descriptors.{Descriptor};
-    ghost use Rattle.plain_machine.specs.Codes.{descriptor_code};
+    ghost use Rattle.open_files.specs.Codes.{descriptor_code};
 
     ghost Value = { Descriptor };
 
@@ -55,7 +55,7 @@ pub struct OpenFiles {
 
 impl Model for OpenFiles {
     ghost use Rattle.fs_types.specs.Descriptors.{Descriptors};
-    ghost use Rattle.plain_machine.specs.Codes.{descriptors_code};
+    ghost use Rattle.open_files.specs.Codes.{descriptors_code};
 
     ghost Value = { Descriptors };
 

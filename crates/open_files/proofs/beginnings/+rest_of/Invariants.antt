@@ -1,5 +1,5 @@
 use Rattle.std.proofs.Common.{length}
-use Rattle.plain_machine.proofs.names.+rest_of.Given as goal
+use Rattle.open_files.proofs.beginnings.+rest_of.Given as goal
 
 abbrev pub decreases-rest_of : goal.decreases-rest_of
 decreases-rest_of l = length l.front.now

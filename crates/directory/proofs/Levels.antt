@@ -1,0 +1,282 @@
+-- Levels of directories: those that paths of so many names lead to.
+use Rattle.std.proofs.Common.{◌≡◌, ℕ, zero, suc, ◌⊎◌, inl, inr, ◌+◌, ◌*◌, ◌<◌, ◌≤◌, Bool, true, false, cond, ◌&&◌, ◌||◌, eqb, Option, Some, None, List, [], ◌∷◌, ◌++◌, length, take, refl, sym, ap, subst, ◌∙◌, arith, rules, length-append}
+use Rattle.std.specs.Prelude.{nat_lt, nat_le, IsSome, Contains}
+use Rattle.std.specs.Option.{is_some, option_and_then}
+use Rattle.std.specs.List.{list_any}
+use Rattle.std.specs.FinSet.{FinSet, contains, insert, empty, members, contains-empty}
+use Rattle.std.specs.Ordering.{nat_cmp}
+use Rattle.std.proofs.lemmas.Bool.{true≢false, eqb-true, eq-eqb, ltb-true, ltb-false, lt-ltb, leb-true, leb-false}
+use Rattle.std.proofs.lemmas.List.{length-take-le}
+use Rattle.fs_types.specs.Names.{Name, Path, same_name}
+use Rattle.fs_types.proofs.Orders.{same_name-own}
+use Rattle.node_format.specs.Items.{Item, named}
+use Rattle.node_format.specs.Order.{both_true, and_true}
+use Rattle.node_format.specs.declared.places.Place.{Place}
+use Rattle.node_format.specs.declared.places.Place.TheVariants.{Dir, File}
+use Rattle.block_trees.specs.Bodies.{Blocks}
+use Rattle.block_trees.specs.Trees.{items_of, child, leads}
+use Rattle.block_trees.specs.Laws.{IsShallow}
+use Rattle.block_trees.proofs.Entries.{entry_named}
+use Rattle.block_trees.proofs.EditedTrees.{by_test}
+use Rattle.block_trees.proofs.RootMaps.{leads-append}
+use Rattle.directory.specs.Depths.{IsDeeper, is_directory_at, names_directory, AreNamedBy}
+
+-- ---- the directories that entries name
+
+any_contains : (p : Item → Bool) (items : List Item) → list_any p items ≡ true → (item : Item) × Contains items item × (p item ≡ true)
+any_contains p [] some = absurd cc
+any_contains p (item ∷ items) some = on (p item) refl some (any_contains p items)
+  where
+    on : (b : Bool) → p item ≡ b → (b || list_any p items) ≡ true → (list_any p items ≡ true → (found : Item) × Contains items found × (p found ≡ true)) → (found : Item) × Contains (item ∷ items) found × (p found ≡ true)
+    on true is some again = (item, (0, omega arith, refl), is)
+    on false is some again = let found = again some in (found.0, (suc found.1.0, omega (arith, found.1.1), found.1.2), found.2)
+
+directory_is : (place : Place) (b : ℕ) → is_directory_at place b ≡ true → place ≡ Dir b
+directory_is (Dir block) b is = ap Dir (eqb-true block b is)
+directory_is (File head size) b is = absurd cc
+
+named_child : (f : Blocks) (parent b : ℕ) → names_directory (items_of (f parent)) b ≡ true → (n : Name) × (child f (Dir parent) n ≡ Some (Dir b))
+named_child f parent b names =
+    let found = any_contains (λ item. is_directory_at item.place b) (items_of (f parent)) names in
+    (found.0.name, entry_named (f parent) found.0 found.1 ∙ ap (λ (place : Place). Some place) (directory_is found.0.place b found.2))
+
+abbrev some_place : Place → Option Place
+some_place place = Some place
+
+child_named : (items : List Item) (n : Name) (b : ℕ) → named items n ≡ Some (Dir b) → names_directory items b ≡ true
+child_named [] n b is = absurd cc
+child_named (item ∷ items) n b is = on (same_name item.name n) is (child_named items n b)
+  where
+    here : (place : Place) → some_place place ≡ some_place (Dir b) → is_directory_at place b ≡ true
+    here place e = let is : place ≡ Dir b = cc in ap (λ (x : Place). is_directory_at x b) is ∙ eq-eqb b b refl
+
+    either : (x y : Bool) → y ≡ true → (x || y) ≡ true
+    either true y e = refl
+    either false y e = e
+
+    on : (t : Bool) → cond t (Some item.place) (named items n) ≡ Some (Dir b) → (named items n ≡ Some (Dir b) → names_directory items b ≡ true) → (is_directory_at item.place b || names_directory items b) ≡ true
+    on true is again = ap (λ (x : Bool). x || names_directory items b) (here item.place is)
+    on false is again = either (is_directory_at item.place b) (names_directory items b) (again is)
+
+-- ---- levels
+
+-- the set has just the directories that paths of k names lead to, as far as paths of more than `most` names go
+pub record IsLevel (f : Blocks) (root most k blocks : ℕ) (level : FinSet nat_cmp) : Type 0 where
+  pub within : (b : ℕ) → contains level b ≡ true → b < blocks
+  pub reached : (b : ℕ) → contains level b ≡ true → (p : Path) × (leads f (Dir root) p ≡ Some (Dir b)) × (length p ≡ k)
+  pub covers : (p : Path) → IsSome (leads f (Dir root) p) → length p ≡ suc most → (b : ℕ) × (q : Path) × (contains level b ≡ true) × IsSome (leads f (Dir b) q) × (k + length q ≡ suc most)
+
+contains_insert : (s : FinSet nat_cmp) (x b : ℕ) → contains (insert s x) b ≡ (eqb b x || contains s b)
+contains_insert s x b = search (members, rules)
+
+first_is : (root b : ℕ) → contains (insert (empty {R = nat_cmp}) root) b ≡ true → b ≡ root
+first_is root b is = on (eqb b root) refl (sym (contains_insert empty root b) ∙ is)
+  where
+    on : (t : Bool) → eqb b root ≡ t → (t || contains (empty {R = nat_cmp}) b) ≡ true → b ≡ root
+    on true same e = eqb-true b root same
+    on false differs e = absurd (true≢false (sym e ∙ contains-empty nat_cmp b))
+
+pub first_level : (f : Blocks) (root most blocks : ℕ) (level : FinSet nat_cmp) → root < blocks → level ≡ insert empty root → IsLevel f root most 0 blocks level
+first_level f root most blocks level below is = record {
+  within = λ b here. let same = only b here in omega arith;
+  reached = λ b here. ([], ap (λ (x : ℕ). Some (Dir x)) (sym (only b here)), refl);
+  covers = λ p led long.
+      (root, p, ap (λ (s : FinSet nat_cmp). contains s root) is ∙ contains_insert empty root root ∙ ap (λ (t : Bool). t || contains (empty {R = nat_cmp}) root) (eq-eqb root root refl), led, omega (arith, long));
+}
+  where
+    only : (b : ℕ) → contains level b ≡ true → b ≡ root
+    only b here = first_is root b (sym (ap (λ (s : FinSet nat_cmp). contains s b) is) ∙ here)
+
+-- a path of two names or more goes on through a directory of the next level
+abbrev GoesOn : Blocks → ℕ → ℕ → ℕ → FinSet nat_cmp → Type 0
+GoesOn f most k blocks next = (b : ℕ) × (q : Path) × (contains next b ≡ true) × IsSome (leads f (Dir b) q) × ((k + 1) + length q ≡ suc most)
+
+leads_one : (f : Blocks) (at next : Place) (n : Name) → child f at n ≡ Some next → leads f at (n ∷ []) ≡ Some next
+leads_one f at next n is = ap (option_and_then (λ to. leads f to [])) is
+
+some_leads : (f : Blocks) (at : Place) (path : Path) (n : Name) (p : Path) → path ≡ n ∷ p → IsSome (leads f at path) → IsSome (child f at n)
+some_leads f at path n p is led = on (child f at n) (subst (λ (q : Path). IsSome (leads f at q)) is led)
+  where
+    on : (o : Option Place) → IsSome (option_and_then (λ next. leads f next p) o) → IsSome o
+    on None led = absurd cc
+    on (Some next) led = refl
+
+goes_on : (f : Blocks) (root most k blocks : ℕ) (level next : FinSet nat_cmp) → k < most → ((b : ℕ) → blocks ≤ b → f b ≡ None) → AreNamedBy f blocks (contains level) next
+    → (b : ℕ) (q : Path) → contains level b ≡ true → IsSome (leads f (Dir b) q) → k + length q ≡ suc most → GoesOn f most k blocks next
+goes_on f root most k blocks level next more beyond names b [] here led long = absurd (omega arith)
+goes_on f root most k blocks level next more beyond names b (m ∷ []) here led long = absurd (omega arith)
+goes_on f root most k blocks level next more beyond names b (m ∷ a ∷ q) here led long = on (child f (Dir b) m) refl led
+  where
+    none : (to : ℕ) → IsSome (leads f (Dir to) (a ∷ q)) → blocks ≤ to → ⊥
+    none to led past = let no_child : child f (Dir to) a ≡ None = ap (λ (node : Option (List ℕ)). named (items_of node) a) (beyond to past) in
+        true≢false (sym (some_leads f (Dir to) (a ∷ q) a q refl led) ∙ ap is_some no_child)
+
+    below : (to : ℕ) → IsSome (leads f (Dir to) (a ∷ q)) → to < blocks
+    below to led = by_test (nat_lt to blocks) (λ less. ltb-true to blocks less) (λ not_less. absurd (none to led (ltb-false to blocks not_less)))
+
+    on : (o : Option Place) → child f (Dir b) m ≡ o → IsSome (option_and_then (λ next. leads f next (a ∷ q)) o) → GoesOn f most k blocks next
+    on None is led = absurd cc
+    on (Some (File head size)) is led = absurd cc
+    on (Some (Dir to)) is led = (to, a ∷ q, names.all b to here (below to led) (child_named (items_of (f b)) m to is), led, omega arith)
+
+pub next_is_level : (f : Blocks) (root most k blocks : ℕ) (level next : FinSet nat_cmp) → k < most → ((b : ℕ) → blocks ≤ b → f b ≡ None) → IsLevel f root most k blocks level → AreNamedBy f blocks (contains level) next
+    → IsLevel f root most (k + 1) blocks next
+next_is_level f root most k blocks level next more beyond is names = record {
+  within = names.within;
+  reached = λ b here.
+      let parent = names.named b here in
+      let before = is.reached parent.0 parent.1 in
+      let goes = named_child f parent.0 b parent.2 in (
+        before.0 ++ goes.0 ∷ [],
+        leads-append f (Dir root) before.0 (goes.0 ∷ []) ∙ ap (option_and_then (λ to. leads f to (goes.0 ∷ []))) before.1 ∙ leads_one f (Dir parent.0) (Dir b) goes.0 goes.1,
+        omega (arith, length-append before.0 (goes.0 ∷ []), before.2),
+      );
+  covers = λ p led long. let found = is.covers p led long in goes_on f root most k blocks level next more beyond names found.0 found.1 found.2 found.3 found.4;
+}
+
+-- ---- what the last level says
+
+front_leads : (f : Blocks) (k : ℕ) (path : Path) (at : Place) → IsSome (leads f at path) → IsSome (leads f at (take k path))
+front_leads f zero path at led = refl
+front_leads f (suc k) [] at led = refl
+front_leads f (suc k) (n ∷ path) at led = on (child f at n) led (front_leads f k path)
+  where
+    on : (o : Option Place) → IsSome (option_and_then (λ next. leads f next path) o) → ((next : Place) → IsSome (leads f next path) → IsSome (leads f next (take k path))) → IsSome (option_and_then (λ next. leads f next (take k path)) o)
+    on None led again = absurd cc
+    on (Some next) led again = again next led
+
+no_items : (items : List Item) (n : Name) → length items ≡ 0 → named items n ≡ None
+no_items [] n none = refl
+no_items (item ∷ items) n none = absurd (omega arith)
+
+pub last_shallow : (f : Blocks) (root most blocks : ℕ) (level : FinSet nat_cmp) → IsLevel f root most most blocks level → ((b : ℕ) → contains level b ≡ true → length (items_of (f b)) ≡ 0) → IsShallow f (Dir root) most
+last_shallow f root most blocks level is none path led = by_test (nat_le (length path) most) (λ short. leb-true (length path) most short) (λ long. absurd (never (leb-false (length path) most long)))
+  where
+    ends : (b : ℕ) (q : Path) → contains level b ≡ true → IsSome (leads f (Dir b) q) → most + length q ≡ suc most → ⊥
+    ends b [] here goes long = omega arith
+    ends b (m ∷ q) here goes long = true≢false (sym (some_leads f (Dir b) (m ∷ q) m q refl goes) ∙ ap is_some (no_items (items_of (f b)) m (none b here)))
+
+    never : most < length path → ⊥
+    never long =
+        let exact : length (take (suc most) path) ≡ suc most = length-take-le (suc most) path (omega arith) in
+        let found = is.covers (take (suc most) path) (front_leads f (suc most) path (Dir root) led) exact in
+        ends found.0 found.1 found.2 found.3 found.4
+
+first_named : (items : List Item) → 0 < length items → (n : Name) × IsSome (named items n)
+first_named [] some = absurd (omega arith)
+first_named (item ∷ items) some = (item.name, ap (λ (t : Bool). is_some (cond t (Some item.place) (named items item.name))) (same_name-own item.name))
+
+pub last_deeper : (f : Blocks) (root most blocks b : ℕ) (level : FinSet nat_cmp) → IsLevel f root most most blocks level → contains level b ≡ true → 0 < length (items_of (f b)) → IsDeeper f (Dir root) most
+last_deeper f root most blocks b level is here some =
+    let before = is.reached b here in
+    let entry = first_named (items_of (f b)) some in (
+      before.0 ++ entry.0 ∷ [],
+      ap is_some (leads-append f (Dir root) before.0 (entry.0 ∷ []) ∙ ap (option_and_then (λ to. leads f to (entry.0 ∷ []))) before.1) ∙ on (child f (Dir b) entry.0) entry.1,
+      omega (arith, length-append before.0 (entry.0 ∷ []), before.2),
+    )
+  where
+    on : (o : Option Place) → IsSome o → is_some (option_and_then (λ to. leads f to []) o) ≡ true
+    on None some = absurd cc
+    on (Some next) some = refl
+
+-- past the last block there is nothing below
+pub nothing_below : (f : Blocks) (root most : ℕ) → f root ≡ None → IsShallow f (Dir root) most
+nothing_below f root most none [] led = omega arith
+nothing_below f root most none (n ∷ path) led =
+    absurd (true≢false (sym (some_leads f (Dir root) (n ∷ path) n path refl led) ∙ ap (λ (node : Option (List ℕ)). is_some (named (items_of node) n)) none))
+
+-- ---- what entries add
+
+pub added_one : (s : FinSet nat_cmp) (blocks x b : ℕ) (rest : Bool) → x < blocks → (contains (insert s x) b || (nat_lt b blocks && rest)) ≡ (contains s b || (nat_lt b blocks && (eqb x b || rest)))
+added_one s blocks x b rest below = ap (λ (t : Bool). t || (nat_lt b blocks && rest)) (contains_insert s x b) ∙ on (eqb b x) refl
+  where
+    here : b ≡ x → (nat_lt b blocks && (eqb x b || rest)) ≡ true
+    here same =
+        (λ i. lt-ltb b blocks (subst (λ (y : ℕ). y < blocks) (sym same) below) i && (eq-eqb x b (sym same) i || rest))
+
+    either : (c d : Bool) → d ≡ true → (c || d) ≡ true
+    either true d e = refl
+    either false d e = e
+
+    on : (t : Bool) → eqb b x ≡ t → ((t || contains s b) || (nat_lt b blocks && rest)) ≡ (contains s b || (nat_lt b blocks && (eqb x b || rest)))
+    on true same = sym (either (contains s b) _ (here (eqb-true b x same)))
+    on false differs = ap (λ (t : Bool). contains s b || (nat_lt b blocks && (t || rest))) (sym (turned differs))
+      where
+        turned : eqb b x ≡ false → eqb x b ≡ false
+        turned differs = by_test (eqb x b) (λ same. absurd (true≢false (sym (eq-eqb b x (sym (eqb-true x b same))) ∙ differs))) (λ other. other)
+
+pub added_past : (blocks x b : ℕ) (c rest : Bool) → blocks ≤ x → (c || (nat_lt b blocks && rest)) ≡ (c || (nat_lt b blocks && (eqb x b || rest)))
+added_past blocks x b c rest past = on (nat_lt b blocks) refl
+  where
+    differs : nat_lt b blocks ≡ true → eqb x b ≡ false
+    differs less = by_test (eqb x b) (λ same. absurd (let e = eqb-true x b same in let l = ltb-true b blocks less in omega arith)) (λ other. other)
+
+    on : (t : Bool) → nat_lt b blocks ≡ t → (c || (t && rest)) ≡ (c || (t && (eqb x b || rest)))
+    on true less = ap (λ (e : Bool). c || (e || rest)) (sym (differs less))
+    on false not_less = refl
+
+-- ---- the next level, block by block
+
+or_true : (x y z w : Bool) → (x || (y && (z && w))) ≡ true → (x ≡ true) ⊎ ((y ≡ true) × (z ≡ true) × (w ≡ true))
+or_true true y z w e = inl refl
+or_true false true true true e = inr (refl, refl, refl)
+or_true false true true false e = absurd cc
+or_true false true false w e = absurd cc
+or_true false false z w e = absurd cc
+
+or_left : (x y : Bool) → x ≡ true → (x || y) ≡ true
+or_left x y e = ap (λ (t : Bool). t || y) e
+
+or_right : (x y z w : Bool) → y ≡ true → z ≡ true → w ≡ true → (x || (y && (z && w))) ≡ true
+or_right true y z w a b c = refl
+or_right false y z w a b c = λ i. a i && (b i && c i)
+
+pub none_named : (f : Blocks) (blocks : ℕ) (level next : FinSet nat_cmp) → next ≡ empty → AreNamedBy f blocks (λ b. nat_lt b 0 && contains level b) next
+none_named f blocks level next none = record {
+  within = λ b here. absurd (true≢false (sym here ∙ ap (λ (s : FinSet nat_cmp). contains s b) none ∙ contains-empty nat_cmp b));
+  named = λ b here. absurd (true≢false (sym here ∙ ap (λ (s : FinSet nat_cmp). contains s b) none ∙ contains-empty nat_cmp b));
+  all = λ parent b in_level below names. absurd (let less = ltb-true parent 0 (both_true (nat_lt parent 0) (contains level parent) in_level).0 in omega arith);
+}
+
+pub one_named : (f : Blocks) (blocks i : ℕ) (level next next' : FinSet nat_cmp) → AreNamedBy f blocks (λ b. nat_lt b i && contains level b) next
+    → ((b : ℕ) → contains next' b ≡ (contains next b || (contains level i && (nat_lt b blocks && names_directory (items_of (f i)) b))))
+    → AreNamedBy f blocks (λ b. nat_lt b (i + 1) && contains level b) next'
+one_named f blocks i level next next' before added = record { within = within_now; named = named_now; all = all_now }
+  where
+    split : (b : ℕ) → contains next' b ≡ true → (contains next b ≡ true) ⊎ ((contains level i ≡ true) × (nat_lt b blocks ≡ true) × (names_directory (items_of (f i)) b ≡ true))
+    split b here = or_true (contains next b) (contains level i) (nat_lt b blocks) (names_directory (items_of (f i)) b) (sym (added b) ∙ here)
+
+    within_now : (b : ℕ) → contains next' b ≡ true → b < blocks
+    within_now b here = elim (split b here) [ inl was ↦ before.within b was | inr new ↦ ltb-true b blocks new.1 ]
+
+    named_now : (b : ℕ) → contains next' b ≡ true → (parent : ℕ) × ((nat_lt parent (i + 1) && contains level parent) ≡ true) × (names_directory (items_of (f parent)) b ≡ true)
+    named_now b here = elim (split b here) [
+      | inl was ↦
+          let parent = before.named b was in
+          let both = both_true (nat_lt parent.0 i) (contains level parent.0) parent.1 in
+          let less = ltb-true parent.0 i both.0 in
+          (parent.0, and_true _ _ (lt-ltb parent.0 (i + 1) (omega arith)) both.1, parent.2)
+      | inr new ↦ (i, and_true _ _ (lt-ltb i (i + 1) (omega arith)) new.0, new.2)
+    ]
+
+    all_now : (parent b : ℕ) → (nat_lt parent (i + 1) && contains level parent) ≡ true → b < blocks → names_directory (items_of (f parent)) b ≡ true → contains next' b ≡ true
+    all_now parent b in_level below names =
+        let both = both_true (nat_lt parent (i + 1)) (contains level parent) in_level in
+        let less = ltb-true parent (i + 1) both.0 in
+        added b ∙ by_test (nat_lt parent i)
+        (λ earlier. or_left (contains next b) _ (before.all parent b (and_true _ _ earlier both.1) below names))
+        (λ not_earlier.
+        let past = ltb-false parent i not_earlier in
+        let same : parent ≡ i = omega arith in
+        or_right (contains next b) _ _ _ (ap (contains level) (sym same) ∙ both.1) (lt-ltb b blocks below) (ap (λ (k : ℕ). names_directory (items_of (f k)) b) (sym same) ∙ names))
+
+pub all_named : (f : Blocks) (blocks n : ℕ) (level next : FinSet nat_cmp) → ((b : ℕ) → contains level b ≡ true → b < n) → AreNamedBy f blocks (λ b. nat_lt b n && contains level b) next → AreNamedBy f blocks (contains level) next
+all_named f blocks n level next within names = record {
+  within = names.within;
+  named = λ b here. let parent = names.named b here in (parent.0, (both_true (nat_lt parent.0 n) (contains level parent.0) parent.1).1, parent.2);
+  all = λ parent b in_level below. names.all parent b (and_true _ _ (lt-ltb parent n (within parent in_level)) in_level) below;
+}
+
+-- so many blocks a level
+pub one_level_more : (k blocks : ℕ) → (k + 1) * blocks ≡ k * blocks + blocks
+one_level_more k blocks = grind arith

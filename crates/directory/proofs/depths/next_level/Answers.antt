@@ -1,0 +1,40 @@
+use Rattle.std.proofs.Common.{◌≡◌, nat_lt, ◌&&◌, ◌||◌, ap, refl, ◌∙◌, rules, arith}
+use Rattle.std.specs.FinSet as set
+use Rattle.block_trees.specs.Trees.{items_of}
+use Rattle.allocator.specs.BlockSet.{BlockSet}
+use Rattle.directory.specs.Depths.{names_directory}
+use Rattle.directory.proofs.Levels.{none_named, one_named}
+use Rattle.directory.proofs.depths.next_level.Goals as goal
+
+pub loop-block-init : goal.loop-block-init
+loop-block-init g c =
+    let made = c.in_ok-next.ensures.ok in
+    let members : c.in_ok-next.next.members ≡ set.empty = ap (λ (s : BlockSet). s.members) made in
+    record {
+      named = none_named (g.N.Nodes.node c.args.nodes.now) c.args.level.now.blocks c.args.level.now.members c.in_ok-next.next.members members;
+      size = ap (λ (s : BlockSet). s.blocks) made ∙ c.blocks-2.ensures;
+      same_nodes = refl;
+      same_kept = refl;
+      reads = omega arith;
+      writes = refl;
+      follows = g.met.N.Nodes.follows_itself c.args.nodes.now;
+      sound = c.requires.sound;
+      limit = refl;
+      blocks = refl;
+    }
+
+pub loop-block-preserved : goal.loop-block-preserved
+loop-block-preserved g c = record {
+  named = one_named (g.N.Nodes.node c.args.nodes.now) c.args.level.now.blocks c.loop-block.block c.args.level.now.members c.loop-block.next.members c.add_named.new.found.members c.loop-block.invariant.named
+      (λ b. c.in_ok-add_named.ensures.added b ∙ (λ i. set.contains c.loop-block.next.members b || (set.contains c.args.level.now.members c.loop-block.block
+      && (nat_lt b (c.loop-block.invariant.size i) && names_directory (items_of (c.loop-block.invariant.same_nodes i c.loop-block.block)) b))));
+  size = c.add_named.ensures.size ∙ c.loop-block.invariant.size;
+  same_nodes = search rules;
+  same_kept = search rules;
+  reads = search rules;
+  writes = search rules;
+  follows = g.met.N.Nodes.follows_on c.args.nodes.now c.loop-block.nodes c.add_named.new.nodes c.loop-block.invariant.follows c.add_named.ensures.follows;
+  sound = search rules;
+  limit = search rules;
+  blocks = search rules;
+}

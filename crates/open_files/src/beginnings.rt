@@ -1,0 +1,29 @@
+//! What is left of a path after a beginning of it.
+ghost use Rattle.std.specs.Prelude.{◌≡◌};
+ghost use Rattle.std.specs.Option.{option_map};
+ghost use Rattle.fs_types.specs.Contents.{beneath, begins};
+
+use fs_types::Name;
+
+/// What is left of a path after a beginning of it; none where it does not begin so.
+pub fn rest_of<'a>(front: &[Name], path: &'a [Name]) -> Option<&'a [Name]>
+    ensures { option_map (λ rest. rest.now) result ≡ beneath front.now path.now }
+{
+    let Some((name, front)) = front.split_first() else {
+        return Some(path);
+    };
+    let Some((first, rest)) = path.split_first() else {
+        return None;
+    };
+    if name != first {
+        return None;
+    }
+    rest_of(front, rest)
+}
+
+/// Whether the first path begins the second.
+pub fn is_beginning(front: &[Name], path: &[Name]) -> bool
+    ensures { result ≡ begins front.now path.now }
+{
+    rest_of(front, path).is_some()
+}

@@ -1,0 +1,146 @@
+-- A node put after the last one of a body.
+use Rattle.std.proofs.Common.{◌≡◌, ℕ, zero, suc, ◌+◌, ◌-◌, ◌*◌, ◌/◌, ◌^◌, ◌<◌, ◌≤◌, ◌⊎◌, inl, inr, Option, Some, None, List, [], ◌∷◌, ◌++◌, length, take, refl, sym, ap, subst, ◌∙◌, arith, suc-mul, length-append}
+use Rattle.std.proofs.lemmas.List.{take_all}
+use Rattle.std.proofs.lemmas.Nat.{pow_pos, div-mul-add}
+use Rattle.std.specs.Prelude.{Contains, unwrap_or}
+use Rattle.node_format.specs.Items.{Item}
+use Rattle.block_trees.specs.Bodies.{Blocks, index_of, pointer_of, data_of, back, data_to, head_index, body, Divides, IsChain, IsLinked, IsBody}
+use Rattle.block_trees.specs.Trees.{entries_of}
+use Rattle.block_trees.specs.Reached.{Reached, Names, BodyNames}
+use Rattle.block_trees.proofs.Entries.{directory_no_index}
+use Rattle.block_trees.proofs.Reaching.{IsReachedBy, reached_by}
+use Rattle.skip_list_file.specs.Writing.{place_before}
+use Rattle.skip_list_file.proofs.Chains.{back_back}
+use Rattle.skip_list_file.proofs.Parts.{data_length}
+use Rattle.skip_list_file.proofs.Fronts.{front_linked, reached_back, HasHead, has_head, is_body, body_taken}
+
+-- ---- pointer places
+
+pub power_double : (x : ℕ) → 2 ^ suc x ≡ 2 ^ x + 2 ^ x
+power_double x = omega arith
+
+pub divides_least : (x index : ℕ) → 0 < index → Divides x index → 2 ^ x ≤ index
+divides_least x index some (zero, e) = absurd (omega arith)
+divides_least x index some (suc m, e) = omega (arith, suc-mul m (2 ^ x))
+
+halved : (m power n : ℕ) → n ≡ suc m * (power + power) → n - power ≡ suc (m + m) * power
+halved m power n e = omega arith
+
+-- the node that place x leads to has place x too
+pub half_divides : (x index : ℕ) → Divides (suc x) index → Divides x (index - 2 ^ x)
+half_divides x index (zero, e) = (0, omega arith)
+half_divides x index (suc m, e) = (suc (m + m), halved m (2 ^ x) index (e ∙ ap (λ (p : ℕ). suc m * p) (power_double x)))
+
+pub next_place : (room : ℕ) (f : Blocks) (x i head : ℕ) → IsChain room f i head → IsLinked f i head → Divides (suc x) (suc i)
+    → pointer_of (f (place_before f head x)) x ≡ place_before f head (suc x)
+next_place room f x i head chain linked divides = on (suc i - 2 ^ x) refl
+  where
+    on : (j : ℕ) → suc i - 2 ^ x ≡ j → pointer_of (f (place_before f head x)) x ≡ place_before f head (suc x)
+    on zero e = absurd (omega (arith, divides_least (suc x) (suc i) (omega arith) divides, power_double x, pow_pos x))
+    on (suc j) e =
+        let sum : 2 ^ x - 1 + suc j ≡ i = omega (arith, divides_least (suc x) (suc i) (omega arith) divides, power_double x, pow_pos x) in
+        let here = front_linked f (2 ^ x - 1) (suc j) i head sum linked in
+        let own : Divides x (suc j) = subst (Divides x) e (half_divides x (suc i) divides) in
+        let twice : 2 ^ x - 1 + 2 ^ x ≡ 2 ^ suc x - 1 = omega (arith, power_double x, pow_pos x) in
+        here.0 x own ∙ back_back f (2 ^ x - 1) (2 ^ x) head ∙ ap (back f head) twice
+
+-- ---- one node more
+
+-- the node in a block is the one of this index after a body, whose nodes were there before, and holds this data
+pub record IsNext (old f : Blocks) (head i next : ℕ) (chunk : List ℕ) : Type 0 where
+  pub index : index_of (f next) ≡ Some i
+  pub bytes : data_of (f next) ≡ chunk
+  pub places : (x : ℕ) → 0 < i → Divides x i → pointer_of (f next) x ≡ place_before old head x
+
+pub record IsAppended (room : ℕ) (f : Blocks) (head i next : ℕ) (chunk : List ℕ) : Type 0 where
+  pub whole : IsBody room f next (i * room + length chunk)
+  pub shown : body room f next (i * room + length chunk) ≡ body room f head (i * room) ++ chunk
+  pub reached : (b : ℕ) → Reached f (next ∷ []) b → (next ≡ b) ⊎ ((0 < i) × Reached f (head ∷ []) b)
+
+-- the index of the head of a body of so many full nodes and some bytes more
+pub index_at : (room i more size : ℕ) → 0 < more → more ≤ room → size ≡ i * room + more → head_index room size ≡ i
+index_at room i more size least most e =
+    let before : size - 1 ≡ i * room + (more - 1) = omega arith in
+    ap (λ (n : ℕ). n / room) before ∙ div-mul-add i room (more - 1) (omega arith)
+
+-- a body node names what its pointer places say, and nothing else
+named_by : (f : Blocks) (i block b : ℕ) → index_of (f block) ≡ Some i → Names (f block) b → BodyNames (Some i) (pointer_of (f block)) b
+named_by f i block b is (inl (item, within, names)) = on (entries_of (f block)) refl
+  where
+    none-in : Contains [] item → ⊥
+    none-in (k, below, is) = omega arith
+
+    on : (entries : Option (List Item)) → entries_of (f block) ≡ entries → BodyNames (Some i) (pointer_of (f block)) b
+    on None e = absurd (none-in (subst (λ (o : Option (List Item)). Contains (unwrap_or o []) item) e within))
+    on (Some items) e = let none = directory_no_index (f block) items e in absurd cc
+named_by f i block b is (inr names) = subst (λ (index : Option ℕ). BodyNames index (pointer_of (f block)) b) is names
+
+module _ (room : ℕ) (f : Blocks) (head next : ℕ) (chunk : List ℕ) (some : 0 < length chunk) (fits : length chunk ≤ room) where
+  append_first : IsNext f f head 0 next chunk → IsAppended room f head 0 next chunk
+  append_first node =
+      let size : 0 * room + length chunk ≡ length chunk = omega arith in
+      let none : 0 * room ≡ 0 = omega arith in
+      let has : HasHead room f 0 next (0 * room + length chunk) = record {
+        some = omega arith;
+        index = index_at room 0 (length chunk) (0 * room + length chunk) some fits refl;
+        chain = node.index;
+        long = omega (arith, ap length node.bytes);
+        linked = tt;
+      } in
+      record {
+        whole = is_body room f 0 next (0 * room + length chunk) has;
+        shown = body_taken room f 0 next (0 * room + length chunk) has ∙ ap (take (0 * room + length chunk)) node.bytes ∙ take_all (0 * room + length chunk) chunk (omega arith)
+            ∙ sym (ap (λ (n : ℕ). body room f head n ++ chunk) none);
+        reached = λ b r. alone b (reached_by f next r);
+      }
+    where
+      alone : (b : ℕ) → IsReachedBy f next b → (next ≡ b) ⊎ ((0 < 0) × Reached f (head ∷ []) b)
+      alone b (inl here) = inl here
+      alone b (inr (other, names, reached)) = let own = named_by f 0 next other node.index names in absurd (omega (arith, own.1))
+
+  append_more : (i : ℕ) → IsBody room f head (suc i * room) → length (data_of (f head)) ≡ room → IsNext f f head (suc i) next chunk → IsAppended room f head (suc i) next chunk
+  append_more i whole full node =
+      let size : ℕ = suc i * room + length chunk in
+      let old_index : head_index room (suc i * room) ≡ i = index_at room i room (suc i * room) (omega arith) (omega arith) (omega (arith, suc-mul i room)) in
+      let old = has_head room f i head (suc i * room) (omega (arith, suc-mul i room)) old_index whole in
+      let back_one : pointer_of (f next) 0 ≡ head = node.places 0 (omega arith) (suc i, omega arith) in
+      let front : length (data_to f i head) ≡ suc i * room = omega (arith, data_length room f i head old.chain, suc-mul i room) in
+      let bytes : data_to f (suc i) next ≡ data_to f i head ++ chunk = ap (λ (b : ℕ). data_to f i b ++ data_of (f next)) back_one ∙ ap (λ (d : List ℕ). data_to f i head ++ d) node.bytes in
+      let count : length (data_to f (suc i) next) ≡ size = ap length bytes ∙ omega (arith, length-append (data_to f i head) chunk) in
+      let chain : IsChain room f (suc i) next = (
+        node.index,
+        ap (λ (b : ℕ). length (data_of (f b))) back_one ∙ full,
+        subst (λ (b : ℕ). IsChain room f i b) (sym back_one) old.chain,
+      ) in
+      let has : HasHead room f (suc i) next size = record {
+        some = omega arith;
+        index = index_at room (suc i) (length chunk) size some fits refl;
+        chain = chain;
+        long = omega arith;
+        linked = ((λ x divides. node.places x (omega arith) divides ∙ stepped x back_one), subst (λ (b : ℕ). IsLinked f i b) (sym back_one) old.linked);
+      } in
+      record {
+        whole = is_body room f (suc i) next size has;
+        shown = body_taken room f (suc i) next size has ∙ take_all size (data_to f (suc i) next) (omega arith) ∙ bytes
+            ∙ ap (λ (d : List ℕ). d ++ chunk) (sym (body_taken room f i head (suc i * room) old ∙ take_all (suc i * room) (data_to f i head) (omega arith)));
+        reached = λ b r. below old.chain b (reached_by f next r);
+      }
+    where
+      stepped : (x : ℕ) → pointer_of (f next) 0 ≡ head → place_before f head x ≡ back f next (2 ^ x)
+      stepped x back_one =
+          let one : suc (2 ^ x - 1) ≡ 2 ^ x = omega (arith, pow_pos x) in
+          sym (ap (λ (b : ℕ). back f b (2 ^ x - 1)) back_one) ∙ ap (back f next) one
+
+      below : IsChain room f i head → (b : ℕ) → IsReachedBy f next b → (next ≡ b) ⊎ ((0 < suc i) × Reached f (head ∷ []) b)
+      below chain b (inl here) = inl here
+      below chain b (inr (other, names, reached)) =
+          let own = named_by f (suc i) next other node.index names in
+          let place : other ≡ place_before f head own.0 = sym own.3 ∙ node.places own.0 (omega arith) own.2 in
+          let within : 2 ^ own.0 - 1 ≤ i = omega (arith, divides_least own.0 (suc i) (omega arith) own.2) in
+          inr (omega arith, reached_back room f (2 ^ own.0 - 1) i head within chain (subst (λ (r : ℕ). Reached f (r ∷ []) b) place reached))
+
+-- a node after full ones: the body goes on by its data
+pub append_node : (room : ℕ) (f : Blocks) (head i next : ℕ) (chunk : List ℕ) → 0 < length chunk → length chunk ≤ room → IsBody room f head (i * room) → (0 < i → length (data_of (f head)) ≡ room)
+    → IsNext f f head i next chunk → IsAppended room f head i next chunk
+append_node room f head zero next chunk some fits whole full node = append_first room f head next chunk some fits node
+append_node room f head (suc i) next chunk some fits whole full node = append_more room f head next chunk some fits i whole (full (omega arith)) node

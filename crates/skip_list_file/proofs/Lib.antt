@@ -1,0 +1,9 @@
+pub mod Chains
+pub mod Hops
+pub mod Parts
+pub mod Fronts
+pub mod Appended
+pub mod EditedBytes
+pub mod Growth
+pub mod NodeBytes
+pub mod Places

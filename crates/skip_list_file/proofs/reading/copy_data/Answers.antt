@@ -1,0 +1,23 @@
+use Rattle.std.proofs.Common.{◌≡◌, ℕ, ◌+◌, ◌*◌, Option, Some, List, sym, ap, subst, ◌∙◌}
+use Rattle.std.specs.Prelude.{unwrap_or}
+use Rattle.node_format.specs.Headers.{field}
+use Rattle.node_format.specs.BodyNodes.{IsBodyNode, HasPlace}
+use Rattle.skip_list_file.proofs.Chains.{body_at, place_zero}
+use Rattle.skip_list_file.proofs.reading.copy_data.Goals as goal
+
+pub unreachable-requires : goal.unreachable-requires
+unreachable-requires g c =
+    let old = c.args.nodes.now in
+    let shown = c.in_ok-read.ensures.shown in
+    let at = body_at (g.N.Nodes.limit old) c.requires.node.0 (g.N.Nodes.node old c.args.block) (g.N.Nodes.shown c.read.new.self) shown (g.met.N.Nodes.whole old c.args.block _ c.requires.sound shown) c.requires.node.1 in
+    let read = c.in_default.ensures.only (subst IsBodyNode (sym c.lent.ensures) at.is_node) in
+    absurd cc
+
+pub returns-clause-before : goal.returns-clause-before
+returns-clause-before g c = λ index indexed some.
+    let old = c.args.nodes.now in
+    let shown = c.in_ok-read.ensures.shown in
+    let at = body_at (g.N.Nodes.limit old) index (g.N.Nodes.node old c.args.block) (g.N.Nodes.shown c.read.new.self) shown (g.met.N.Nodes.whole old c.args.block _ c.requires.sound shown) indexed in
+    let same : c.in-Some.node ≡ g.N.Nodes.shown c.read.new.self = c.in-Some.ensures.found.0 ∙ c.lent.ensures in
+    let only = subst (λ (bytes : List ℕ). HasPlace (field bytes 4) 0 → c.pointer.result ≡ Some (field bytes (16 + 4 * 0))) same c.pointer.ensures.only in
+    c.unwrap_or.ensures ∙ ap (λ (o : Option ℕ). unwrap_or o 0) (place_zero (g.N.Nodes.node old c.args.block) index (g.N.Nodes.shown c.read.new.self) c.pointer.result at some only)

@@ -1,0 +1,24 @@
+use Rattle.std.proofs.Common.{◌≡◌, ◌+◌, ◌-◌, ◌/◌, ◌≤◌, length, take, drop}
+use Rattle.block_trees.specs.Bodies.{data_to}
+use Rattle.skip_list_file.specs.Reading.{nodes_between}
+use Rattle.skip_list_file.proofs.Parts.{IsLeft}
+use Rattle.skip_list_file.proofs.reading.fill.Given as goal
+
+abbrev pub decreases-loop-end : goal.decreases-loop-end
+decreases-loop-end g l = l.end
+
+-- what is left to read and what was filled are what is wanted
+abbrev pub invariant-loop-end : goal.invariant-loop-end
+invariant-loop-end g l = record {
+  left : IsLeft l.room (g.N.Nodes.node l.initial.nodes) l.start l.end ((l.end - 1) / l.room) l.block l.out (take (l.initial.end - l.start) (drop l.start (data_to (g.N.Nodes.node l.initial.nodes) ((l.initial.end - 1) / l.room) l.initial.block)));
+  below : l.end ≤ l.initial.end;
+  size : length l.out ≡ l.initial.end - l.start;
+  reads : g.N.Nodes.reads l.nodes + nodes_between l.room l.start l.end ≤ g.N.Nodes.reads l.initial.nodes + nodes_between l.room l.start l.initial.end;
+  same_nodes : g.N.Nodes.node l.nodes ≡ g.N.Nodes.node l.initial.nodes;
+  same_kept : g.N.Nodes.kept l.nodes ≡ g.N.Nodes.kept l.initial.nodes;
+  writes : g.N.Nodes.writes l.nodes ≡ g.N.Nodes.writes l.initial.nodes;
+  follows : g.N.Nodes.follows l.initial.nodes l.nodes;
+  sound : g.N.Nodes.is_sound l.nodes;
+  limit : g.N.Nodes.limit l.nodes ≡ g.N.Nodes.limit l.initial.nodes;
+  blocks : g.N.Nodes.blocks l.nodes ≡ g.N.Nodes.blocks l.initial.nodes;
+}

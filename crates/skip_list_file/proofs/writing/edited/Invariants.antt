@@ -1,0 +1,17 @@
+use Rattle.std.proofs.Common.{◌≡◌, ◌+◌, ◌-◌, ◌*◌, min}
+use Rattle.block_trees.specs.Bodies.{body}
+use Rattle.skip_list_file.specs.Writing as spec
+use Rattle.skip_list_file.proofs.Growth.{IsBegun}
+use Rattle.skip_list_file.proofs.writing.edited.Given as goal
+
+-- the bytes wanted stand in a body up to the node at hand, and a node was written for each index so far
+abbrev pub invariant-loop-index : goal.invariant-loop-index
+invariant-loop-index g l = record {
+  begun : IsBegun l.room (g.N.Nodes.node l.fn.nodes) (g.N.Nodes.kept l.fn.nodes) l.body (spec.edited (body l.room (g.N.Nodes.node l.fn.nodes) l.body.head l.body.length) l.offset l.bytes l.size)
+      (g.N.Nodes.node l.nodes) (g.N.Nodes.kept l.nodes) l.head (min (l.index * l.room) l.size);
+  writes : g.N.Nodes.writes l.nodes ≡ g.N.Nodes.writes l.fn.nodes + (l.index - l.first);
+  follows : g.N.Nodes.follows l.fn.nodes l.nodes;
+  sound : g.N.Nodes.is_sound l.nodes;
+  limit : g.N.Nodes.limit l.nodes ≡ g.N.Nodes.limit l.fn.nodes;
+  blocks : g.N.Nodes.blocks l.nodes ≡ g.N.Nodes.blocks l.fn.nodes;
+}

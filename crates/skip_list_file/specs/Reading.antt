@@ -1,0 +1,30 @@
+-- Reading a range of a file's bytes: which pointers lead to its last node, and how many nodes hold it.
+use Rattle.std.specs.Prelude.{ℕ, ◌+◌, ◌-◌, ◌/◌, ◌^◌, ◌≤◌, Bool, false, IsTrue, min, nat_lt, if◌then◌else◌}
+use Rattle.fs_types.specs.declared.faults.Fault.{Fault}
+use Rattle.fs_types.specs.declared.faults.Fault.TheVariants.{Damaged}
+use Rattle.node_store.specs.Faults.{is_read_fault}
+use Rattle.block_trees.specs.Bodies.{Divides}
+
+-- pointer place x leads from index i towards index j, and not past it
+abbrev pub IsUseful : ℕ → ℕ → ℕ → Type 0
+IsUseful x i j = Divides x i × (j + 2 ^ x ≤ i)
+
+-- it is the one that leads farthest
+abbrev pub IsLargest : ℕ → ℕ → ℕ → Type 0
+IsLargest x i j = IsUseful x i j × ((y : ℕ) → IsUseful y i j → y ≤ x)
+
+-- how many nodes hold the bytes from one place to another
+abbrev pub nodes_between : ℕ → ℕ → ℕ → ℕ
+nodes_between room from to = if nat_lt from to then (to - 1) / room + 1 - from / room else 0
+
+-- how many nodes hold what is read from an offset on of a file of this length, at most so many bytes
+abbrev pub nodes_of_range : ℕ → ℕ → ℕ → ℕ → ℕ
+nodes_of_range room size offset count = nodes_between room offset (min size (offset + count))
+
+-- the refusals of reading a body: those of reads, but that nothing is damaged
+abbrev pub is_body_fault : Fault → Bool
+is_body_fault Damaged = false
+is_body_fault fault = is_read_fault fault
+
+abbrev pub IsBodyFault : Fault → Type 0
+IsBodyFault fault = IsTrue (is_body_fault fault)

@@ -1,0 +1,68 @@
+-- Bodies written anew from a node on, where the nodes before it are shared.
+use Rattle.std.specs.Prelude.{◌≡◌, ◌⊎◌, ℕ, zero, suc, ◌+◌, ◌-◌, ◌*◌, ◌^◌, ◌<◌, ◌≤◌, Bool, false, ◌&&◌, nat_le, nat_lt, if◌then◌else◌, slice_index, List, [], ◌∷◌, ◌++◌, length, take}
+use Rattle.fs_types.specs.declared.faults.Fault.{Fault}
+use Rattle.fs_types.specs.declared.faults.Fault.TheVariants.{FlashFull, ReadOnly, ReadFailed, PowerCut, NoMemory}
+use Rattle.fs_types.specs.Contents.{resized, overwritten}
+use Rattle.fs_types.specs.Machine.{read_from}
+use Rattle.node_format.specs.declared.places.Place.TheVariants.{File}
+use Rattle.block_trees.specs.Bodies as bodies
+use Rattle.block_trees.specs.Bodies.{Blocks, index_of, back, IsChain, IsLinked, IsBody}
+use Rattle.block_trees.specs.Reached.{Reached, IsHeld, PlaceNames}
+use Rattle.skip_list_file.specs.declared.bodies.Body.{Body}
+
+-- a body has these bytes, and all that it reaches is kept
+pub record IsWritten (room : ℕ) (f : Blocks) (kept : ℕ → Bool) (body : Body) (bytes : List ℕ) : Type 0 where
+  pub whole : IsBody room f body.head body.length
+  pub shown : bodies.body room f body.head body.length ≡ bytes
+  pub held : IsHeld f kept (File body.head body.length)
+  pub counted : body.length ≡ length bytes
+
+-- each block that the new body reaches was reached by the old one, or was not kept before
+abbrev pub OnlyReaches : Blocks → Blocks → (ℕ → Bool) → Body → Body → Type 0
+OnlyReaches old new kept from to =
+    (root block : ℕ) → PlaceNames (File to.head to.length) root → Reached new (root ∷ []) block
+    → ((first : ℕ) × PlaceNames (File from.head from.length) first × Reached old (first ∷ []) block) ⊎ (kept block ≡ false)
+
+-- the refusals of a change of a body: what reads and writes are refused with, but Damaged
+abbrev pub IsWritingFault : Fault → Type 0
+IsWritingFault FlashFull = Unit {0}
+IsWritingFault ReadOnly = Unit {0}
+IsWritingFault ReadFailed = Unit {0}
+IsWritingFault PowerCut = Unit {0}
+IsWritingFault NoMemory = Unit {0}
+IsWritingFault _ = ⊥
+
+-- the bytes with others from `offset` on, and zeros where they end before so many
+abbrev pub edited : List ℕ → ℕ → List ℕ → ℕ → List ℕ
+edited old offset bytes size = resized (overwritten old offset bytes) size
+
+-- the byte at a place after an edit, where the old bytes are given from `start` on
+abbrev pub byte_after : List ℕ → ℕ → ℕ → List ℕ → ℕ → ℕ
+byte_after old start offset bytes place = if nat_le offset place && nat_lt place (offset + length bytes) then slice_index bytes (place - offset) else slice_index old (place - start)
+
+-- where the old bytes are those of a file from `start` on, the new ones are those of the edited file
+abbrev pub AreEdited : List ℕ → ℕ → ℕ → ℕ → List ℕ → List ℕ → Type 0
+AreEdited old start count offset bytes new =
+    (file : List ℕ) (size : ℕ) → old ≡ read_from file start count → start + count ≤ size → new ≡ read_from (edited file offset bytes size) start count
+
+-- the block that pointer place x of the node after a head names: the node 2 to the x before it
+abbrev pub place_before : Blocks → ℕ → ℕ → ℕ
+place_before f head x = back f head (2 ^ x - 1)
+
+-- the nodes before an index, of which the last is the head, are linked
+abbrev pub AreLinked : ℕ → Blocks → ℕ → ℕ → Type 0
+AreLinked room f head zero = Unit {0}
+AreLinked room f head (suc i) = IsChain room f i head × IsLinked f i head
+
+-- the front of a body: its first bytes, in the nodes that hold them
+pub record IsFront (room : ℕ) (f : Blocks) (head size front part : ℕ) : Type 0 where
+  pub whole : IsBody room f front part
+  pub shown : bodies.body room f front part ≡ take part (bodies.body room f head size)
+  pub reached : 0 < part → (b : ℕ) → Reached f (front ∷ []) b → Reached f (head ∷ []) b
+
+-- one node more: the body of full nodes goes on by these bytes, and reaches that node and what it reached
+pub record IsGrown (room : ℕ) (old new : Blocks) (kept kept' : ℕ → Bool) (head i next : ℕ) (bytes : List ℕ) : Type 0 where
+  pub whole : IsBody room new next (i * room + length bytes)
+  pub shown : bodies.body room new next (i * room + length bytes) ≡ bodies.body room old head (i * room) ++ bytes
+  pub held : IsHeld new kept' (File next (i * room + length bytes))
+  pub reached : (b : ℕ) → Reached new (next ∷ []) b → (kept b ≡ false) ⊎ ((0 < i) × Reached old (head ∷ []) b)

@@ -4,9 +4,11 @@ use Rattle.std.proofs.lemmas.List.Elements.{All-push}
 use Rattle.std.specs.Prelude.{vec_len, vec_capacity}
 use Rattle.std.specs.FinSet as set
 use Rattle.fs_types.specs.History.{Past, fresh, map_roots}
-use Rattle.fs_types.specs.Machine.{mounted}
+use Rattle.fs_types.specs.Descriptors.{Descriptors, none_open}
+use Rattle.fs_types.specs.Machine.{IsMachine, mounted}
 use Rattle.fs_types.specs.Trees.{Tree, bare}
 use Rattle.fs_types.specs.declared.calls.Version.{Version}
+use Rattle.fs_types.proofs.Kept.{machine_law}
 use Rattle.flash_model.specs.Device.{Device}
 use Rattle.flash_model.specs.Geometry.{IsGeometry, block_bytes}
 use Rattle.node_store.specs.NodePages.{node_of}
@@ -31,13 +33,24 @@ fresh_stand d s limit root stands = record {
   checkpoints = λ k e below. absurd (omega arith);
 }
 
-pub fresh_mounted : (d : Device) (s : State) (limit root : ℕ) → IsGeometry d.geometry → s.ring.blocks ≡ d.geometry.blocks → vec_len s.page ≡ d.geometry.page → block_bytes d.geometry ≤ vec_capacity s.node
-    → s.history ≡ fresh limit root → entries_of (node_of d root) ≡ Some [] → set.contains s.ring.used root ≡ true → IsMounted d s
-fresh_mounted d s limit root lawful blocks len room is empty kept =
-    let all = subst (AllStand d s.ring) (sym is) (fresh_stand d s limit root (empty_stands d s root empty kept)) in
-    record { lawful = lawful; ring_blocks = blocks; page_len = len; node_room = room; versions = all.versions; checkpoints = all.checkpoints }
+pub fresh_machine : (d : Device) (h : Past ℕ) (files : Descriptors) (limit root : ℕ) → h ≡ fresh limit root → files ≡ none_open → entries_of (node_of d root) ≡ Some []
+    → record { history = map_roots (tree_on d) h; descriptors = files } ≡ mounted (fresh limit bare)
+fresh_machine d h files limit root is none empty =
+    let history =
+    ap (λ (p : Past ℕ). map_roots (tree_on d) p) is
+    ∙ ap (λ (t : Tree). fresh limit t) (empty_root (room_of d) (node_of d) root empty).1 in
+    (λ i. record { history = history i; descriptors = none i })
 
-pub fresh_machine : (d : Device) (h : Past ℕ) (limit root : ℕ) → h ≡ fresh limit root → entries_of (node_of d root) ≡ Some [] → mounted (map_roots (tree_on d) h) ≡ mounted (fresh limit bare)
-fresh_machine d h limit root is empty =
-    ap (λ (p : Past ℕ). mounted (map_roots (tree_on d) p)) is
-    ∙ ap (λ (t : Tree). mounted (fresh limit t)) (empty_root (room_of d) (node_of d) root empty).1
+pub fresh_mounted : (d : Device) (s : State) (limit root : ℕ) → IsGeometry d.geometry → s.ring.blocks ≡ d.geometry.blocks → vec_len s.page ≡ d.geometry.page → block_bytes d.geometry ≤ vec_capacity s.node
+    → 2 ≤ limit → s.history ≡ fresh limit root → s.files ≡ none_open → entries_of (node_of d root) ≡ Some [] → set.contains s.ring.used root ≡ true → IsMounted d s
+fresh_mounted d s limit root lawful blocks len room some is none empty kept =
+    let all = subst (AllStand d s.ring) (sym is) (fresh_stand d s limit root (empty_stands d s root empty kept)) in
+    record {
+      lawful = lawful;
+      ring_blocks = blocks;
+      page_len = len;
+      node_room = room;
+      versions = all.versions;
+      checkpoints = all.checkpoints;
+      machine = subst IsMachine (sym (fresh_machine d s.history s.files limit root is none empty)) (machine_law.first limit some);
+    }

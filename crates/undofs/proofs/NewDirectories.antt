@@ -1,50 +1,40 @@
 -- The step of a new directory.
-use Rattle.std.proofs.Common.{◌≡◌, ℕ, ◌+◌, ◌<◌, ◌≤◌, Bool, true, false, ◌&&◌, Option, Some, None, Result, Ok, Err, [], ◌∷◌, length, refl, sym, ap, subst, ◌∙◌, ◌⊎◌, inl, inr, arith}
-use Rattle.std.proofs.lemmas.Bool.{cases_Bool, and_parts, leb-true, ne_eqb}
-use Rattle.std.specs.Prelude.{IfErr, nat_le, unwrap_or, if◌then◌else◌, ◌==◌}
-use Rattle.std.specs.List.{list_all}
-use Rattle.std.specs.Option.{option_or, option_map, is_none, is_some}
+use Rattle.std.proofs.Common.{◌≡◌, ℕ, ◌<◌, Bool, true, false, Option, Some, None, Ok, Err, [], ◌∷◌, length, refl, sym, ap, ◌∙◌, inl, inr, arith}
+use Rattle.std.proofs.lemmas.Bool.{cases_Bool, ne_eqb}
+use Rattle.std.specs.Prelude.{if◌then◌else◌, ◌==◌}
+use Rattle.std.specs.Option.{option_or, is_some}
 use Rattle.std.specs.FinMap.{get}
 use Rattle.std.specs.FinSet as set
-use Rattle.fs_types.specs.Names.{Name, Path, is_name, is_path}
+use Rattle.fs_types.specs.Names.{Name, Path, is_path}
 use Rattle.fs_types.specs.Contents.{Contents, Entry, parent_of, lookup_refusal}
-use Rattle.fs_types.specs.Trees.{Tree, bare, put, is_full}
-use Rattle.fs_types.specs.History.{Past, present_root, changed, map_roots}
-use Rattle.fs_types.specs.HistoryMaps.{present_root-map, changed-map}
-use Rattle.fs_types.specs.Machine.{Machine, mounted, present_tree, refusal, need, answer_of, machine_of}
+use Rattle.fs_types.specs.Trees.{Tree, put, is_full}
+use Rattle.fs_types.specs.History.{Past, present_root, changed}
+use Rattle.fs_types.specs.Machine.{Machine, refusal, makes_version, change_need}
 use Rattle.fs_types.specs.declared.calls.Call.{Call}
-use Rattle.fs_types.specs.declared.calls.Reply.{Reply}
 use Rattle.fs_types.specs.declared.faults.Fault.{Fault}
-use Rattle.fs_types.specs.declared.faults.Fault.TheVariants.{Exists, DirectoryFull, ReadOnly, Overflow}
+use Rattle.fs_types.specs.declared.faults.Fault.TheVariants.{Exists, DirectoryFull}
 use Rattle.flash_model.specs.Device.{Device}
 use Rattle.node_format.specs.declared.places.Place.TheVariants.{Dir}
 use Rattle.node_store.specs.NodePages.{node_of}
 use Rattle.block_trees.specs.Bodies.{Blocks, body}
 use Rattle.block_trees.specs.Trees.{tree, root_tree, IsRoot}
-use Rattle.block_trees.proofs.EditedTrees.{edit_law, mkdir_law}
+use Rattle.block_trees.proofs.EditedTrees.{mkdir_law}
 use Rattle.block_trees.proofs.EmptyDirectories.{empty_held}
 use Rattle.block_trees.proofs.RootMaps.{map_law, full_directory}
 use Rattle.directory.specs.declared.lookups.Found.{Found}
 use Rattle.directory.specs.declared.lookups.Found.TheVariants as found
 use Rattle.directory.specs.Lookups.{look_up, entry_of, is_path_fault, IsLookupFault}
-use Rattle.directory.specs.Making.{IsMade, IsMakeFault}
+use Rattle.directory.specs.Making.{IsMade}
 use Rattle.directory.proofs.LookupLaws.{found_is, missing_parent, refused_is}
 use Rattle.undofs.specs.Seen.{room_of, tree_on, seen_on, machine_on, is_read_only}
-use Rattle.undofs.specs.Steps.{is_writing, last_serial, MayRefuse, Refuses, CallStep}
-use Rattle.undofs.specs.Mounted.{IsStanding, IsMounted}
-use Rattle.undofs.specs.Worked.{storage_on, IsWorked, IsLooked, WorkCause}
+use Rattle.undofs.specs.Steps.{empty, last_serial, Refuses}
+use Rattle.undofs.specs.Mounted.{IsStanding, IsMounted, IsCalled}
+use Rattle.undofs.specs.Worked.{IsWorked, IsLooked, WorkCause}
 use Rattle.undofs.specs.declared.state.State.{State}
-use Rattle.undofs.proofs.Roots.{of_present, all_changed, kept_changed}
-use Rattle.undofs.proofs.Standing.{keeps, same_room, AllStand, worked_stand, mounted_with, worked_trees, worked_machine, worked_later, worked_mounted, looked_worked, worked_on}
-use Rattle.undofs.proofs.Refusals.{read_refuses, write_refuses, cause_later}
-
--- The present tree.
-
-present_tree_is : (d : Device) (s : State) (root : ℕ) → present_root s.history ≡ Some root → present_tree (machine_on d s) ≡ tree_on d root
-present_tree_is d s root is = ap (λ o. unwrap_or o bare) (present_root-map (tree_on d) s.history ∙ ap (option_map (tree_on d)) is)
-
-pub present_stands : (d : Device) (s : State) (root : ℕ) → IsMounted d s → present_root s.history ≡ Some root → IsStanding d s.ring root
-present_stands d s root m is = of_present (IsStanding d s.ring) s.history root m.versions is
+use Rattle.undofs.proofs.Changes.{path_within, makes, later_stands, later_tree, worked_keeps, HasNewTree, rewritten_root, changed_called}
+use Rattle.undofs.proofs.PathCalls.{present_tree_is, present_stands}
+use Rattle.undofs.proofs.Refusals.{read_refuses}
+use Rattle.undofs.proofs.Standing.{worked_mounted, looked_worked}
 
 -- Refusals.
 
@@ -134,144 +124,33 @@ pub mkdir_refuses : (d : Device) (s : State) (e : Device) (t : State) (path : Pa
     → Refuses (seen_on d s) (machine_on d s) (Call.Mkdir path) fault (seen_on e t)
 mkdir_refuses d s e t path root x y fault m is led same refused = inl (mkdir_by d s path root x y m is led same ∙ refused)
 
--- a refusal of what was answered
-pub at_refusal : {T : Type 0} (d : Device) (s : State) (e : Device) (t : State) (call : Call) (fault : Fault) (result : Result T Fault) → result ≡ Err fault
-    → Refuses (seen_on d s) (machine_on d s) call fault (seen_on e t) → IfErr result (λ x. Refuses (seen_on d s) (machine_on d s) call x (seen_on e t))
-at_refusal d s e t call fault result is refuses = subst (λ r. IfErr r (λ x. Refuses (seen_on d s) (machine_on d s) call x (seen_on e t))) (sym is) refuses
-
--- a change that the machine does not refuse
-
-makes : (m : Machine) (path : Path) → refusal m (Call.Mkdir path) ≡ None → is_none (refusal m (Call.Mkdir path)) && true ≡ true
-makes m path fine = ap (λ o. is_none o && true) fine
-
-pub mkdir_writes : (m : Machine) (path : Path) → refusal m (Call.Mkdir path) ≡ None → is_writing m (Call.Mkdir path) ≡ true
-mkdir_writes m path fine = makes m path fine
-
-pub mkdir_needs : (room : ℕ) (m : Machine) (path : Path) → refusal m (Call.Mkdir path) ≡ None → 0 < need room m (Call.Mkdir path)
-mkdir_needs room m path fine = subst (λ b. 0 < (if b then length path + 1 else 0)) (sym (makes m path fine)) (omega arith)
-
--- read-only mode, or no serial left
-abbrev ChangeFault : Fault → State → Type 0
-ChangeFault fault t = ((fault ≡ ReadOnly) × (is_read_only t.bad ≡ true)) ⊎ ((fault ≡ Overflow) × (t.history.next ≡ last_serial))
-
-pub change_refuses : (d : Device) (s : State) (e : Device) (t : State) (path : Path) (fault : Fault) → IsLooked d s e t → refusal (machine_on d s) (Call.Mkdir path) ≡ None → ChangeFault fault t
-    → Refuses (seen_on d s) (machine_on d s) (Call.Mkdir path) fault (seen_on e t)
-change_refuses d s e t path fault l fine (inl why) =
-    inr (subst (λ x. MayRefuse (seen_on d s) (machine_on d s) (Call.Mkdir path) x (seen_on e t)) (sym why.0) (mkdir_writes (machine_on d s) path fine, why.1))
-change_refuses d s e t path fault l fine (inr why) =
-    inr (subst (λ x. MayRefuse (seen_on d s) (machine_on d s) (Call.Mkdir path) x (seen_on e t)) (sym why.0)
-    (makes (machine_on d s) path fine, ap (λ (h : Past ℕ). h.next) (sym l.rest.history) ∙ why.1))
-
-pub making_refuses : (d : Device) (s : State) (e : Device) (t : State) (f : Device) (u : State) (path : Path) (fault : Fault) → IsLooked d s e t → refusal (machine_on d s) (Call.Mkdir path) ≡ None
-    → IsMakeFault fault → WorkCause (seen_on e t) fault (seen_on f u)
-    → Refuses (seen_on d s) (machine_on d s) (Call.Mkdir path) fault (seen_on f u)
-making_refuses d s e t f u path fault l fine is why =
-    let m = machine_on d s in
-    inr (write_refuses (seen_on d s) (seen_on f u) m (Call.Mkdir path) fault refl (mkdir_needs (room_of d) m path fine) (mkdir_writes m path fine) is
-    (cause_later (seen_on d s) (seen_on e t) (seen_on f u) fault (worked_later d s e t (looked_worked d s e t l)) why))
-
 -- A directory that is made.
 
-path_within : (path : Path) → is_path path ≡ true → length path ≤ 16
-path_within path is = leb-true (length path) 16 (and_parts (list_all is_name path) (nat_le (length path) 16) is).1
+pub mkdir_makes : (m : Machine) (path : Path) → refusal m (Call.Mkdir path) ≡ None → makes_version m (Call.Mkdir path) ≡ true
+mkdir_makes m path fine = makes m (Call.Mkdir path) fine refl
+
+pub mkdir_more : (room : ℕ) (m : Machine) (path : Path) → 0 < change_need room m (Call.Mkdir path)
+mkdir_more room m path = omega arith
 
 -- what is made of a flash and a state by writing nodes
 abbrev Made : Device → State → Device → State → ℕ → ℕ → Path → Type 0
 Made d s e t from to path = IsMade (node_of d) (node_of e) (set.contains s.ring.used) (set.contains t.ring.used) from to path
 
--- the new root stands, and its tree is the old one with the directory
-record NewRoot (d : Device) (e : Device) (t : State) (from to : ℕ) (path : Path) : Type 0 where
-  stands : IsStanding e t.ring to
-  is : tree_on e to ≡ put (tree_on d from) path Entry.Dir
+made_root : (d : Device) (s : State) (e : Device) (t : State) (from to : ℕ) (path : Path) → IsMounted d s → IsStanding d s.ring from → IsWorked d s e t
+    → look_up (node_of d) from path ≡ Ok (found.Missing false) → is_path path ≡ true → Made d s e t from to path → HasNewTree e t to (put (tree_on d from) path Entry.Dir)
+made_root d s e t from to path m stands w missing lawful made =
+    let nothing = (found_is (room_of d) (node_of d) from path (found.Missing false) missing).1 in
+    rewritten_root d s e t from to path (Some (Dir made.block)) (put (tree_on d from) path Entry.Dir) m stands w made.rewritten (empty_held (node_of e) made.block made.empty (set.contains t.ring.used) made.is_kept)
+    (mkdir_law (room_of d) (node_of d) (node_of e) (set.contains s.ring.used) (set.contains t.ring.used) from to made.block path (worked_keeps d s e t m w) stands.held stands.rooted nothing (path_within path lawful) made.empty made.rewritten)
 
-new_root : (d : Device) (s : State) (e : Device) (t : State) (from to : ℕ) (path : Path) → IsMounted d s → IsStanding d s.ring from → IsWorked d s e t
-    → look_up (node_of d) from path ≡ Ok (found.Missing false) → is_path path ≡ true → Made d s e t from to path → NewRoot d e t from to path
-new_root d s e t from to path m stands w missing lawful made =
-    let old = node_of d in
-    let new = node_of e in
-    let kept = set.contains s.ring.used in
-    let kept' = set.contains t.ring.used in
-    let same : room_of e ≡ room_of d = same_room (storage_on d s) (storage_on e t) w.evolved in
-    let stays = keeps (storage_on d s) (storage_on e t) m.lawful w.evolved in
-    let nothing = (found_is (room_of d) old from path (found.Missing false) missing).1 in
-    let law = mkdir_law (room_of d) old new kept kept' from to made.block path stays stands.held stands.rooted nothing (path_within path lawful) made.empty made.rewritten in
-    let edit = edit_law old new kept kept' from to path (Some (Dir made.block)) stays stands.held made.rewritten in
-    record {
-      stands = record {
-        held = edit.held (empty_held new made.block made.empty kept' made.is_kept);
-        rooted = subst (λ room. IsRoot room new to) (sym same) law.0;
-      };
-      is = ap (λ room. root_tree room new to) same ∙ law.1;
-    }
+-- the present root with the directory, after reads
+pub mkdir_root : (d : Device) (s : State) (e : Device) (t : State) (f : Device) (u : State) (root to : ℕ) (path : Path) → IsMounted d s → present_root s.history ≡ Some root → IsLooked d s e t
+    → look_up (node_of e) root path ≡ Ok (found.Missing false) → is_path path ≡ true → IsWorked e t f u → Made e t f u root to path → HasNewTree f u to (put (tree_on e root) path Entry.Dir)
+mkdir_root d s e t f u root to path m is l missing lawful w made =
+    made_root e t f u root to path (worked_mounted d s e t m (looked_worked d s e t l)) (later_stands d s e t root m is l) w missing lawful made
 
--- the present root still stands after reads
-pub later_stands : (d : Device) (s : State) (e : Device) (t : State) (root : ℕ) → IsMounted d s → present_root s.history ≡ Some root → IsLooked d s e t → IsStanding e t.ring root
-later_stands d s e t root m is l =
-    present_stands e t root (worked_mounted d s e t m (looked_worked d s e t l)) (ap (λ (h : Past ℕ). present_root h) l.rest.history ∙ is)
-
--- the state with the new root
-abbrev pub pushed : State → ℕ → State
-pushed t to = record t { history = changed t.history to }
-
-all_pushed : (e : Device) (t : State) (to : ℕ) → AllStand e t.ring t.history → IsStanding e t.ring to → AllStand e t.ring (changed t.history to)
-all_pushed e t to all stands = record {
-  versions = all_changed (IsStanding e t.ring) t.history to all.versions stands;
-  checkpoints = kept_changed (IsStanding e t.ring) t.history to all.checkpoints;
-}
-
-pub pushed_mounted : (d : Device) (s : State) (e : Device) (t : State) (from to : ℕ) (path : Path) (h : Past ℕ) → h ≡ changed t.history to → IsMounted d s → IsStanding d s.ring from → IsWorked d s e t
-    → look_up (node_of d) from path ≡ Ok (found.Missing false) → is_path path ≡ true → Made d s e t from to path → IsMounted e (record t { history = h })
-pushed_mounted d s e t from to path h is m stands w missing lawful made =
-    let new = new_root d s e t from to path m stands w missing lawful made in
-    let all = subst (AllStand e t.ring) (sym w.rest.history) (worked_stand d s e t m w) in
-    subst (λ k. IsMounted e (record t { history = k })) (sym is) (mounted_with d s e t (changed t.history to) m w (all_pushed e t to all new.stands))
-
--- the machine with the new tree
-pushed_machine : (d : Device) (s : State) (e : Device) (t : State) (from to : ℕ) (path : Path) → IsMounted d s → IsWorked d s e t → NewRoot d e t from to path
-    → machine_on e (pushed t to) ≡ mounted (changed (map_roots (tree_on d) s.history) (put (tree_on d from) path Entry.Dir))
-pushed_machine d s e t from to path m w new =
-    ap (λ (h : Past ℕ). mounted (map_roots (tree_on e) (changed h to))) w.rest.history
-    ∙ ap mounted (sym (changed-map (tree_on e) s.history to))
-    ∙ ap (λ (h : Past Tree). mounted (changed h (tree_on e to))) (worked_trees d s e t m w)
-    ∙ ap (λ (x : Tree). mounted (changed (map_roots (tree_on d) s.history) x)) new.is
-
--- what the machine does for a new directory
-next_is : (d : Device) (s : State) (root : ℕ) (path : Path) → present_root s.history ≡ Some root → refusal (machine_on d s) (Call.Mkdir path) ≡ None
-    → machine_of (machine_on d s) (Call.Mkdir path) (refusal (machine_on d s) (Call.Mkdir path)) ≡ mounted (changed (map_roots (tree_on d) s.history) (put (tree_on d root) path Entry.Dir))
-next_is d s root path is fine =
-    ap (machine_of (machine_on d s) (Call.Mkdir path)) fine
-    ∙ ap (λ (x : Tree). mounted (changed (map_roots (tree_on d) s.history) (put x path Entry.Dir))) (present_tree_is d s root is)
-
-mkdir_step : (d : Device) (s : State) (e : Device) (t : State) (f : Device) (u : State) (root to : ℕ) (path : Path) → IsMounted d s → present_root s.history ≡ Some root → IsLooked d s e t
-    → refusal (machine_on d s) (Call.Mkdir path) ≡ None → look_up (node_of e) root path ≡ Ok (found.Missing false) → is_path path ≡ true
-    → is_read_only t.bad ≡ false → t.history.next < last_serial → IsWorked e t f u → Made e t f u root to path
-    → CallStep (seen_on d s) (machine_on d s) false (Call.Mkdir path) (Ok Reply.Empty) (seen_on f (pushed u to)) (machine_on f (pushed u to)) false
-mkdir_step d s e t f u root to path m is l fine missing lawful writable serial w made =
-    let first = looked_worked d s e t l in
-    let mid = worked_mounted d s e t m first in
-    let same = worked_machine d s e t m first in
-    let there : present_root t.history ≡ Some root = ap (λ (h : Past ℕ). present_root h) l.rest.history ∙ is in
-    let fine' : refusal (machine_on e t) (Call.Mkdir path) ≡ None = ap (λ n. refusal n (Call.Mkdir path)) same ∙ fine in
-    let new = new_root e t f u root to path mid (present_stands e t root mid there) w missing lawful made in
-    record {
-      later = worked_later d s f u (worked_on d s e t f u first w);
-      answers = (
-        refl,
-        record {
-          answered = ap (answer_of (seen_on f u).space (machine_on d s) (Call.Mkdir path)) fine;
-          leaves = pushed_machine e t f u root to path mid w new ∙ sym (next_is e t root path there fine')
-              ∙ ap (λ n. machine_of n (Call.Mkdir path) (refusal n (Call.Mkdir path))) same;
-          writable = λ writes. ap is_read_only (sym l.untouched.bad) ∙ writable;
-          serial_left = λ makes. subst (λ (h : Past ℕ). h.next < last_serial) l.rest.history serial;
-        },
-        refl,
-      );
-    }
-
-pub pushed_step : (d : Device) (s : State) (e : Device) (t : State) (f : Device) (u : State) (root to : ℕ) (path : Path) (h : Past ℕ) → h ≡ changed u.history to → IsMounted d s → present_root s.history ≡ Some root → IsLooked d s e t
-    → refusal (machine_on d s) (Call.Mkdir path) ≡ None → look_up (node_of e) root path ≡ Ok (found.Missing false) → is_path path ≡ true
-    → is_read_only t.bad ≡ false → t.history.next < last_serial → IsWorked e t f u → Made e t f u root to path
-    → CallStep (seen_on d s) (machine_on d s) false (Call.Mkdir path) (Ok Reply.Empty) (seen_on f (record u { history = h })) (machine_on f (record u { history = h })) false
-pushed_step d s e t f u root to path h pushes m is l fine missing lawful writable serial w made =
-    subst (λ k. CallStep (seen_on d s) (machine_on d s) false (Call.Mkdir path) (Ok Reply.Empty) (seen_on f (record u { history = k })) (machine_on f (record u { history = k })) false) (sym pushes)
-    (mkdir_step d s e t f u root to path m is l fine missing lawful writable serial w made)
+pub mkdir_called : (d : Device) (s : State) (e : Device) (t : State) (f : Device) (u : State) (root to : ℕ) (path : Path) (h : Past ℕ) → h ≡ changed u.history to → IsMounted d s → present_root s.history ≡ Some root → IsLooked d s e t
+    → refusal (machine_on d s) (Call.Mkdir path) ≡ None → is_path path ≡ true → is_read_only t.bad ≡ false → t.history.next < last_serial → IsWorked e t f u → HasNewTree f u to (put (tree_on e root) path Entry.Dir)
+    → IsCalled (Unit {0}) d s (Call.Mkdir path) empty (Ok tt) f (record u { history = h })
+mkdir_called d s e t f u root to path h pushes m is l fine lawful writable serial w new =
+    changed_called d s e t f u to (Call.Mkdir path) (put (tree_on e root) path Entry.Dir) h pushes m l fine (ap (λ (x : Tree). Some (put x path Entry.Dir)) (later_tree d s e t root m is l)) refl refl lawful writable serial w new

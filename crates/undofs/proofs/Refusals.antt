@@ -1,7 +1,7 @@
 -- Steps of refused calls, and what is remembered of an answer that the power is off.
 use Rattle.std.proofs.Common.{◌≡◌, ◌<◌, Bool, true, false, ◌&&◌, ◌||◌, Result, Err, refl, sym, subst, ◌∙◌, arith}
 use Rattle.std.proofs.lemmas.Bool.{true≢false, and_parts}
-use Rattle.std.specs.Prelude.{IsTrue}
+use Rattle.std.specs.Prelude.{IsTrue, IfErr}
 use Rattle.fs_types.specs.Machine.{Machine, need}
 use Rattle.fs_types.specs.declared.calls.Call.{Call}
 use Rattle.fs_types.specs.declared.calls.Reply.{Reply}
@@ -52,6 +52,11 @@ cause_later old mid new _ later why = absurd why
 
 -- Steps.
 
+-- a refusal of what was answered
+pub at_refusal : {T : Type 0} (d : Device) (s : State) (e : Device) (t : State) (call : Call) (fault : Fault) (result : Result T Fault) → result ≡ Err fault
+    → Refuses (seen_on d s) (machine_on d s) call fault (seen_on e t) → IfErr result (λ x. Refuses (seen_on d s) (machine_on d s) call x (seen_on e t))
+at_refusal d s e t call fault result is refuses = subst (λ r. IfErr r (λ x. Refuses (seen_on d s) (machine_on d s) call x (seen_on e t))) (sym is) refuses
+
 pub refused_step : (d : Device) (s : State) (e : Device) (t : State) (call : Call) (fault : Fault) → IsMounted d s → IsWorked d s e t → Refuses (seen_on d s) (machine_on d s) call fault (seen_on e t)
     → CallStep (seen_on d s) (machine_on d s) false call (Err fault) (seen_on e t) (machine_on e t) (is_cut fault)
 refused_step d s e t call fault m w refuses = record { later = worked_later d s e t w; answers = (refuses, worked_machine d s e t m w, refl) }
@@ -86,6 +91,7 @@ remembered_mounted e t u result is m = subst (IsMounted e) (sym is) (record {
   node_room = m.node_room;
   versions = m.versions;
   checkpoints = m.checkpoints;
+  machine = m.machine;
 })
 
 -- a call that makes no version and is none for the record

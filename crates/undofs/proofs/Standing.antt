@@ -4,7 +4,7 @@ use Rattle.std.proofs.lemmas.List.Elements.{All-weaker, All-contains, All-map}
 use Rattle.std.specs.Prelude.{All, map, vec_capacity}
 use Rattle.fs_types.specs.History.{Past, map_roots}
 use Rattle.fs_types.specs.HistoryMaps.{same-map_roots}
-use Rattle.fs_types.specs.Machine.{mounted}
+use Rattle.fs_types.specs.Machine.{IsMachine}
 use Rattle.fs_types.specs.Names.{Name}
 use Rattle.fs_types.specs.declared.calls.Version.{Version}
 use Rattle.flash_model.specs.declared.sizes.Geometry.{Geometry}
@@ -84,10 +84,10 @@ pub looked_worked : (d : Device) (s : State) (e : Device) (t : State) → IsLook
 looked_worked d s e t l = record { evolved = Untouched_evolved (storage_on d s) (storage_on e t) l.untouched; rest = l.rest }
 
 pub worked_itself : (d : Device) (s : State) → IsWorked d s d s
-worked_itself d s = record { evolved = Evolved_itself (storage_on d s); rest = record { page_len = refl; node_room = omega arith; history = refl; is_off = refl } }
+worked_itself d s = record { evolved = Evolved_itself (storage_on d s); rest = record { page_len = refl; node_room = omega arith; history = refl; files = refl; is_off = refl } }
 
 same_but_on : (s t u : State) → IsSameBut s t → IsSameBut t u → IsSameBut s u
-same_but_on s t u a b = record { page_len = b.page_len ∙ a.page_len; node_room = omega arith; history = b.history ∙ a.history; is_off = b.is_off ∙ a.is_off }
+same_but_on s t u a b = record { page_len = b.page_len ∙ a.page_len; node_room = omega arith; history = b.history ∙ a.history; files = b.files ∙ a.files; is_off = b.is_off ∙ a.is_off }
 
 pub worked_on : (d : Device) (s : State) (e : Device) (t : State) (f : Device) (u : State) → IsWorked d s e t → IsWorked e t f u → IsWorked d s f u
 worked_on d s e t f u a b = record { evolved = Evolved_on (storage_on d s) (storage_on e t) (storage_on f u) a.evolved b.evolved; rest = same_but_on s t u a.rest b.rest }
@@ -99,9 +99,18 @@ looked_on d s e t f u a b = record { untouched = Untouched_on (storage_on d s) (
 pub worked_stand : (d : Device) (s : State) (e : Device) (t : State) → IsMounted d s → IsWorked d s e t → AllStand e t.ring s.history
 worked_stand d s e t m w = all_still_stand (storage_on d s) (storage_on e t) s.history m.lawful w.evolved (all_stand d s m)
 
+pub worked_trees : (d : Device) (s : State) (e : Device) (t : State) → IsMounted d s → IsWorked d s e t → map_roots (tree_on e) s.history ≡ map_roots (tree_on d) s.history
+worked_trees d s e t m w = same_trees (storage_on d s) (storage_on e t) s.history m.lawful w.evolved (all_stand d s m)
+
+pub worked_machine : (d : Device) (s : State) (e : Device) (t : State) → IsMounted d s → IsWorked d s e t → machine_on e t ≡ machine_on d s
+worked_machine d s e t m w =
+    let history = ap (λ (h : Past ℕ). map_roots (tree_on e) h) w.rest.history ∙ worked_trees d s e t m w in
+    (λ i. record { history = history i; descriptors = w.rest.files i })
+
 -- a mounted system, with any history of roots that stand
-pub mounted_with : (d : Device) (s : State) (e : Device) (t : State) (h : Past ℕ) → IsMounted d s → IsWorked d s e t → AllStand e t.ring h → IsMounted e (record t { history = h })
-mounted_with d s e t h m w all =
+pub mounted_with : (d : Device) (s : State) (e : Device) (t : State) (h : Past ℕ) → IsMounted d s → IsWorked d s e t → AllStand e t.ring h → IsMachine (machine_on e (record t { history = h }))
+    → IsMounted e (record t { history = h })
+mounted_with d s e t h m w all machine =
     let same = sym w.evolved.geometry in
     record {
       lawful = subst IsGeometry same m.lawful;
@@ -110,16 +119,12 @@ mounted_with d s e t h m w all =
       node_room = subst (λ (g : Geometry). block_bytes g ≤ vec_capacity t.node) same (let room = m.node_room in let more = w.rest.node_room in omega arith);
       versions = all.versions;
       checkpoints = all.checkpoints;
+      machine = machine;
     }
 
 pub worked_mounted : (d : Device) (s : State) (e : Device) (t : State) → IsMounted d s → IsWorked d s e t → IsMounted e t
 worked_mounted d s e t m w = mounted_with d s e t t.history m w (subst (AllStand e t.ring) (sym w.rest.history) (worked_stand d s e t m w))
-
-pub worked_trees : (d : Device) (s : State) (e : Device) (t : State) → IsMounted d s → IsWorked d s e t → map_roots (tree_on e) s.history ≡ map_roots (tree_on d) s.history
-worked_trees d s e t m w = same_trees (storage_on d s) (storage_on e t) s.history m.lawful w.evolved (all_stand d s m)
-
-pub worked_machine : (d : Device) (s : State) (e : Device) (t : State) → IsMounted d s → IsWorked d s e t → machine_on e t ≡ machine_on d s
-worked_machine d s e t m w = ap (λ (h : Past ℕ). mounted (map_roots (tree_on e) h)) w.rest.history ∙ ap mounted (worked_trees d s e t m w)
+    (subst IsMachine (sym (worked_machine d s e t m w)) m.machine)
 
 pub worked_later : (d : Device) (s : State) (e : Device) (t : State) → IsWorked d s e t → IsLater (seen_on d s) (seen_on e t)
 worked_later d s e t w = record {

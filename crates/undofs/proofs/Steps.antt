@@ -1,13 +1,15 @@
 -- What a call that does no device operation has to show for its step, and what stays of the invariant.
-use Rattle.std.proofs.Common.{◌≡◌, ◌⊎◌, inl, inr, ℕ, ◌<◌, ◌≤◌, Bool, true, false, cond, ◌&&◌, Option, Some, None, List, [], ◌∷◌, map, Result, Ok, Err, OnOk, OnErr, IfErr, length, sym, ap, refl, ◌∙◌, subst, arith}
+use Rattle.std.proofs.Common.{◌≡◌, ◌⊎◌, inl, inr, ℕ, ◌+◌, ◌<◌, ◌≤◌, Bool, true, false, cond, ◌&&◌, Option, Some, None, List, [], ◌∷◌, map, Result, Ok, Err, OnOk, OnErr, IfErr, length, sym, ap, refl, ◌∙◌, subst, arith}
 use Rattle.std.proofs.lemmas.Bool.{true≢false, and_parts, and_from, le-leb, lt-leb}
-use Rattle.std.specs.Prelude.{◌||◌, nat_lt, nat_le, unwrap_or}
+use Rattle.std.specs.Prelude.{◌==◌, ◌||◌, nat_lt, nat_le, unwrap_or}
 use Rattle.std.specs.Option.{option_map, option_map_or, is_some, is_none}
 use Rattle.fs_types.specs.Names.{Name}
 use Rattle.fs_types.specs.Trees.{Tree}
-use Rattle.fs_types.specs.History.{Past, map_roots, changed, checkpoint_root, first_serial, place_of, serial_refusal, forget_refusal, name_refusal, checkpoint_refusal, with_checkpoint}
+use Rattle.fs_types.specs.History.{Past, map_roots, changed, checkpoint_root, first_serial, place_of, undo_refusal, redo_refusal, serial_refusal, forget_refusal, name_refusal, checkpoint_refusal, with_checkpoint}
 use Rattle.fs_types.specs.HistoryMaps.{checkpoint_root-map, changed-map, checkpoint_refusal-map, with_checkpoint-map}
-use Rattle.fs_types.specs.Machine.{Machine, mounted, log_of, refusal, answer_of, machine_of, reply_of, is_accepted, makes_version, tree_after}
+use Rattle.fs_types.specs.Descriptors.{any_open}
+use Rattle.fs_types.specs.Machine.{Machine, IsMachine, has_paths, travel_refusal, log_of, refusal, answer_of, machine_of, reply_of, is_accepted, makes_version, tree_after}
+use Rattle.fs_types.proofs.Kept.{machine_law}
 use Rattle.fs_types.specs.declared.calls.Call.{Call}
 use Rattle.fs_types.specs.declared.calls.Reply.{Reply}
 use Rattle.fs_types.specs.declared.calls.Version.{Version}
@@ -15,10 +17,10 @@ use Rattle.fs_types.specs.declared.faults.Fault.{Fault}
 use Rattle.flash_model.specs.Device.{Device}
 use Rattle.history.specs.Answers.{answer}
 use Rattle.undofs.specs.Seen.{Seen, seen_on, machine_on, tree_on, is_read_only}
-use Rattle.undofs.specs.Steps.{last_serial, replied, empty, is_cut, is_writing, is_for_record, MayRefuse, Answers, IsLater}
-use Rattle.undofs.specs.Mounted.{IsStanding, IsMounted, StateStep}
+use Rattle.undofs.specs.Steps.{last_serial, replied, empty, is_cut, is_writing, is_for_record, MayRefuse, Answers, IsLater, CallStep}
+use Rattle.undofs.specs.Mounted.{IsMounted, StateStep}
 use Rattle.undofs.specs.declared.state.State.{State}
-use Rattle.undofs.proofs.Roots.{AllVersions, AllCheckpoints}
+use Rattle.undofs.proofs.Standing.{AllStand}
 
 -- the state with another history
 abbrev pub with_history : State → Past ℕ → State
@@ -98,14 +100,27 @@ pub refused_record : (d : Device) (s : State) (call : Call) (fault : Fault) → 
     → (fault ≡ Fault.ReadOnly) × (is_read_only s.bad ≡ true) → StateStep d s call (Err fault) d s
 refused_record d s call fault on ok record_call why = subst (λ f. StateStep d s call (Err f) d s) (sym why.0) (refused d s call Fault.ReadOnly on refl (inr (writes-record (machine_on d s) call ok record_call, why.1)))
 
+-- no file is open, so that the present version may move
+pub may_travel : (m : Machine) (refused : Option Fault) → any_open m.descriptors ≡ false → travel_refusal m refused ≡ refused
+may_travel m refused none = ap (λ b. cond b (Some Fault.Busy) refused) none
+
+pub may_not_travel : (m : Machine) (refused : Option Fault) → any_open m.descriptors ≡ true → travel_refusal m refused ≡ Some Fault.Busy
+may_not_travel m refused some = ap (λ b. cond b (Some Fault.Busy) refused) some
+
+-- a call that would move the present version, where a file is open
+pub refused_open : (d : Device) (s : State) (call : Call) (fault : Fault) (other : Option Fault) → s.is_off ≡ false → refusal (machine_on d s) call ≡ travel_refusal (machine_on d s) other
+    → (fault ≡ Fault.Busy) × (any_open s.files ≡ true) → StateStep d s call (Err fault) d s
+refused_open d s call fault other on travels why =
+    subst (λ f. StateStep d s call (Err f) d s) (sym why.0) (refused d s call Fault.Busy on refl (inl (travels ∙ may_not_travel (machine_on d s) other why.1)))
+
 -- Rollback to a checkpoint that is there.
 
-module _ (d : Device) (s : State) (name : Name) (root : ℕ) (there : checkpoint_root s.history name ≡ Some root) where
+module _ (d : Device) (s : State) (name : Name) (root : ℕ) (none : any_open s.files ≡ false) (there : checkpoint_root s.history name ≡ Some root) where
   seen_there : checkpoint_root (map_roots (tree_on d) s.history) name ≡ Some (tree_on d root)
   seen_there = checkpoint_root-map (tree_on d) s.history name ∙ ap (option_map (tree_on d)) there
 
   pub rollback-accepted : refusal (machine_on d s) (Call.Rollback name) ≡ None
-  rollback-accepted = ap (λ o. cond (is_none o) (Some Fault.NoSuchVersion) None) seen_there
+  rollback-accepted = may_travel (machine_on d s) _ none ∙ ap (λ o. cond (is_none o) (Some Fault.NoSuchVersion) None) seen_there
 
   pub rollback-makes : makes_version (machine_on d s) (Call.Rollback name) ≡ true
   rollback-makes = and_from (is_accepted (machine_on d s) (Call.Rollback name)) _ (ap is_none rollback-accepted) (ap is_some seen_there)
@@ -113,7 +128,7 @@ module _ (d : Device) (s : State) (name : Name) (root : ℕ) (there : checkpoint
   pub rollback-leaves : machine_of (machine_on d s) (Call.Rollback name) None ≡ machine_on d (with_history s (changed s.history root))
   rollback-leaves =
       let h = map_roots (tree_on d) s.history in
-      ap (λ o. mounted (option_map_or (changed h) o h)) seen_there ∙ ap mounted (changed-map (tree_on d) s.history root)
+      ap (λ (x : Past Tree). record { history = x; descriptors = s.files }) (ap (λ o. option_map_or (changed h) o h) seen_there ∙ changed-map (tree_on d) s.history root)
 
 -- A checkpoint.
 
@@ -133,7 +148,7 @@ pub checkpointed : (d : Device) (s : State) (name : Name) (result : Result (Unit
     → StateStep d s (Call.Checkpoint name) (replied empty result) d (with_history s p)
 checkpointed d s name (Ok x) p on writable free ok why err =
     subst (λ q. StateStep d s (Call.Checkpoint name) (Ok Reply.Empty) d (with_history s q)) (sym ok)
-    (done d s (Call.Checkpoint name) (with_checkpoint s.history name) Reply.Empty on (checkpoint_refusal-map (tree_on d) s.history name ∙ free) refl (ap mounted (with_checkpoint-map (tree_on d) s.history name)) (λ _. writable) (λ e. absurd (never _ e)))
+    (done d s (Call.Checkpoint name) (with_checkpoint s.history name) Reply.Empty on (checkpoint_refusal-map (tree_on d) s.history name ∙ free) refl (ap (λ (h : Past Tree). record { history = h; descriptors = s.files }) (with_checkpoint-map (tree_on d) s.history name)) (λ _. writable) (λ e. absurd (never _ e)))
 checkpointed d s name (Err fault) p on writable free ok why err =
     let want : fault ≡ Fault.NoMemory = why ∙ ap (λ o. unwrap_or o Fault.NoMemory) free in
     subst (λ q. StateStep d s (Call.Checkpoint name) (Err fault) d (with_history s q)) (sym err)
@@ -157,9 +172,29 @@ pub by_result : (result : Result (Unit {0}) Fault) (P : Past ℕ → Type 0) (af
 by_result (Ok x) P after old p ok err here there = subst P (sym ok) here
 by_result (Err fault) P after old p ok err here there = subst P (sym err) there
 
--- another history on roots that stand
-pub mounted_with : (d : Device) (s : State) (p : Past ℕ) → IsMounted d s → AllVersions (IsStanding d s.ring) p → AllCheckpoints (IsStanding d s.ring) p → IsMounted d (with_history s p)
-mounted_with d s p is versions checkpoints = record { lawful = is.lawful; ring_blocks = is.ring_blocks; page_len = is.page_len; node_room = is.node_room; versions = versions; checkpoints = checkpoints }
+-- a call leaves a machine
+pub still_machine : (s t : Seen) (m n : Machine) (off off' : Bool) (call : Call) (result : Result Reply Fault) → IsMachine m → has_paths call ≡ true → CallStep s m off call result t n off' → IsMachine n
+still_machine s t m n off off' call (Ok reply) is paths step = subst IsMachine (sym step.answers.1.leaves) (machine_law.kept m call is paths)
+still_machine s t m n true off' call (Err fault) is paths step = subst IsMachine (sym step.answers.2) is
+still_machine s t m n false off' call (Err fault) is paths step = subst IsMachine (sym step.answers.1) is
+
+-- a call that leaves another history, on roots that stand
+pub mounted_by : (d : Device) (s : State) (call : Call) (result : Result Reply Fault) (p : Past ℕ) → IsMounted d s → has_paths call ≡ true → StateStep d s call result d (with_history s p) → AllStand d s.ring p → IsMounted d (with_history s p)
+mounted_by d s call result p is paths step all = record {
+  lawful = is.lawful;
+  ring_blocks = is.ring_blocks;
+  page_len = is.page_len;
+  node_room = is.node_room;
+  versions = all.versions;
+  checkpoints = all.checkpoints;
+  machine = still_machine (seen_on d s) (seen_on d s) (machine_on d s) (machine_on d (with_history s p)) s.is_off s.is_off call result is.machine paths step;
+}
+
+-- a call that the history answers
+pub mounted_after : (d : Device) (s : State) (call : Call) (result : Result (Unit {0}) Fault) (after p : Past ℕ) → OnOk result (p ≡ after) → OnErr result (p ≡ s.history)
+    → IsMounted d s → has_paths call ≡ true → StateStep d s call (replied empty result) d (with_history s p) → AllStand d s.ring after → IsMounted d (with_history s p)
+mounted_after d s call result after p ok err is paths step all =
+    mounted_by d s call (replied empty result) p is paths step (by_result result (AllStand d s.ring) after s.history p ok err all (record { versions = is.versions; checkpoints = is.checkpoints }))
 
 -- No refusal of the history is a cut of power.
 
@@ -175,6 +210,16 @@ pub no_cut : (r : Option Fault) (fault : Fault) → NoCut r → r ≡ Some fault
 no_cut r fault h e = subst NoCut e h
 
 module _ {R : Type 0} (p : Past R) where
+  pub undo-no_cut : NoCut (undo_refusal p)
+  undo-no_cut = either (p.cursor == 0) (Some (cond p.dropped Fault.TooOld Fault.NothingToUndo)) None (here p.dropped) tt
+    where
+      here : (b : Bool) → is_cut (cond b Fault.TooOld Fault.NothingToUndo) ≡ false
+      here true = refl
+      here false = refl
+
+  pub redo-no_cut : NoCut (redo_refusal p)
+  redo-no_cut = either (nat_lt (p.cursor + 1) (length p.versions)) None (Some Fault.NothingToRedo) tt refl
+
   pub serial-no_cut : (serial : ℕ) → NoCut (serial_refusal p serial)
   serial-no_cut serial =
       either (nat_lt serial (first_serial p)) (Some Fault.TooOld) _ refl

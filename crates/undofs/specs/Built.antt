@@ -4,8 +4,18 @@ use Rattle.fs_types.specs.declared.calls.Call.{Call}
 
 -- a call that is built
 abbrev pub is_built : Call → Bool
+is_built (Call.Open path flags) = true
+is_built (Call.Close number) = true
+is_built (Call.Pread number offset count) = true
+is_built (Call.Pwrite number offset bytes) = true
+is_built (Call.Ftruncate number n) = true
 is_built (Call.Mkdir path) = true
+is_built (Call.Rmdir path) = true
+is_built (Call.Unlink path) = true
+is_built (Call.Rename old new) = true
+is_built (Call.Stat view path) = true
 is_built (Call.List view path) = true
+is_built (Call.ReadAt view path offset count) = true
 is_built Call.Log = true
 is_built Call.Undo = true
 is_built Call.Redo = true

@@ -1,6 +1,10 @@
 pub mod Built
+pub mod Changing
 pub mod Mounted
+pub mod Opening
 pub mod Props
+pub mod Reading
+pub mod Renames
 pub mod Runs
 pub mod Seen
 pub mod Steps

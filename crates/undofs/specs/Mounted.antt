@@ -1,7 +1,8 @@
 -- What holds of a flash and the working state on it between calls.
-use Rattle.std.specs.Prelude.{◌≡◌, ◌⊎◌, ◌≤◌, ℕ, Result, vec_len, vec_capacity, All, Contains, map, [], ◌∷◌}
+use Rattle.std.specs.Prelude.{◌≡◌, ◌⊎◌, ◌≤◌, ℕ, false, Result, vec_len, vec_capacity, All, Contains, map, [], ◌∷◌}
 use Rattle.std.specs.FinSet as set
 use Rattle.fs_types.specs.History.{Past}
+use Rattle.fs_types.specs.Machine.{IsMachine}
 use Rattle.fs_types.specs.declared.calls.Call.{Call}
 use Rattle.fs_types.specs.declared.calls.Reply.{Reply}
 use Rattle.fs_types.specs.declared.faults.Fault.{Fault}
@@ -13,7 +14,7 @@ use Rattle.node_store.specs.NodePages.{node_of}
 use Rattle.block_trees.specs.Trees.{IsRoot}
 use Rattle.block_trees.specs.Reached.{Reached, IsHeld}
 use Rattle.undofs.specs.Seen.{room_of, seen_on, machine_on}
-use Rattle.undofs.specs.Steps.{CallStep}
+use Rattle.undofs.specs.Steps.{replied, is_cut_answer, CallStep}
 use Rattle.undofs.specs.declared.state.State.{State}
 
 -- a root has a tree, and the ring has all that it reaches as used
@@ -21,8 +22,8 @@ pub record IsStanding (device : Device) (ring : Ring) (root : ℕ) : Type 0 wher
   pub held : IsHeld (node_of device) (set.contains ring.used) (Dir root)
   pub rooted : IsRoot (room_of device) (node_of device) root
 
--- the sizes are lawful, the ring is of this flash, there is room for a page and for a node, and the roots of all
--- versions and checkpoints stand
+-- the sizes are lawful, the ring is of this flash, there is room for a page and for a node, the roots of all versions
+-- and checkpoints stand, and what it shows is a machine: so each open file is a file of the present tree
 pub record IsMounted (device : Device) (state : State) : Type 0 where
   pub lawful : IsGeometry device.geometry
   pub ring_blocks : state.ring.blocks ≡ device.geometry.blocks
@@ -30,6 +31,7 @@ pub record IsMounted (device : Device) (state : State) : Type 0 where
   pub node_room : block_bytes device.geometry ≤ vec_capacity state.node
   pub versions : All (λ v. IsStanding device state.ring v.root) state.history.versions
   pub checkpoints : All (λ e. IsStanding device state.ring e.1) state.history.checkpoints
+  pub machine : IsMachine (machine_on device state)
 
 -- a call's step, as it is seen of the flash and the state before and after
 abbrev pub StateStep : Device → State → Call → Result Reply Fault → Device → State → Type 0
@@ -42,3 +44,11 @@ HasRoot h root = Contains (map (λ v. v.root) h.versions) root ⊎ Contains (map
 -- no page changed of a block that a version or a checkpoint reaches
 abbrev pub KeepsPages : Device → Past ℕ → Device → Type 0
 KeepsPages old h new = (root p : ℕ) → HasRoot h root → Reached (node_of old) (root ∷ []) (block_of old p) → new.pages p ≡ old.pages p
+
+-- what a call leaves that reads and writes, where none answered before that the power is off: the system is mounted, the
+-- call took its step, and no page changed that a version or a checkpoint reaches
+pub record IsCalled (T : Type 0) (old : Device) (s : State) (call : Call) (reply : T → Reply) (result : Result T Fault) (new : Device) (t : State) : Type 0 where
+  pub mounted : IsMounted new t
+  pub step : CallStep (seen_on old s) (machine_on old s) false call (replied reply result) (seen_on new t) (machine_on new t) (is_cut_answer result)
+  pub is_off : t.is_off ≡ s.is_off
+  pub pages : KeepsPages old s.history new

@@ -2,6 +2,12 @@
 use Rattle.std.specs.Prelude.{◌≡◌, ℕ, zero, suc, Option, Some, List, unwrap_or}
 use Rattle.std.proofs.Common.{sym, ap, ◌∙◌}
 use Rattle.std.proofs.Props.{props}
+use Rattle.std.specs.List.Sorted.{IsStrictlySortedBy-prop}
+use Rattle.std.specs.FinMap.{get}
+use Rattle.fs_types.specs.Names.{Path}
+use Rattle.fs_types.specs.Contents.{Entry}
+use Rattle.fs_types.specs.Trees.{Tree}
+use Rattle.fs_types.specs.Machine.{Machine, IsMachine, IsFile, bytes_of}
 use Rattle.flash_model.specs.Device.{Device}
 use Rattle.node_format.specs.Items.{Item}
 use Rattle.node_format.specs.declared.places.Place.{Place}
@@ -9,6 +15,7 @@ use Rattle.node_format.specs.declared.places.Place.TheVariants.{Dir, File}
 use Rattle.block_trees.specs.Bodies.{Blocks, pointer_of, head_index, IsChain, IsLinked, IsBody}
 use Rattle.block_trees.specs.Trees.{entries_of, IsWhole}
 use Rattle.undofs.specs.Mounted.{IsMounted}
+use Rattle.undofs.specs.Seen.{machine_on}
 use Rattle.undofs.specs.declared.state.State.{State}
 use mathlib.Core.HLevel.{Σ_prop_path}
 
@@ -34,5 +41,14 @@ whole-prop : (room : ℕ) (f : Blocks) (place : Place) → IsProp (IsWhole room 
 whole-prop room f (Dir block) a b = Σ_prop_path (λ items. entries-set (entries_of (f block)) (Some items)) (same-items a.0 b.0 (sym a.1 ∙ b.1))
 whole-prop room f (File head size) a b = body-prop room f head size a b
 
+entry-set : IsSet (Option Entry)
+entry-set = hlevel props
+
+file-prop : (t : Tree) (path : Path) → IsProp (IsFile t path)
+file-prop t path a b = Σ_prop_path (λ bytes. entry-set (get t path) (Some (Entry.File bytes))) (ap bytes_of (sym a.1 ∙ b.1))
+
+machine-prop : (m : Machine) → IsProp (IsMachine m)
+machine-prop m = hlevel (props, IsStrictlySortedBy-prop, file-prop)
+
 pub mounted-prop : (device : Device) (state : State) → IsProp (IsMounted device state)
-mounted-prop device state = hlevel (props, whole-prop)
+mounted-prop device state = hlevel (props, whole-prop, machine-prop (machine_on device state))

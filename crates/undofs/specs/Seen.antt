@@ -5,7 +5,7 @@ use Rattle.std.specs.FinSet as set
 use Rattle.std.specs.Ordering.{nat_cmp}
 use Rattle.fs_types.specs.History.{map_roots}
 use Rattle.fs_types.specs.Trees.{Tree}
-use Rattle.fs_types.specs.Machine.{Machine, Space, mounted}
+use Rattle.fs_types.specs.Machine.{Machine, Space}
 use Rattle.flash_model.specs.Device.{Device}
 use Rattle.flash_model.specs.Geometry.{block_bytes}
 use Rattle.allocator.specs.Ring.{data_blocks, free_count}
@@ -22,9 +22,9 @@ room_of d = block_bytes d.geometry - body_front
 abbrev pub tree_on : Device → ℕ → Tree
 tree_on d root = root_tree (room_of d) (node_of d) root
 
--- the machine: the history with the tree of each root in its place; no file is open
+-- the machine: the history with the tree of each root in its place, and the open files
 abbrev pub machine_on : Device → State → Machine
-machine_on d state = mounted (map_roots (tree_on d) state.history)
+machine_on d state = record { history = map_roots (tree_on d) state.history; descriptors = state.files }
 
 -- how many of the anchors, the blocks before the first data block, are bad
 abbrev pub bad_anchors : set.FinSet nat_cmp → ℕ

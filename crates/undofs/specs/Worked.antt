@@ -11,11 +11,12 @@ use Rattle.undofs.specs.declared.state.State.{State}
 abbrev pub storage_on : Device → State → Storage
 storage_on d state = storage d state.bad state.ring
 
--- the room for a page and for a node is kept, and the history is the same
+-- the room for a page and for a node is kept, and the history and the open files are the same
 pub record IsSameBut (s t : State) : Type 0 where
   pub page_len : vec_len t.page ≡ vec_len s.page
   pub node_room : vec_capacity s.node ≤ vec_capacity t.node
   pub history : t.history ≡ s.history
+  pub files : t.files ≡ s.files
   pub is_off : t.is_off ≡ s.is_off
 
 -- nodes were read and written
@@ -36,6 +37,13 @@ WorkCause old ReadFailed new = old.failed_reads < new.failed_reads
 WorkCause old PowerCut new = new.powered ≡ false
 WorkCause old NoMemory new = Unit {0}
 WorkCause old _ new = ⊥
+
+-- why reads of nodes, and memory for them, are refused
+abbrev pub ReadCause : Seen → Fault → Seen → Type 0
+ReadCause old ReadFailed new = old.failed_reads < new.failed_reads
+ReadCause old PowerCut new = new.powered ≡ false
+ReadCause old NoMemory new = Unit {0}
+ReadCause old _ new = ⊥
 
 -- what a fresh system is refused with, beside its sizes and its limit
 abbrev pub IsFreshFault : Device → Fault → Type 0

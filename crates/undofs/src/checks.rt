@@ -1,5 +1,6 @@
 //! What calls check before they work, and what they remember after it.
 ghost use Rattle.std.specs.Prelude.{◌≡◌, ◌<◌, ◌⊎◌, ◌||◌, true, false, IfErr, OnOk};
+ghost use Rattle.fs_types.specs.Descriptors.{any_open};
 ghost use Rattle.fs_types.specs.declared.faults.Fault.{Fault};
 ghost use Rattle.undofs.specs.Seen.{is_read_only, bad_anchors};
 ghost use Rattle.undofs.specs.Steps.{last_serial, is_cut_answer};
@@ -16,6 +17,18 @@ impl State {
     {
         if self.is_off {
             Err(Fault::PowerCut)
+        } else {
+            Ok(())
+        }
+    }
+
+    /// Refuses to move the present version while a file is open.
+    pub(crate) fn check_none_open(&self) -> Result<(), Fault>
+        ensures ok { OnOk result (any_open self.now.files ≡ false) }
+        ensures err { IfErr result (λ fault. (fault ≡ Fault.Busy) × (any_open self.now.files ≡ true)) }
+    {
+        if self.files.any_open() {
+            Err(Fault::Busy)
         } else {
             Ok(())
         }

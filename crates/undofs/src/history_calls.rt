@@ -1,6 +1,6 @@
 //! The calls on the history, on the working state alone: no device operation is done. Each checks in
-//! order: whether an earlier call answered that the power is off; its own refusals; read-only mode;
-//! and the greatest serial.
+//! order: whether an earlier call answered that the power is off; whether a file is open, where it
+//! would move the present version; its own refusals; read-only mode; and the greatest serial.
 ghost use Rattle.std.specs.Prelude.{◌≡◌, map, IfOk};
 ghost use Rattle.fs_types.specs.declared.calls.Call.{Call};
 ghost use Rattle.fs_types.specs.declared.calls.Reply.{Reply};
@@ -21,6 +21,7 @@ impl State {
         ensures step { (device : Device) → StateStep device self.old Call.Undo (replied empty result) device self.new }
     {
         self.check_power()?;
+        self.check_none_open()?;
         self.history.undo()
     }
 
@@ -30,6 +31,7 @@ impl State {
         ensures step { (device : Device) → StateStep device self.old Call.Redo (replied empty result) device self.new }
     {
         self.check_power()?;
+        self.check_none_open()?;
         self.history.redo()
     }
 
@@ -39,6 +41,7 @@ impl State {
         ensures step { (device : Device) → StateStep device self.old (Call.Goto serial) (replied empty result) device self.new }
     {
         self.check_power()?;
+        self.check_none_open()?;
         self.history.goto(serial)
     }
 
@@ -48,6 +51,7 @@ impl State {
         ensures step { (device : Device) → StateStep device self.old (Call.Rollback name.now) (replied empty result) device self.new }
     {
         self.check_power()?;
+        self.check_none_open()?;
         let root = self.history.checkpoint_root(name)?;
         self.check_change()?;
         self.history.push(root);

@@ -3,8 +3,14 @@
 
 mod checks;
 mod events;
+mod file_calls;
+mod file_changes;
 mod history_calls;
 mod promises;
+mod reads;
+mod removals;
+mod renames;
+mod stat_calls;
 mod state;
 mod system;
 mod tree_calls;

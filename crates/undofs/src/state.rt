@@ -20,6 +20,7 @@ use fs_types::Fault;
 use history::History;
 use node_format::empty_directory;
 use node_store::{Nodes, Store};
+use open_files::OpenFiles;
 use std::alloc::Global;
 
 /// All that a mounted system keeps in memory.
@@ -35,6 +36,8 @@ pub(crate) struct State {
     pub(crate) page: Vec<u8>,
     /// Room for the node that was read last.
     pub(crate) node: Vec<u8>,
+    /// The open files, each a file of the present tree.
+    pub(crate) files: OpenFiles,
     /// Whether a call answered that the power is off; each later one does too.
     pub(crate) is_off: bool,
 }
@@ -81,6 +84,7 @@ impl State {
             ring,
             page,
             node,
+            files: OpenFiles::new(),
             is_off: false,
         })
     }

@@ -7,7 +7,9 @@ ghost use Rattle.undofs.specs.Props.{mounted-prop};
 
 use crate::state::State;
 use flash_model::{FaultKind, Flash, Planned};
-use fs_types::{Call, CpName, Fault, Name, Path, Reply, Sequence, View};
+use fs_types::{
+    Bytes, Call, CpName, Fault, Name, OpenFlags, Path, Reply, Sequence, Stat, View,
+};
 use std::alloc::Global;
 
 /// A file system that is mounted on a flash.
@@ -30,8 +32,18 @@ pub fn is_built(call: &Call) -> bool
 {
     matches!(
         call,
-        Call::Mkdir { .. }
+        Call::Open { .. }
+            | Call::Close { .. }
+            | Call::Pread { .. }
+            | Call::Pwrite { .. }
+            | Call::Ftruncate { .. }
+            | Call::Mkdir { .. }
+            | Call::Rmdir { .. }
+            | Call::Rename { .. }
+            | Call::Unlink { .. }
+            | Call::Stat { .. }
             | Call::List { .. }
+            | Call::ReadAt { .. }
             | Call::Log
             | Call::Undo
             | Call::Redo
@@ -72,6 +84,61 @@ impl<'f, F: Flash> Fs<'f, F> {
         Ok(Fs { flash, state })
     }
 
+    /// Opens the file at a path, and answers its number, the least that is free (POSIX.1-2017 `open`,
+    /// without a mode; a directory is refused for reading too).
+    pub fn open(&mut self, alloc: Global, path: &Path, flags: OpenFlags) -> Result<u8, Fault>
+        ensures step { CallStep (seen self.old) (machine self.old) (is_off self.old) (Call.Open path.now flags) (replied Reply.Fd result) (seen self.new) (machine self.new) (is_off self.new) }
+        ensures pages { KeepsAllPages self.old self.new }
+        ensures same_flash { flash_name self.new ≡ flash_name self.old }
+    {
+        self.state.open(alloc, self.flash, path, flags)
+    }
+
+    /// Closes the open file of a number, which is free then.
+    pub fn close(&mut self, number: u64) -> Result<(), Fault>
+        ensures step { CallStep (seen self.old) (machine self.old) (is_off self.old) (Call.Close number) (replied empty result) (seen self.new) (machine self.new) (is_off self.new) }
+        ensures still { F.device self.new.flash.now ≡ F.device self.old.flash.now }
+        ensures same_flash { flash_name self.new ≡ flash_name self.old }
+    {
+        self.state.close(number)
+    }
+
+    /// Writes these bytes at an offset of the open file of a number, all or none, and answers how many
+    /// (POSIX.1-2017 `pwrite`). A gap past the end of the file is zeros; no bytes make no version.
+    pub fn pwrite(
+        &mut self,
+        alloc: Global,
+        number: u64,
+        offset: u64,
+        bytes: &[u8],
+    ) -> Result<u64, Fault>
+        ensures step { CallStep (seen self.old) (machine self.old) (is_off self.old) (Call.Pwrite number offset bytes.now) (replied Reply.Count result) (seen self.new) (machine self.new) (is_off self.new) }
+        ensures pages { KeepsAllPages self.old self.new }
+        ensures same_flash { flash_name self.new ≡ flash_name self.old }
+    {
+        self.state.pwrite(alloc, self.flash, number, offset, bytes)
+    }
+
+    /// The length in bytes of the open file of a number becomes this (POSIX.1-2017 `ftruncate`); what is
+    /// new of it is zeros. The same length makes no version, and is no refusal in read-only mode.
+    pub fn ftruncate(&mut self, alloc: Global, number: u64, length: u64) -> Result<(), Fault>
+        ensures step { CallStep (seen self.old) (machine self.old) (is_off self.old) (Call.Ftruncate number length) (replied empty result) (seen self.new) (machine self.new) (is_off self.new) }
+        ensures pages { KeepsAllPages self.old self.new }
+        ensures same_flash { flash_name self.new ≡ flash_name self.old }
+    {
+        self.state.ftruncate(alloc, self.flash, number, length)
+    }
+
+    /// What stands at a path of the tree that a view shows: a directory, with its number of entries, or
+    /// a file, with its length in bytes (POSIX.1-2017 `stat`, which tells more).
+    pub fn stat(&mut self, view: &View, path: &Path) -> Result<Stat, Fault>
+        ensures step { CallStep (seen self.old) (machine self.old) (is_off self.old) (Call.Stat view.now path.now) (replied Reply.Stat result) (seen self.new) (machine self.new) (is_off self.new) }
+        ensures pages { (p : ℕ) → (F.device self.new.flash.now).pages p ≡ (F.device self.old.flash.now).pages p }
+        ensures same_flash { flash_name self.new ≡ flash_name self.old }
+    {
+        self.state.stat(self.flash, view, path)
+    }
+
     /// The names in the directory at a path, in byte order, each with whether it is a directory.
     pub fn list(
         &mut self,
@@ -86,6 +153,41 @@ impl<'f, F: Flash> Fs<'f, F> {
         self.state.list(alloc, self.flash, view, path)
     }
 
+    /// The bytes of a file from `offset` on, at most `count`: fewer near its end, none at or past it.
+    /// [`Fault::IsDirectory`] for a directory.
+    pub fn read_at(
+        &mut self,
+        alloc: Global,
+        view: &View,
+        path: &Path,
+        offset: u64,
+        count: u64,
+    ) -> Result<Bytes, Fault>
+        ensures step { CallStep (seen self.old) (machine self.old) (is_off self.old) (Call.ReadAt view.now path.now offset count) (replied Reply.Bytes result) (seen self.new) (machine self.new) (is_off self.new) }
+        ensures pages { (p : ℕ) → (F.device self.new.flash.now).pages p ≡ (F.device self.old.flash.now).pages p }
+        ensures same_flash { flash_name self.new ≡ flash_name self.old }
+    {
+        self.state
+            .read_at(alloc, self.flash, view, path, offset, count)
+    }
+
+    /// The same of the open file of a number (POSIX.1-2017 `pread`). [`Fault::BadDescriptor`] for a
+    /// number that is not open, or is open for writing alone.
+    pub fn pread(
+        &mut self,
+        alloc: Global,
+        descriptor: u64,
+        offset: u64,
+        count: u64,
+    ) -> Result<Bytes, Fault>
+        ensures step { CallStep (seen self.old) (machine self.old) (is_off self.old) (Call.Pread descriptor offset count) (replied Reply.Bytes result) (seen self.new) (machine self.new) (is_off self.new) }
+        ensures pages { (p : ℕ) → (F.device self.new.flash.now).pages p ≡ (F.device self.old.flash.now).pages p }
+        ensures same_flash { flash_name self.new ≡ flash_name self.old }
+    {
+        self.state
+            .pread(alloc, self.flash, descriptor, offset, count)
+    }
+
     /// Makes an empty directory (POSIX.1-2017 `mkdir`, without a mode).
     pub fn mkdir(&mut self, alloc: Global, path: &Path) -> Result<(), Fault>
         ensures step { CallStep (seen self.old) (machine self.old) (is_off self.old) (Call.Mkdir path.now) (replied empty result) (seen self.new) (machine self.new) (is_off self.new) }
@@ -93,6 +195,36 @@ impl<'f, F: Flash> Fs<'f, F> {
         ensures same_flash { flash_name self.new ≡ flash_name self.old }
     {
         self.state.mkdir(alloc, self.flash, path)
+    }
+
+    /// Removes an empty directory (POSIX.1-2017 `rmdir`). [`Fault::Busy`] for the root.
+    pub fn rmdir(&mut self, alloc: Global, path: &Path) -> Result<(), Fault>
+        ensures step { CallStep (seen self.old) (machine self.old) (is_off self.old) (Call.Rmdir path.now) (replied empty result) (seen self.new) (machine self.new) (is_off self.new) }
+        ensures pages { KeepsAllPages self.old self.new }
+        ensures same_flash { flash_name self.new ≡ flash_name self.old }
+    {
+        self.state.rmdir(alloc, self.flash, path)
+    }
+
+    /// Removes a file (POSIX.1-2017 `unlink`). [`Fault::NotPermitted`] for a directory, [`Fault::Busy`]
+    /// for a file that is open.
+    pub fn unlink(&mut self, alloc: Global, path: &Path) -> Result<(), Fault>
+        ensures step { CallStep (seen self.old) (machine self.old) (is_off self.old) (Call.Unlink path.now) (replied empty result) (seen self.new) (machine self.new) (is_off self.new) }
+        ensures pages { KeepsAllPages self.old self.new }
+        ensures same_flash { flash_name self.new ≡ flash_name self.old }
+    {
+        self.state.unlink(alloc, self.flash, path)
+    }
+
+    /// Moves a file or a directory to another path, in place of a file or an empty directory that
+    /// stands there (POSIX.1-2017 `rename`). Nothing is done where both paths are the same, in
+    /// read-only mode too. [`Fault::Busy`] where a file that would be moved or replaced is open.
+    pub fn rename(&mut self, alloc: Global, old: &Path, new: &Path) -> Result<(), Fault>
+        ensures step { CallStep (seen self.old) (machine self.old) (is_off self.old) (Call.Rename old.now new.now) (replied empty result) (seen self.new) (machine self.new) (is_off self.new) }
+        ensures pages { KeepsAllPages self.old self.new }
+        ensures same_flash { flash_name self.new ≡ flash_name self.old }
+    {
+        self.state.rename(alloc, self.flash, old, new)
     }
 
     /// The version before becomes the present one.
@@ -173,8 +305,33 @@ impl<'f, F: Flash> Fs<'f, F> {
         ensures same_flash { flash_name self.new ≡ flash_name self.old }
     {
         match call {
+            Call::Open { path, flags } => Ok(Reply::Fd(self.open(alloc, path, *flags)?)),
+            Call::Close { descriptor } => empty_reply(self.close(*descriptor)),
+            Call::Pread {
+                descriptor,
+                offset,
+                count,
+            } => Ok(Reply::Bytes(self.pread(alloc, *descriptor, *offset, *count)?)),
+            Call::Pwrite {
+                descriptor,
+                offset,
+                bytes,
+            } => Ok(Reply::Count(self.pwrite(alloc, *descriptor, *offset, bytes.as_slice())?)),
+            Call::Ftruncate { descriptor, length } => {
+                empty_reply(self.ftruncate(alloc, *descriptor, *length))
+            }
             Call::Mkdir { path } => empty_reply(self.mkdir(alloc, path)),
+            Call::Rmdir { path } => empty_reply(self.rmdir(alloc, path)),
+            Call::Unlink { path } => empty_reply(self.unlink(alloc, path)),
+            Call::Rename { old, new } => empty_reply(self.rename(alloc, old, new)),
+            Call::Stat { view, path } => Ok(Reply::Stat(self.stat(view, path)?)),
             Call::List { view, path } => Ok(Reply::Names(self.list(alloc, view, path)?)),
+            Call::ReadAt {
+                view,
+                path,
+                offset,
+                count,
+            } => Ok(Reply::Bytes(self.read_at(alloc, view, path, *offset, *count)?)),
             Call::Log => self.log(alloc),
             Call::Undo => empty_reply(self.undo()),
             Call::Redo => empty_reply(self.redo()),

@@ -18,7 +18,7 @@ ghost use Rattle.block_trees.specs.Trees.{entries_of, names_of};
 ghost use Rattle.directory.specs.declared.lookups.Found.TheVariants.{Missing};
 ghost use Rattle.directory.specs.Lookups.{look_up, is_path_fault, IsLookupFault};
 ghost use Rattle.directory.specs.Making.{IsMade, IsMakeFault};
-ghost use Rattle.undofs.specs.Mounted.{IsMounted, StateStep, KeepsPages};
+ghost use Rattle.undofs.specs.Mounted.{IsMounted, IsCalled, StateStep, KeepsPages};
 ghost use Rattle.undofs.specs.Seen.{seen_on, machine_on};
 ghost use Rattle.undofs.specs.Steps.{replied, empty, is_cut_answer, Refuses, CallStep};
 ghost use Rattle.undofs.specs.Worked.{IsWorked, IsLooked, WorkCause};
@@ -95,10 +95,7 @@ impl State {
         path: &Path,
     ) -> Result<(), Fault>
         requires { IsMounted (F.device flash.old) self.old }
-        ensures mounted { IsMounted (F.device flash.new) self.new }
-        ensures step { CallStep (seen_on (F.device flash.old) self.old) (machine_on (F.device flash.old) self.old) false (Call.Mkdir path.now) (replied empty result) (seen_on (F.device flash.new) self.new) (machine_on (F.device flash.new) self.new) (is_cut_answer result) }
-        ensures is_off { self.new.is_off ≡ self.old.is_off }
-        ensures pages { KeepsPages (F.device flash.old) self.old.history (F.device flash.new) }
+        ensures { IsCalled (Unit {0}) (F.device flash.old) self.old (Call.Mkdir path.now) empty result (F.device flash.new) self.new }
     {
         let root = self.history.root();
         self.check_missing(flash, root, path)?;
@@ -135,7 +132,12 @@ impl State {
     }
 
     /// What a path leads to from a root.
-    fn look_up<F: Flash>(&mut self, flash: &mut F, root: u32, path: &Path) -> Result<Found, Fault>
+    pub(crate) fn look_up<F: Flash>(
+        &mut self,
+        flash: &mut F,
+        root: u32,
+        path: &Path,
+    ) -> Result<Found, Fault>
         requires { IsMounted (F.device flash.old) self.old }
         ensures looked { IsLooked (F.device flash.old) self.old (F.device flash.new) self.new }
         ensures nodes { node_of (F.device flash.new) ≡ node_of (F.device flash.old) }

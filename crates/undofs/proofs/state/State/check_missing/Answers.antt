@@ -3,7 +3,8 @@ use Rattle.std.proofs.lemmas.Result.{err_from_is_err_and}
 use Rattle.fs_types.specs.declared.calls.Call.{Call}
 use Rattle.fs_types.specs.declared.faults.Fault.TheVariants.{DirectoryFull, Exists}
 use Rattle.directory.specs.declared.lookups.Found.TheVariants as found
-use Rattle.undofs.proofs.NewDirectories.{mkdir_fault, mkdir_by, mkdir_refuses, at_refusal}
+use Rattle.undofs.proofs.NewDirectories.{mkdir_fault, mkdir_by, mkdir_refuses}
+use Rattle.undofs.proofs.Refusals.{at_refusal}
 use Rattle.undofs.proofs.state.State.check_missing.Goals as goal
 
 pub returns-in_err-look_up-clause-refused : goal.returns-in_err-look_up-clause-refused

@@ -10,10 +10,10 @@ use Rattle.fs_types.specs.History.{checkpoint_root, checkpoint_refusal, with_che
 use Rattle.fs_types.specs.HistoryMaps.{checkpoint_refusal-map}
 use Rattle.fs_types.specs.declared.calls.Call.{Call}
 use Rattle.fs_types.specs.declared.faults.Fault.{Fault}
-use Rattle.undofs.specs.Mounted.{IsStanding, IsMounted}
+use Rattle.undofs.specs.Mounted.{IsStanding}
 use Rattle.undofs.specs.Seen.{tree_on}
 use Rattle.undofs.proofs.Roots.{all_with_checkpoint, kept_with_checkpoint}
-use Rattle.undofs.proofs.Steps.{with_history, by_result, mounted_with, refused, refused_record, checkpointed, checkpoint-exists, checkpoint-full, checkpoint-free}
+use Rattle.undofs.proofs.Steps.{mounted_after, refused, refused_record, checkpointed, checkpoint-exists, checkpoint-full, checkpoint-free}
 use Rattle.undofs.proofs.state.State.checkpoint.Goals as goal
 use Rattle.undofs.proofs.state.State.checkpoint.Goals.{After-checkpoint}
 
@@ -52,13 +52,6 @@ module _ (c : After-checkpoint) where
   why : IfErr c.checkpoint.result (λ fault. fault ≡ unwrap_or (checkpoint_refusal c.args.self.now.history c.args.name.now) Fault.NoMemory)
   why = subst (λ n. IfErr c.checkpoint.result (λ fault. fault ≡ unwrap_or (checkpoint_refusal c.args.self.now.history n) Fault.NoMemory)) c.in_ok-clone.ensures c.checkpoint.ensures.refused
 
-pub returns-clause-mounted : goal.returns-clause-mounted
-returns-clause-mounted c = λ device is.
-    let s = c.args.self.now in
-    let name = c.args.name.now in
-    by_result c.checkpoint.result (λ p. IsMounted device (with_history s p)) (with_checkpoint s.history name) s.history c.checkpoint.new.self (made c) c.checkpoint.ensures.err
-    (mounted_with device s (with_checkpoint s.history name) is (all_with_checkpoint (IsStanding device s.ring) s.history name is.versions) (kept_with_checkpoint (IsStanding device s.ring) s.history name is.versions is.checkpoints)) is
-
 pub returns-clause-step : goal.returns-clause-step
 returns-clause-step c = λ device.
     let s = c.args.self.now in
@@ -66,3 +59,10 @@ returns-clause-step c = λ device.
     let new : is_some (checkpoint_root s.history name) ≡ false = ap (is_there name) (sym c.checkpoints.ensures) ∙ sym c.if-contains_key.ensures in
     let few : length s.history.checkpoints < 16 = subst (λ n. n < 16) (c.len.ensures.len ∙ ap length c.checkpoints-2.ensures) c.if-len-ge-MAX_CHECKPOINTS.false in
     checkpointed device s name c.checkpoint.result c.checkpoint.new.self c.in_ok-check_power.ensures.ok c.in_ok-check_writable.ensures.ok (checkpoint-free s.history name new few) (made c) (why c) c.checkpoint.ensures.err
+
+pub returns-clause-mounted : goal.returns-clause-mounted
+returns-clause-mounted c = λ device is.
+    let s = c.args.self.now in
+    let name = c.args.name.now in
+    mounted_after device s (Call.Checkpoint name) c.checkpoint.result (with_checkpoint s.history name) c.checkpoint.new.self (made c) c.checkpoint.ensures.err is refl (returns-clause-step c device)
+    (record { versions = all_with_checkpoint (IsStanding device s.ring) s.history name is.versions; checkpoints = kept_with_checkpoint (IsStanding device s.ring) s.history name is.versions is.checkpoints })

@@ -1,21 +1,15 @@
 -- Versions are dropped, and the machine answers as the history does.
 use Rattle.std.proofs.Common.{ap, refl, inl}
-use Rattle.fs_types.specs.History.{forget_refusal, forgotten}
+use Rattle.fs_types.specs.History.{Past, forget_refusal, forgotten}
 use Rattle.fs_types.specs.HistoryMaps.{forgotten-map}
-use Rattle.fs_types.specs.Machine.{mounted}
+use Rattle.fs_types.specs.Trees.{Tree}
 use Rattle.fs_types.specs.declared.calls.Call.{Call}
 use Rattle.fs_types.specs.declared.calls.Reply.{Reply}
-use Rattle.undofs.specs.Mounted.{IsStanding, IsMounted}
+use Rattle.undofs.specs.Mounted.{IsStanding}
 use Rattle.undofs.specs.Seen.{tree_on}
 use Rattle.undofs.proofs.Roots.{all_forgotten}
-use Rattle.undofs.proofs.Steps.{with_history, by_result, mounted_with, answered, done, refused, never, no_cut, forget-no_cut}
+use Rattle.undofs.proofs.Steps.{mounted_after, answered, done, refused, never, no_cut, forget-no_cut}
 use Rattle.undofs.proofs.state.State.forget.Goals as goal
-
-pub returns-clause-mounted : goal.returns-clause-mounted
-returns-clause-mounted c = λ device is.
-    let s = c.args.self.now in
-    by_result c.forget.result (λ p. IsMounted device (with_history s p)) (forgotten s.history c.args.count) s.history c.forget.new.self c.forget.ensures.ok c.forget.ensures.err
-    (mounted_with device s (forgotten s.history c.args.count) is (all_forgotten (IsStanding device s.ring) s.history c.args.count is.versions) is.checkpoints) is
 
 pub returns-clause-step : goal.returns-clause-step
 returns-clause-step c = λ device.
@@ -23,5 +17,11 @@ returns-clause-step c = λ device.
     let count = c.args.count in
     let r = forget_refusal s.history count in
     answered device s (Call.Forget count) r c.forget.result (forgotten s.history count) c.forget.new.self c.forget.ensures.answer c.forget.ensures.ok c.forget.ensures.err
-    (λ ok. done device s (Call.Forget count) (forgotten s.history count) Reply.Empty c.in_ok-check_power.ensures.ok ok refl (ap mounted (forgotten-map (tree_on device) s.history count)) (λ _. c.in_ok-check_writable.ensures.ok) (λ e. absurd (never _ e)))
+    (λ ok. done device s (Call.Forget count) (forgotten s.history count) Reply.Empty c.in_ok-check_power.ensures.ok ok refl (ap (λ (h : Past Tree). record { history = h; descriptors = s.files }) (forgotten-map (tree_on device) s.history count)) (λ _. c.in_ok-check_writable.ensures.ok) (λ e. absurd (never _ e)))
     (λ fault e. refused device s (Call.Forget count) fault c.in_ok-check_power.ensures.ok (no_cut r fault (forget-no_cut s.history count) e) (inl e))
+
+pub returns-clause-mounted : goal.returns-clause-mounted
+returns-clause-mounted c = λ device is.
+    let s = c.args.self.now in
+    mounted_after device s (Call.Forget c.args.count) c.forget.result (forgotten s.history c.args.count) c.forget.new.self c.forget.ensures.ok c.forget.ensures.err is refl (returns-clause-step c device)
+    (record { versions = all_forgotten (IsStanding device s.ring) s.history c.args.count is.versions; checkpoints = is.checkpoints })

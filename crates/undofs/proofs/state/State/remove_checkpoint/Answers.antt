@@ -2,16 +2,16 @@
 use Rattle.std.proofs.Common.{ℕ, Some, None, Option, cond, ap, ◌∙◌, refl, inl}
 use Rattle.std.proofs.lemmas.Result.{err_from_is_err_and}
 use Rattle.std.specs.Option.{is_none}
-use Rattle.fs_types.specs.History.{name_refusal, without_checkpoint}
+use Rattle.fs_types.specs.History.{Past, name_refusal, without_checkpoint}
 use Rattle.fs_types.specs.HistoryMaps.{name_refusal-map, without_checkpoint-map}
-use Rattle.fs_types.specs.Machine.{mounted}
+use Rattle.fs_types.specs.Trees.{Tree}
 use Rattle.fs_types.specs.declared.calls.Call.{Call}
 use Rattle.fs_types.specs.declared.calls.Reply.{Reply}
 use Rattle.fs_types.specs.declared.faults.Fault.{Fault}
-use Rattle.undofs.specs.Mounted.{IsStanding, IsMounted}
+use Rattle.undofs.specs.Mounted.{IsStanding}
 use Rattle.undofs.specs.Seen.{tree_on}
 use Rattle.undofs.proofs.Roots.{kept_without_checkpoint}
-use Rattle.undofs.proofs.Steps.{with_history, by_result, mounted_with, answered, done, refused, refused_record, never, no_cut, name-no_cut}
+use Rattle.undofs.proofs.Steps.{mounted_after, answered, done, refused, refused_record, never, no_cut, name-no_cut}
 use Rattle.undofs.proofs.state.State.remove_checkpoint.Goals as goal
 
 pub returns-in_err-checkpoint_root-clause-step : goal.returns-in_err-checkpoint_root-clause-step
@@ -30,13 +30,6 @@ returns-in_err-check_writable-clause-step c = λ device.
     let p = err_from_is_err_and c.from_residual-in_err-check_writable.result c.from_residual-in_err-check_writable.ensures.1 in
     rw (p.1, p.2) (refused_record device s (Call.RemoveCheckpoint name) c.in_err-check_writable.field-0.0 c.in_ok-check_power.ensures.ok ok refl c.in_err-check_writable.ensures.err)
 
-pub returns-clause-mounted : goal.returns-clause-mounted
-returns-clause-mounted c = λ device is.
-    let s = c.args.self.now in
-    let name = c.args.name.now in
-    by_result c.remove_checkpoint.result (λ p. IsMounted device (with_history s p)) (without_checkpoint s.history name) s.history c.remove_checkpoint.new.self c.remove_checkpoint.ensures.ok c.remove_checkpoint.ensures.err
-    (mounted_with device s (without_checkpoint s.history name) is is.versions (kept_without_checkpoint (IsStanding device s.ring) s.history name is.checkpoints)) is
-
 pub returns-clause-step : goal.returns-clause-step
 returns-clause-step c = λ device.
     let s = c.args.self.now in
@@ -44,5 +37,12 @@ returns-clause-step c = λ device.
     let r = name_refusal s.history name in
     let same = name_refusal-map (tree_on device) s.history name in
     answered device s (Call.RemoveCheckpoint name) r c.remove_checkpoint.result (without_checkpoint s.history name) c.remove_checkpoint.new.self c.remove_checkpoint.ensures.answer c.remove_checkpoint.ensures.ok c.remove_checkpoint.ensures.err
-    (λ ok. done device s (Call.RemoveCheckpoint name) (without_checkpoint s.history name) Reply.Empty c.in_ok-check_power.ensures.ok (same ∙ ok) refl (ap mounted (without_checkpoint-map (tree_on device) s.history name)) (λ _. c.in_ok-check_writable.ensures.ok) (λ e. absurd (never _ e)))
+    (λ ok. done device s (Call.RemoveCheckpoint name) (without_checkpoint s.history name) Reply.Empty c.in_ok-check_power.ensures.ok (same ∙ ok) refl (ap (λ (h : Past Tree). record { history = h; descriptors = s.files }) (without_checkpoint-map (tree_on device) s.history name)) (λ _. c.in_ok-check_writable.ensures.ok) (λ e. absurd (never _ e)))
     (λ fault e. refused device s (Call.RemoveCheckpoint name) fault c.in_ok-check_power.ensures.ok (no_cut r fault (name-no_cut s.history name) e) (inl (same ∙ e)))
+
+pub returns-clause-mounted : goal.returns-clause-mounted
+returns-clause-mounted c = λ device is.
+    let s = c.args.self.now in
+    let name = c.args.name.now in
+    mounted_after device s (Call.RemoveCheckpoint name) c.remove_checkpoint.result (without_checkpoint s.history name) c.remove_checkpoint.new.self c.remove_checkpoint.ensures.ok c.remove_checkpoint.ensures.err is refl (returns-clause-step c device)
+    (record { versions = is.versions; checkpoints = kept_without_checkpoint (IsStanding device s.ring) s.history name is.checkpoints })

@@ -1,0 +1,383 @@
+-- The step of a change of the bytes of an has file.
+use Rattle.std.proofs.Common.{Bool, ◌≡◌, ℕ, zero, suc, ◌+◌, ◌<◌, ◌≤◌, true, false, Option, Some, None, Result, Ok, Err, List, [], ◌∷◌, length, refl, sym, ap, subst, ◌∙◌, inr, arith}
+use Rattle.std.proofs.lemmas.Bool.{true≢false, eq-eqb, ne_eqb}
+use Rattle.std.proofs.lemmas.List.{length-take}
+use Rattle.std.specs.Prelude.{unwrap_or, is_some, if◌then◌else◌, ◌==◌}
+use Rattle.std.specs.Option.{option_map, option_map_or, option_and_then}
+use Rattle.std.specs.FinMap.{get}
+use Rattle.std.specs.FinSet as set
+use Rattle.fs_types.specs.Names.{Path}
+use Rattle.fs_types.specs.Contents.{Contents, Entry, overwritten, resized}
+use Rattle.fs_types.specs.Trees.{Tree}
+use Rattle.fs_types.specs.History.{Past, present_root, changed}
+use Rattle.fs_types.specs.Descriptors.{Descriptor, descriptor_at}
+use Rattle.fs_types.specs.Machine.{Machine, IsFile, has_paths, present_tree, bytes_of, bytes_at, file_put, refusal, change_need, pwrite_need, ftruncate_need, reply_of, tree_after, descriptors_after, makes_version, machine_of}
+use Rattle.fs_types.specs.declared.calls.Call.{Call}
+use Rattle.fs_types.specs.declared.calls.Reply.{Reply}
+use Rattle.fs_types.specs.declared.faults.Fault.{Fault}
+use Rattle.fs_types.specs.declared.faults.Fault.TheVariants.{FlashFull, ReadOnly, ReadFailed, PowerCut, NoMemory}
+use Rattle.fs_types.proofs.Accepted.{not-root}
+use Rattle.fs_types.proofs.Files.{length-resized, length-overwritten}
+use Rattle.fs_types.proofs.Kept.{present-file_tree}
+use Rattle.flash_model.specs.Device.{Device}
+use Rattle.node_format.specs.Items.{Item, named}
+use Rattle.node_format.specs.declared.places.Place.{Place}
+use Rattle.node_format.specs.declared.places.Place.TheVariants as place
+use Rattle.node_store.specs.NodePages.{node_of}
+use Rattle.node_store.specs.StorageLaws.{Untouched_itself}
+use Rattle.block_trees.specs.Bodies.{Blocks, body, head_index, data_to, IsBody}
+use Rattle.block_trees.specs.Reached.{IsHeld, Keeps}
+use Rattle.block_trees.specs.Rewritten.{IsRewritten}
+use Rattle.block_trees.specs.Trees.{entries_of, leads, entry_at, tree, HasTree, IsWhole}
+use Rattle.block_trees.proofs.EditedMaps.{put_file_law}
+use Rattle.block_trees.proofs.Entries.{some_place, place_is}
+use Rattle.block_trees.proofs.Frames.{frame_law}
+use Rattle.block_trees.proofs.Reaching.{held_leads}
+use Rattle.directory.specs.declared.lookups.Found.{Found}
+use Rattle.directory.specs.declared.lookups.Found.TheVariants as found
+use Rattle.directory.specs.Edits.{path_refusal, is_edit_fault, IsEditFault}
+use Rattle.directory.specs.Lookups.{◌>>=◌, look_up, found_in, found_of, below_in, directory_at, is_path_fault, IsLookupFault}
+use Rattle.directory.specs.Making.{IsMakeFault}
+use Rattle.directory.proofs.LookupLaws.{found_is, found_leads_file}
+use Rattle.directory.proofs.NewDirectories.{not_refused, make_fault}
+use Rattle.skip_list_file.specs.Writing.{IsWritten, IsWritingFault}
+use Rattle.skip_list_file.specs.declared.bodies.Body.{Body}
+use Rattle.undofs.specs.Changing.{IsPathOf, IsAlwaysRefused}
+use Rattle.undofs.specs.Seen.{room_of, tree_on, seen_on, machine_on, is_read_only}
+use Rattle.undofs.specs.Steps.{is_light, last_serial, MayRefuse, Refuses}
+use Rattle.undofs.specs.Mounted.{IsStanding, IsMounted}
+use Rattle.undofs.specs.Opening.{IsAnswered}
+use Rattle.undofs.specs.Worked.{storage_on, IsWorked, IsLooked, WorkCause}
+use Rattle.undofs.specs.declared.state.State.{State}
+use Rattle.undofs.proofs.Changes.{makes, needs, path_within, worked_keeps, HasNewTree, rewritten_root, changed_state, changed_step, changed_mounted}
+use Rattle.undofs.proofs.OpenCalls.{present_is, room_for}
+use Rattle.undofs.proofs.PathCalls.{OnlyReads, present_tree_is, present_stands, read_done}
+use Rattle.undofs.proofs.Refusals.{read_refuses, write_refuses, cause_later}
+use Rattle.undofs.proofs.Standing.{same_room, worked_machine, worked_later, worked_mounted, worked_pages, looked_worked, worked_on}
+use Rattle.undofs.proofs.Steps.{writes-version}
+
+-- What a path leads to, looked up.
+
+-- a path that leads to a file is looked up as that
+leads_looked : (f : Blocks) (root : ℕ) (path : Path) (head size : ℕ) → leads f (place.Dir root) path ≡ Some (place.File head size) → look_up f root path ≡ Ok (found.File head size)
+leads_looked f root [] head size e = absurd cc
+leads_looked f root (n ∷ []) head size e = last (entries_of (f root)) e
+  where
+    at : (r : Option Place) (full : Bool) → option_and_then some_place r ≡ Some (place.File head size) → (let x : Result Found Fault = Ok (found_of r full) in x) ≡ Ok (found.File head size)
+    at None full e = absurd cc
+    at (Some (place.Dir block)) full e = absurd cc
+    at (Some (place.File h n)) full e = ap (λ (p : Place). let x : Result Found Fault = Ok (found_of (Some p) full) in x) (place_is (place.File h n) (place.File head size) e)
+
+    last : (o : Option (List Item)) → option_and_then some_place (named (unwrap_or o []) n) ≡ Some (place.File head size) → found_in o n ≡ Ok (found.File head size)
+    last None e = absurd cc
+    last (Some items) e = at (named items n) _ e
+leads_looked f root (n ∷ m ∷ path) head size e = way (λ below. leads_looked f below (m ∷ path) head size) (entries_of (f root)) e
+  where
+    on : ((below : ℕ) → leads f (place.Dir below) (m ∷ path) ≡ Some (place.File head size) → look_up f below (m ∷ path) ≡ Ok (found.File head size)) → (r : Option Place) → option_and_then (λ next. leads f next (m ∷ path)) r ≡ Some (place.File head size) → (directory_at r >>= λ below. look_up f below (m ∷ path)) ≡ Ok (found.File head size)
+    on again None e = absurd cc
+    on again (Some (place.Dir below)) e = again below e
+    on again (Some (place.File h n)) e = absurd cc
+
+    way : ((below : ℕ) → leads f (place.Dir below) (m ∷ path) ≡ Some (place.File head size) → look_up f below (m ∷ path) ≡ Ok (found.File head size)) → (o : Option (List Item)) → option_and_then (λ next. leads f next (m ∷ path)) (named (unwrap_or o []) n) ≡ Some (place.File head size) → (below_in o n >>= λ below. look_up f below (m ∷ path)) ≡ Ok (found.File head size)
+    way again None e = absurd cc
+    way again (Some items) e = on again (named items n) e
+
+-- a file of the present tree is looked up as one
+pub present_file : (d : Device) (s : State) (root : ℕ) (path : Path) → IsMounted d s → present_root s.history ≡ Some root → IsFile (present_tree (machine_on d s)) path
+    → (head : ℕ) × (size : ℕ) × (look_up (node_of d) root path ≡ Ok (found.File head size))
+present_file d s root path m is file =
+    go (leads (node_of d) (place.Dir root) path) refl (ap (λ (t : Contents). t path) (sym (present_is d s root m is)) ∙ file.1)
+  where
+    go : (o : Option Place) → leads (node_of d) (place.Dir root) path ≡ o → option_map (entry_at (room_of d) (node_of d)) o ≡ Some (Entry.File file.0)
+        → (head : ℕ) × (size : ℕ) × (look_up (node_of d) root path ≡ Ok (found.File head size))
+    go None led e = absurd cc
+    go (Some (place.Dir block)) led e = absurd cc
+    go (Some (place.File head size)) led e = (head, size, leads_looked (node_of d) root path head size led)
+
+-- a body is as long as its file
+long_body : (room : ℕ) (f : Blocks) (head size : ℕ) → IsBody room f head size → length (body room f head size) ≡ size
+long_body room f head zero is = refl
+long_body room f head (suc n) is =
+    let enough : suc n ≤ length (data_to f (head_index room (suc n)) head) = is.1 in
+    omega (arith, length-take (suc n) (data_to f (head_index room (suc n)) head))
+
+-- the body of a file of the present tree
+pub record IsPresentBody (d : Device) (s : State) (path : Path) (head size : ℕ) : Type 0 where
+  pub whole : IsBody (room_of d) (node_of d) head size
+  pub held : IsHeld (node_of d) (set.contains s.ring.used) (place.File head size)
+  pub shown : bytes_at (present_tree (machine_on d s)) path ≡ body (room_of d) (node_of d) head size
+  pub short : size ≤ 16777216
+
+pub present_body : (d : Device) (s : State) (root : ℕ) (path : Path) (head size : ℕ) → IsMounted d s → present_root s.history ≡ Some root → look_up (node_of d) root path ≡ Ok (found.File head size) → IsPresentBody d s path head size
+present_body d s root path head size m is led =
+    let stands = present_stands d s root m is in
+    let leads = found_leads_file (node_of d) root path head size led in
+    let whole = (stands.rooted path (place.File head size) leads).0 in
+    let there : get (present_tree (machine_on d s)) path ≡ Some (Entry.File (body (room_of d) (node_of d) head size)) =
+    ap (λ (t : Contents). t path) (present_is d s root m is) ∙ (found_is (room_of d) (node_of d) root path (found.File head size) led).1 in
+    let most = (present-file_tree (machine_on d s) m.machine).lengths path (body (room_of d) (node_of d) head size) there in
+    record {
+      whole = whole;
+      held = held_leads (node_of d) (set.contains s.ring.used) path (place.Dir root) (place.File head size) leads stands.held;
+      shown = ap bytes_of there;
+      short = omega (arith, most, long_body (room_of d) (node_of d) head size whole);
+    }
+
+-- Refusals.
+
+-- a look up of a file that is there
+pub lookup_refused : (d : Device) (s : State) (e : Device) (t : State) (root : ℕ) (path : Path) (fault : Fault) → IsMounted d s → present_root s.history ≡ Some root → IsFile (present_tree (machine_on d s)) path
+    → (is_path_fault fault ≡ true → look_up (node_of d) root path ≡ Err fault) → (is_path_fault fault ≡ false → WorkCause (seen_on d s) fault (seen_on e t)) → IsLookupFault fault
+    → IsAlwaysRefused (seen_on d s) (machine_on d s) fault (seen_on e t)
+lookup_refused d s e t root path fault m is file refused why lookup call heavy =
+    inr (by (is_path_fault fault) refl)
+  where
+    there : (head : ℕ) × (size : ℕ) × (look_up (node_of d) root path ≡ Ok (found.File head size))
+    there = present_file d s root path m is file
+
+    not_both : look_up (node_of d) root path ≡ Err fault → ⊥
+    not_both e = let is = sym there.2 ∙ e in cc
+
+    by : (b : Bool) → is_path_fault fault ≡ b → MayRefuse (seen_on d s) (machine_on d s) call fault (seen_on e t)
+    by true told = absurd (not_both (refused told))
+    by false other = read_refuses (seen_on d s) (seen_on e t) (machine_on d s) call fault heavy other lookup (why other)
+
+-- a call that changes the bytes of the file at a path
+pub record IsFileChange (m : Machine) (call : Call) (path : Path) (bytes : List ℕ) : Type 0 where
+  pub fine : refusal m call ≡ None
+  pub after : tree_after m call ≡ Some (file_put (present_tree m) path bytes)
+  pub files : descriptors_after m call ≡ m.descriptors
+  pub heavy : is_light call ≡ false
+  pub paths : has_paths call ≡ true
+  pub more : (room : ℕ) → 0 < change_need room m call
+
+pub file_makes : (m : Machine) (call : Call) (path : Path) (bytes : List ℕ) → IsFileChange m call path bytes → makes_version m call ≡ true
+file_makes m call path bytes change = makes m call change.fine (ap is_some change.after)
+
+pub body_fault : (fault : Fault) → IsWritingFault fault → IsMakeFault fault
+body_fault FlashFull is = refl
+body_fault ReadOnly is = refl
+body_fault ReadFailed is = refl
+body_fault PowerCut is = refl
+body_fault NoMemory is = refl
+body_fault _ is = absurd is
+
+-- what the writing is refused with, after other work
+pub work_refuses : (d : Device) (s : State) (f : Device) (u : State) (h : Device) (v : State) (call : Call) (path : Path) (bytes : List ℕ) (fault : Fault) → IsWorked d s f u → IsFileChange (machine_on d s) call path bytes
+    → IsMakeFault fault → WorkCause (seen_on f u) fault (seen_on h v) → Refuses (seen_on d s) (machine_on d s) call fault (seen_on h v)
+work_refuses d s f u h v call path bytes fault w change is why =
+    let m = machine_on d s in
+    let version = file_makes m call path bytes change in
+    inr (write_refuses (seen_on d s) (seen_on h v) m call fault change.heavy (needs (room_of d) m call version (change.more (room_of d))) (writes-version m call version) is
+    (cause_later (seen_on d s) (seen_on f u) (seen_on h v) fault (worked_later d s f u w) why))
+
+-- the present root after work, and the file in it
+later_root : (d : Device) (s : State) (f : Device) (u : State) (root : ℕ) → present_root s.history ≡ Some root → IsWorked d s f u → present_root u.history ≡ Some root
+later_root d s f u root is w = ap (λ (h : Past ℕ). present_root h) w.rest.history ∙ is
+
+pub still_root : (d : Device) (s : State) (f : Device) (u : State) (root : ℕ) → IsMounted d s → present_root s.history ≡ Some root → IsWorked d s f u → IsStanding f u.ring root
+still_root d s f u root m is w = present_stands f u root (worked_mounted d s f u m w) (later_root d s f u root is w)
+
+pub later_body : (d : Device) (s : State) (f : Device) (u : State) (root : ℕ) (path : Path) (head size : ℕ) → IsMounted d s → present_root s.history ≡ Some root → IsWorked d s f u → look_up (node_of f) root path ≡ Ok (found.File head size)
+    → IsPresentBody f u path head size
+later_body d s f u root path head size m is w led = present_body f u root path head size (worked_mounted d s f u m w) (later_root d s f u root is w) led
+
+later_file : (d : Device) (s : State) (f : Device) (u : State) (path : Path) → IsMounted d s → IsWorked d s f u → IsFile (present_tree (machine_on d s)) path → IsFile (present_tree (machine_on f u)) path
+later_file d s f u path m w file = subst (λ (x : Machine). IsFile (present_tree x) path) (sym (worked_machine d s f u m w)) file
+
+-- a file's entry is never refused for what the nodes hold
+entry_refuses : (d : Device) (s : State) (f : Device) (u : State) (h : Device) (v : State) (root : ℕ) (path : Path) (at : Place) (fault : Fault) → IsMounted d s → present_root s.history ≡ Some root → IsWorked d s f u
+    → IsFile (present_tree (machine_on d s)) path → (is_edit_fault fault ≡ true → path_refusal (node_of f) root path (Some at) ≡ Some fault) → is_edit_fault fault ≡ false
+entry_refuses d s f u h v root path at fault m is w file refused =
+    let there = present_file f u root path (worked_mounted d s f u m w) (later_root d s f u root is w) (later_file d s f u path m w file) in
+    not_refused _ fault (room_for (node_of f) root path at (found.File there.0 there.1) (λ e. cc) there.2) refused
+
+pub entry_refused : (d : Device) (s : State) (f : Device) (u : State) (h : Device) (v : State) (call : Call) (root : ℕ) (path : Path) (bytes : List ℕ) (at : Place) (fault : Fault) → IsMounted d s → present_root s.history ≡ Some root → IsWorked d s f u
+    → IsFile (present_tree (machine_on d s)) path → IsFileChange (machine_on d s) call path bytes
+    → (is_edit_fault fault ≡ true → path_refusal (node_of f) root path (Some at) ≡ Some fault) → (is_edit_fault fault ≡ false → WorkCause (seen_on f u) fault (seen_on h v)) → IsEditFault fault
+    → Refuses (seen_on d s) (machine_on d s) call fault (seen_on h v)
+entry_refused d s f u h v call root path bytes at fault m is w file change refused why edit =
+    let other = entry_refuses d s f u h v root path at fault m is w file refused in
+    work_refuses d s f u h v call path bytes fault w change (make_fault fault other edit) (why other)
+
+-- The new root.
+
+file_shape : (room : ℕ) (f : Blocks) (head size : ℕ) → IsBody room f head size → HasTree room f (place.File head size) 0
+file_shape room f head size is [] there e = (subst (IsWhole room f) (place_is (place.File head size) there e) is, omega arith)
+file_shape room f head size is (n ∷ q) there e = absurd cc
+
+-- a body stays where nothing of it changes
+record StaysBody (room : ℕ) (new : Blocks) (kept : ℕ → Bool) (head size : ℕ) (bytes : List ℕ) : Type 0 where
+  whole : IsBody room new head size
+  shown : body room new head size ≡ bytes
+  held : IsHeld new kept (place.File head size)
+
+stays_body : (room : ℕ) (old new : Blocks) (kept kept' : ℕ → Bool) (x : Body) (bytes : List ℕ) → Keeps kept old kept' new → IsWritten room old kept x bytes → StaysBody room new kept' x.head x.length bytes
+stays_body room old new kept kept' x bytes keeps written =
+    let law = frame_law old new kept kept' keeps in
+    let at = place.File x.head x.length in
+    let has = file_shape room old x.head x.length written.whole in
+    record {
+      whole = (law.shape room 0 at written.held has [] at refl).0;
+      shown = ap (λ (t : Contents). bytes_of (t [])) (law.same room 0 at written.held has) ∙ written.shown;
+      held = law.held at written.held;
+    }
+
+-- the new body is written, and then the path to it: the new root stands, and its tree is the present one with the new bytes
+pub put_root : (d : Device) (s : State) (f : Device) (u : State) (h : Device) (v : State) (root to : ℕ) (path : Path) (x : Body) (bytes : List ℕ) → IsMounted d s → present_root s.history ≡ Some root → IsWorked d s f u
+    → IsFile (present_tree (machine_on d s)) path → IsWritten (room_of f) (node_of f) (set.contains u.ring.used) x bytes → IsWorked f u h v
+    → IsRewritten (node_of f) (set.contains v.ring.used) (node_of h) root to path (Some (place.File x.head x.length)) → HasNewTree h v to (file_put (present_tree (machine_on d s)) path bytes)
+put_root d s f u h v root to path x bytes m is w file written wrote rewritten =
+    let mid = worked_mounted d s f u m w in
+    let there = later_root d s f u root is w in
+    let stands = present_stands f u root mid there in
+    let keeps = worked_keeps f u h v mid wrote in
+    let stays = stays_body (room_of f) (node_of f) (node_of h) (set.contains u.ring.used) (set.contains v.ring.used) x bytes keeps written in
+    let old_tree : tree_on f root ≡ present_tree (machine_on d s) = sym (present_tree_is f u root there) ∙ ap present_tree (worked_machine d s f u m w) in
+    let entry : tree (room_of f) (node_of f) root path ≡ Some (Entry.File file.0) =
+    ap (λ (t : Contents). t path) (sym (present_is f u root mid there)) ∙ ap (λ (x : Machine). get (present_tree x) path) (worked_machine d s f u m w) ∙ file.1 in
+    let deep = path_within path ((present-file_tree (machine_on d s) m.machine).paths path (ap is_some file.1)) in
+    let law = put_file_law (room_of f) (node_of f) (node_of h) (set.contains u.ring.used) (set.contains v.ring.used) root to x.head x.length path keeps stands.held stands.rooted
+    (λ dir. let both = sym entry ∙ dir in absurd cc) deep stays.whole rewritten in
+    rewritten_root f u h v root to path (Some (place.File x.head x.length)) (file_put (present_tree (machine_on d s)) path bytes) mid stands wrote rewritten stays.held
+    (law.0, law.1 ∙ (λ i. file_put (old_tree i) path (stays.shown i)))
+
+-- The step.
+
+pub changed_answer : (d : Device) (s : State) (e : Device) (t : State) (h : Device) (v : State) (to : ℕ) (call : Call) (path : Path) (bytes : List ℕ) (reply : Reply) (k : Past ℕ) → IsMounted d s → IsLooked d s e t
+    → IsFileChange (machine_on d s) call path bytes → is_read_only t.bad ≡ false → t.history.next < last_serial → IsWorked e t h v → HasNewTree h v to (file_put (present_tree (machine_on d s)) path bytes)
+    → reply_of (seen_on h v).space (machine_on d s) call ≡ reply → k ≡ changed v.history to
+    → IsAnswered d s call (Ok reply) h (changed_state v k v.files) false
+changed_answer d s e t h v to call path bytes reply k m l change writable serial w new replies pushes =
+    let all = worked_on d s e t h v (looked_worked d s e t l) w in
+    let tree = file_put (present_tree (machine_on d s)) path bytes in
+    let step = changed_step d s e t h v to call tree reply k v.files pushes (all.rest.files ∙ sym change.files) m l change.fine change.after replies writable serial w new in
+    record {
+      mounted = changed_mounted d s h v to call tree (Ok reply) k v.files pushes m all new change.paths step;
+      step = step;
+      is_off = all.rest.is_off;
+      pages = worked_pages d s h v m all;
+    }
+
+-- a call that changes nothing
+pub same_answer : (d : Device) (s : State) (e : Device) (t : State) (call : Call) (reply : Reply) → IsMounted d s → IsLooked d s e t → OnlyReads (machine_on d s) call → refusal (machine_on d s) call ≡ None
+    → reply_of (seen_on e t).space (machine_on d s) call ≡ reply → IsAnswered d s call (Ok reply) e t false
+same_answer d s e t call reply m l reads fine replies =
+    let w = looked_worked d s e t l in
+    record {
+      mounted = worked_mounted d s e t m w;
+      step = read_done d s e t call reply m l reads fine replies;
+      is_off = w.rest.is_off;
+      pages = worked_pages d s e t m w;
+    }
+
+pub looked_itself : (d : Device) (s : State) → IsLooked d s d s
+looked_itself d s = record { untouched = Untouched_itself (storage_on d s); rest = record { page_len = refl; node_room = omega arith; history = refl; files = refl; is_off = refl } }
+
+-- the path of an has file
+
+pub open_file : (d : Device) (s : State) (number : ℕ) (path : Path) → IsMounted d s → IsPathOf s.files number path → IsFile (present_tree (machine_on d s)) path
+open_file d s number path m has = m.machine.files number (record { path = path; flags = has.0 }) has.1
+
+pub below_root : (d : Device) (s : State) (path : Path) → IsMounted d s → IsFile (present_tree (machine_on d s)) path → 0 < length path
+below_root d s path m file = not-root (present_tree (machine_on d s)) path (present-file_tree (machine_on d s) m.machine) (λ dir. let both = sym dir ∙ file.1 in cc)
+
+-- Writing.
+
+pub body_length : (room : ℕ) (f : Blocks) (head size : ℕ) → IsBody room f head size → length (body room f head size) ≡ size
+body_length = long_body
+
+-- a body that is overwritten within the most bytes of a file
+pub overwritten_short : (old bytes : List ℕ) (offset size n : ℕ) → n ≡ length (overwritten old offset bytes) → length old ≡ size → size ≤ 16777216 → (0 < length bytes → offset + length bytes ≤ 16777216) → 0 < length bytes → n ≤ 16777216
+overwritten_short old bytes offset size n is long short fits some =
+    let end = fits some in
+    omega (arith, length-overwritten old bytes offset)
+
+-- the new body, at the room that the flash has by now
+pub written_at : (d : Device) (s : State) (e : Device) (t : State) (f : Device) (u : State) (x : Body) (bytes other : List ℕ) → IsWorked d s e t → IsWorked e t f u → bytes ≡ other
+    → IsWritten (room_of e) (node_of f) (set.contains u.ring.used) x bytes → IsWritten (room_of f) (node_of f) (set.contains u.ring.used) x other
+written_at d s e t f u x bytes other w wrote same written =
+    subst (λ (bs : List ℕ). IsWritten (room_of f) (node_of f) (set.contains u.ring.used) x bs) same
+    (subst (λ room. IsWritten room (node_of f) (set.contains u.ring.used) x bytes) (sym (same_room (storage_on e t) (storage_on f u) wrote.evolved)) written)
+
+some_more : (a b : ℕ) → 0 < b → 0 < a + b
+some_more a b some = omega arith
+
+pub pwrite_change : (m : Machine) (number offset : ℕ) (bytes : List ℕ) (path : Path) → IsPathOf m.descriptors number path → refusal m (Call.Pwrite number offset bytes) ≡ None → (length bytes == 0) ≡ false → 0 < length path
+    → IsFileChange m (Call.Pwrite number offset bytes) path (overwritten (bytes_at (present_tree m) path) offset bytes)
+pwrite_change m number offset bytes path has fine some below = record {
+  fine = fine;
+  after = ap (option_and_then (λ (d : Descriptor). if length bytes == 0 then None else Some (file_put (present_tree m) d.path (overwritten (bytes_at (present_tree m) d.path) offset bytes)))) has.1
+      ∙ ap (λ b. if b then None else Some (file_put (present_tree m) path (overwritten (bytes_at (present_tree m) path) offset bytes))) some;
+  files = refl;
+  heavy = refl;
+  paths = refl;
+  more = λ room.
+      subst (λ (o : Option Descriptor). 0 < option_map_or (λ d. pwrite_need room (length (bytes_at (present_tree m) d.path)) offset (length bytes) + length d.path) o 0) (sym has.1)
+      (some_more (pwrite_need room (length (bytes_at (present_tree m) path)) offset (length bytes)) (length path) below);
+}
+
+pub some_length : (n : ℕ) → (n == 0) ≡ false → 0 < n
+some_length zero some = absurd (true≢false some)
+some_length (suc n) some = omega arith
+
+-- no bytes make no version
+pub pwrite_nothing : (m : Machine) (number offset : ℕ) (bytes : List ℕ) → length bytes ≡ 0 → OnlyReads m (Call.Pwrite number offset bytes)
+pwrite_nothing m number offset (b ∷ bytes) none = absurd (omega arith)
+pwrite_nothing m number offset [] none = record { stays = stays; no_version = no_tree; no_record = refl }
+  where
+    go : (o : Option Descriptor) → option_and_then (λ (d : Descriptor). let r : Option Tree = None in r) o ≡ None
+    go None = refl
+    go (Some d) = refl
+
+    no_tree : tree_after m (Call.Pwrite number offset []) ≡ None
+    no_tree = go (descriptor_at m.descriptors number)
+
+    stays : machine_of m (Call.Pwrite number offset []) None ≡ m
+    stays i = record { history = option_map_or (changed m.history) (no_tree i) m.history; descriptors = m.descriptors }
+
+-- Resizing.
+
+pub ftruncate_change : (m : Machine) (number n : ℕ) (path : Path) → IsPathOf m.descriptors number path → refusal m (Call.Ftruncate number n) ≡ None → (length (bytes_at (present_tree m) path) == n) ≡ false → 0 < length path
+    → IsFileChange m (Call.Ftruncate number n) path (resized (bytes_at (present_tree m) path) n)
+ftruncate_change m number n path has fine other below = record {
+  fine = fine;
+  after = ap (option_and_then (λ (d : Descriptor). if length (bytes_at (present_tree m) d.path) == n then None else Some (file_put (present_tree m) d.path (resized (bytes_at (present_tree m) d.path) n)))) has.1
+      ∙ ap (λ b. if b then None else Some (file_put (present_tree m) path (resized (bytes_at (present_tree m) path) n))) other;
+  files = refl;
+  heavy = refl;
+  paths = refl;
+  more = λ room.
+      subst (λ (o : Option Descriptor). 0 < option_map_or (λ d. ftruncate_need room (length (bytes_at (present_tree m) d.path)) n + length d.path) o 0) (sym has.1)
+      (some_more (ftruncate_need room (length (bytes_at (present_tree m) path)) n) (length path) below);
+}
+
+-- the same length makes no version
+pub ftruncate_nothing : (m : Machine) (number n : ℕ) (path : Path) → IsPathOf m.descriptors number path → (length (bytes_at (present_tree m) path) == n) ≡ true → OnlyReads m (Call.Ftruncate number n)
+ftruncate_nothing m number n path has same = record { stays = stays; no_version = no_tree; no_record = refl }
+  where
+    no_tree : tree_after m (Call.Ftruncate number n) ≡ None
+    no_tree =
+        ap (option_and_then (λ (d : Descriptor). if length (bytes_at (present_tree m) d.path) == n then None else Some (file_put (present_tree m) d.path (resized (bytes_at (present_tree m) d.path) n)))) has.1
+        ∙ ap (λ b. if b then None else Some (file_put (present_tree m) path (resized (bytes_at (present_tree m) path) n))) same
+
+    stays : machine_of m (Call.Ftruncate number n) None ≡ m
+    stays i = record { history = option_map_or (changed m.history) (no_tree i) m.history; descriptors = m.descriptors }
+
+-- the length of the file whose body was found
+pub present_length : (d : Device) (s : State) (e : Device) (t : State) (path : Path) (head size : ℕ) → IsMounted d s → IsWorked d s e t → IsPresentBody e t path head size → length (bytes_at (present_tree (machine_on d s)) path) ≡ size
+present_length d s e t path head size m w there =
+    ap (λ (x : Machine). length (bytes_at (present_tree x) path)) (sym (worked_machine d s e t m w)) ∙ ap length there.shown ∙ long_body (room_of e) (node_of e) head size there.whole
+
+-- a body that is resized within the most bytes of a file
+pub resized_short : (old : List ℕ) (size n : ℕ) → n ≡ length (resized old size) → size ≤ 16777216 → n ≤ 16777216
+resized_short old size n is fits = omega (arith, length-resized old size)
+
+pub same_length : (d : Device) (s : State) (e : Device) (t : State) (path : Path) (head size wide n : ℕ) → IsMounted d s → IsWorked d s e t → IsPresentBody e t path head size → wide ≡ size → wide ≡ n
+    → (length (bytes_at (present_tree (machine_on d s)) path) == n) ≡ true
+same_length d s e t path head size wide n m w there is same = eq-eqb (length (bytes_at (present_tree (machine_on d s)) path)) n (present_length d s e t path head size m w there ∙ sym is ∙ same)
+
+pub other_length : (d : Device) (s : State) (e : Device) (t : State) (path : Path) (head size wide n : ℕ) → IsMounted d s → IsWorked d s e t → IsPresentBody e t path head size → wide ≡ size → (wide ≡ n → ⊥)
+    → (length (bytes_at (present_tree (machine_on d s)) path) == n) ≡ false
+other_length d s e t path head size wide n m w there is other =
+    ne_eqb (length (bytes_at (present_tree (machine_on d s)) path)) n (λ same. other (is ∙ sym (present_length d s e t path head size m w there) ∙ same))

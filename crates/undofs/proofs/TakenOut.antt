@@ -1,0 +1,172 @@
+-- The steps of an entry taken out of the present tree: an empty directory, and a file.
+use Rattle.std.proofs.Common.{◌≡◌, ℕ, ◌<◌, ◌≤◌, Bool, true, false, Option, Some, None, Result, Ok, List, [], ◌∷◌, length, refl, sym, ap, subst, ◌∙◌, inl, arith}
+use Rattle.std.proofs.lemmas.Bool.{lt-ltb}
+use Rattle.std.proofs.lemmas.List.{length-map}
+use Rattle.std.specs.Prelude.{nat_lt, unwrap_or, if◌then◌else◌, ◌==◌}
+use Rattle.std.specs.FinSet as set
+use Rattle.fs_types.specs.Names.{Name, Path, is_path}
+use Rattle.fs_types.specs.Trees.{Tree, remove, entry_count}
+use Rattle.fs_types.specs.History.{Past, present_root, changed}
+use Rattle.fs_types.specs.Machine.{Machine, refusal, found_refusal, unlink_refusal, rmdir_refusal, makes_version}
+use Rattle.fs_types.specs.Descriptors.{Descriptors, is_open}
+use Rattle.fs_types.specs.declared.calls.Call.{Call}
+use Rattle.fs_types.specs.declared.faults.Fault.{Fault}
+use Rattle.fs_types.specs.declared.faults.Fault.TheVariants.{NotEmpty, Busy}
+use Rattle.flash_model.specs.Device.{Device}
+use Rattle.node_format.specs.Items.{Item, named}
+use Rattle.node_format.specs.declared.places.Place.{Place}
+use Rattle.node_format.specs.declared.places.Place.TheVariants.{Dir, File}
+use Rattle.node_store.specs.NodePages.{node_of}
+use Rattle.block_trees.specs.Bodies.{Blocks}
+use Rattle.block_trees.specs.Rewritten.{IsRewritten}
+use Rattle.block_trees.specs.Trees.{entries_of, is_dir_place, child, leads}
+use Rattle.block_trees.proofs.EditedMaps.{last_at, remove_law}
+use Rattle.block_trees.proofs.RootMaps.{map_law}
+use Rattle.directory.specs.declared.lookups.Found.{Found}
+use Rattle.directory.specs.declared.lookups.Found.TheVariants as found
+use Rattle.directory.specs.Edits.{edit_refusal, path_refusal, on_way}
+use Rattle.directory.specs.Lookups.{below_in, found_in, look_up}
+use Rattle.directory.proofs.LookupLaws.{found_leads, found_leads_file}
+use Rattle.directory.proofs.NewDirectories.{on_below}
+use Rattle.undofs.specs.Seen.{room_of, tree_on, seen_on, machine_on, is_read_only}
+use Rattle.undofs.specs.Steps.{empty, last_serial, Refuses}
+use Rattle.undofs.specs.Mounted.{IsMounted, IsCalled}
+use Rattle.undofs.specs.Worked.{IsWorked, IsLooked}
+use Rattle.undofs.specs.declared.state.State.{State}
+use Rattle.undofs.proofs.Changes.{makes, later_stands, later_tree, worked_keeps, HasNewTree, rewritten_root, changed_called}
+use Rattle.undofs.proofs.PathCalls.{present_tree_is, present_stands, LooksUp, found_by}
+use Rattle.undofs.proofs.Standing.{worked_mounted, looked_worked}
+
+-- The path can be edited.
+
+editable_in : (entries : Option (List Item)) (name : Name) (x : Found) → found_in entries name ≡ Ok x → edit_refusal entries name None ≡ None
+editable_in None name x e = absurd cc
+editable_in (Some items) name x e = refl
+
+-- where a look up finds something, a name can be taken out
+pub found_editable : (f : Blocks) (root : ℕ) (path : Path) (x : Found) → look_up f root path ≡ Ok x → path_refusal f root path None ≡ None
+found_editable f root [] x e = refl
+found_editable f root (n ∷ []) x e = editable_in (entries_of (f root)) n x e
+found_editable f root (n ∷ m ∷ p) x e =
+    let step = on_below (below_in (entries_of (f root)) n) (λ below. look_up f below (m ∷ p)) x e in
+    ap (λ (below : Result ℕ Fault). on_way below (λ below. path_refusal f below (m ∷ p) None)) step.1 ∙ found_editable f step.0 (m ∷ p) x step.2
+
+-- The tree without the entry.
+
+-- the present root without what a path leads to and nothing stands below, after reads
+removed_root : (d : Device) (s : State) (e : Device) (t : State) (f : Device) (u : State) (root to : ℕ) (path : Path) (at : Place) → IsMounted d s → present_root s.history ≡ Some root → IsLooked d s e t
+    → leads (node_of e) (Dir root) path ≡ Some at → ((n : Name) → child (node_of e) at n ≡ None) → IsWorked e t f u → IsRewritten (node_of e) (set.contains u.ring.used) (node_of f) root to path None → HasNewTree f u to (remove (tree_on e root) path)
+removed_root d s e t f u root to path at m is l led none w rewritten =
+    let mid = worked_mounted d s e t m (looked_worked d s e t l) in
+    let stands = later_stands d s e t root m is l in
+    rewritten_root e t f u root to path None (remove (tree_on e root) path) mid stands w rewritten tt
+    (remove_law (room_of e) (node_of e) (node_of f) (set.contains t.ring.used) (set.contains u.ring.used) root to path (worked_keeps e t f u mid w) stands.held stands.rooted
+    (last_at (room_of e) (node_of e) path (Dir root) at led none) (stands.rooted path at led).1 rewritten)
+
+-- An empty directory.
+
+-- the tree without an empty directory
+pub rmdir_root : (d : Device) (s : State) (e : Device) (t : State) (f : Device) (u : State) (root to : ℕ) (path : Path) (block : ℕ) → IsMounted d s → present_root s.history ≡ Some root → IsLooked d s e t
+    → look_up (node_of e) root path ≡ Ok (found.Dir block) → entries_of (node_of e block) ≡ Some [] → IsWorked e t f u → IsRewritten (node_of e) (set.contains u.ring.used) (node_of f) root to path None
+    → HasNewTree f u to (remove (tree_on e root) path)
+rmdir_root d s e t f u root to path block m is l led empty w rewritten =
+    removed_root d s e t f u root to path (Dir block) m is l (found_leads (node_of e) root path block led) (λ n. ap (λ (o : Option (List Item)). named (unwrap_or o []) n) empty) w rewritten
+
+pub rmdir_looks : (d : Device) (s : State) (path : Path) (root : ℕ) → IsMounted d s → present_root s.history ≡ Some root → (length path == 0) ≡ false → LooksUp d s (Call.Rmdir path) root path (rmdir_refusal (tree_on d root) path)
+rmdir_looks d s path root m is below = record {
+  rooted = (present_stands d s root m is).rooted;
+  heavy = refl;
+  by_path = ap (λ (t : Tree). if length path == 0 then Some Busy else found_refusal t path (rmdir_refusal t path)) (present_tree_is d s root is)
+      ∙ ap (λ b. if b then Some Busy else found_refusal (tree_on d root) path (rmdir_refusal (tree_on d root) path)) below;
+}
+
+-- the number of entries that was read
+pub rmdir_count : (d : Device) (s : State) (path : Path) (root block : ℕ) (items : List Item) → IsMounted d s → present_root s.history ≡ Some root → look_up (node_of d) root path ≡ Ok (found.Dir block) → entries_of (node_of d block) ≡ Some items
+    → entry_count (tree_on d root) path ≡ length items
+rmdir_count d s path root block items m is led spelled =
+    ap length ((map_law (room_of d) (node_of d) root (present_stands d s root m is).rooted).lists path block (found_leads (node_of d) root path block led))
+    ∙ length-map (unwrap_or (entries_of (node_of d block)) []) (λ (item : Item). (item.name, is_dir_place item.place))
+    ∙ ap (λ (o : Option (List Item)). length (unwrap_or o [])) spelled
+
+-- what is refused for a directory of so many entries
+pub rmdir_counted : (d : Device) (s : State) (e : Device) (path : Path) (root block : ℕ) (items : List Item) (x : Found) → IsMounted d s → present_root s.history ≡ Some root → (length path == 0) ≡ false → node_of e ≡ node_of d
+    → look_up (node_of d) root path ≡ Ok x → x ≡ found.Dir block → entries_of (node_of e block) ≡ Some items
+    → refusal (machine_on d s) (Call.Rmdir path) ≡ (if nat_lt 0 (length items) then Some NotEmpty else None)
+rmdir_counted d s e path root block items x m is below same led called spelled =
+    let dir : look_up (node_of d) root path ≡ Ok (found.Dir block) = subst (λ z. look_up (node_of d) root path ≡ Ok z) called led in
+    let here : entries_of (node_of d block) ≡ Some items = ap (λ (g : Blocks). entries_of (g block)) (sym same) ∙ spelled in
+    found_by d s (Call.Rmdir path) root path (rmdir_refusal (tree_on d root) path) (rmdir_looks d s path root m is below) x (found.Dir block) led called
+    ∙ ap (λ n. if nat_lt 0 n then Some NotEmpty else None) (rmdir_count d s path root block items m is dir here)
+
+-- a directory with entries
+pub rmdir_refuses : (d : Device) (s : State) (e : Device) (f : Device) (u : State) (path : Path) (root block count : ℕ) (items : List Item) (x : Found) → IsMounted d s → present_root s.history ≡ Some root → (length path == 0) ≡ false → node_of e ≡ node_of d
+    → look_up (node_of d) root path ≡ Ok x → x ≡ found.Dir block → entries_of (node_of e block) ≡ Some items → count ≡ length items → 0 < count
+    → Refuses (seen_on d s) (machine_on d s) (Call.Rmdir path) NotEmpty (seen_on f u)
+rmdir_refuses d s e f u path root block count items x m is below same led called spelled counts some =
+    inl (rmdir_counted d s e path root block items x m is below same led called spelled
+    ∙ ap (λ b. if b then Some NotEmpty else None) (lt-ltb 0 (length items) (omega arith)))
+
+-- no entries were counted
+pub none_counted : (count : ℕ) (items : List Item) → count ≡ length items → count ≤ 0 → items ≡ []
+none_counted count [] counts few = refl
+none_counted count (item ∷ items) counts few = absurd (omega arith)
+
+-- the directory that a path led to has no entries
+pub emptied : (f g h : Blocks) (path : Path) (root block count : ℕ) (items : List Item) (x : Found) → g ≡ f → h ≡ g → look_up f root path ≡ Ok x → x ≡ found.Dir block → entries_of (g block) ≡ Some items → count ≡ length items → count ≤ 0
+    → (b : ℕ) × (look_up h root path ≡ Ok (found.Dir b)) × (entries_of (h b) ≡ Some [])
+emptied f g h path root block count items x same again led called spelled counts few = (
+  block,
+  subst (λ k. look_up k root path ≡ Ok (found.Dir block)) (sym (again ∙ same)) (subst (λ z. look_up f root path ≡ Ok z) called led),
+  ap (λ (k : Blocks). entries_of (k block)) again ∙ spelled ∙ ap Some (none_counted count items counts few),
+)
+
+pub rmdir_accepts : (d : Device) (s : State) (e : Device) (path : Path) (root block count : ℕ) (items : List Item) (x : Found) → IsMounted d s → present_root s.history ≡ Some root → (length path == 0) ≡ false → node_of e ≡ node_of d
+    → look_up (node_of d) root path ≡ Ok x → x ≡ found.Dir block → entries_of (node_of e block) ≡ Some items → count ≡ length items → count ≤ 0
+    → refusal (machine_on d s) (Call.Rmdir path) ≡ None
+rmdir_accepts d s e path root block count items x m is below same led called spelled counts few =
+    rmdir_counted d s e path root block items x m is below same led called spelled
+    ∙ ap (λ (all : List Item). if nat_lt 0 (length all) then Some NotEmpty else None) (none_counted count items counts few)
+
+pub rmdir_makes : (m : Machine) (path : Path) → refusal m (Call.Rmdir path) ≡ None → makes_version m (Call.Rmdir path) ≡ true
+rmdir_makes m path fine = makes m (Call.Rmdir path) fine refl
+
+pub rmdir_called : (d : Device) (s : State) (e : Device) (t : State) (f : Device) (u : State) (root to : ℕ) (path : Path) (h : Past ℕ) → h ≡ changed u.history to → IsMounted d s → present_root s.history ≡ Some root → IsLooked d s e t
+    → refusal (machine_on d s) (Call.Rmdir path) ≡ None → is_path path ≡ true → is_read_only t.bad ≡ false → t.history.next < last_serial → IsWorked e t f u → HasNewTree f u to (remove (tree_on e root) path)
+    → IsCalled (Unit {0}) d s (Call.Rmdir path) empty (Ok tt) f (record u { history = h })
+rmdir_called d s e t f u root to path h pushes m is l fine lawful writable serial w new =
+    changed_called d s e t f u to (Call.Rmdir path) (remove (tree_on e root) path) h pushes m l fine (ap (λ (x : Tree). Some (remove x path)) (later_tree d s e t root m is l)) refl refl lawful writable serial w new
+
+-- A file.
+
+pub file_below : (f : Blocks) (root : ℕ) (path : Path) (head size : ℕ) → look_up f root path ≡ Ok (found.File head size) → 0 < length path
+file_below f root [] head size e = absurd cc
+file_below f root (n ∷ path) head size e = omega arith
+
+-- the tree without a file
+pub unlink_root : (d : Device) (s : State) (e : Device) (t : State) (f : Device) (u : State) (root to : ℕ) (path : Path) (head size : ℕ) → IsMounted d s → present_root s.history ≡ Some root → IsLooked d s e t
+    → look_up (node_of e) root path ≡ Ok (found.File head size) → IsWorked e t f u → IsRewritten (node_of e) (set.contains u.ring.used) (node_of f) root to path None → HasNewTree f u to (remove (tree_on e root) path)
+unlink_root d s e t f u root to path head size m is l led w rewritten =
+    removed_root d s e t f u root to path (File head size) m is l (found_leads_file (node_of e) root path head size led) (λ n. refl) w rewritten
+
+pub unlink_looks : (d : Device) (s : State) (path : Path) (root : ℕ) → IsMounted d s → present_root s.history ≡ Some root → LooksUp d s (Call.Unlink path) root path (unlink_refusal (machine_on d s) path)
+unlink_looks d s path root m is = record {
+  rooted = (present_stands d s root m is).rooted;
+  heavy = refl;
+  by_path = ap (λ (t : Tree). found_refusal t path (unlink_refusal (machine_on d s) path)) (present_tree_is d s root is);
+}
+
+-- a file that is open or not
+pub unlink_found : (d : Device) (s : State) (files : Descriptors) (path : Path) (root head size : ℕ) (x : Found) (busy : Bool) → IsMounted d s → present_root s.history ≡ Some root → files ≡ s.files → look_up (node_of d) root path ≡ Ok x → x ≡ found.File head size
+    → is_open files path ≡ busy → refusal (machine_on d s) (Call.Unlink path) ≡ (if busy then Some Busy else None)
+unlink_found d s files path root head size x busy m is same led called told =
+    found_by d s (Call.Unlink path) root path (unlink_refusal (machine_on d s) path) (unlink_looks d s path root m is) x (found.File head size) led called
+    ∙ ap (λ b. if b then Some Busy else None) (ap (λ (ds : Descriptors). is_open ds path) (sym same) ∙ told)
+
+pub unlink_makes : (m : Machine) (path : Path) → refusal m (Call.Unlink path) ≡ None → makes_version m (Call.Unlink path) ≡ true
+unlink_makes m path fine = makes m (Call.Unlink path) fine refl
+
+pub unlink_called : (d : Device) (s : State) (e : Device) (t : State) (f : Device) (u : State) (root to : ℕ) (path : Path) (h : Past ℕ) → h ≡ changed u.history to → IsMounted d s → present_root s.history ≡ Some root → IsLooked d s e t
+    → refusal (machine_on d s) (Call.Unlink path) ≡ None → is_path path ≡ true → is_read_only t.bad ≡ false → t.history.next < last_serial → IsWorked e t f u → HasNewTree f u to (remove (tree_on e root) path)
+    → IsCalled (Unit {0}) d s (Call.Unlink path) empty (Ok tt) f (record u { history = h })
+unlink_called d s e t f u root to path h pushes m is l fine lawful writable serial w new =
+    changed_called d s e t f u to (Call.Unlink path) (remove (tree_on e root) path) h pushes m l fine (ap (λ (x : Tree). Some (remove x path)) (later_tree d s e t root m is l)) refl refl lawful writable serial w new

@@ -1,0 +1,187 @@
+//! The calls on open files, on the working state and the flash. Each checks in order: whether an
+//! earlier call answered that the power is off; its own refusals; read-only mode; the greatest serial;
+//! and then it works.
+ghost use Rattle.std.specs.Prelude.{◌≡◌, ◌<◌, ℕ, true, false, length, Some, None, Ok, IfOk, IfErr, OnOk, unwrap_or};
+ghost use Rattle.std.specs.FinSet as set;
+ghost use Rattle.fs_types.specs.History.{present_root};
+ghost use Rattle.fs_types.specs.Names.{is_path};
+ghost use Rattle.fs_types.specs.Descriptors.{least_free};
+ghost use Rattle.fs_types.specs.Machine.{refusal};
+ghost use Rattle.fs_types.specs.declared.calls.Call.{Call};
+ghost use Rattle.fs_types.specs.declared.calls.Reply.{Reply};
+ghost use Rattle.flash_model.specs.Device.{Device};
+ghost use Rattle.node_format.specs.Items.{is_place};
+ghost use Rattle.node_format.specs.declared.places.Place.TheVariants.{Dir};
+ghost use Rattle.node_store.specs.NodePages.{node_of};
+ghost use Rattle.block_trees.specs.Reached.{IsHeld};
+ghost use Rattle.block_trees.specs.Rewritten.{IsRewritten};
+ghost use Rattle.directory.specs.Edits.{path_refusal, is_edit_fault, IsEditFault};
+ghost use Rattle.directory.specs.Lookups.{look_up};
+ghost use Rattle.undofs.specs.Mounted.{IsMounted, StateStep, KeepsPages};
+ghost use Rattle.undofs.specs.Opening.{found_refusal, changes_found, IsAnswered};
+ghost use Rattle.undofs.specs.Seen.{seen_on, machine_on};
+ghost use Rattle.undofs.specs.Steps.{replied, empty, is_cut_answer, Refuses};
+ghost use Rattle.undofs.specs.Worked.{IsWorked, IsLooked, WorkCause};
+
+use crate::state::State;
+use bitflags::Flags;
+use counts::Count;
+use directory::{Found, with_entry};
+use flash_model::Flash;
+use fs_types::{Fault, OpenFlags, Path};
+use node_format::Place;
+use node_store::Store;
+use open_files::{OpenFile, are_lawful};
+use std::alloc::Global;
+
+impl State {
+    /// The number is free.
+    pub(crate) fn close(&mut self, number: u64) -> Result<(), Fault>
+        ensures mounted { (device : Device) → IsMounted device self.old → IsMounted device self.new }
+        ensures step { (device : Device) → StateStep device self.old (Call.Close number) (replied empty result) device self.new }
+    {
+        self.check_power()?;
+        if self.files.get(number).is_none() {
+            return Err(Fault::BadDescriptor);
+        }
+        self.files.close(number);
+        Ok(())
+    }
+
+    /// Opens the file at a path under the least free number, and answers the number.
+    pub(crate) fn open<F: Flash>(
+        &mut self,
+        alloc: Global,
+        flash: &mut F,
+        path: &Path,
+        flags: OpenFlags,
+    ) -> Result<u8, Fault>
+        requires { IsMounted (F.device flash.old) self.old }
+        ensures mounted { IsMounted (F.device flash.new) self.new }
+        ensures step { StateStep (F.device flash.old) self.old (Call.Open path.now flags) (replied Reply.Fd result) (F.device flash.new) self.new }
+        ensures pages { KeepsPages (F.device flash.old) self.old.history (F.device flash.new) }
+    {
+        self.check_power()?;
+        let opened = self.open_file(alloc, flash, path, flags);
+        self.remember_cut(opened)
+    }
+
+    /// Opens it, where no call answered before that the power is off. The path is copied before
+    /// anything is written, so that want of memory changes nothing.
+    fn open_file<F: Flash>(
+        &mut self,
+        alloc: Global,
+        flash: &mut F,
+        path: &Path,
+        flags: OpenFlags,
+    ) -> Result<u8, Fault>
+        requires { IsMounted (F.device flash.old) self.old }
+        ensures { IsAnswered (F.device flash.old) self.old (Call.Open path.now flags) (replied Reply.Fd result) (F.device flash.new) self.new (is_cut_answer result) }
+    {
+        let root = self.history.root();
+        let (found, number) = self.check_open(flash, root, path, flags)?;
+        if !is_changed(found, flags) {
+            let file = OpenFile::new(path.clone()?, flags);
+            self.files.open(number, file);
+            return Ok(number);
+        }
+        self.check_change()?;
+        let file = OpenFile::new(path.clone()?, flags);
+        let place = Place::File { head: 0, length: 0 };
+        let root = self.write_entry(alloc, flash, root, path, place)?;
+        self.history.push(root);
+        self.files.open(number, file);
+        Ok(number)
+    }
+
+    /// Refuses what cannot be opened. Answers what stands at the path, and the least free number.
+    fn check_open<F: Flash>(
+        &mut self,
+        flash: &mut F,
+        root: u32,
+        path: &Path,
+        flags: OpenFlags,
+    ) -> Result<(Found, u8), Fault>
+        requires mounted { IsMounted (F.device flash.old) self.old }
+        requires present { present_root self.old.history ≡ Some root }
+        ensures looked { IsLooked (F.device flash.old) self.old (F.device flash.new) self.new }
+        ensures lawful { OnOk result (is_path path.now ≡ true) }
+        ensures nodes { node_of (F.device flash.new) ≡ node_of (F.device flash.old) }
+        ensures found { IfOk result (λ r. look_up (node_of (F.device flash.old)) root path.now ≡ Ok r.0) }
+        ensures fits { IfOk result (λ r. found_refusal flags r.0 ≡ None) }
+        ensures number { IfOk result (λ r. least_free self.old.files ≡ Some r.1) }
+        ensures accepted { OnOk result (refusal (machine_on (F.device flash.old) self.old) (Call.Open path.now flags) ≡ None) }
+        ensures refused { IfErr result (λ fault. Refuses (seen_on (F.device flash.old) self.old) (machine_on (F.device flash.old) self.old) (Call.Open path.now flags) fault (seen_on (F.device flash.new) self.new)) }
+    {
+        if !are_lawful(flags) {
+            return Err(Fault::Invalid);
+        }
+        let found = self.look_up(flash, root, path)?;
+        check_found(found, flags)?;
+        let Some(number) = self.files.least_free() else {
+            return Err(Fault::TooManyOpen);
+        };
+        // The names of each path are lawful, as their contract tells.
+        let _names = path.names();
+        Ok((found, number))
+    }
+
+    /// Puts an entry at a path, and answers the block of the new root.
+    pub(crate) fn write_entry<F: Flash>(
+        &mut self,
+        alloc: Global,
+        flash: &mut F,
+        root: u32,
+        path: &Path,
+        place: Place,
+    ) -> Result<u32, Fault>
+        requires mounted { IsMounted (F.device flash.old) self.old }
+        requires below { 0 < length path.now }
+        requires place { is_place place ≡ true }
+        requires held { IsHeld (node_of (F.device flash.old)) (set.contains self.old.ring.used) (Dir root) }
+        ensures worked { IsWorked (F.device flash.old) self.old (F.device flash.new) self.new }
+        ensures rewritten { IfOk result (λ to. IsRewritten (node_of (F.device flash.old)) (set.contains self.new.ring.used) (node_of (F.device flash.new)) root to path.now (Some place)) }
+        ensures refused { IfErr result (λ fault. is_edit_fault fault ≡ true → path_refusal (node_of (F.device flash.old)) root path.now (Some place) ≡ Some fault) }
+        ensures why { IfErr result (λ fault. is_edit_fault fault ≡ false → WorkCause (seen_on (F.device flash.old) self.old) fault (seen_on (F.device flash.new) self.new)) }
+        ensures faults { IfErr result IsEditFault }
+    {
+        let mut store = Store {
+            flash,
+            bad: &mut self.bad,
+            ring: &mut self.ring,
+            page: &mut self.page,
+            node: &mut self.node,
+            reads: Count::zero(),
+            writes: Count::zero(),
+        };
+        with_entry(alloc, &mut store, root, path, place)
+    }
+}
+
+/// Refuses what was found, where the flags do not open it.
+fn check_found(found: Found, flags: OpenFlags) -> Result<(), Fault>
+    ensures ok { OnOk result (found_refusal flags found ≡ None) }
+    ensures err { IfErr result (λ fault. found_refusal flags found ≡ Some fault) }
+{
+    let creates = flags.contains(OpenFlags::CREAT);
+    let is_exclusive = flags.contains(OpenFlags::EXCL);
+    match found {
+        Found::Missing { .. } if !creates => Err(Fault::NoEntry),
+        Found::Missing { is_full: true } => Err(Fault::DirectoryFull),
+        Found::Missing { is_full: false } => Ok(()),
+        _ if creates && is_exclusive => Err(Fault::Exists),
+        Found::File { .. } => Ok(()),
+        Found::Dir { .. } => Err(Fault::IsDirectory),
+    }
+}
+
+/// Whether opening makes or cuts what was found.
+fn is_changed(found: Found, flags: OpenFlags) -> bool
+    ensures { result ≡ changes_found flags found }
+{
+    match found {
+        Found::Missing { .. } => true,
+        Found::File { length, .. } => flags.contains(OpenFlags::TRUNC) && length > 0,
+        Found::Dir { .. } => false,
+    }
+}

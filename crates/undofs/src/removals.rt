@@ -1,0 +1,181 @@
+//! Entries taken out of the present tree, on the working state and the flash. Each call checks in
+//! order: whether an earlier one answered that the power is off; its own refusals; read-only mode;
+//! the greatest serial; and then it works.
+ghost use Rattle.std.specs.Prelude.{◌≡◌, ◌<◌, ℕ, true, false, length, None, Some, [], Ok, Err, IfOk, IfErr, OnOk};
+ghost use Rattle.std.specs.FinSet as set;
+ghost use Rattle.fs_types.specs.History.{present_root};
+ghost use Rattle.fs_types.specs.Machine.{refusal};
+ghost use Rattle.fs_types.specs.Names.{is_path};
+ghost use Rattle.fs_types.specs.declared.calls.Call.{Call};
+ghost use Rattle.node_format.specs.declared.places.Place.TheVariants.{Dir};
+ghost use Rattle.node_store.specs.NodePages.{node_of};
+ghost use Rattle.block_trees.specs.Reached.{IsHeld};
+ghost use Rattle.block_trees.specs.Rewritten.{IsRewritten};
+ghost use Rattle.block_trees.specs.Trees.{entries_of};
+ghost use Rattle.directory.specs.declared.lookups.Found.{Found};
+ghost use Rattle.directory.specs.declared.lookups.Found.TheVariants as found;
+ghost use Rattle.directory.specs.Edits.{path_refusal};
+ghost use Rattle.directory.specs.Lookups.{look_up};
+ghost use Rattle.directory.specs.Making.{IsMakeFault};
+ghost use Rattle.undofs.specs.Mounted.{IsMounted, IsCalled, StateStep, KeepsPages};
+ghost use Rattle.undofs.specs.Seen.{seen_on, machine_on};
+ghost use Rattle.undofs.specs.Steps.{replied, empty, Refuses};
+ghost use Rattle.undofs.specs.Worked.{IsWorked, IsLooked, WorkCause};
+
+use crate::state::State;
+use counts::Count;
+use directory::{Found, without_entry};
+use flash_model::Flash;
+use fs_types::{Fault, Path};
+use node_store::Store;
+use std::alloc::Global;
+
+impl State {
+    /// Removes an empty directory.
+    pub(crate) fn rmdir<F: Flash>(
+        &mut self,
+        alloc: Global,
+        flash: &mut F,
+        path: &Path,
+    ) -> Result<(), Fault>
+        requires { IsMounted (F.device flash.old) self.old }
+        ensures mounted { IsMounted (F.device flash.new) self.new }
+        ensures step { StateStep (F.device flash.old) self.old (Call.Rmdir path.now) (replied empty result) (F.device flash.new) self.new }
+        ensures pages { KeepsPages (F.device flash.old) self.old.history (F.device flash.new) }
+    {
+        self.check_power()?;
+        let removed = self.remove_directory(alloc, flash, path);
+        self.remember_cut(removed)
+    }
+
+    /// Removes it, where no call answered before that the power is off.
+    fn remove_directory<F: Flash>(
+        &mut self,
+        alloc: Global,
+        flash: &mut F,
+        path: &Path,
+    ) -> Result<(), Fault>
+        requires { IsMounted (F.device flash.old) self.old }
+        ensures { IsCalled (Unit {0}) (F.device flash.old) self.old (Call.Rmdir path.now) empty result (F.device flash.new) self.new }
+    {
+        let root = self.history.root();
+        self.check_empty(flash, root, path)?;
+        self.check_change()?;
+        let root = self.write_without(alloc, flash, root, path)?;
+        self.history.push(root);
+        Ok(())
+    }
+
+    /// Refuses the root, a path where no directory stands, and that of a directory with entries.
+    fn check_empty<F: Flash>(&mut self, flash: &mut F, root: u32, path: &Path) -> Result<(), Fault>
+        requires mounted { IsMounted (F.device flash.old) self.old }
+        requires present { present_root self.old.history ≡ Some root }
+        ensures looked { IsLooked (F.device flash.old) self.old (F.device flash.new) self.new }
+        ensures lawful { OnOk result (is_path path.now ≡ true) }
+        ensures below { OnOk result (0 < length path.now) }
+        ensures empty { OnOk result ((block : ℕ) × (look_up (node_of (F.device flash.new)) root path.now ≡ Ok (found.Dir block)) × (entries_of (node_of (F.device flash.new) block) ≡ Some [])) }
+        ensures accepted { OnOk result (refusal (machine_on (F.device flash.old) self.old) (Call.Rmdir path.now) ≡ None) }
+        ensures refused { IfErr result (λ fault. Refuses (seen_on (F.device flash.old) self.old) (machine_on (F.device flash.old) self.old) (Call.Rmdir path.now) fault (seen_on (F.device flash.new) self.new)) }
+    {
+        if path.names().is_empty() {
+            return Err(Fault::Busy);
+        }
+        match self.look_up(flash, root, path)? {
+            Found::Missing { .. } => Err(Fault::NoEntry),
+            Found::File { .. } => Err(Fault::NotDirectory),
+            Found::Dir { block } => {
+                if self.count_in(flash, block)? > 0 {
+                    return Err(Fault::NotEmpty);
+                }
+                Ok(())
+            }
+        }
+    }
+
+    /// Removes a file.
+    pub(crate) fn unlink<F: Flash>(
+        &mut self,
+        alloc: Global,
+        flash: &mut F,
+        path: &Path,
+    ) -> Result<(), Fault>
+        requires { IsMounted (F.device flash.old) self.old }
+        ensures mounted { IsMounted (F.device flash.new) self.new }
+        ensures step { StateStep (F.device flash.old) self.old (Call.Unlink path.now) (replied empty result) (F.device flash.new) self.new }
+        ensures pages { KeepsPages (F.device flash.old) self.old.history (F.device flash.new) }
+    {
+        self.check_power()?;
+        let removed = self.remove_file(alloc, flash, path);
+        self.remember_cut(removed)
+    }
+
+    /// Removes it, where no call answered before that the power is off.
+    fn remove_file<F: Flash>(
+        &mut self,
+        alloc: Global,
+        flash: &mut F,
+        path: &Path,
+    ) -> Result<(), Fault>
+        requires { IsMounted (F.device flash.old) self.old }
+        ensures { IsCalled (Unit {0}) (F.device flash.old) self.old (Call.Unlink path.now) empty result (F.device flash.new) self.new }
+    {
+        let root = self.history.root();
+        self.check_file(flash, root, path)?;
+        self.check_change()?;
+        let root = self.write_without(alloc, flash, root, path)?;
+        self.history.push(root);
+        Ok(())
+    }
+
+    /// Refuses a path where no file stands, and that of an open file.
+    fn check_file<F: Flash>(&mut self, flash: &mut F, root: u32, path: &Path) -> Result<(), Fault>
+        requires mounted { IsMounted (F.device flash.old) self.old }
+        requires present { present_root self.old.history ≡ Some root }
+        ensures looked { IsLooked (F.device flash.old) self.old (F.device flash.new) self.new }
+        ensures lawful { OnOk result (is_path path.now ≡ true) }
+        ensures found { OnOk result ((head size : ℕ) × (look_up (node_of (F.device flash.new)) root path.now ≡ Ok (found.File head size))) }
+        ensures accepted { OnOk result (refusal (machine_on (F.device flash.old) self.old) (Call.Unlink path.now) ≡ None) }
+        ensures refused { IfErr result (λ fault. Refuses (seen_on (F.device flash.old) self.old) (machine_on (F.device flash.old) self.old) (Call.Unlink path.now) fault (seen_on (F.device flash.new) self.new)) }
+    {
+        match self.look_up(flash, root, path)? {
+            Found::Missing { .. } => Err(Fault::NoEntry),
+            Found::Dir { .. } => Err(Fault::NotPermitted),
+            Found::File { .. } => {
+                if self.files.is_open(path) {
+                    return Err(Fault::Busy);
+                }
+                Ok(())
+            }
+        }
+    }
+
+    /// Writes the directories along a path anew, without its last name, and answers the block of the
+    /// new root.
+    fn write_without<F: Flash>(
+        &mut self,
+        alloc: Global,
+        flash: &mut F,
+        root: u32,
+        path: &Path,
+    ) -> Result<u32, Fault>
+        requires mounted { IsMounted (F.device flash.old) self.old }
+        requires below { 0 < length path.now }
+        requires held { IsHeld (node_of (F.device flash.old)) (set.contains self.old.ring.used) (Dir root) }
+        requires editable { path_refusal (node_of (F.device flash.old)) root path.now None ≡ None }
+        ensures worked { IsWorked (F.device flash.old) self.old (F.device flash.new) self.new }
+        ensures rewritten { IfOk result (λ to. IsRewritten (node_of (F.device flash.old)) (set.contains self.new.ring.used) (node_of (F.device flash.new)) root to path.now None) }
+        ensures why { IfErr result (λ fault. WorkCause (seen_on (F.device flash.old) self.old) fault (seen_on (F.device flash.new) self.new)) }
+        ensures faults { IfErr result IsMakeFault }
+    {
+        let mut store = Store {
+            flash,
+            bad: &mut self.bad,
+            ring: &mut self.ring,
+            page: &mut self.page,
+            node: &mut self.node,
+            reads: Count::zero(),
+            writes: Count::zero(),
+        };
+        without_entry(alloc, &mut store, root, path)
+    }
+}

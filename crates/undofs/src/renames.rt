@@ -1,0 +1,347 @@
+//! What stands at a path moved to another, on the working state and the flash. Checked in order:
+//! whether an earlier call answered that the power is off; the call's own refusals; read-only mode;
+//! the greatest serial; and then the work.
+ghost use Rattle.std.specs.Prelude.{◌≡◌, ◌⊎◌, ◌≤◌, ◌-◌, ◌&&◌, ◌||◌, ℕ, true, false, not, length, None, Some, Option, Ok, Err, IfOk, IfErr, OnOk, IfSome};
+ghost use Rattle.std.specs.FinSet as set;
+ghost use Rattle.fs_types.specs.Contents.{Apart, Entry, is_dir, begins, parent_of};
+ghost use Rattle.fs_types.specs.Descriptors.{is_open, is_open_within};
+ghost use Rattle.fs_types.specs.History.{present_root};
+ghost use Rattle.fs_types.specs.Machine.{refusal, found_refusal, rename_refusal, present_tree};
+ghost use Rattle.fs_types.specs.Names.{is_path, same_path};
+ghost use Rattle.fs_types.specs.declared.calls.Call.{Call};
+ghost use Rattle.fs_types.specs.declared.faults.Fault.TheVariants as faults;
+ghost use Rattle.node_format.specs.Items.{is_place};
+ghost use Rattle.node_format.specs.declared.places.Place.{Place};
+ghost use Rattle.node_format.specs.declared.places.Place.TheVariants.{Dir};
+ghost use Rattle.node_store.specs.NodePages.{node_of};
+ghost use Rattle.block_trees.specs.Laws.{IsShallow};
+ghost use Rattle.block_trees.specs.Reached.{IsHeld};
+ghost use Rattle.block_trees.specs.Rewritten.{IsMoved};
+ghost use Rattle.block_trees.specs.Trees.{leads, is_dir_place};
+ghost use Rattle.directory.specs.Depths.{IsDeeper, IsDepthFault};
+ghost use Rattle.directory.specs.Edits.{path_refusal};
+ghost use Rattle.directory.specs.Making.{IsMakeFault};
+ghost use Rattle.directory.specs.Moves.{move_refusal};
+ghost use Rattle.undofs.specs.Mounted.{IsMounted, StateStep, KeepsPages};
+ghost use Rattle.undofs.specs.Renames.{IsMovable, IsToMove, target_refusal, lacks_room};
+ghost use Rattle.undofs.specs.Seen.{seen_on, machine_on};
+ghost use Rattle.undofs.specs.Steps.{replied, empty, is_cut_answer, Refuses, CallStep};
+ghost use Rattle.undofs.specs.Worked.{IsWorked, IsLooked, WorkCause, ReadCause};
+
+use crate::state::State;
+use counts::Count;
+use directory::{Found, is_deeper, moved};
+use flash_model::Flash;
+use fs_types::{Fault, Name, Path};
+use node_format::Place;
+use node_store::Store;
+use open_files::is_beginning;
+use std::alloc::Global;
+
+impl State {
+    /// Moves what stands at a path to another.
+    pub(crate) fn rename<F: Flash>(
+        &mut self,
+        alloc: Global,
+        flash: &mut F,
+        old: &Path,
+        new: &Path,
+    ) -> Result<(), Fault>
+        requires { IsMounted (F.device flash.old) self.old }
+        ensures mounted { IsMounted (F.device flash.new) self.new }
+        ensures step { StateStep (F.device flash.old) self.old (Call.Rename old.now new.now) (replied empty result) (F.device flash.new) self.new }
+        ensures pages { KeepsPages (F.device flash.old) self.old.history (F.device flash.new) }
+    {
+        self.check_power()?;
+        let moved = self.move_entry(alloc, flash, old, new);
+        self.remember_cut(moved)
+    }
+
+    /// Moves it, where no call answered before that the power is off.
+    fn move_entry<F: Flash>(
+        &mut self,
+        alloc: Global,
+        flash: &mut F,
+        old: &Path,
+        new: &Path,
+    ) -> Result<(), Fault>
+        requires { IsMounted (F.device flash.old) self.old }
+        ensures mounted { IsMounted (F.device flash.new) self.new }
+        ensures step { CallStep (seen_on (F.device flash.old) self.old) (machine_on (F.device flash.old) self.old) false (Call.Rename old.now new.now) (replied empty result) (seen_on (F.device flash.new) self.new) (machine_on (F.device flash.new) self.new) (is_cut_answer result) }
+        ensures is_off { self.new.is_off ≡ self.old.is_off }
+        ensures pages { KeepsPages (F.device flash.old) self.old.history (F.device flash.new) }
+    {
+        let root = self.history.root();
+        let Some(place) = self.check_rename(alloc, flash, root, old, new)? else {
+            return Ok(());
+        };
+        self.check_change()?;
+        let root = self.write_moved(alloc, flash, root, old, new, place)?;
+        self.history.push(root);
+        Ok(())
+    }
+
+    /// What is to be moved, or nothing where both paths are the same.
+    fn check_rename<F: Flash>(
+        &mut self,
+        alloc: Global,
+        flash: &mut F,
+        root: u32,
+        old: &Path,
+        new: &Path,
+    ) -> Result<Option<Place>, Fault>
+        requires mounted { IsMounted (F.device flash.old) self.old }
+        requires present { present_root self.old.history ≡ Some root }
+        ensures looked { IsLooked (F.device flash.old) self.old (F.device flash.new) self.new }
+        ensures movable { IfOk result (IsToMove (node_of (F.device flash.new)) root old.now new.now) }
+        ensures accepted { OnOk result (refusal (machine_on (F.device flash.old) self.old) (Call.Rename old.now new.now) ≡ None) }
+        ensures refused { IfErr result (λ fault. Refuses (seen_on (F.device flash.old) self.old) (machine_on (F.device flash.old) self.old) (Call.Rename old.now new.now) fault (seen_on (F.device flash.new) self.new)) }
+    {
+        let place = self.find_place(flash, root, old)?;
+        if old == new {
+            return Ok(None);
+        }
+        self.check_move(alloc, flash, root, old, new, place)?;
+        Ok(Some(place))
+    }
+
+    /// What a path leads to; refuses a path where nothing stands.
+    fn find_place<F: Flash>(
+        &mut self,
+        flash: &mut F,
+        root: u32,
+        path: &Path,
+    ) -> Result<Place, Fault>
+        requires mounted { IsMounted (F.device flash.old) self.old }
+        requires present { present_root self.old.history ≡ Some root }
+        ensures looked { IsLooked (F.device flash.old) self.old (F.device flash.new) self.new }
+        ensures nodes { node_of (F.device flash.new) ≡ node_of (F.device flash.old) }
+        ensures stands { IfOk result (λ place. leads (node_of (F.device flash.old)) (Dir root) path.now ≡ Some place) }
+        ensures place { IfOk result (λ place. is_place place ≡ true) }
+        ensures found { IfOk result (λ place. (entry : Entry) × (is_dir entry ≡ is_dir_place place) × ((refuse : Entry → Option Fault) → found_refusal (present_tree (machine_on (F.device flash.old) self.old)) path.now refuse ≡ refuse entry)) }
+        ensures refused { IfErr result (λ fault. ((refuse : Entry → Option Fault) → found_refusal (present_tree (machine_on (F.device flash.old) self.old)) path.now refuse ≡ Some fault) ⊎ ReadCause (seen_on (F.device flash.old) self.old) fault (seen_on (F.device flash.new) self.new)) }
+    {
+        match self.look_up(flash, root, path)? {
+            Found::Missing { .. } => Err(Fault::NoEntry),
+            Found::File { head, length } => Ok(Place::File { head, length }),
+            Found::Dir { block } => Ok(Place::Dir { block }),
+        }
+    }
+
+    /// Refuses to move what stands at a path to another path, which is not the same.
+    fn check_move<F: Flash>(
+        &mut self,
+        alloc: Global,
+        flash: &mut F,
+        root: u32,
+        old: &Path,
+        new: &Path,
+        place: Place,
+    ) -> Result<(), Fault>
+        requires mounted { IsMounted (F.device flash.old) self.old }
+        requires present { present_root self.old.history ≡ Some root }
+        requires differ { same_path old.now new.now ≡ false }
+        requires stands { leads (node_of (F.device flash.old)) (Dir root) old.now ≡ Some place }
+        requires place { is_place place ≡ true }
+        ensures looked { IsLooked (F.device flash.old) self.old (F.device flash.new) self.new }
+        ensures nodes { node_of (F.device flash.new) ≡ node_of (F.device flash.old) }
+        ensures movable { OnOk result (IsMovable (node_of (F.device flash.old)) root old.now new.now place) }
+        ensures accepted { OnOk result ((entry : Entry) → is_dir entry ≡ is_dir_place place → rename_refusal (machine_on (F.device flash.old) self.old) old.now new.now entry ≡ None) }
+        ensures refused { IfErr result (λ fault. ((entry : Entry) → is_dir entry ≡ is_dir_place place → rename_refusal (machine_on (F.device flash.old) self.old) old.now new.now entry ≡ Some fault) ⊎ ReadCause (seen_on (F.device flash.old) self.old) fault (seen_on (F.device flash.new) self.new)) }
+    {
+        let moves_directory = is_directory(place);
+        check_beyond(old, new, moves_directory)?;
+        let lacks_room = self.check_target(flash, root, new, moves_directory)?;
+        self.check_depth(alloc, flash, new, place)?;
+        self.check_closed(old, new)?;
+        check_room(old, new, lacks_room)?;
+        Ok(())
+    }
+
+    /// Refuses to replace what is of another kind, and a directory with entries; else whether the path
+    /// is a new name of a full directory.
+    fn check_target<F: Flash>(
+        &mut self,
+        flash: &mut F,
+        root: u32,
+        path: &Path,
+        moves_directory: bool,
+    ) -> Result<bool, Fault>
+        requires mounted { IsMounted (F.device flash.old) self.old }
+        requires present { present_root self.old.history ≡ Some root }
+        ensures looked { IsLooked (F.device flash.old) self.old (F.device flash.new) self.new }
+        ensures nodes { node_of (F.device flash.new) ≡ node_of (F.device flash.old) }
+        ensures room { IfOk result (λ full. full ≡ lacks_room (present_tree (machine_on (F.device flash.old) self.old)) path.now) }
+        ensures editable { IfOk result (λ full. full ≡ false → (place : Place) → path_refusal (node_of (F.device flash.old)) root path.now (Some place) ≡ None) }
+        ensures allowed { OnOk result ((entry : Entry) → is_dir entry ≡ moves_directory → target_refusal (present_tree (machine_on (F.device flash.old) self.old)) path.now entry ≡ None) }
+        ensures refused { IfErr result (λ fault. ((entry : Entry) → is_dir entry ≡ moves_directory → target_refusal (present_tree (machine_on (F.device flash.old) self.old)) path.now entry ≡ Some fault) ⊎ ReadCause (seen_on (F.device flash.old) self.old) fault (seen_on (F.device flash.new) self.new)) }
+    {
+        match self.look_up(flash, root, path)? {
+            Found::Missing { is_full } => Ok(is_full),
+            Found::File { .. } => {
+                if moves_directory {
+                    return Err(Fault::NotDirectory);
+                }
+                Ok(false)
+            }
+            Found::Dir { block } => {
+                if !moves_directory {
+                    return Err(Fault::IsDirectory);
+                }
+                if self.count_in(flash, block)? > 0 {
+                    return Err(Fault::NotEmpty);
+                }
+                Ok(false)
+            }
+        }
+    }
+
+    /// Refuses to move a directory to where a path below it would have more than 16 names.
+    fn check_depth<F: Flash>(
+        &mut self,
+        alloc: Global,
+        flash: &mut F,
+        new: &Path,
+        place: Place,
+    ) -> Result<(), Fault>
+        requires { IsMounted (F.device flash.old) self.old }
+        ensures looked { IsLooked (F.device flash.old) self.old (F.device flash.new) self.new }
+        ensures nodes { node_of (F.device flash.new) ≡ node_of (F.device flash.old) }
+        ensures shallow { OnOk result (IsShallow (node_of (F.device flash.old)) place (16 - length new.now)) }
+        ensures refused { IfErr result (λ fault. ((fault ≡ faults.NameTooLong) × IsDeeper (node_of (F.device flash.old)) place (16 - length new.now)) ⊎ ReadCause (seen_on (F.device flash.old) self.old) fault (seen_on (F.device flash.new) self.new)) }
+    {
+        let Place::Dir { block } = place else {
+            return Ok(());
+        };
+        let most = 16 - new.names().len();
+        if self.is_deeper(alloc, flash, block, most)? {
+            return Err(Fault::NameTooLong);
+        }
+        Ok(())
+    }
+
+    /// Refuses to move an open file, or a directory with one below it, and to replace an open file.
+    fn check_closed(&self, old: &Path, new: &Path) -> Result<(), Fault>
+        ensures ok { OnOk result (is_open_within self.now.files old.now || is_open self.now.files new.now ≡ false) }
+        ensures err { IfErr result (λ fault. (fault ≡ faults.Busy) × (is_open_within self.now.files old.now || is_open self.now.files new.now ≡ true)) }
+    {
+        if self.files.is_open_within(old) {
+            return Err(Fault::Busy);
+        }
+        if self.files.is_open(new) {
+            return Err(Fault::Busy);
+        }
+        Ok(())
+    }
+
+    /// Whether a path below the directory of a block has more than `most` names.
+    fn is_deeper<F: Flash>(
+        &mut self,
+        alloc: Global,
+        flash: &mut F,
+        block: u32,
+        most: usize,
+    ) -> Result<bool, Fault>
+        requires mounted { IsMounted (F.device flash.old) self.old }
+        requires most { most ≤ 16 }
+        ensures looked { IsLooked (F.device flash.old) self.old (F.device flash.new) self.new }
+        ensures nodes { node_of (F.device flash.new) ≡ node_of (F.device flash.old) }
+        ensures deeper { IfOk result (λ deep. deep ≡ true → IsDeeper (node_of (F.device flash.old)) (Dir block) most) }
+        ensures shallow { IfOk result (λ deep. deep ≡ false → IsShallow (node_of (F.device flash.old)) (Dir block) most) }
+        ensures why { IfErr result (λ fault. WorkCause (seen_on (F.device flash.old) self.old) fault (seen_on (F.device flash.new) self.new)) }
+        ensures faults { IfErr result IsDepthFault }
+    {
+        let mut store = Store {
+            flash,
+            bad: &mut self.bad,
+            ring: &mut self.ring,
+            page: &mut self.page,
+            node: &mut self.node,
+            reads: Count::zero(),
+            writes: Count::zero(),
+        };
+        is_deeper(alloc, &mut store, block, most)
+    }
+
+    /// Writes the directories along two paths anew, so that the new one leads to what the old one led
+    /// to, and answers the block of the new root.
+    fn write_moved<F: Flash>(
+        &mut self,
+        alloc: Global,
+        flash: &mut F,
+        root: u32,
+        old: &Path,
+        new: &Path,
+        place: Place,
+    ) -> Result<u32, Fault>
+        requires mounted { IsMounted (F.device flash.old) self.old }
+        requires held { IsHeld (node_of (F.device flash.old)) (set.contains self.old.ring.used) (Dir root) }
+        requires apart { Apart old.now new.now }
+        requires movable { IsMovable (node_of (F.device flash.old)) root old.now new.now place }
+        ensures worked { IsWorked (F.device flash.old) self.old (F.device flash.new) self.new }
+        ensures moved { IfOk result (λ to. IsMoved (node_of (F.device flash.old)) (node_of (F.device flash.new)) (set.contains self.old.ring.used) (set.contains self.new.ring.used) root to old.now new.now place) }
+        ensures why { IfErr result (λ fault. WorkCause (seen_on (F.device flash.old) self.old) fault (seen_on (F.device flash.new) self.new)) }
+        ensures faults { IfErr result IsMakeFault }
+    {
+        let mut store = Store {
+            flash,
+            bad: &mut self.bad,
+            ring: &mut self.ring,
+            page: &mut self.page,
+            node: &mut self.node,
+            reads: Count::zero(),
+            writes: Count::zero(),
+        };
+        moved(alloc, &mut store, root, old, new, place)
+    }
+}
+
+/// Whether an entry is a directory.
+fn is_directory(place: Place) -> bool
+    ensures { result ≡ is_dir_place place }
+{
+    match place {
+        Place::Dir { .. } => true,
+        Place::File { .. } => false,
+    }
+}
+
+/// Refuses to move a directory below itself.
+fn check_beyond(old: &Path, new: &Path, moves_directory: bool) -> Result<(), Fault>
+    ensures lawful { OnOk result (is_path old.now && is_path new.now ≡ true) }
+    ensures ok { OnOk result ((moves_directory && begins old.now new.now) ≡ false) }
+    ensures err { IfErr result (λ fault. (fault ≡ faults.Invalid) × ((moves_directory && begins old.now new.now) ≡ true)) }
+{
+    let is_below = is_beginning(old.names(), new.names());
+    if !moves_directory {
+        return Ok(());
+    }
+    if is_below {
+        return Err(Fault::Invalid);
+    }
+    Ok(())
+}
+
+/// The directory that a path stands in.
+fn parent(path: &[Name]) -> &[Name]
+    ensures { result.now ≡ parent_of path.now }
+{
+    match path.split_last() {
+        Some((_, parent)) => parent,
+        None => path,
+    }
+}
+
+/// Refuses a new name of a full directory, but where the old name stands in that directory too.
+fn check_room(old: &Path, new: &Path, lacks_room: bool) -> Result<(), Fault>
+    ensures ok { OnOk result ((lacks_room && not (same_path (parent_of old.now) (parent_of new.now))) ≡ false) }
+    ensures err { IfErr result (λ fault. (fault ≡ faults.DirectoryFull) × ((lacks_room && not (same_path (parent_of old.now) (parent_of new.now))) ≡ true)) }
+{
+    if !lacks_room {
+        return Ok(());
+    }
+    if parent(old.names()) == parent(new.names()) {
+        return Ok(());
+    }
+    Err(Fault::DirectoryFull)
+}

@@ -7,9 +7,7 @@ ghost use Rattle.undofs.specs.Props.{mounted-prop};
 
 use crate::state::State;
 use flash_model::{FaultKind, Flash, Planned};
-use fs_types::{
-    Bytes, Call, CpName, Fault, Name, OpenFlags, Path, Reply, Sequence, Stat, View,
-};
+use fs_types::{Bytes, Call, CpName, Fault, Name, OpenFlags, Path, Reply, Sequence, Stat, View};
 use std::alloc::Global;
 
 /// A file system that is mounted on a flash.

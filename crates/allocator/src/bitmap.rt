@@ -60,20 +60,3 @@ impl BlockSet {
         self.words[block as usize / 64] |= 1 << (block % 64);
     }
 }
-
-#[cfg(test)]
-mod tests {
-    use super::*;
-    use std::test::Fail;
-
-    #[test]
-    fn holds_what_was_put_in(rt: HostRuntime) -> Result<(), Fail> {
-        let mut set = BlockSet::new(rt.alloc(), 65_536)?;
-        assert_eq!(rt; set.blocks(), 65_536);
-        assert_eq!(rt; set.contains(65_535), false);
-        set.insert(65_535);
-        assert_eq!(rt; set.contains(65_535), true);
-        assert_eq!(rt; set.contains(65_534), false);
-        Ok(())
-    }
-}

@@ -152,24 +152,3 @@ impl Ring {
         !self.used.contains(block) && !bad.contains(block)
     }
 }
-
-#[cfg(test)]
-mod tests {
-    use super::*;
-    use std::test::Fail;
-
-    // A flash of 32 blocks has 24 data blocks, and block 31 counts as the last one taken before any.
-    #[test]
-    fn takes_in_ring_order(rt: HostRuntime) -> Result<(), Fail> {
-        let mut ring = Ring::new(rt.alloc(), 32, 31)?;
-        let mut bad = BadBlocks::new();
-        assert_eq!(rt; ring.free_count(&bad), 24);
-        ring.mark_used(8);
-        assert_eq!(rt; bad.add(9), Ok(()));
-        assert_eq!(rt; ring.free_count(&bad), 22);
-        assert_eq!(rt; ring.take(&bad), Some(10));
-        assert_eq!(rt; ring.last(), 10);
-        assert_eq!(rt; ring.free_count(&bad), 21);
-        Ok(())
-    }
-}

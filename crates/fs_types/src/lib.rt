@@ -18,6 +18,3 @@ pub use laws::{edit_laws, file_laws, graft_laws, history_laws, lookup_laws, step
 pub use names::Name;
 pub use paths::{Path, is_lawful_name};
 pub use sequences::{Bytes, Sequence};
-
-#[cfg(test)]
-mod tests;

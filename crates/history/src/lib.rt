@@ -4,6 +4,3 @@
 mod histories;
 
 pub use histories::{History, MAX_CHECKPOINTS};
-
-#[cfg(test)]
-mod tests;

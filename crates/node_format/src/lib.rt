@@ -12,6 +12,3 @@ pub use entries::{Entries, Entry};
 pub use headers::node_size;
 pub use places::Place;
 pub use writing::empty_directory;
-
-#[cfg(test)]
-mod tests;

@@ -5,8 +5,6 @@ mod adding;
 mod nodes;
 mod reading;
 mod stores;
-#[cfg(test)]
-mod tests;
 mod writing;
 
 pub use nodes::Nodes;

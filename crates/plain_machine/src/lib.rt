@@ -14,6 +14,3 @@ mod trees;
 
 pub use machines::PlainMachine;
 pub use spaces::Space;
-
-#[cfg(test)]
-mod tests;

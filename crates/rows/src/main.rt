@@ -6,6 +6,8 @@
 mod error;
 mod row;
 mod runs;
+#[cfg(test)]
+mod tests;
 
 use anyhow::{Context, Result};
 use row::{Row, Side};

@@ -20,6 +20,3 @@ pub use lines::{LINE_LIMIT, Line, read_line};
 pub use replies::print_answer;
 pub use spellings::laws;
 pub use streams::{LineReader, Taken, write_out};
-
-#[cfg(test)]
-mod tests;

@@ -9,6 +9,3 @@ pub use laws::script_laws;
 pub use script::{Answer, Line, print_answer, read_line};
 pub use scripts::{ScriptFault, run_script};
 pub use words::tool;
-
-#[cfg(test)]
-mod tests;

@@ -1,6 +1,6 @@
-//! Calls that take memory, with ample memory.
-use crate::History;
+//! Versions and checkpoints with ample memory.
 use fs_types::{CpName, Fault, View};
+use history::History;
 use std::test::Fail;
 
 #[test]

@@ -1,5 +1,6 @@
-use crate::{Answer, LINE_LIMIT, LineReader, Taken, print_answer, read_line, write_out};
+//! Lines of scripts and printed answers, and streams that fail.
 use fs_types::{Bytes, CpName, Fault, Name, Reply, Sequence, Stat};
+use script::{Answer, LINE_LIMIT, LineReader, Taken, print_answer, read_line, write_out};
 use std::alloc::{AllocError, Global};
 use std::io;
 use std::io::{ErrorKind, Read, Write};

@@ -1,5 +1,5 @@
-//! Calls that take memory, with ample memory, and the forms of paths.
-use crate::{Bytes, CpName, Fault, Name, Path, Sequence};
+//! Paths, names and lists with ample memory, and the forms of paths.
+use fs_types::{Bytes, CpName, Fault, Name, Path, Sequence};
 use std::test::Fail;
 
 // How many names the path of these bytes has, or the number of the refusal.

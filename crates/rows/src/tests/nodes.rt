@@ -1,4 +1,5 @@
-use super::*;
+//! The bytes of nodes.
+use node_format::{BodyNode, Entries, Place, body_node, empty_directory, node_size};
 use std::test::Fail;
 
 const EMPTY: [u8; 16] = [0x55, 0x46, 0x4e, 0x44, 0, 0, 0, 0, 0, 0, 0, 0, 0, 0, 0, 0];

@@ -1,10 +1,10 @@
-use crate::nodes::Nodes;
-use crate::stores::Store;
+//! Nodes written to a flash and read back.
 use allocator::Ring;
 use bad_blocks::BadBlocks;
 use counts::Count;
 use flash_model::{FaultKind, Geometry, PlannedFault, SimFlash};
 use fs_types::Fault;
+use node_store::{Nodes, Store};
 use std::test::Fail;
 
 /// The empty directory.

@@ -1,7 +1,7 @@
 //! What stands written where a script does not run to its end, and the statuses of the program.
-use crate::{ScriptFault, run_script, tool};
 use flash_model::{FaultKind, Flash, Geometry, PageView, PlannedFault, SimFlash};
 use fs_types::Fault;
+use shell::{ScriptFault, run_script, tool};
 use std::alloc::Global;
 use std::io;
 use std::io::{ErrorKind, Read, Write};

@@ -1,0 +1,9 @@
+//! Tests of what no clause says: each public call that takes memory once with ample memory, worked
+//! bytes, and streams that fail.
+mod histories;
+mod lines;
+mod nodes;
+mod paths;
+mod rings;
+mod scripts;
+mod stores;

@@ -1,3 +1,4 @@
 pub mod NoFields
 pub mod Filtered
 pub mod Erasing
+pub mod Ending

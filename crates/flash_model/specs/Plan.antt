@@ -2,25 +2,39 @@
 use Rattle.std.specs.Prelude.{◌≡◌, ℕ, ◌+◌, ◌≤◌, Bool, true, false, not, ◌&&◌, ◌||◌, ◌==◌, nat_lt, if◌then◌else◌, List, [], ◌∷◌, ◌++◌, length, reverse, find, filter, Option, None, option_map}
 use Rattle.std.specs.List.{list_any}
 use Rattle.flash_model.specs.declared.device.DevFault.{DevFault}
-use Rattle.flash_model.specs.declared.device.DevFault.TheVariants.{Failed}
+use Rattle.flash_model.specs.declared.device.DevFault.TheVariants.{Failed, PowerCut}
 use Rattle.flash_model.specs.declared.plans.Operation.{Operation}
 use Rattle.flash_model.specs.declared.plans.Operation.TheVariants.{Read, Program, Erase}
 use Rattle.flash_model.specs.declared.plans.FaultKind.{FaultKind}
-use Rattle.flash_model.specs.declared.plans.FaultKind.TheVariants.{ReadFail, ProgramFail, EraseFail}
+use Rattle.flash_model.specs.declared.plans.FaultKind.TheVariants.{ReadFail, ReadCut, ProgramFail, ProgramCutNone, ProgramCutWhole, ProgramCutTorn, EraseFail, EraseCutNone, EraseCutWhole, EraseCutTorn}
 use Rattle.flash_model.specs.declared.plans.PlannedFault.{PlannedFault}
 use Rattle.flash_model.specs.declared.plans.Counters.{Counters}
 
 -- the class of operations that a kind of fault befalls
 abbrev pub operation_of : FaultKind → Operation
 operation_of ReadFail = Read
+operation_of ReadCut = Read
 operation_of ProgramFail = Program
+operation_of ProgramCutNone = Program
+operation_of ProgramCutWhole = Program
+operation_of ProgramCutTorn = Program
 operation_of EraseFail = Erase
+operation_of EraseCutNone = Erase
+operation_of EraseCutWhole = Erase
+operation_of EraseCutTorn = Erase
 
 -- the answer of an operation that a fault befalls
 abbrev pub answer_of : FaultKind → DevFault
 answer_of ReadFail = Failed
+answer_of ReadCut = PowerCut
 answer_of ProgramFail = Failed
+answer_of ProgramCutNone = PowerCut
+answer_of ProgramCutWhole = PowerCut
+answer_of ProgramCutTorn = PowerCut
 answer_of EraseFail = Failed
+answer_of EraseCutNone = PowerCut
+answer_of EraseCutWhole = PowerCut
+answer_of EraseCutTorn = PowerCut
 
 -- one and the same class
 abbrev pub is_same : Operation → Operation → Bool
@@ -48,6 +62,10 @@ abbrev pub count_more : Counters → Operation → Counters
 count_more c Read = record c { reads = counted c.reads }
 count_more c Program = record c { programs = counted c.programs }
 count_more c Erase = record c { erases = counted c.erases }
+
+-- the counters before any operation
+abbrev pub no_counts : Counters
+no_counts = record { reads = 0; programs = 0; erases = 0 }
 
 -- a plan at work: the operations that have begun, and the entries that wait, in the order of their coming
 pub record Schedule : Type 0 where
@@ -81,7 +99,7 @@ begun s class = record {
 -- a plan before any operation: an entry of number 0 has passed
 abbrev pub plan_of_entries : List PlannedFault → Schedule
 plan_of_entries entries = record {
-  counters = record { reads = 0; programs = 0; erases = 0 };
+  counters = no_counts;
   waiting = filter (λ entry. nat_lt 0 entry.number) entries;
 }
 

@@ -1,13 +1,14 @@
 -- A flash in memory that fails as planned: the device that it is, and the plan that it follows.
-use Rattle.std.specs.Prelude.{◌≡◌, ℕ, true, false, slice_index_or, Option, Some, option_map, if◌then◌else◌}
+use Rattle.std.specs.Prelude.{◌≡◌, ℕ, ◌+◌, true, false, slice_index_or, Option, Some, option_map, Result, if◌then◌else◌}
 use Rattle.flash_model.specs.declared.device.DevFault.{DevFault}
 use Rattle.flash_model.specs.declared.device.DevFault.TheVariants.{PowerCut}
 use Rattle.flash_model.specs.declared.sizes.Geometry.{Geometry}
 use Rattle.flash_model.specs.declared.plans.Operation.{Operation}
+use Rattle.flash_model.specs.declared.plans.Counters.{Counters}
 use Rattle.flash_model.specs.declared.simulation.SimFlash.{SimFlash}
-use Rattle.flash_model.specs.Device.{Device, erased}
+use Rattle.flash_model.specs.Device.{Device, erased, failed, cut, power_after, Wears}
 use Rattle.flash_model.specs.Stored.{page_at}
-use Rattle.flash_model.specs.Plan.{Schedule, kind_due, begun, answer_of}
+use Rattle.flash_model.specs.Plan.{Schedule, kind_due, begun, answer_of, count_more}
 
 -- the device
 abbrev pub device_of : SimFlash → Device
@@ -25,6 +26,14 @@ device_of flash = record {
 -- the plan at work
 abbrev pub plan_of : SimFlash → Schedule
 plan_of flash = flash.plan
+
+-- how many operations of each class were asked for while power was on
+abbrev pub counts_of : SimFlash → Counters
+counts_of flash = flash.plan.counters
+
+-- the counts after the next operation of a class: one more of it with the power on
+abbrev pub counts_after : SimFlash → Operation → Counters
+counts_after flash class = if flash.powered then count_more (counts_of flash) class else counts_of flash
 
 -- why the next operation of a class is not done: with the power off for want of it, else by what is due
 abbrev pub refusal_due : SimFlash → Operation → Option DevFault
@@ -44,3 +53,8 @@ pub record IsNew (sizes : Geometry) (d : Device) : Type 0 where
   pub failures : d.failures ≡ 0
   pub cuts : d.cuts ≡ 0
   pub operations : d.operations ≡ 0
+
+-- what a program or an erase in a block leaves beside the pages, by its answer, where power was on
+pub record Ends (old : Device) (b : ℕ) (new : Device) (result : Result (Unit {0}) DevFault) : Type 0 where
+  pub rest : new ≡ record old { powered = power_after result; worn = new.worn; failures = old.failures + failed result; cuts = old.cuts + cut result }
+  pub worn : Wears old new b result

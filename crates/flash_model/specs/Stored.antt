@@ -4,6 +4,7 @@ use Rattle.std.specs.Option.{ForSome, option_map_or}
 use Rattle.flash_model.specs.declared.device.PageState.{PageState}
 use Rattle.flash_model.specs.declared.device.PageState.TheVariants.{Erased, Data, Unreadable}
 use Rattle.flash_model.specs.declared.plans.FaultKind.{FaultKind}
+use Rattle.flash_model.specs.declared.plans.FaultKind.TheVariants.{ProgramCutNone, ProgramCutWhole, EraseCutNone, EraseCutWhole}
 use Rattle.flash_model.specs.declared.stored.SimPage.{SimPage}
 use Rattle.flash_model.specs.declared.stored.PageView.{PageView}
 use Rattle.flash_model.specs.declared.stored.PageView.TheVariants as view
@@ -27,14 +28,18 @@ page_at pages p = option_map_or seen (slice_get pages p) erased
 abbrev pub HaveRoom : List SimPage → ℕ → Type 0
 HaveRoom pages n = (i : ℕ) → ForSome (slice_get pages i) (λ page. vec_len page.bytes ≡ n)
 
--- a programmed page, by what befalls the program
+-- a programmed page, by what befalls the program: a failure and a torn cut spoil it
 abbrev pub programmed : Option FaultKind → Page → List ℕ → Page
 programmed None was bytes = bytes_of bytes
+programmed (Some ProgramCutNone) was bytes = was
+programmed (Some ProgramCutWhole) was bytes = bytes_of bytes
 programmed (Some _) was bytes = unreadable
 
--- the page at a place of an erased block, by what befalls the erase: a failure spoils those of even place
+-- the page at a place of an erased block, by what befalls the erase: a failure and a torn cut spoil those of even place
 abbrev pub erased_to : Option FaultKind → ℕ → Page → Page
 erased_to None place was = erased
+erased_to (Some EraseCutNone) place was = was
+erased_to (Some EraseCutWhole) place was = erased
 erased_to (Some _) place was = if place % 2 == 0 then unreadable else was
 
 -- what a view of a page shows

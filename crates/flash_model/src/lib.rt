@@ -9,8 +9,6 @@ mod schedules;
 mod simulation;
 mod sizes;
 mod stored;
-#[cfg(test)]
-mod tests;
 
 pub use counts::Count;
 pub use device::{DevFault, Flash, PageState};

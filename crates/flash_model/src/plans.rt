@@ -1,6 +1,8 @@
 //! Plans of device faults: which operations fail, and how.
 ghost use Rattle.std.specs.Prelude.{◌≡◌};
-ghost use Rattle.flash_model.specs.Plan.{operation_of, is_same, is_for, is_ahead, count_of, count_more, counted};
+ghost use Rattle.flash_model.specs.Plan.{operation_of, answer_of, is_same, is_for, is_ahead, count_of, count_more, counted};
+
+use crate::device::DevFault;
 
 /// The classes of device operations, each counted by itself.
 #[derive(Clone, Copy, Debug, PartialEq, Eq)]
@@ -30,10 +32,25 @@ impl Operation {
 pub enum FaultKind {
     /// A read fails.
     ReadFail,
+    /// Power goes in a read.
+    ReadCut,
     /// A program fails: the page becomes unreadable.
     ProgramFail,
+    /// Power goes in a program: the page stays as it was.
+    ProgramCutNone,
+    /// Power goes in a program: the page has the bytes.
+    ProgramCutWhole,
+    /// Power goes in a program: the page becomes unreadable.
+    ProgramCutTorn,
     /// An erase fails: the pages of even place in the block become unreadable, and the others stay.
     EraseFail,
+    /// Power goes in an erase: each page of the block stays as it was.
+    EraseCutNone,
+    /// Power goes in an erase: each page of the block is erased.
+    EraseCutWhole,
+    /// Power goes in an erase: the pages of even place in the block become unreadable, and the
+    /// others stay.
+    EraseCutTorn,
 }
 
 impl FaultKind {
@@ -42,9 +59,31 @@ impl FaultKind {
         ensures { result ≡ operation_of self }
     {
         match self {
-            FaultKind::ReadFail => Operation::Read,
-            FaultKind::ProgramFail => Operation::Program,
-            FaultKind::EraseFail => Operation::Erase,
+            FaultKind::ReadFail | FaultKind::ReadCut => Operation::Read,
+            FaultKind::ProgramFail
+            | FaultKind::ProgramCutNone
+            | FaultKind::ProgramCutWhole
+            | FaultKind::ProgramCutTorn => Operation::Program,
+            FaultKind::EraseFail
+            | FaultKind::EraseCutNone
+            | FaultKind::EraseCutWhole
+            | FaultKind::EraseCutTorn => Operation::Erase,
+        }
+    }
+
+    // What an operation that it befalls answers.
+    pub(crate) fn answer(self) -> DevFault
+        ensures { result ≡ answer_of self }
+    {
+        match self {
+            FaultKind::ReadFail | FaultKind::ProgramFail | FaultKind::EraseFail => DevFault::Failed,
+            FaultKind::ReadCut
+            | FaultKind::ProgramCutNone
+            | FaultKind::ProgramCutWhole
+            | FaultKind::ProgramCutTorn
+            | FaultKind::EraseCutNone
+            | FaultKind::EraseCutWhole
+            | FaultKind::EraseCutTorn => DevFault::PowerCut,
         }
     }
 }

@@ -46,6 +46,13 @@ impl Plan {
         })
     }
 
+    // How many operations of each class have begun.
+    pub(crate) fn counters(&self) -> Counters
+        ensures { result ≡ self.now.counters }
+    {
+        self.counters
+    }
+
     // Counts an operation that begins, and gives what befalls it.
     pub(crate) fn begin(&mut self, class: Operation) -> Option<FaultKind>
         ensures due { result ≡ kind_due self.old class }

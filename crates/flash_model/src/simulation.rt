@@ -6,7 +6,7 @@ ghost use Rattle.flash_model.specs.Stored.{HaveRoom};
 use crate::counts::Count;
 use crate::device::{DevFault, Flash, PageState};
 use crate::faults::Planned;
-use crate::plans::{FaultKind, Operation, PlannedFault};
+use crate::plans::{Counters, FaultKind, Operation, PlannedFault};
 use crate::schedules::Plan;
 use crate::sizes::Geometry;
 use crate::stored::{PageView, SimPage, erase_block, erased_pages, program_page, read_page, wear};
@@ -36,9 +36,10 @@ pub struct SimFlash {
 }
 
 impl SimFlash {
-    ghost use Rattle.std.specs.Prelude.{IfOk, OnOk, IfErr, OnErr, ◌+◌, ◌↔◌, ◌⊎◌, true, false};
-    ghost use Rattle.flash_model.specs.Simulation.{IsNew, device_of, plan_of};
-    ghost use Rattle.flash_model.specs.Plan.{kind_due, begun, plan_of_entries};
+    ghost use Rattle.std.specs.Prelude.{IfOk, OnOk, IfErr, OnErr, ◌+◌, ◌↔◌, ◌⊎◌, true, false, option_map};
+    ghost use Rattle.std.specs.Result.{result_err};
+    ghost use Rattle.flash_model.specs.Simulation.{IsNew, Ends, device_of, plan_of, counts_of};
+    ghost use Rattle.flash_model.specs.Plan.{kind_due, begun, plan_of_entries, answer_of, no_counts};
     ghost use Rattle.flash_model.specs.Geometry.{page_count};
     ghost use Rattle.flash_model.specs.Stored.{shown};
 
@@ -51,6 +52,7 @@ impl SimFlash {
         ensures lawful { OnOk result (IsGeometry geometry) }
         ensures new { IfOk result (λ flash. IsNew geometry (device_of flash)) }
         ensures plan { IfOk result (λ flash. plan_of flash ≡ plan_of_entries plan.now) }
+        ensures counts { IfOk result (λ flash. counts_of flash ≡ no_counts) }
         ensures geometry { (result ≡ Err Fault.BadGeometry) ↔ ¬ IsGeometry geometry }
         ensures errors { IfErr result (λ fault. (fault ≡ Fault.BadGeometry) ⊎ (fault ≡ Fault.NoMemory)) }
     {
@@ -89,6 +91,14 @@ impl SimFlash {
         self.worn[block as usize]
     }
 
+    /// How many reads, programs and erases were asked for since the flash was made, while power was
+    /// on. Each is exact up to the greatest `u64`, where it stays.
+    pub fn counts(&self) -> Counters
+        ensures { result ≡ counts_of self.now }
+    {
+        self.plan.counters()
+    }
+
     // Counts an operation that begins, and gives what befalls it. With the power off none begins.
     fn begin(&mut self, class: Operation) -> Result<Option<FaultKind>, DevFault>
         ensures ok { IfOk result (λ due. due ≡ kind_due (plan_of self.old) class) }
@@ -105,6 +115,38 @@ impl SimFlash {
         self.operations = self.operations.more();
         Ok(self.plan.begin(class))
     }
+
+    // Power goes in an operation.
+    fn lose_power(&mut self)
+        ensures cuts { self.new.cuts.number ≡ self.old.cuts.number + 1 }
+        ensures same { self.new ≡ record self.old { powered = false; cuts = self.new.cuts } }
+    {
+        self.powered = false;
+        self.cuts = self.cuts.more();
+    }
+
+    // Ends a program or an erase in a block by what befalls it: a failure wears the block, and in
+    // a cut power goes.
+    fn end(&mut self, block: u32, due: Option<FaultKind>) -> Result<(), DevFault>
+        requires in_range { block < (device_of self.old).geometry.blocks }
+        requires on { (device_of self.old).powered ≡ true }
+        ensures answer { result_err result ≡ option_map answer_of due }
+        ensures ends { Ends (device_of self.old) block (device_of self.new) result }
+        ensures plan { plan_of self.new ≡ plan_of self.old }
+    {
+        match due.map(FaultKind::answer) {
+            None => Ok(()),
+            Some(DevFault::Failed) => {
+                wear(&mut self.worn, block as usize);
+                self.failures = self.failures.more();
+                Err(DevFault::Failed)
+            }
+            Some(DevFault::PowerCut) => {
+                self.lose_power();
+                Err(DevFault::PowerCut)
+            }
+        }
+    }
 }
 
 impl Flash for SimFlash {
@@ -114,7 +156,7 @@ impl Flash for SimFlash {
     ghost use Rattle.flash_model.specs.Device.{block_of, erased, Reads, Programs, Erases};
     ghost use Rattle.flash_model.specs.Plan.{kind_due};
     ghost use Rattle.flash_model.specs.Stored.{programmed, erased_to};
-    ghost use Rattle.flash_model.specs.Simulation.{device_of, plan_of, plan_after, refusal_due};
+    ghost use Rattle.flash_model.specs.Simulation.{device_of, plan_of, plan_after, refusal_due, counts_of, counts_after};
     ghost use Rattle.flash_model.specs.WholePages.{whole_pages_of};
 
     ghost device = { device_of };
@@ -131,12 +173,17 @@ impl Flash for SimFlash {
         ensures reads { Reads (device_of self.old) page buffer.old (device_of self.new) buffer.new result }
         ensures answer { result_err result ≡ refusal_due self.old Operation.Read }
         ensures plan { plan_of self.new ≡ plan_after self.old Operation.Read }
+        ensures counts { counts_of self.new ≡ counts_after self.old Operation.Read }
     {
-        match self.begin(Operation::Read)? {
+        match self.begin(Operation::Read)?.map(FaultKind::answer) {
             None => Ok(read_page(&self.pages, page as usize, buffer)),
-            Some(_) => {
+            Some(DevFault::Failed) => {
                 self.failed_reads = self.failed_reads.more();
                 Err(DevFault::Failed)
+            }
+            Some(DevFault::PowerCut) => {
+                self.lose_power();
+                Err(DevFault::PowerCut)
             }
         }
     }
@@ -150,17 +197,11 @@ impl Flash for SimFlash {
         ensures page { (device_of self.old).powered ≡ true → (device_of self.new).pages page
             ≡ programmed (kind_due (plan_of self.old) Operation.Program) ((device_of self.old).pages page) bytes.now }
         ensures plan { plan_of self.new ≡ plan_after self.old Operation.Program }
+        ensures counts { counts_of self.new ≡ counts_after self.old Operation.Program }
     {
         let due = self.begin(Operation::Program)?;
         program_page(&mut self.pages, page as usize, bytes, due);
-        match due {
-            None => Ok(()),
-            Some(_) => {
-                wear(&mut self.worn, (page / self.geometry.pages) as usize);
-                self.failures = self.failures.more();
-                Err(DevFault::Failed)
-            }
-        }
+        self.end(page / self.geometry.pages, due)
     }
 
     fn erase(&mut self, block: u32) -> Result<(), DevFault>
@@ -171,6 +212,7 @@ impl Flash for SimFlash {
             → (device_of self.new).pages p ≡ erased_to (kind_due (plan_of self.old) Operation.Erase)
             (p % (device_of self.old).geometry.pages) ((device_of self.old).pages p) }
         ensures plan { plan_of self.new ≡ plan_after self.old Operation.Erase }
+        ensures counts { counts_of self.new ≡ counts_after self.old Operation.Erase }
     {
         let due = self.begin(Operation::Erase)?;
         erase_block(
@@ -179,19 +221,13 @@ impl Flash for SimFlash {
             self.geometry.pages as usize,
             due,
         );
-        match due {
-            None => Ok(()),
-            Some(_) => {
-                wear(&mut self.worn, block as usize);
-                self.failures = self.failures.more();
-                Err(DevFault::Failed)
-            }
-        }
+        self.end(block, due)
     }
 
     fn power_on(&mut self)
         ensures power { device_of self.new ≡ record (device_of self.old) { powered = true } }
         ensures plan { plan_of self.new ≡ plan_of self.old }
+        ensures counts { counts_of self.new ≡ counts_of self.old }
     {
         self.powered = true;
     }

@@ -52,10 +52,11 @@ impl SimPage {
         ensures room { vec_len self.new.bytes ≡ vec_len self.old.bytes }
     {
         match due {
-            None => {
+            None | Some(FaultKind::ProgramCutWhole) => {
                 self.bytes.copy_from_slice(bytes);
                 self.state = PageState::Data;
             }
+            Some(FaultKind::ProgramCutNone) => {}
             Some(_) => self.state = PageState::Unreadable,
         }
     }
@@ -65,7 +66,8 @@ impl SimPage {
         ensures room { vec_len self.new.bytes ≡ vec_len self.old.bytes }
     {
         match due {
-            None => self.state = PageState::Erased,
+            None | Some(FaultKind::EraseCutWhole) => self.state = PageState::Erased,
+            Some(FaultKind::EraseCutNone) => {}
             Some(_) if place % 2 == 0 => self.state = PageState::Unreadable,
             Some(_) => {}
         }

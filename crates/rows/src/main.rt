@@ -4,6 +4,8 @@
 #![tactic(auto)]
 
 mod error;
+#[cfg(test)]
+mod planned_faults;
 mod row;
 mod runs;
 #[cfg(test)]

@@ -1,5 +1,7 @@
-use crate::{
-    DevFault, FaultKind, Flash, Geometry, PageState, PageView, Planned, PlannedFault, SimFlash,
+//! A flash in memory does as it is planned: what each kind of fault leaves, and what is counted.
+use flash_model::{
+    Counters, DevFault, FaultKind, Flash, Geometry, PageState, PageView, Planned, PlannedFault,
+    SimFlash,
 };
 use fs_types::Fault;
 use std::test::Fail;
@@ -139,5 +141,77 @@ fn takes_64_entries(rt: HostRuntime) -> Result<(), Fail> {
     assert_eq!(rt; fill(&mut flash, 0, 1), DONE);
     assert_eq!(rt; fill(&mut flash, 1, 1), FAILED);
     assert_eq!(rt; fill(&mut flash, 2, 1), DONE);
+    Ok(())
+}
+
+const CUT: Option<Result<(), DevFault>> = Some(Err(DevFault::PowerCut));
+
+// Looks at page 144 when power is on again after a cut.
+fn left_after_a_cut(flash: &mut SimFlash) -> Option<Result<(PageState, u8), DevFault>> {
+    flash.power_on();
+    look(flash, 144)
+}
+
+#[test]
+fn cuts_programs(rt: HostRuntime) -> Result<(), Fail> {
+    for (kind, left) in [
+        (FaultKind::ProgramCutNone, (PageState::Erased, 7)),
+        (FaultKind::ProgramCutWhole, (PageState::Data, 2)),
+        (FaultKind::ProgramCutTorn, (PageState::Unreadable, 7)),
+    ] {
+        let mut flash = SimFlash::new(rt.alloc(), SIZES, &[entry(2, kind)])?;
+        assert_eq!(rt; fill(&mut flash, 143, 1), DONE);
+        assert_eq!(rt; fill(&mut flash, 144, 2), CUT);
+        assert_eq!(rt; look(&mut flash, 143), Some(Err(DevFault::PowerCut)));
+        assert_eq!(rt; clear(&mut flash, 8), CUT);
+        assert_eq!(rt; left_after_a_cut(&mut flash), Some(Ok(left)), "{kind:?}");
+        assert_eq!(rt; look(&mut flash, 143), Some(Ok((PageState::Data, 1))));
+        assert!(rt; !is_worn(&flash, 9));
+    }
+    Ok(())
+}
+
+#[test]
+fn cuts_erases(rt: HostRuntime) -> Result<(), Fail> {
+    let programmed = (PageState::Data, 5);
+    let erased = (PageState::Erased, 7);
+    let torn = (PageState::Unreadable, 7);
+    for (kind, even, odd) in [
+        (FaultKind::EraseCutNone, programmed, programmed),
+        (FaultKind::EraseCutWhole, erased, erased),
+        (FaultKind::EraseCutTorn, torn, programmed),
+    ] {
+        let mut flash = SimFlash::new(rt.alloc(), SIZES, &[entry(1, kind)])?;
+        assert_eq!(rt; fill(&mut flash, 144, 5), DONE);
+        assert_eq!(rt; fill(&mut flash, 145, 5), DONE);
+        assert_eq!(rt; clear(&mut flash, 9), CUT);
+        assert_eq!(rt; look(&mut flash, 144), Some(Err(DevFault::PowerCut)));
+        assert_eq!(rt; left_after_a_cut(&mut flash), Some(Ok(even)), "{kind:?}");
+        assert_eq!(rt; look(&mut flash, 145), Some(Ok(odd)), "{kind:?}");
+        assert!(rt; !is_worn(&flash, 9));
+    }
+    Ok(())
+}
+
+#[test]
+fn counts_while_power_is_on(rt: HostRuntime) -> Result<(), Fail> {
+    let mut flash = SimFlash::new(rt.alloc(), SIZES, &[entry(2, FaultKind::ReadCut)])?;
+    assert_eq!(rt; clear(&mut flash, 9), DONE);
+    assert_eq!(rt; fill(&mut flash, 144, 5), DONE);
+    assert_eq!(rt; fill(&mut flash, 145, 5), DONE);
+    assert_eq!(rt; look(&mut flash, 144), Some(Ok((PageState::Data, 5))));
+    assert_eq!(rt; look(&mut flash, 144), Some(Err(DevFault::PowerCut)));
+    assert_eq!(rt; look(&mut flash, 144), Some(Err(DevFault::PowerCut)));
+    assert_eq!(rt; fill(&mut flash, 146, 5), CUT);
+    assert_eq!(rt; flash.plan_fault(1, FaultKind::ReadFail), Ok(()));
+    flash.power_on();
+    let counts = Counters {
+        reads: 2,
+        programs: 2,
+        erases: 1,
+    };
+    assert_eq!(rt; flash.counts(), counts);
+    assert_eq!(rt; look(&mut flash, 144), Some(Err(DevFault::Failed)));
+    assert_eq!(rt; look(&mut flash, 144), Some(Ok((PageState::Data, 5))));
     Ok(())
 }

@@ -4,8 +4,6 @@
 #![tactic(auto)]
 
 mod error;
-#[cfg(test)]
-mod planned_faults;
 mod row;
 mod runs;
 #[cfg(test)]

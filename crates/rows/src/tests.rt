@@ -4,6 +4,7 @@ mod histories;
 mod lines;
 mod nodes;
 mod paths;
+mod planned_faults;
 mod rings;
 mod scripts;
 mod stores;

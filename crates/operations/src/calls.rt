@@ -1,0 +1,86 @@
+//! Calls from short texts, carried out on a fresh system.
+use crate::error::MeasureError;
+use flash_model::{Counters, Geometry, SimFlash};
+use fs_types::{Call, Path, Sequence};
+use script::{Line, read_line};
+use std::alloc::Global;
+use undofs::{Fs, is_built};
+
+/// Room for a file of 1 MiB many times over.
+const SIZES: Geometry = Geometry {
+    page: 256,
+    pages: 16,
+    blocks: 2048,
+};
+
+/// How many versions are kept.
+const HISTORY: u32 = 8;
+
+/// Carries out the calls of a text on a fresh system, and answers what was asked of its flash.
+///
+/// A line is one of a script, or `fill N`, which writes N bytes at the start of descriptor 0, or
+/// `deep N`, which makes N directories `a`, each in the one before.
+pub fn counts_after(alloc: Global, lines: &[&str]) -> Result<Counters, MeasureError> {
+    let mut flash = SimFlash::new(alloc, SIZES, &[])?;
+    let mut system = Fs::fresh(alloc, &mut flash, HISTORY)?;
+    for (i, line) in lines.iter().enumerate() {
+        carry_out(alloc, &mut system, line, i)?;
+    }
+    Ok(system.into_flash().counts())
+}
+
+fn carry_out(
+    alloc: Global,
+    system: &mut Fs<'_, SimFlash>,
+    line: &str,
+    number: usize,
+) -> Result<(), MeasureError> {
+    if let Some(depth) = number_after(line, "deep ") {
+        return make_directories(alloc, system, depth);
+    }
+    let call = match number_after(line, "fill ") {
+        Some(count) => fill(alloc, count)?,
+        None => call_of(alloc, line, number)?,
+    };
+    if !is_built(&call) {
+        return Err(MeasureError::Line(number));
+    }
+    system.call(alloc, &call)?;
+    Ok(())
+}
+
+/// The number that stands after a word.
+fn number_after(line: &str, word: &str) -> Option<usize> {
+    line.strip_prefix(word)?.parse().ok()
+}
+
+fn call_of(alloc: Global, line: &str, number: usize) -> Result<Call, MeasureError> {
+    match read_line(alloc, line.as_bytes())? {
+        Line::Call(call) => Ok(call),
+        _ => Err(MeasureError::Line(number)),
+    }
+}
+
+/// Writes so many bytes at the start of descriptor 0.
+fn fill(alloc: Global, count: usize) -> Result<Call, MeasureError> {
+    let bytes = vec![in alloc; b'A'; count]?;
+    Ok(Call::Pwrite {
+        descriptor: 0,
+        offset: 0,
+        bytes: Sequence::from_vec(bytes),
+    })
+}
+
+/// Makes so many directories, each in the one before.
+fn make_directories(
+    alloc: Global,
+    system: &mut Fs<'_, SimFlash>,
+    depth: usize,
+) -> Result<(), MeasureError> {
+    let mut text = String::new(alloc);
+    for _ in 0..depth {
+        text.push_str("/a")?;
+        system.mkdir(alloc, &Path::parse(alloc, text.as_bytes())?)?;
+    }
+    Ok(())
+}

@@ -1,0 +1,146 @@
+//! The calls that are measured.
+use crate::calls::counts_after;
+use crate::error::MeasureError;
+use flash_model::Counters;
+use std::alloc::Global;
+
+/// A call that is measured: what is called before, the call, and the nodes that it may write.
+#[derive(Clone, Copy)]
+pub struct Measure {
+    pub name: &'static str,
+    pub before: &'static [&'static str],
+    pub call: &'static str,
+    pub nodes: u32,
+}
+
+/// What a call asked of the flash, beyond what the calls before it asked.
+pub fn asked_by(alloc: Global, row: &Measure) -> Result<Counters, MeasureError> {
+    let before = counts_after(alloc, row.before)?;
+    let mut lines = Vec::new(alloc);
+    lines.extend_from_slice(row.before)?;
+    lines.push(row.call)?;
+    let after = counts_after(alloc, &lines)?;
+    Ok(Counters {
+        reads: after.reads.saturating_sub(before.reads),
+        programs: after.programs.saturating_sub(before.programs),
+        erases: after.erases.saturating_sub(before.erases),
+    })
+}
+
+const EMPTY_FILE: &[&str] = &["open /f 7"];
+
+const FILE_OF_1_MIB: &[&str] = &["open /f 7", "fill 1048576"];
+
+const FILE_OF_512_KIB: &[&str] = &["open /f 7", "fill 1048576", "ftruncate 0 524288"];
+
+/// The calls, with the most nodes that each may write.
+pub const MEASURES: [Measure; 18] = [
+    Measure {
+        name: "mkdir at depth 1",
+        before: &[],
+        call: "mkdir /a",
+        nodes: 2,
+    },
+    Measure {
+        name: "mkdir at depth 4",
+        before: &["deep 3"],
+        call: "mkdir /a/a/a/a",
+        nodes: 5,
+    },
+    Measure {
+        name: "mkdir at depth 16",
+        before: &["deep 15"],
+        call: "mkdir /a/a/a/a/a/a/a/a/a/a/a/a/a/a/a/a",
+        nodes: 17,
+    },
+    Measure {
+        name: "rmdir at depth 16",
+        before: &["deep 16"],
+        call: "rmdir /a/a/a/a/a/a/a/a/a/a/a/a/a/a/a/a",
+        nodes: 16,
+    },
+    Measure {
+        name: "rename in a directory, depth 16",
+        before: &["deep 16"],
+        call: "rename /a/a/a/a/a/a/a/a/a/a/a/a/a/a/a/a /a/a/a/a/a/a/a/a/a/a/a/a/a/a/a/b",
+        nodes: 32,
+    },
+    Measure {
+        name: "pwrite of a byte at depth 16",
+        before: &["deep 15", "open /a/a/a/a/a/a/a/a/a/a/a/a/a/a/a/f 7"],
+        call: "pwrite 0 0 41",
+        nodes: 17,
+    },
+    Measure {
+        name: "pwrite of a byte into an empty file",
+        before: EMPTY_FILE,
+        call: "pwrite 0 0 41",
+        nodes: 2,
+    },
+    Measure {
+        name: "pwrite of 1 MiB into an empty file",
+        before: EMPTY_FILE,
+        call: "fill 1048576",
+        nodes: 263,
+    },
+    Measure {
+        name: "pwrite of a byte at the start of 1 MiB",
+        before: FILE_OF_1_MIB,
+        call: "pwrite 0 0 41",
+        nodes: 263,
+    },
+    Measure {
+        name: "pwrite of a byte in the middle of 1 MiB",
+        before: FILE_OF_1_MIB,
+        call: "pwrite 0 524288 41",
+        nodes: 133,
+    },
+    Measure {
+        name: "pwrite of a byte at the end of 1 MiB",
+        before: FILE_OF_1_MIB,
+        call: "pwrite 0 1048576 41",
+        nodes: 2,
+    },
+    Measure {
+        name: "pwrite of 1 MiB over 1 MiB",
+        before: FILE_OF_1_MIB,
+        call: "fill 1048576",
+        nodes: 263,
+    },
+    Measure {
+        name: "ftruncate of 1 MiB to 512 KiB",
+        before: FILE_OF_1_MIB,
+        call: "ftruncate 0 524288",
+        nodes: 1,
+    },
+    Measure {
+        name: "ftruncate of 512 KiB to 1 MiB",
+        before: FILE_OF_512_KIB,
+        call: "ftruncate 0 1048576",
+        nodes: 133,
+    },
+    Measure {
+        name: "ls of a directory, depth 16",
+        before: &["deep 16"],
+        call: "ls /a/a/a/a/a/a/a/a/a/a/a/a/a/a/a/a",
+        nodes: 0,
+    },
+    Measure {
+        name: "stat of a directory, depth 16",
+        before: &["deep 16"],
+        call: "stat /a/a/a/a/a/a/a/a/a/a/a/a/a/a/a/a",
+        nodes: 0,
+    },
+    Measure {
+        name: "undo",
+        before: &["deep 4"],
+        call: "undo",
+        nodes: 0,
+    },
+    Measure {
+        name: "redo",
+        before: &["deep 4", "undo"],
+        call: "redo",
+        nodes: 0,
+    },
+];

@@ -84,7 +84,7 @@ pub record Begins (old mid : Device) : Type 0 where
   pub rest : mid ≡ record old { pages = mid.pages; operations = old.operations + 1 }
 
 pub begins : (old mid : SimFlash) (plan : Schedule) (pages : ℕ → Page) → old.powered ≡ true
-    → mid ≡ record old { plan = plan; operations = mid.operations } → mid.operations.number ≡ old.operations.number + 1
+    → mid ≡ record old { plan = plan; operations = mid.operations } → mid.operations.n ≡ old.operations.n + 1
     → Begins (device_of old) (record (device_of mid) { pages = pages })
 begins old mid plan pages on begun counted = record {
   on = on;

@@ -1,4 +1,3 @@
-pub mod NoFields
 pub mod Filtered
 pub mod Erasing
 pub mod Ending

@@ -6,3 +6,4 @@ pub mod Stored
 pub mod Simulation
 pub mod WholePages
 pub mod Later
+pub mod Reading

@@ -17,10 +17,10 @@ device_of flash = record {
   pages = page_at flash.pages.items;
   powered = flash.powered;
   worn = λ block. slice_index_or flash.worn.items block false;
-  failed_reads = flash.failed_reads.number;
-  failures = flash.failures.number;
-  cuts = flash.cuts.number;
-  operations = flash.operations.number;
+  failed_reads = flash.failed_reads.n;
+  failures = flash.failures.n;
+  cuts = flash.cuts.n;
+  operations = flash.operations.n;
 }
 
 -- the plan at work

@@ -3,13 +3,13 @@ ghost use Rattle.std.specs.Prelude.{◌≡◌, ◌*◌, ◌<◌, vec_len};
 ghost use Rattle.flash_model.specs.Geometry.{IsGeometry};
 ghost use Rattle.flash_model.specs.Stored.{HaveRoom};
 
-use crate::counts::Count;
 use crate::device::{DevFault, Flash, PageState};
 use crate::faults::Planned;
 use crate::plans::{Counters, FaultKind, Operation, PlannedFault};
 use crate::schedules::Plan;
 use crate::sizes::Geometry;
 use crate::stored::{PageView, SimPage, erase_block, erased_pages, program_page, read_page, wear};
+use counts::Count;
 use fs_types::Fault;
 use std::alloc::Global;
 
@@ -103,7 +103,7 @@ impl SimFlash {
     fn begin(&mut self, class: Operation) -> Result<Option<FaultKind>, DevFault>
         ensures ok { IfOk result (λ due. due ≡ kind_due (plan_of self.old) class) }
         ensures on { OnOk result (self.old.powered ≡ true) }
-        ensures counted { OnOk result (self.new.operations.number ≡ self.old.operations.number + 1) }
+        ensures counted { OnOk result (self.new.operations.n ≡ self.old.operations.n + 1) }
         ensures begun { OnOk result (self.new ≡ record self.old { plan = begun self.old.plan class; operations = self.new.operations }) }
         ensures err { IfErr result (λ fault. fault ≡ DevFault.PowerCut) }
         ensures off { OnErr result (self.old.powered ≡ false) }
@@ -118,7 +118,7 @@ impl SimFlash {
 
     // Power goes in an operation.
     fn lose_power(&mut self)
-        ensures cuts { self.new.cuts.number ≡ self.old.cuts.number + 1 }
+        ensures cuts { self.new.cuts.n ≡ self.old.cuts.n + 1 }
         ensures same { self.new ≡ record self.old { powered = false; cuts = self.new.cuts } }
     {
         self.powered = false;

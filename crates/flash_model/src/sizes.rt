@@ -2,6 +2,9 @@
 ghost use Rattle.std.specs.Prelude.{◌≡◌, ◌*◌, ◌+◌, ◌<◌, ◌≤◌, ◌^◌, ◌↔◌, IsTrue};
 ghost use Rattle.flash_model.specs.Geometry.{IsGeometry, is_page_size, block_bytes, page_count};
 
+/// The first data block: the blocks below it are anchors, and hold records of commits.
+pub const FIRST_DATA_BLOCK: u32 = 8;
+
 /// The sizes of a flash: bytes of a page, pages of an erase block, number of blocks.
 ///
 /// Page `j` of block `b` has the number `b * pages + j`.

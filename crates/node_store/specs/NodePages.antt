@@ -2,13 +2,14 @@
 use Rattle.std.specs.Prelude.{◌≡◌, ℕ, zero, suc, ◌+◌, ◌*◌, ◌<◌, ◌&&◌, nat_le, nat_lt, if◌then◌else◌, List, [], length, ◌++◌, take, drop, replicate, Option, Some, None, option_map, option_and_then}
 use Rattle.std.specs.Int.{div_ceil}
 use Rattle.flash_model.specs.declared.sizes.Geometry.{Geometry}
+use Rattle.flash_model.specs.declared.sizes.TheConstants.{FIRST_DATA_BLOCK}
 use Rattle.flash_model.specs.Geometry.{block_bytes}
 use Rattle.flash_model.specs.Device.{Device, Page, bytes_of}
 use Rattle.node_format.specs.Headers.{node_size}
 
 -- the blocks below this one are anchors, and hold no nodes
 abbrev pub first_data : ℕ
-first_data = 8
+first_data = FIRST_DATA_BLOCK
 
 -- joined bytes with those of one page more, none unless it has data
 abbrev pub and_page : Option (List ℕ) → Page → Option (List ℕ)

@@ -11,31 +11,8 @@ use Rattle.flash_model.specs.Geometry.{IsGeometry, block_bytes, page_count}
 use Rattle.node_format.specs.Headers.{node_size}
 use Rattle.node_store.specs.NodePages.{first_data, and_page, joined, pages_for, bytes_at, node_of}
 use Rattle.node_store.specs.NodeLaws.{node_of-same, node_of-first, has_room, size_within, pages_for-most}
-use Rattle.node_store.specs.Reading.{OnlyReads, Brings}
-
-pub OnlyReads_itself : (d : Device) → OnlyReads d d
-OnlyReads_itself d = record {
-  geometry = refl;
-  pages = λ p. refl;
-  worn = λ b. refl;
-  failures = refl;
-  failed_reads = omega arith;
-  cuts = omega arith;
-  was_on = λ on. on;
-  stays_off = λ off. refl;
-}
-
-pub OnlyReads_on : (d e f : Device) → OnlyReads d e → OnlyReads e f → OnlyReads d f
-OnlyReads_on d e f r s = record {
-  geometry = s.geometry ∙ r.geometry;
-  pages = λ p. s.pages p ∙ r.pages p;
-  worn = λ b. s.worn b ∙ r.worn b;
-  failures = s.failures ∙ r.failures;
-  failed_reads = omega arith;
-  cuts = omega arith;
-  was_on = λ on. r.was_on (s.was_on on);
-  stays_off = λ off. s.stays_off (ap (λ (x : Device). x.powered) (r.stays_off off) ∙ off) ∙ r.stays_off off;
-}
+use Rattle.flash_model.specs.Reading.{OnlyReads}
+use Rattle.node_store.specs.Reading.{Brings}
 
 -- reads leave the nodes of all blocks
 pub OnlyReads_nodes : (d e : Device) → IsGeometry d.geometry → OnlyReads d e → node_of e ≡ node_of d

@@ -7,7 +7,7 @@ use Rattle.fs_types.specs.declared.faults.Fault.TheVariants.{FlashFull, ReadOnly
 use Rattle.flash_model.specs.Device.{Device, block_of}
 use Rattle.allocator.specs.Ring.{Ring, IsDataBlock, free_count}
 use Rattle.node_store.specs.NodePages.{first_data, node_of}
-use Rattle.node_store.specs.Reading.{OnlyReads}
+use Rattle.flash_model.specs.Reading.{OnlyReads}
 
 -- the parts that a store works on
 pub record Storage : Type 0 where

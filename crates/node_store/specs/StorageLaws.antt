@@ -18,7 +18,7 @@ use Rattle.allocator.specs.FreeCount.{free_count-alike}
 use Rattle.node_store.specs.NodePages.{first_data}
 use Rattle.node_format.specs.Headers.{IsNode}
 use Rattle.node_store.specs.NodeLaws.{node_of-pages}
-use Rattle.node_store.specs.ReadingLaws.{OnlyReads_itself, OnlyReads_on}
+use Rattle.flash_model.specs.Reading.{OnlyReads_itself, OnlyReads_on}
 use Rattle.node_store.specs.Writing.{WritesBlock}
 use Rattle.node_store.specs.Storage.{Storage, storage, is_kept, most_bad, IsTaken, Evolved, IsUntouched, IsAdded, Pays}
 

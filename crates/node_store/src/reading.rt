@@ -2,14 +2,12 @@
 ghost use Rattle.std.specs.Prelude.{◌≡◌, ℕ, ◌+◌, ◌*◌, ◌≤◌, ◌<◌, ◌^◌, length, Some, OnOk, vec_len, vec_capacity};
 ghost use Rattle.flash_model.specs.Geometry.{IsGeometry, block_bytes, page_count};
 ghost use Rattle.node_store.specs.NodePages.{and_page, joined, pages_for, bytes_at, node_of};
-ghost use Rattle.node_store.specs.Reading.{OnlyReads, Brings};
+ghost use Rattle.flash_model.specs.Reading.{OnlyReads};
+ghost use Rattle.node_store.specs.Reading.{Brings};
 
-use flash_model::{DevFault, Flash, PageState};
+use flash_model::{DevFault, FIRST_DATA_BLOCK, Flash, PageState};
 use fs_types::Fault;
 use node_format::node_size;
-
-/// The blocks below this one are anchors, and hold no nodes.
-const FIRST_DATA: u32 = 8;
 
 /// Reads a page and appends its bytes to those of the node.
 fn append_page<F: Flash>(
@@ -108,7 +106,7 @@ pub fn read_node<F: Flash>(
     ensures room { vec_capacity node.old ≤ vec_capacity node.new }
 {
     let geometry = flash.geometry();
-    if block < FIRST_DATA || geometry.blocks <= block {
+    if block < FIRST_DATA_BLOCK || geometry.blocks <= block {
         return Err(Fault::Damaged);
     }
     let first = geometry.page_number(block, 0);

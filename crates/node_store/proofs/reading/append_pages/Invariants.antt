@@ -1,6 +1,6 @@
 use Rattle.std.proofs.Common.{◌≡◌, ◌*◌, ◌≤◌, Some, vec_len, vec_capacity}
 use Rattle.node_store.specs.NodePages.{joined}
-use Rattle.node_store.specs.Reading.{OnlyReads}
+use Rattle.flash_model.specs.Reading.{OnlyReads}
 use Rattle.node_store.proofs.reading.append_pages.Given as goal
 
 abbrev pub invariant-loop-place : goal.invariant-loop-place

@@ -4,7 +4,8 @@ use Rattle.flash_model.specs.Geometry.{block_bytes}
 use Rattle.node_format.specs.Headers.{node_size}
 use Rattle.node_store.specs.NodePages.{and_page, bytes_at, node_of}
 use Rattle.node_store.specs.NodeLaws.{node_of-first}
-use Rattle.node_store.specs.ReadingLaws.{Brings_from, OnlyReads_on, rest_in_range, rest_has_room, node_after_first}
+use Rattle.flash_model.specs.Reading.{OnlyReads_on}
+use Rattle.node_store.specs.ReadingLaws.{Brings_from, rest_in_range, rest_has_room, node_after_first}
 use Rattle.node_store.proofs.reading.read_node.Goals as goal
 use Rattle.node_store.proofs.reading.read_node.Goals.{In-Some}
 use Rattle.node_store.proofs.reading.read_node.Given.{Over}
@@ -52,7 +53,7 @@ returns-in-Some-clause-brings g c =
     let reads = c.append_pages.ensures.only_reads in
     Brings_from old mid (g.F.Flash.device c.read_rest.new.flash) (bytes_at mid.geometry mid.pages first c.in-Some.size) (node_of old c.args.block)
     c.read_rest.new.node.items c.read_rest.result reads
-    (node_after_first old mid c.args.block first c.in-Some.size c.append_pages.new.node.items reads c.if-block-lt-FIRST_DATA.false
+    (node_after_first old mid c.args.block first c.in-Some.size c.append_pages.new.node.items reads c.if-block-lt-FIRST_DATA_BLOCK.false
     (rw is at c.if-geometry-block.false) (rw is at c.page_number-first.ensures.value) c.in_ok-append_pages.ensures.brings
     (size_is g (goal.at.returns-in-Some-clause-brings g c).In-Some))
     c.read_rest.ensures.brings
@@ -65,7 +66,7 @@ returns-in-None-clause-brings g c =
     let old = g.F.Flash.device c.args.flash.now in
     let first = c.page_number-first.result in
     let is = c.geometry-geometry.ensures in
-    node_of-first old c.args.block first c.append_pages.new.node.items c.if-block-lt-FIRST_DATA.false
+    node_of-first old c.args.block first c.append_pages.new.node.items c.if-block-lt-FIRST_DATA_BLOCK.false
     (rw is at c.if-geometry-block.false) (rw is at c.page_number-first.ensures.value) c.in_ok-append_pages.ensures.brings
     ∙ ap (option_and_then (bytes_at old.geometry old.pages first)) (told c.geometry-geometry.result old.geometry c.block_bytes.result c.deref.result.now
     c.append_pages.new.node.items None is c.block_bytes.ensures c.deref.ensures.value c.in-None.ensures.size)

@@ -7,3 +7,4 @@ pub mod Simulation
 pub mod WholePages
 pub mod Later
 pub mod Reading
+pub mod Contents

@@ -3,6 +3,8 @@ ghost use Rattle.std.specs.Prelude.{◌≡◌, ◌*◌, ◌<◌, vec_len};
 ghost use Rattle.flash_model.specs.Geometry.{IsGeometry};
 ghost use Rattle.flash_model.specs.Stored.{HaveRoom};
 
+mod contents;
+
 use crate::device::{DevFault, Flash, PageState};
 use crate::faults::Planned;
 use crate::plans::{Counters, FaultKind, Operation, PlannedFault};

@@ -8,7 +8,8 @@ use Rattle.std.specs.List.{range_with_len}
 use Rattle.std.specs.Option.{option_or}
 use Rattle.std.specs.Ordering.{nat_cmp, eq_by_cmp}
 use Rattle.allocator.specs.FreeCount.{free_count-less}
-use Rattle.allocator.specs.Ring.{Ring, IsDataBlock, IsRing, is_busy, free_count, distance, ring_order, IsNext, IsFirstFree}
+use Rattle.allocator.specs.BlockSet.{BlockSet}
+use Rattle.allocator.specs.Ring.{Ring, IsDataBlock, AreDataBlocks, IsRing, IsNote, is_busy, free_count, distance, ring_order, IsNext, IsFirstFree}
 
 -- the first number from a up to m at which `busy` is false
 abbrev pub FirstIn : (ℕ → Bool) → ℕ → ℕ → Option ℕ → Type 0
@@ -113,17 +114,60 @@ pub contains-kept : (used : set.FinSet nat_cmp) (b c : ℕ) → set.contains use
 contains-kept used b c is_used =
     set.contains-insert nat_cmp_total used b c ∙ ap (λ t. eq_by_cmp nat_cmp c b || t) is_used ∙ or_true (eq_by_cmp nat_cmp c b)
 
+-- sets of data blocks: with one more, of two sets, and the empty one
+pub AreDataBlocks-insert : (n : ℕ) (s : set.FinSet nat_cmp) (b : ℕ) → AreDataBlocks n s → IsDataBlock n b → AreDataBlocks n (set.insert s b)
+AreDataBlocks-insert n s b all at = λ c is_in. elim (cases_order c b) [
+  | inl same ↦ (omega (arith, at.0), omega (arith, at.1))
+  | inr (inl less) ↦ all c (still s b c (omega arith) is_in)
+  | inr (inr more) ↦ all c (still s b c (omega arith) is_in)
+]
+
+either_data : (n : ℕ) (s t : set.FinSet nat_cmp) (c : ℕ) (b : Bool) → set.contains s c ≡ b → AreDataBlocks n s → AreDataBlocks n t
+    → (b || set.contains t c) ≡ true → IsDataBlock n c
+either_data n s t c true is all all' both = all c is
+either_data n s t c false is all all' both = all' c both
+
+pub AreDataBlocks-union : (n : ℕ) (s t : set.FinSet nat_cmp) → AreDataBlocks n s → AreDataBlocks n t → AreDataBlocks n (set.union s t)
+AreDataBlocks-union n s t all all' = λ c is_in.
+    either_data n s t c (set.contains s c) refl all all' (sym (set.contains-union nat_cmp_total s t c) ∙ is_in)
+
+pub AreDataBlocks-empty : (n : ℕ) → AreDataBlocks n set.empty
+AreDataBlocks-empty n = λ b is_in. absurd (true≢false (sym is_in ∙ set.contains-empty nat_cmp b))
+
+-- a note with one more data block, and an empty one
+pub IsNote-insert : (n : ℕ) (note : BlockSet) (b : ℕ) → IsNote n note → IsDataBlock n b
+    → IsNote n (record { blocks = note.blocks; members = set.insert note.members b })
+IsNote-insert n note b noted at = record {
+  same_blocks = noted.same_blocks;
+  noted_blocks = AreDataBlocks-insert n note.members b noted.noted_blocks at;
+}
+
+pub IsNote-empty : (n m : ℕ) → m ≡ n → IsNote n (record { blocks = m; members = set.empty })
+IsNote-empty n m same = record { same_blocks = same; noted_blocks = AreDataBlocks-empty n }
+
+-- a ring whose used blocks are the marked and the noted ones
+pub installed : (n last : ℕ) (used : set.FinSet nat_cmp) (note marks : BlockSet) → IsRing n used last → IsNote n note → marks.blocks ≡ n
+    → AreDataBlocks marks.blocks marks.members → IsRing marks.blocks (set.union marks.members note.members) last × IsNote marks.blocks note
+installed n last used note marks ring noted same all = (
+  record {
+    size = (omega (arith, ring.size.0), omega (arith, ring.size.1));
+    last_block = (ring.last_block.0, omega (arith, ring.last_block.1));
+    used_blocks = AreDataBlocks-union marks.blocks marks.members note.members all
+        (λ b is_in. let at = noted.noted_blocks b is_in in (at.0, omega (arith, at.1)));
+  },
+  record {
+    same_blocks = noted.same_blocks ∙ sym same;
+    noted_blocks = λ b is_in. let at = noted.noted_blocks b is_in in (at.0, omega (arith, at.1));
+  },
+)
+
 -- a ring with one more data block used
 pub IsRing-insert : (n : ℕ) (used : set.FinSet nat_cmp) (last b new_last : ℕ) → IsRing n used last → IsDataBlock n b → IsDataBlock n new_last
     → IsRing n (set.insert used b) new_last
 IsRing-insert n used last b new_last ring at new = record {
   size = ring.size;
   last_block = new;
-  used_blocks = λ c is_used. elim (cases_order c b) [
-    | inl same ↦ (omega (arith, at.0), omega (arith, at.1))
-    | inr (inl less) ↦ ring.used_blocks c (still used b c (omega arith) is_used)
-    | inr (inr more) ↦ ring.used_blocks c (still used b c (omega arith) is_used)
-  ];
+  used_blocks = AreDataBlocks-insert n used b ring.used_blocks at;
 }
 
 -- an empty ring
@@ -131,12 +175,12 @@ pub IsRing-empty : (n last : ℕ) → (16 ≤ n) × (n ≤ 65536) → IsDataBloc
 IsRing-empty n last size at = record {
   size = size;
   last_block = at;
-  used_blocks = λ b is_used. absurd (true≢false (sym is_used ∙ set.contains-empty nat_cmp b));
+  used_blocks = AreDataBlocks-empty n;
 }
 
 -- a ring after block b was taken
 abbrev pub after_take : Ring → ℕ → Ring
-after_take r b = record { blocks = r.blocks; used = set.insert r.used b; last = b; takes = r.takes + 1 }
+after_take r b = record { blocks = r.blocks; used = set.insert r.used b; note = set.insert r.note b; last = b; takes = r.takes + 1 }
 
 -- the search of a ring finds the block that is next
 pub next_found : (held r : Ring) (bad : set.FinSet nat_cmp) (o : Option ℕ) (b : ℕ) → held ≡ r → IsRing held.blocks held.used held.last
@@ -157,6 +201,21 @@ not_used r bad b free = (or_parts (set.contains r.used b) (set.contains bad b) f
 
 pub not_bad : (r : Ring) (bad : set.FinSet nat_cmp) (b : ℕ) → is_busy r bad b ≡ false → set.contains bad b ≡ false
 not_bad r bad b free = (or_parts (set.contains r.used b) (set.contains bad b) free).1
+
+-- what a take makes used is the block taken
+pub only_taken : (r s : Ring) (b c : ℕ) → s ≡ after_take r b → set.contains s.used c ≡ true → set.contains r.used c ≡ false → c ≡ b
+only_taken r s b c taken now before =
+    elim (cases_order c b) [
+      | inl same ↦ same
+      | inr (inl less) ↦ absurd (true≢false (sym (still r.used b c (omega arith) (sym (ap (λ (t : Ring). set.contains t.used c) taken) ∙ now)) ∙ before))
+      | inr (inr more) ↦ absurd (true≢false (sym (still r.used b c (omega arith) (sym (ap (λ (t : Ring). set.contains t.used c) taken) ∙ now)) ∙ before))
+    ]
+
+pub taken_noted : (r s : Ring) (b c : ℕ) → s ≡ after_take r b → set.contains s.used c ≡ true → set.contains r.used c ≡ false
+    → set.contains s.note c ≡ true
+taken_noted r s b c taken now before =
+    ap (λ (t : Ring). set.contains t.note c) taken ∙ ap (set.contains (set.insert r.note b)) (only_taken r s b c taken now before)
+    ∙ contains-insert_same r.note b
 
 -- a take is paid for by a free block
 pub free_count-taken : (r s : Ring) (bad : set.FinSet nat_cmp) (b : ℕ) → s ≡ after_take r b → IsDataBlock r.blocks b → is_busy r bad b ≡ false

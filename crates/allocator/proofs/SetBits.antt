@@ -1,5 +1,5 @@
 -- The set that the bits of words show: its members, one member more, and none.
-use Rattle.std.proofs.Common.{◌≡◌, ◌≢◌, ℕ, ◌+◌, ◌*◌, ◌/◌, ◌%◌, ◌^◌, ◌<◌, ◌≤◌, Bool, true, false, ◌&&◌, ◌||◌, eqb, ltb, List, length, replicate, get_or, set, refl, sym, ap, ◌∙◌, inl, inr, arith, w64}
+use Rattle.std.proofs.Common.{◌≡◌, ◌≢◌, ℕ, ◌+◌, ◌*◌, ◌/◌, ◌%◌, ◌^◌, ◌<◌, ◌≤◌, ◌⊎◌, max, Bool, true, false, ◌&&◌, ◌||◌, eqb, ltb, List, length, replicate, get_or, set, refl, sym, ap, ◌∙◌, subst, inl, inr, arith, w64}
 use Rattle.std.proofs.lemmas.Bool.{eq-eqb, ne_eqb, lt-ltb, le-ltb, cases_lt, cases_order}
 use Rattle.std.proofs.lemmas.Cmp.{nat_cmp_total}
 use Rattle.std.proofs.lemmas.Grind.{get_or_default_zero}
@@ -7,7 +7,7 @@ use Rattle.std.proofs.lemmas.List.{get_or-set_same, get_or-set_other, get_or-rep
 use Rattle.std.proofs.lemmas.List.Elements.{All-from_get_or}
 use Rattle.std.proofs.lemmas.List.Folds.{list_any_none, list_any_at}
 use Rattle.std.proofs.lemmas.List.FromFn.{length-range_with_len, get_or-range_with_len}
-use Rattle.std.proofs.lemmas.Nat.Bits.{bit_at-zero, bit_at_set_same, bit_at_set_other, shr_and_one}
+use Rattle.std.proofs.lemmas.Nat.Bits.{bit_at-zero, bit_at_set_same, bit_at_set_other, bit_at_or, bit_at-lt, shr_and_one}
 use Rattle.std.specs.Cmp.{unsigned_tied}
 use Rattle.std.specs.FinMap.{nat_cmp-IsAntisymmetric}
 use Rattle.std.specs.FinSet as fin
@@ -115,6 +115,66 @@ members_of-set n words m b word room long below read =
       | inr (inr more) ↦ kept n words b q (omega arith) within
     ])
 
+zero_or_one : (a : ℕ) → a < 2 → (a ≡ 0) ⊎ (a ≡ 1)
+zero_or_one a few =
+    elim (cases_lt a 1) [
+      | inl none ↦ inl (omega arith)
+      | inr some ↦ inr (omega arith)
+    ]
+
+abbrev MaxIsOne : ℕ → ℕ → Type 0
+MaxIsOne a b = eqb (max a b) 1 ≡ (eqb a 1 || eqb b 1)
+
+max_is_one : (a b : ℕ) → a < 2 → b < 2 → MaxIsOne a b
+max_is_one a b few few' =
+    elim (zero_or_one a few) [
+      | inl none ↦
+          subst (λ x. MaxIsOne x b) (sym none) (elim (zero_or_one b few') [
+            | inl none' ↦ subst (λ y. MaxIsOne 0 y) (sym none') refl
+            | inr one' ↦ subst (λ y. MaxIsOne 0 y) (sym one') refl
+          ])
+      | inr one ↦
+          subst (λ x. MaxIsOne x b) (sym one) (elim (zero_or_one b few') [
+            | inl none' ↦ subst (λ y. MaxIsOne 1 y) (sym none') refl
+            | inr one' ↦ subst (λ y. MaxIsOne 1 y) (sym one') refl
+          ])
+    ]
+
+and_or : (a b c : Bool) → (a && (b || c)) ≡ ((a && b) || (a && c))
+and_or true b c = refl
+and_or false b c = refl
+
+-- the words of either set
+abbrev pub AreJoined : List ℕ → List ℕ → List ℕ → Type 0
+AreJoined xs ys zs = (k : ℕ) → k < length xs → k < length ys → get_or zs k 0 ≡ bit_or (get_or xs k 0) (get_or ys k 0)
+
+pub AreJoined-same : (xs xs' ys ys' zs zs' : List ℕ) → xs' ≡ xs → ys' ≡ ys → zs ≡ zs' → AreJoined xs' ys' zs' → AreJoined xs ys zs
+AreJoined-same xs xs' ys ys' zs zs' same same' same'' joined =
+    subst (λ x. AreJoined x ys zs) same (subst (λ y. AreJoined xs' y zs) same' (subst (λ z. AreJoined xs' ys' z) (sym same'') joined))
+
+joined_bit : (n : ℕ) (xs ys zs : List ℕ) → n ≤ 64 * length xs → n ≤ 64 * length ys → AreJoined xs ys zs
+    → (q : ℕ) → q < n → is_set zs q ≡ (is_set xs q || is_set ys q)
+joined_bit n xs ys zs room room' joined q below =
+    ap (λ w. eqb (bit_at w (q % 64)) 1) (joined (q / 64) (omega arith) (omega arith))
+    ∙ ap (λ b. eqb b 1) (bit_at_or (get_or xs (q / 64) 0) (get_or ys (q / 64) 0) (q % 64))
+    ∙ max_is_one _ _ (bit_at-lt (get_or xs (q / 64) 0) (q % 64)) (bit_at-lt (get_or ys (q / 64) 0) (q % 64))
+
+-- the bits of both words are those of both sets
+pub members_of-union : (n : ℕ) (xs ys zs : List ℕ) → n ≤ 64 * length xs → n ≤ 64 * length ys → AreJoined xs ys zs
+    → members_of n zs ≡ fin.union (members_of n xs) (members_of n ys)
+members_of-union n xs ys zs room room' joined =
+    fin.same_set nat_cmp_total nat_cmp-IsAntisymmetric _ _ (λ q.
+    let both : fin.contains (fin.union (members_of n xs) (members_of n ys)) q ≡ ((ltb q n && is_set xs q) || (ltb q n && is_set ys q)) =
+    fin.contains-union nat_cmp_total (members_of n xs) (members_of n ys) q
+    ∙ ap (λ t. t || fin.contains (members_of n ys) q) (contains-members_of n xs q)
+    ∙ ap (λ t. (ltb q n && is_set xs q) || t) (contains-members_of n ys q) in
+    contains-members_of n zs q ∙ elim (cases_lt q n) [
+      | inl below ↦ ap (λ t. ltb q n && t) (joined_bit n xs ys zs room room' joined q below) ∙ and_or (ltb q n) (is_set xs q) (is_set ys q) ∙ sym both
+      | inr past ↦
+          ap (λ t. t && is_set zs q) (le-ltb q n past)
+          ∙ sym (both ∙ ap (λ t. (t && is_set xs q) || (t && is_set ys q)) (le-ltb q n past))
+    ])
+
 -- the value that callers see, and one with a block more
 abbrev pub seen : ℕ → List ℕ → BlockSet
 seen n words = record { blocks = n; members = members_of n words }
@@ -131,3 +191,22 @@ pub seen-set : (n : ℕ) (words : List ℕ) (s : BlockSet) (m b word : ℕ) → 
 seen-set n words s m b word is room long below read =
     let count : n ≡ s.blocks = ap (λ (t : BlockSet). t.blocks) is in
     ap (with_members n) (members_of-set n words m b word room long (omega arith) read) ∙ ap (λ t. with_block t b) is
+
+-- words that are all 0 show the empty set
+pub seen-cleared : (n k : ℕ) (old words : List ℕ) (s : BlockSet) → seen n old ≡ s → words ≡ replicate k 0
+    → seen n words ≡ with_members s.blocks fin.empty
+seen-cleared n k old words s is zeros =
+    ap (λ m. with_members n m) (ap (members_of n) zeros ∙ members_of-replicate n k) ∙ ap (λ (t : BlockSet). with_members t.blocks fin.empty) is
+
+-- the words of two sets of one flash, joined, show the blocks of both
+pub seen-joined : (n m j k : ℕ) (xs ys zs : List ℕ) (s t : BlockSet) → seen n xs ≡ s → seen m ys ≡ t → t.blocks ≡ s.blocks
+    → n ≤ 64 * j → j ≡ length xs → m ≤ 64 * k → k ≡ length ys → AreJoined xs ys zs
+    → seen n zs ≡ with_members s.blocks (fin.union s.members t.members)
+seen-joined n m j k xs ys zs s t is is' same room long room' long' joined =
+    let count : n ≡ s.blocks = ap (λ (r : BlockSet). r.blocks) is in
+    let count' : m ≡ t.blocks = ap (λ (r : BlockSet). r.blocks) is' in
+    let alike : m ≡ n = omega arith in
+    let theirs : members_of n ys ≡ t.members = ap (λ i. members_of i ys) (sym alike) ∙ ap (λ (r : BlockSet). r.members) is' in
+    ap (with_members n) (members_of-union n xs ys zs (omega arith) (omega arith) joined)
+    ∙ ap (λ u. with_members n (fin.union (members_of n xs) u)) theirs
+    ∙ ap (λ (r : BlockSet). with_members r.blocks (fin.union r.members t.members)) is

@@ -4,23 +4,32 @@ use Rattle.std.specs.Coded.{Coded, code_by, coded×, coded_ℕ}
 use Rattle.std.specs.FinSet as set
 use Rattle.std.specs.List.{range_with_len}
 use Rattle.std.specs.Ordering.{nat_cmp}
+use Rattle.allocator.specs.BlockSet.{BlockSet}
 
--- how many blocks the flash has, those that are used, the last one taken, and how many were taken
+-- how many blocks the flash has, those that are used, the note of those that became used since it was emptied, the
+-- last one taken, and how many were taken
 pub record Ring : Type 0 where
   pub blocks : ℕ
   pub used : set.FinSet nat_cmp
+  pub note : set.FinSet nat_cmp
   pub last : ℕ
   pub takes : ℕ
 
 -- it is stored as the tuple of its fields
 abbrev pub ring_code : Coded Ring
 ring_code =
-    code_by ((ℕ × set.FinSet nat_cmp) × (ℕ × ℕ)) (coded× (coded× coded_ℕ (set.code coded_ℕ)) (coded× coded_ℕ coded_ℕ))
-    (λ r. ((r.blocks, r.used), (r.last, r.takes))) (λ p. record { blocks = p.0.0; used = p.0.1; last = p.1.0; takes = p.1.1 }) (λ _. refl)
+    code_by ((ℕ × (set.FinSet nat_cmp × set.FinSet nat_cmp)) × (ℕ × ℕ))
+    (coded× (coded× coded_ℕ (coded× (set.code coded_ℕ) (set.code coded_ℕ))) (coded× coded_ℕ coded_ℕ))
+    (λ r. ((r.blocks, (r.used, r.note)), (r.last, r.takes)))
+    (λ p. record { blocks = p.0.0; used = p.0.1.0; note = p.0.1.1; last = p.1.0; takes = p.1.1 }) (λ _. refl)
 
 -- block b of a flash of n blocks holds data: blocks 0 to 7 do not
 abbrev pub IsDataBlock : ℕ → ℕ → Type 0
 IsDataBlock n b = (8 ≤ b) × (b < n)
+
+-- each block of the set is a data block of a flash of n blocks
+abbrev pub AreDataBlocks : ℕ → set.FinSet nat_cmp → Type 0
+AreDataBlocks n s = (b : ℕ) → set.contains s b ≡ true → IsDataBlock n b
 
 -- the data blocks in ascending order
 abbrev pub data_blocks : ℕ → List ℕ
@@ -30,7 +39,12 @@ data_blocks n = range_with_len 8 (n - 8)
 pub record IsRing (blocks : ℕ) (used : set.FinSet nat_cmp) (last : ℕ) : Type 0 where
   pub size : (16 ≤ blocks) × (blocks ≤ 65536)
   pub last_block : IsDataBlock blocks last
-  pub used_blocks : (b : ℕ) → set.contains used b ≡ true → IsDataBlock blocks b
+  pub used_blocks : AreDataBlocks blocks used
+
+-- the note is one of the same flash, and has data blocks alone
+pub record IsNote (blocks : ℕ) (note : BlockSet) : Type 0 where
+  pub same_blocks : note.blocks ≡ blocks
+  pub noted_blocks : AreDataBlocks blocks note.members
 
 -- block b may not be taken: it is used or bad
 abbrev pub is_busy : Ring → set.FinSet nat_cmp → ℕ → Bool

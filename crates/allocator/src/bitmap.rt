@@ -1,6 +1,7 @@
 //! A set of blocks, with a bit for each block of the flash.
-ghost use Rattle.std.specs.Prelude.{◌≡◌, ◌<◌, IfOk, IfErr};
+ghost use Rattle.std.specs.Prelude.{◌≡◌, ℕ, ◌<◌, IfOk, IfErr, length, replicate, slice_index};
 ghost use Rattle.std.specs.FinSet as set;
+ghost use Rattle.std.specs.Int.RustNames.{bit_or};
 
 use fs_types::Fault;
 use std::alloc::Global;
@@ -58,5 +59,38 @@ impl BlockSet {
         ensures { self.new ≡ record self.old { members = set.insert self.old.members block } }
     {
         self.words[block as usize / 64] |= 1 << (block % 64);
+    }
+
+    /// Takes all blocks out.
+    pub fn clear(&mut self)
+        ensures { self.new ≡ record self.old { members = set.empty } }
+    {
+        clear_words(&mut self.words);
+    }
+
+    /// Puts the blocks of another set of the same flash into the set.
+    pub fn join(&mut self, other: &BlockSet)
+        requires { other.now.blocks ≡ self.old.blocks }
+        ensures { self.new ≡ record self.old { members = set.union self.old.members other.now.members } }
+    {
+        join_words(&mut self.words, &other.words);
+    }
+}
+
+fn clear_words(words: &mut [u64])
+    ensures { words.new ≡ replicate (length words.old) 0 }
+{
+    for word in words.iter_mut() {
+        *word = 0;
+    }
+}
+
+// Sets the bits that `more` has too, in the words that both have.
+fn join_words(words: &mut [u64], more: &[u64])
+    ensures { (k : ℕ) → k < length words.old → k < length more.now
+        → slice_index words.new k ≡ bit_or (slice_index words.old k) (slice_index more.now k) }
+{
+    for place in 0..words.len().min(more.len()) {
+        words[place] |= more[place];
     }
 }

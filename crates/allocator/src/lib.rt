@@ -2,7 +2,9 @@
 #![tactic(auto)]
 
 mod bitmap;
+mod marks;
 mod rings;
 
 pub use bitmap::BlockSet;
+pub use marks::Marks;
 pub use rings::Ring;

@@ -4,6 +4,7 @@ ghost use Rattle.std.specs.FinSet as set;
 ghost use Rattle.allocator.specs.Ring.{IsDataBlock, is_busy, free_count as free_blocks, ring_order, IsFirstFree};
 
 use crate::bitmap::BlockSet;
+use crate::marks::Marks;
 use bad_blocks::BadBlocks;
 use counts::Count;
 use fs_types::Fault;
@@ -16,16 +17,20 @@ const FIRST: u32 = 8;
 /// The used blocks of a flash, and the last block taken. The next one is looked for after it, and
 /// after the last block of the flash from block 8 on, so that all data blocks wear alike.
 ///
+/// The note has each block that became used since the last `watch`, so that a marking that began there
+/// can be installed.
+///
 /// The takes since the ring was made are counted in its facts alone, and take no bytes.
 #[derive(Drop)]
 pub struct Ring {
     used: BlockSet,
+    note: BlockSet,
     last: u32,
     takes: Count,
 }
 
 impl Model for Ring {
-    ghost use Rattle.allocator.specs.Ring.{Ring as Blocks, ring_code, IsRing};
+    ghost use Rattle.allocator.specs.Ring.{Ring as Blocks, ring_code, IsRing, IsNote};
 
     ghost Value = { Blocks };
 
@@ -34,11 +39,12 @@ impl Model for Ring {
     ghost view = { λ r. record {
       blocks = r.used.blocks;
       used = r.used.members;
+      note = r.note.members;
       last = r.last;
       takes = r.takes.n;
     } };
 
-    ghost invariant = { λ r. IsRing r.used.blocks r.used.members r.last };
+    ghost invariant = { λ r. IsRing r.used.blocks r.used.members r.last × IsNote r.used.blocks r.note };
 }
 
 impl Ring {
@@ -50,14 +56,17 @@ impl Ring {
         ensures ok { IfOk result (λ r. r ≡ record {
           blocks = blocks;
           used = set.empty;
+          note = set.empty;
           last = last;
           takes = 0;
         }) }
         ensures err { IfErr result (λ fault. fault ≡ Fault.NoMemory) }
     {
         let used = BlockSet::new(alloc, blocks)?;
+        let note = BlockSet::new(alloc, blocks)?;
         Ok(Ring {
             used,
+            note,
             last,
             takes: Count::zero(),
         })
@@ -96,12 +105,31 @@ impl Ring {
             .count() as u32
     }
 
-    /// Makes `block` used, which is a data block.
+    /// Makes `block` used and notes it, which is a data block.
     pub fn mark_used(&mut self, block: u32)
         requires { IsDataBlock self.old.blocks block }
-        ensures { self.new ≡ record self.old { used = set.insert self.old.used block } }
+        ensures { self.new ≡ record self.old {
+          used = set.insert self.old.used block;
+          note = set.insert self.old.note block;
+        } }
     {
         self.used.insert(block);
+        self.note.insert(block);
+    }
+
+    /// Empties the note. A marking that begins here and now may be installed later.
+    pub fn watch(&mut self)
+        ensures { self.new ≡ record self.old { note = set.empty } }
+    {
+        self.note.clear();
+    }
+
+    /// Makes exactly those blocks used that are marked, or that became used since the last `watch`.
+    pub fn install(&mut self, marks: Marks)
+        requires { marks.blocks ≡ self.old.blocks }
+        ensures { self.new ≡ record self.old { used = set.union marks.members self.old.note } }
+    {
+        self.used = marks.and(&self.note);
     }
 
     /// Takes the first data block in ring order after the last one taken that is neither used nor
@@ -110,6 +138,7 @@ impl Ring {
         ensures first { IsFirstFree (is_busy self.old bad.now) self.old.blocks self.old.last result }
         ensures taken { IfSome result (λ b. self.new ≡ record self.old {
           used = set.insert self.old.used b;
+          note = set.insert self.old.note b;
           last = b;
           takes = self.old.takes + 1;
         }) }
@@ -126,11 +155,18 @@ impl Ring {
         ensures blocks { self.new.blocks ≡ self.old.blocks }
         ensures kept { (b : ℕ) → set.contains self.old.used b ≡ true
             → set.contains self.new.used b ≡ true }
+
+        // Each block that becomes used is noted, and none leaves the note.
+        ensures noted { (b : ℕ) → set.contains self.new.used b ≡ true
+            → set.contains self.old.used b ≡ false → set.contains self.new.note b ≡ true }
+        ensures note_stays { (b : ℕ) → set.contains self.old.note b ≡ true
+            → set.contains self.new.note b ≡ true }
         ensures paid { free_blocks self.new bad.now + self.new.takes
             ≡ free_blocks self.old bad.now + self.old.takes }
     {
         let next = self.first_free(bad)?;
         self.used.insert(next);
+        self.note.insert(next);
         self.last = next;
         self.takes = self.takes.more();
         Some(next)

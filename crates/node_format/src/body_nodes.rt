@@ -129,11 +129,11 @@ fn push_number(out: &mut Vec<u8>, number: u32) -> Result<(), AllocError>
     out.extend_from_slice(&number.to_le_bytes())
 }
 
-/// The first 16 bytes of the body node of an index with so many data bytes.
+/// The first 16 bytes of the body node of an index with so many data bytes, with memory for all of it.
 fn header(alloc: Global, index: u32, used: u32) -> Result<Vec<u8>, AllocError>
     ensures { IfOk result (λ v. v.items ≡ codes "UFNB" ++ (little_bytes 4 index ++ (little_bytes 4 used ++ little_bytes 4 0))) }
 {
-    let mut out = Vec::new(alloc);
+    let mut out = Vec::with_capacity(alloc, FRONT + used as usize)?;
     out.extend_from_slice(&MAGIC)?;
     push_number(&mut out, index)?;
     push_number(&mut out, used)?;

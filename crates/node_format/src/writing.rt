@@ -75,7 +75,7 @@ fn entry_bytes(alloc: Global, name: &[u8], place: Place) -> Result<Vec<u8>, Allo
     ensures { IfOk result (λ v. v.items ≡ item_bytes (record { name = name.now; place = place })) }
 {
     let (kind, head, size) = fields_of(place);
-    let mut out = Vec::new(alloc);
+    let mut out = Vec::with_capacity(alloc, 10 + name.len())?;
     out.extend_from_slice(&[kind, name.len() as u8])?;
     out.extend_from_slice(name)?;
     push_number(&mut out, head)?;
@@ -104,7 +104,7 @@ fn directory_bytes(
     ensures { IfOk result (λ v. v.items ≡ codes "UFND" ++ (little_bytes 4 count ++ (little_bytes 4 (length front.now + (length middle.now + length back.now)) ++ (replicate 4 0 ++ (front.now ++ (middle.now ++ back.now)))))) }
 {
     let used = front.len() + (middle.len() + back.len());
-    let mut out = Vec::new(alloc);
+    let mut out = Vec::with_capacity(alloc, 16 + used)?;
     out.extend_from_slice(b"UFND")?;
     push_number(&mut out, count)?;
     push_number(&mut out, used as u32)?;

@@ -7,13 +7,12 @@ ghost use Rattle.node_store.specs.Writing.{WritesBlock};
 use flash_model::{DevFault, Flash};
 
 /// Fills a page with bytes, as many as there are and fit, and with zeros behind them.
-fn fill_page(page: &mut Vec<u8>, bytes: &[u8])
-    ensures len { vec_len page.new ≡ vec_len page.old }
-    ensures filled { page.new.items ≡ take (vec_len page.old) (bytes.now ++ replicate (vec_len page.old) 0) }
+fn fill_page(page: &mut [u8], bytes: &[u8])
+    ensures filled { page.new ≡ take (length page.old) (bytes.now ++ replicate (length page.old) 0) }
 {
-    for place in 0..page.len() {
-        page[place] = bytes.get(place).copied().unwrap_or(0);
-    }
+    let count = bytes.len().min(page.len());
+    page[..count].copy_from_slice(&bytes[..count]);
+    page[count..].fill(0);
 }
 
 /// Programs the pages that the bytes need, from place 0 of the block on.

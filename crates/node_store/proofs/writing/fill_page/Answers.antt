@@ -1,9 +1,7 @@
-use Rattle.std.proofs.Common.{arith}
-use Rattle.node_store.proofs.Padding.{padded}
+use Rattle.node_store.proofs.Padding.{filled_over}
 use Rattle.node_store.proofs.writing.fill_page.Goals as goal
 
-pub returns-clause-filled : goal.returns-clause-filled
-returns-clause-filled c =
-    let page = c.loop-place.page in
-    let so_far = c.loop-place.invariant in
-    padded page.items _ _ (omega (arith, page.ok.0)) (λ k h. so_far.filled k (omega arith))
+pub returns : goal.returns
+returns c = record {
+  filled = filled_over c.args.page.now c.args.bytes.now c.copy_from_slice.new.self c.fill.new.self c.min-count.result c.min-count.ensures c.copy_from_slice.ensures.after (c.fill.ensures.after (λ y e. e));
+}

@@ -1,6 +1,6 @@
-use Rattle.std.proofs.Common.{◌≡◌, ◌+◌, ◌*◌, ◌<◌, ◌++◌, length, take, drop, replicate, vec_len, ap, ◌∙◌}
+use Rattle.std.proofs.Common.{◌≡◌, ◌+◌, ◌-◌, ◌*◌, ◌<◌, ◌++◌, length, take, drop, replicate, vec_len, ap, ◌∙◌, arith}
 use Rattle.std.proofs.lemmas.Result.{err_from_is_err_and}
-use Rattle.std.proofs.lemmas.List.{take_rest}
+use Rattle.std.proofs.lemmas.List.{take_at, take_rest}
 use Rattle.flash_model.specs.declared.sizes.Geometry.{Geometry}
 use Rattle.node_store.specs.NodePages.{page_bytes}
 use Rattle.node_store.specs.WritingLaws.{program_next, program_fails, place_below}
@@ -22,7 +22,11 @@ module _ (g : Over) (c : After-program g) where
   filled : c.deref.result.now ≡ page_bytes (g.F.Flash.device c.args.flash.now).geometry.page c.loop-place.place c.args.bytes.now
   filled =
       let page = (g.F.Flash.device c.args.flash.now).geometry.page in
-      c.deref.ensures.value ∙ c.fill_page.ensures.filled
+      let long : length c.fill_page.new.page ≡ c.loop-place.page.len = omega (arith, c.fill_page.auto.page, c.deref_mut.ensures.len) in
+      c.deref.ensures.value
+      ∙ take_at c.fill_page.new.page (drop (length c.fill_page.new.page) c.loop-place.page.items) c.loop-place.page.len long
+      ∙ c.fill_page.ensures.filled
+      ∙ ap (λ n. take n (take (length c.args.bytes.now - c.loop-place.place * c.geometry-geometry.result.page) (drop (c.loop-place.place * c.geometry-geometry.result.page) c.args.bytes.now) ++ replicate n 0)) c.deref_mut.ensures.len
       ∙ ap (λ rest. take (vec_len c.loop-place.page) (rest ++ replicate (vec_len c.loop-place.page) 0))
       (take_rest c.args.bytes.now (c.loop-place.place * c.geometry-geometry.result.page))
       ∙ ap (λ n. take n (drop (c.loop-place.place * c.geometry-geometry.result.page) c.args.bytes.now ++ replicate n 0))
@@ -34,7 +38,7 @@ loop-place-preserved g c =
     let t = (goal.at.loop-place-preserved g c).After-program in
     record {
       writing = program_next _ _ _ _ _ _ _ _ _ c.loop-place.invariant.writing (below g t) (number g t) (filled g t) c.in_ok-program.ensures;
-      page = c.fill_page.ensures.len ∙ c.loop-place.invariant.page;
+      page = c.loop-place.invariant.page;
     }
 
 pub returns-in_err-program-clause-writes : goal.returns-in_err-program-clause-writes

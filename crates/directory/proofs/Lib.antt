@@ -4,3 +4,4 @@ pub mod NewDirectories
 pub mod MovedPaths
 pub mod LookupLaws
 pub mod Levels
+pub mod Ways

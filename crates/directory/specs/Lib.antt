@@ -1,4 +1,5 @@
 pub mod Lookups
+pub mod Trails
 pub mod Edits
 pub mod Making
 pub mod Moves

@@ -7,6 +7,7 @@ mod listings;
 mod lookups;
 mod making;
 mod moves;
+mod trails;
 
 pub use depths::is_deeper;
 pub use edits::{with_entry, without_entry};
@@ -14,3 +15,4 @@ pub use listings::{entry_count, names};
 pub use lookups::{Found, lookup};
 pub use making::make_directory;
 pub use moves::moved;
+pub use trails::{Trail, find};

@@ -5,6 +5,7 @@ ghost use Rattle.node_store.specs.Faults.{IsReadFault};
 ghost use Rattle.block_trees.specs.Trees.{entries_of};
 ghost use Rattle.directory.specs.Lookups as spec;
 
+use crate::trails::find;
 use fs_types::{Fault, Name, Path};
 use node_format::{Entries, Place};
 use node_store::Nodes;
@@ -74,7 +75,7 @@ pub(crate) fn directory_at(place: Option<Place>) -> Result<u32, Fault>
 }
 
 /// What a name leads to in the directory of a block, as the last component of a path.
-fn found_in<N: Nodes>(nodes: &mut N, block: u32, name: &Name) -> Result<Found, Fault>
+pub(crate) fn found_in<N: Nodes>(nodes: &mut N, block: u32, name: &Name) -> Result<Found, Fault>
     requires { N.is_sound nodes.old }
     ensures found { IfOk result (λ found. spec.found_in (entries_of (N.node nodes.old block)) name.now ≡ Ok found) }
     ensures damaged { IsErrOf result Damaged → entries_of (N.node nodes.old block) ≡ None }
@@ -118,15 +119,6 @@ pub fn lookup<N: Nodes>(nodes: &mut N, root: u32, path: &Path) -> Result<Found, 
     ensures limit { N.limit nodes.new ≡ N.limit nodes.old }
     ensures blocks { N.blocks nodes.new ≡ N.blocks nodes.old }
 {
-    let names = path.names();
-    let mut block = root;
-    for (i, name) in names.iter().enumerate() {
-        if i + 1 == names.len() {
-            let found = found_in(nodes, block, name)?;
-            return Ok(found);
-        }
-        let place = place_in(nodes, block, name)?;
-        block = directory_at(place)?;
-    }
-    Ok(Found::Dir { block })
+    let (found, _trail) = find(nodes, root, path)?;
+    Ok(found)
 }

@@ -1,0 +1,36 @@
+use Rattle.std.proofs.Common.{◌≡◌, ◌+◌, ◌<◌, Ok, [], length, get_or, ap, sym, subst, ◌∙◌, arith, rules}
+use Rattle.std.proofs.lemmas.List.{get_or_default}
+use Rattle.fs_types.specs.Names.{Name}
+use Rattle.block_trees.specs.Bodies.{Blocks}
+use Rattle.block_trees.specs.Trees.{entries_of}
+use Rattle.directory.specs.Lookups.{below_in, directory_at, place_in, ◌>>=◌}
+use Rattle.directory.proofs.Rewrites.{child_below}
+use Rattle.directory.proofs.Ways.{goes_on, looks_on}
+use Rattle.directory.proofs.trails.find.Goals as goal
+
+pub loop-i-preserved : goal.loop-i-preserved
+loop-i-preserved g c =
+    let f = g.N.Nodes.node c.args.nodes.now in
+    let path = c.names-names.result.now in
+    let i = c.loop-i.i in
+    let within : i < length path = omega arith in
+    let differs = c.if-i-names.false in
+    let more : i + 1 < length path = omega arith in
+    let name : c.index-names-i.result ≡ get_or path i [] = c.index-names-i.is ∙ get_or_default path i c.index-names-i.result [] within in
+    let place : place_in (entries_of (f c.loop-i.block)) (get_or path i []) ≡ Ok c.in_ok-place.place =
+    subst (λ (n : Name). place_in (entries_of (f c.loop-i.block)) n ≡ Ok c.in_ok-place.place) name
+    (subst (λ (h : Blocks). place_in (entries_of (h c.loop-i.block)) c.index-names-i.result ≡ Ok c.in_ok-place.place) c.loop-i.invariant.same_nodes c.in_ok-place.ensures.found) in
+    let below : below_in (entries_of (f c.loop-i.block)) (get_or path i []) ≡ Ok c.in_ok-block.block = ap (λ r. r >>= directory_at) place ∙ sym c.in_ok-block.ensures in
+    let led = child_below f c.loop-i.block (get_or path i []) c.in_ok-block.block below in
+    record {
+      looked = sym (looks_on f c.loop-i.block c.in_ok-block.block i path more below) ∙ c.loop-i.invariant.looked;
+      goes = goes_on f c.args.root path i c.loop-i.trail c.push.new.self c.loop-i.block c.in_ok-block.block c.loop-i.invariant.goes c.push.ensures within led;
+      same_nodes = search rules;
+      same_kept = search rules;
+      reads = search rules;
+      writes = search rules;
+      follows = g.met.N.Nodes.follows_on c.args.nodes.now c.loop-i.nodes c.place_in.new.nodes c.loop-i.invariant.follows c.place_in.ensures.follows;
+      sound = search rules;
+      limit = search rules;
+      blocks = search rules;
+    }

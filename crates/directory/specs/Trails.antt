@@ -1,0 +1,42 @@
+-- The directories that a path goes through, and what an edit by them asks.
+use Rattle.std.specs.Prelude.{◌≡◌, ℕ, ◌<◌, Bool, true, false, not, ◌||◌, nat_le, IsTrue, Option, Some, None, Result, Ok, Err, List, length, take, slice_index}
+use Rattle.std.specs.Option.{is_some}
+use Rattle.fs_types.specs.Names.{Name, Path}
+use Rattle.fs_types.specs.declared.faults.Fault.{Fault}
+use Rattle.fs_types.specs.declared.faults.Fault.TheVariants.{Damaged}
+use Rattle.node_store.specs.Faults.{is_read_fault, is_write_fault}
+use Rattle.node_format.specs.Items.{Item, named}
+use Rattle.node_format.specs.declared.places.Place.{Place}
+use Rattle.node_format.specs.declared.places.Place.TheVariants.{Dir}
+use Rattle.block_trees.specs.Bodies.{Blocks}
+use Rattle.block_trees.specs.Trees.{leads}
+use Rattle.directory.specs.declared.lookups.Found.{Found}
+use Rattle.directory.specs.declared.lookups.Found.TheVariants as found
+
+-- the blocks of the directories that a path below a root goes through, one for each name: that at i is what the first i
+-- names lead to, so the first is the root
+pub record IsTrail (f : Blocks) (root : ℕ) (path : Path) (trail : List ℕ) : Type 0 where
+  pub counted : length trail ≡ length path
+  pub through : (i : ℕ) → i < length path → leads f (Dir root) (take i path) ≡ Some (Dir (slice_index trail i))
+
+-- a name can be put where a look up found this: it stands there, or is missing from a directory that is not full
+abbrev pub has_room : Result Found Fault → Bool
+has_room (Ok (found.Missing is_full)) = not is_full
+has_room (Ok (found.File head size)) = true
+has_room (Ok (found.Dir block)) = true
+has_room (Err fault) = false
+
+-- a directory takes an edit of a name: it is one, and where the name is put, it is there or there are fewer than 32
+abbrev pub takes : Option (List Item) → Name → Option Place → Bool
+takes None name place = false
+takes (Some items) name None = true
+takes (Some items) name (Some place) = is_some (named items name) || not (nat_le 32 (length items))
+
+-- what an edit is refused with where a look up decided the rest: the refusals of reads, but that nothing is damaged,
+-- and those of writes
+abbrev pub is_change_fault : Fault → Bool
+is_change_fault Damaged = false
+is_change_fault fault = is_read_fault fault || is_write_fault fault
+
+abbrev pub IsChangeFault : Fault → Type 0
+IsChangeFault fault = IsTrue (is_change_fault fault)

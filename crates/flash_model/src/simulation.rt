@@ -18,8 +18,9 @@ use std::alloc::Global;
 /// A flash in memory that fails as planned.
 ///
 /// With the power on, an operation counts among those of its class, and the entry of the plan for
-/// its number, if one waits, says how it fails. Where none is due it is done. With the power off
-/// nothing counts.
+/// its number, if one waits, says what befalls it: it fails, or power goes in it. Where none is due
+/// it is done. From a cut until `power_on` each operation answers `PowerCut`, changes nothing and
+/// does not count.
 #[derive(Drop)]
 pub struct SimFlash {
     geometry: Geometry,

@@ -1,7 +1,7 @@
 mod NumberLemmas
 mod TextLemmas
 mod ViewLemmas
-mod VerbLemmas
+mod SpelledLemmas
 mod SerialLemmas
 mod StreamLemmas
 pub mod LineLemmas

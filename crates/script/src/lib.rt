@@ -9,6 +9,7 @@ mod kinds;
 mod lines;
 mod misread;
 mod replies;
+mod spelled;
 mod spellings;
 mod streams;
 mod verbs;
@@ -16,6 +17,7 @@ mod views;
 mod words;
 
 pub use answers::Answer;
+pub use kinds::kind_of;
 pub use lines::{LINE_LIMIT, Line, read_line};
 pub use replies::print_answer;
 pub use spellings::laws;

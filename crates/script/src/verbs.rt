@@ -1,8 +1,10 @@
 //! The first words of lines.
-ghost use Rattle.std.specs.Prelude.{◌≡◌, map};
+ghost use Rattle.std.specs.Prelude.{◌≡◌};
 ghost use Rattle.std.specs.Map.{lookup};
 ghost use Rattle.std.specs.Str.{bytes_eq};
 ghost use Rattle.script.specs.Verbs.{verbs};
+
+use crate::spelled::find_spelled;
 
 /// What a line asks for, by its first word.
 #[derive(Clone, Copy, Debug)]
@@ -64,21 +66,9 @@ const VERBS: [(&[u8], Verb); 26] = [
     (b"fault", Verb::PlanFault),
 ];
 
-/// The verb of the first row with this spelling.
-fn find_verb(rows: &[(&[u8], Verb)], word: &[u8]) -> Option<Verb>
-    ensures { result ≡ lookup (bytes_eq word.now) (map (λ row. (row.0.now, row.1)) rows.now) }
-{
-    for (spelling, verb) in rows {
-        if word == *spelling {
-            return Some(*verb);
-        }
-    }
-    None
-}
-
 /// The verb that a word spells.
 pub fn verb_of(word: &[u8]) -> Option<Verb>
     ensures { result ≡ lookup (bytes_eq word.now) verbs }
 {
-    find_verb(&VERBS, word)
+    find_spelled(&VERBS, word)
 }

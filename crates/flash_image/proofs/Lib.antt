@@ -1,0 +1,6 @@
+pub mod Parts
+pub mod Texts
+pub mod Filling
+pub mod Stops
+pub mod Magic
+pub mod Growing

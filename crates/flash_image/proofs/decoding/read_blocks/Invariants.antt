@@ -1,0 +1,12 @@
+use Rattle.std.proofs.Common.{◌≡◌, ◌++◌}
+use Rattle.flash_model.specs.Simulation.{device_of, plan_of}
+use Rattle.flash_image.specs.Images.{parts, block_text}
+use Rattle.flash_image.specs.Reading.{FillsBlocks}
+use Rattle.flash_image.proofs.decoding.read_blocks.Given as goal
+
+abbrev pub invariant-loop-block : goal.invariant-loop-block
+invariant-loop-block l = record {
+  spelled : l.bytes ≡ parts l.block (block_text (device_of l.flash)) ++ l.rest;
+  fills : FillsBlocks (device_of l.fn.flash) 0 (device_of l.flash);
+  plan : plan_of l.flash ≡ plan_of l.fn.flash
+}

@@ -1,0 +1,183 @@
+//! The flash that an image spells.
+ghost use Rattle.std.specs.Prelude.{◌≡◌, ◌⊎◌, ◌*◌, ◌<◌, ◌++◌, [], length, IfOk, IfErr, OnOk, OnErr, MatchResult, true};
+ghost use Rattle.flash_model.specs.Geometry.{IsGeometry};
+ghost use Rattle.flash_model.specs.Device.{Device};
+ghost use Rattle.flash_model.specs.Contents.{IsWhole};
+ghost use Rattle.flash_model.specs.Stored.{shown};
+ghost use Rattle.flash_model.specs.Simulation.{IsNew, device_of, plan_of};
+ghost use Rattle.flash_model.specs.Plan.{plan_of_entries};
+ghost use Rattle.flash_image.specs.Images.{magic, header, number_text, parts, page_text, worn_text, place_text, block_text, blocks_text, image_of, AreSizes, IsFault};
+ghost use Rattle.flash_image.specs.Reading.{WornFault, PageFault, PagesFault, BlockFault, BlocksFault, FillsPages, FillsBlocks};
+
+use crate::encoding::MAGIC;
+use crate::faults::ImageFault;
+use flash_model::{Flash, Geometry, PageView, SimFlash};
+use fs_types::Fault;
+use std::alloc::Global;
+
+/// The bytes after the first eight of an image.
+fn after_magic(bytes: &[u8]) -> Result<&[u8], ImageFault>
+    ensures ok { IfOk result (λ rest. bytes.now ≡ magic ++ rest.now) }
+    ensures err { IfErr result (λ fault. IsFault fault bytes.now) }
+{
+    if bytes.starts_with(&MAGIC) {
+        Ok(&bytes[MAGIC.len()..])
+    } else if MAGIC.starts_with(bytes) {
+        Err(ImageFault::Truncated)
+    } else {
+        Err(ImageFault::NotImage)
+    }
+}
+
+#[tactic(auto, unfolding(crate::specs::Images::number_text))]
+fn number_at(bytes: &[u8]) -> Result<(u32, &[u8]), ImageFault>
+    ensures ok { IfOk result (λ x. bytes.now ≡ number_text x.0 ++ x.1.now) }
+    ensures err { IfErr result (λ fault. (fault ≡ ImageFault.Truncated) × (length bytes.now < 4)) }
+{
+    if bytes.len() < 4 {
+        return Err(ImageFault::Truncated);
+    }
+    let (front, rest) = bytes.split_at(4);
+    let number = u32::from_le_bytes([front[0], front[1], front[2], front[3]]);
+    Ok((number, rest))
+}
+
+/// The sizes of the flash, and the bytes after them.
+#[tactic(auto, unfolding(crate::specs::Images::header))]
+fn sizes_at(bytes: &[u8]) -> Result<(Geometry, &[u8]), ImageFault>
+    ensures ok { IfOk result (λ x. magic ++ bytes.now ≡ header x.0 ++ x.1.now) }
+    ensures fit { IfOk result (λ x. AreSizes x.0) }
+    ensures err { IfErr result (λ fault. (fault ≡ ImageFault.Truncated) × (length bytes.now < 12)) }
+{
+    let (page, rest) = number_at(bytes)?;
+    let (pages, rest) = number_at(rest)?;
+    let (blocks, rest) = number_at(rest)?;
+    let sizes = Geometry {
+        page,
+        pages,
+        blocks,
+    };
+    Ok((sizes, rest))
+}
+
+/// A flash of these sizes in which all pages are erased.
+fn fresh(alloc: Global, sizes: Geometry) -> Result<SimFlash, ImageFault>
+    ensures new { IfOk result (λ flash. IsNew sizes (device_of flash)) }
+    ensures plan { IfOk result (λ flash. plan_of flash ≡ plan_of_entries []) }
+    ensures lawful { OnOk result (IsGeometry sizes) }
+    ensures err { IfErr result (λ fault. (fault ≡ ImageFault.Memory) ⊎ ((fault ≡ ImageFault.BadGeometry) × (¬ IsGeometry sizes))) }
+{
+    match SimFlash::new(alloc, sizes, &[]) {
+        Ok(flash) => Ok(flash),
+        Err(Fault::BadGeometry) => Err(ImageFault::BadGeometry),
+        Err(_) => Err(ImageFault::Memory),
+    }
+}
+
+/// Whether a block is worn, and the bytes after it.
+fn worn_at(bytes: &[u8]) -> Result<(bool, &[u8]), ImageFault>
+    ensures ok { IfOk result (λ x. bytes.now ≡ worn_text x.0 ++ x.1.now) }
+    ensures err { IfErr result (λ fault. WornFault fault bytes.now) }
+{
+    match bytes {
+        [] => Err(ImageFault::Truncated),
+        [0, rest @ ..] => Ok((false, rest)),
+        [1, rest @ ..] => Ok((true, rest)),
+        [_, ..] => Err(ImageFault::BadState),
+    }
+}
+
+/// A page of so many bytes, and the bytes after it.
+fn page_at(size: usize, bytes: &[u8]) -> Result<(PageView<'_>, &[u8]), ImageFault>
+    ensures ok { IfOk result (λ x. bytes.now ≡ page_text (shown x.0) ++ x.1.now) }
+    ensures whole { IfOk result (λ x. IsWhole size (shown x.0)) }
+    ensures err { IfErr result (λ fault. PageFault size fault bytes.now) }
+{
+    match bytes {
+        [] => Err(ImageFault::Truncated),
+        [0, rest @ ..] => Ok((PageView::Erased, rest)),
+        [1, rest @ ..] => {
+            if rest.len() < size {
+                return Err(ImageFault::Truncated);
+            }
+            let (data, rest) = rest.split_at(size);
+            Ok((PageView::Data(data), rest))
+        }
+        [2, rest @ ..] => Ok((PageView::Unreadable, rest)),
+        [_, ..] => Err(ImageFault::BadState),
+    }
+}
+
+/// Puts the pages of a block into the flash, and gives the bytes after them.
+fn read_pages<'a>(
+    flash: &mut SimFlash,
+    block: u32,
+    bytes: &'a [u8],
+) -> Result<&'a [u8], ImageFault>
+    requires { block < (device_of flash.old).geometry.blocks }
+    ensures ok { IfOk result (λ rest. bytes.now ≡ parts (device_of flash.new).geometry.pages (place_text (device_of flash.new) block) ++ rest.now) }
+    ensures err { IfErr result (λ fault. PagesFault (device_of flash.new) block fault bytes.now) }
+    ensures fills { FillsPages (device_of flash.old) (block * (device_of flash.old).geometry.pages) (device_of flash.new) }
+    ensures plan { plan_of flash.new ≡ plan_of flash.old }
+{
+    let sizes = flash.geometry();
+    let mut rest = bytes;
+    for place in 0..sizes.pages {
+        let (page, after) = page_at(sizes.page as usize, rest)?;
+        flash.set_page(sizes.page_number(block, place), page);
+        rest = after;
+    }
+    Ok(rest)
+}
+
+/// Puts a block into the flash, and gives the bytes after it.
+fn read_block<'a>(
+    flash: &mut SimFlash,
+    block: u32,
+    bytes: &'a [u8],
+) -> Result<&'a [u8], ImageFault>
+    requires { block < (device_of flash.old).geometry.blocks }
+    ensures ok { IfOk result (λ rest. bytes.now ≡ block_text (device_of flash.new) block ++ rest.now) }
+    ensures err { IfErr result (λ fault. BlockFault (device_of flash.new) block fault bytes.now) }
+    ensures fills { FillsBlocks (device_of flash.old) block (device_of flash.new) }
+    ensures plan { plan_of flash.new ≡ plan_of flash.old }
+{
+    let (is_worn, rest) = worn_at(bytes)?;
+    flash.set_worn(block, is_worn);
+    read_pages(flash, block, rest)
+}
+
+/// Puts all blocks into the flash, and gives the bytes after them.
+fn read_blocks<'a>(flash: &mut SimFlash, bytes: &'a [u8]) -> Result<&'a [u8], ImageFault>
+    ensures ok { IfOk result (λ rest. bytes.now ≡ blocks_text (device_of flash.new) ++ rest.now) }
+    ensures err { IfErr result (λ fault. BlocksFault (device_of flash.new) fault bytes.now) }
+    ensures fills { FillsBlocks (device_of flash.old) 0 (device_of flash.new) }
+    ensures plan { plan_of flash.new ≡ plan_of flash.old }
+{
+    let mut rest = bytes;
+    for block in 0..flash.geometry().blocks {
+        rest = read_block(flash, block, rest)?;
+    }
+    Ok(rest)
+}
+
+/// The flash that the bytes spell, with its sizes, pages and worn blocks; its power is on, and no
+/// fault is planned.
+///
+/// It has the room of `SimFlash::new`: for all pages, and for a plan of 64 entries.
+pub fn decode(alloc: Global, bytes: &[u8]) -> Result<SimFlash, ImageFault>
+    // What is read is spelled so.
+    ensures spelled { IfOk result (λ flash. bytes.now ≡ image_of (device_of flash)) }
+    ensures power { IfOk result (λ flash. (device_of flash).powered ≡ true) }
+    ensures plan { IfOk result (λ flash. plan_of flash ≡ plan_of_entries []) }
+    ensures fault { IfErr result (λ fault. (fault ≡ ImageFault.Memory) ⊎ IsFault fault bytes.now) }
+{
+    let rest = after_magic(bytes)?;
+    let (sizes, rest) = sizes_at(rest)?;
+    let mut flash = fresh(alloc, sizes)?;
+    let rest = read_blocks(&mut flash, rest)?;
+    if !rest.is_empty() {
+        return Err(ImageFault::Trailing);
+    }
+    Ok(flash)
+}

@@ -1,0 +1,15 @@
+//! Image files: the one spelling of each flash as bytes.
+//!
+//! An image is `UFFSIMG1`, the bytes of a page, the pages of a block and the number of blocks, four
+//! bytes each, the lowest first; then for each block a byte, 1 where it is worn and 0 where not, and
+//! its pages. A page is the byte 0 where it is erased, the byte 1 and its bytes where it holds data,
+//! and the byte 2 where it is unreadable. Plan and power are not kept.
+#![tactic(auto)]
+
+mod decoding;
+mod encoding;
+mod faults;
+
+pub use decoding::decode;
+pub use encoding::encode;
+pub use faults::ImageFault;

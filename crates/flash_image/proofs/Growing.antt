@@ -34,10 +34,10 @@ page_text-most size erased whole = omega arith
 page_text-most size (bytes_of bytes) whole = omega (arith, whole)
 page_text-most size unreadable whole = omega arith
 
-page_size-least : (n : ℕ) → IsTrue (is_page_size n) → 256 ≤ n
+pub page_size-least : (n : ℕ) → IsTrue (is_page_size n) → 256 ≤ n
 page_size-least n h = grind (arith, nat_tests)
 
-page_size-most : (n : ℕ) → IsTrue (is_page_size n) → n ≤ 4096
+pub page_size-most : (n : ℕ) → IsTrue (is_page_size n) → n ≤ 4096
 page_size-most n h = grind (arith, nat_tests)
 
 -- a page has at most 4,097 bytes

@@ -4,3 +4,5 @@ pub mod Filling
 pub mod Stops
 pub mod Magic
 pub mod Growing
+pub mod Once
+pub mod Apart

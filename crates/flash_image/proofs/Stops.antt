@@ -74,7 +74,7 @@ nonempty-front : (more tail : List ℕ) → more ≢ [] → more ++ tail ≢ []
 nonempty-front [] tail some = λ same. some refl
 nonempty-front (x ∷ more) tail some = λ same. cc
 
-worn_text-some : (worn : Bool) (tail : List ℕ) → worn_text worn ++ tail ≢ []
+pub worn_text-some : (worn : Bool) (tail : List ℕ) → worn_text worn ++ tail ≢ []
 worn_text-some true tail = λ same. cc
 worn_text-some false tail = λ same. cc
 

@@ -142,3 +142,11 @@ pub record HoldsTheSame (d e : Device) : Type 0 where
   pub geometry : e.geometry ≡ d.geometry
   pub pages : (p : ℕ) → p < page_count d.geometry → e.pages p ≡ d.pages p
   pub worn : (b : ℕ) → b < d.geometry.blocks → e.worn b ≡ d.worn b
+
+-- power is on, and nothing has happened yet
+pub record IsReady (d : Device) : Type 0 where
+  pub powered : d.powered ≡ true
+  pub failed_reads : d.failed_reads ≡ 0
+  pub failures : d.failures ≡ 0
+  pub cuts : d.cuts ≡ 0
+  pub operations : d.operations ≡ 0

@@ -6,7 +6,8 @@ ghost use Rattle.flash_model.specs.Contents.{IsWhole};
 ghost use Rattle.flash_model.specs.Stored.{shown};
 ghost use Rattle.flash_model.specs.Simulation.{IsNew, device_of, plan_of};
 ghost use Rattle.flash_model.specs.Plan.{plan_of_entries};
-ghost use Rattle.flash_image.specs.Images.{magic, header, number_text, parts, page_text, worn_text, place_text, block_text, blocks_text, image_of, AreSizes, IsFault};
+ghost use Rattle.flash_image.specs.Images.{magic, header, number_text, parts, page_text, worn_text, place_text, block_text, blocks_text, image_of, AreSizes, HasImage, IsFault, HoldsTheSame, IsReady};
+ghost use Rattle.flash_image.specs.declared.faults.ImageFault.{ImageFault};
 ghost use Rattle.flash_image.specs.Reading.{WornFault, PageFault, PagesFault, BlockFault, BlocksFault, FillsPages, FillsBlocks};
 
 use crate::encoding::MAGIC;
@@ -161,14 +162,10 @@ fn read_blocks<'a>(flash: &mut SimFlash, bytes: &'a [u8]) -> Result<&'a [u8], Im
     Ok(rest)
 }
 
-/// The flash that the bytes spell, with its sizes, pages and worn blocks; its power is on, and no
-/// fault is planned.
-///
-/// It has the room of `SimFlash::new`: for all pages, and for a plan of 64 entries.
-pub fn decode(alloc: Global, bytes: &[u8]) -> Result<SimFlash, ImageFault>
-    // What is read is spelled so.
+/// The flash that the bytes spell, or what is wrong with them.
+fn read_image(alloc: Global, bytes: &[u8]) -> Result<SimFlash, ImageFault>
     ensures spelled { IfOk result (λ flash. bytes.now ≡ image_of (device_of flash)) }
-    ensures power { IfOk result (λ flash. (device_of flash).powered ≡ true) }
+    ensures ready { IfOk result (λ flash. IsReady (device_of flash)) }
     ensures plan { IfOk result (λ flash. plan_of flash ≡ plan_of_entries []) }
     ensures fault { IfErr result (λ fault. (fault ≡ ImageFault.Memory) ⊎ IsFault fault bytes.now) }
 {
@@ -180,4 +177,26 @@ pub fn decode(alloc: Global, bytes: &[u8]) -> Result<SimFlash, ImageFault>
         return Err(ImageFault::Trailing);
     }
     Ok(flash)
+}
+
+/// The flash that the bytes spell, with its sizes, pages and worn blocks. Its power is on, no fault is
+/// planned, and nothing has happened to it yet.
+///
+/// It has the room of `SimFlash::new`: for all pages, and for a plan of 64 entries. Of what is wrong
+/// with the bytes the first fault from the left is told.
+pub fn decode(alloc: Global, bytes: &[u8]) -> Result<SimFlash, ImageFault>
+    // What is read is spelled so.
+    ensures spelled { IfOk result (λ flash. bytes.now ≡ image_of (device_of flash)) }
+    // What is spelled so is read, unless memory could not be had.
+    ensures read { (d : Device) → HasImage d → bytes.now ≡ image_of d
+        → MatchResult result (λ flash. HoldsTheSame d (device_of flash)) (λ fault. fault ≡ ImageFault.Memory) }
+    ensures ready { IfOk result (λ flash. IsReady (device_of flash)) }
+    ensures plan { IfOk result (λ flash. plan_of flash ≡ plan_of_entries []) }
+    // Which fault it is.
+    ensures fault { IfErr result (λ fault. (fault ≡ ImageFault.Memory) ⊎ IsFault fault bytes.now) }
+    // Bytes with a fault are not read, and it is the fault that is told, unless memory could not be had.
+    ensures found { (fault : ImageFault) → IsFault fault bytes.now
+        → MatchResult result (λ _. ⊥) (λ found. (found ≡ ImageFault.Memory) ⊎ (found ≡ fault)) }
+{
+    read_image(alloc, bytes)
 }

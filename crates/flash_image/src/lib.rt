@@ -9,7 +9,9 @@
 mod decoding;
 mod encoding;
 mod faults;
+mod laws;
 
 pub use decoding::decode;
 pub use encoding::encode;
 pub use faults::ImageFault;
+pub use laws::{each_flash_has_an_image, faults_are_told_apart, images_are_told_apart};

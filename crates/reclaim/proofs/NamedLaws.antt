@@ -1,0 +1,181 @@
+-- The blocks that a node names, and the list of them.
+use Rattle.std.proofs.Common.{◌≡◌, ◌↔◌, ◌⊎◌, inl, inr, ℕ, zero, suc, ◌+◌, ◌/◌, ◌%◌, ◌^◌, ◌<◌, Bool, true, false, cond, Option, Some, None, List, [], ◌∷◌, ◌++◌, refl, sym, ap, subst, ◌∙◌, arith}
+use Rattle.std.specs.Prelude.{◌==◌, nat_lt, Contains, IfSome}
+use Rattle.std.specs.List.{flat_map}
+use Rattle.std.proofs.Math.Nat.{div-add-mod', mul-mod_left}
+use Rattle.std.proofs.lemmas.Bool.{and_parts, and_from, ltb-true, lt-ltb, eqb-true, eq-eqb, cases_lt}
+use Rattle.std.proofs.lemmas.List.Elements.{Contains-append_left, Contains-append_right, Contains-append_cases, Contains-push, Contains-push_cases}
+use Rattle.node_format.specs.Items.{Item}
+use Rattle.node_format.specs.declared.places.Place.{Place}
+use Rattle.node_format.specs.declared.places.Place.TheVariants.{Dir, File}
+use Rattle.node_format.proofs.BodyFields.{place_beyond}
+use Rattle.block_trees.specs.Bodies.{index_of, pointer_of, Divides}
+use Rattle.block_trees.specs.Trees.{items_of}
+use Rattle.block_trees.specs.Reached.{PlaceNames, BodyNames, Names}
+use Rattle.reclaim.specs.Naming.{place_names, item_names, has_place, places_named, body_named}
+
+-- ---- entries
+
+in_none : (b : ℕ) → Contains [] b → ⊥
+in_none b (k, lt, is) = omega arith
+
+in_one : (x b : ℕ) → Contains (x ∷ []) b → x ≡ b
+in_one x b h = one (Contains-push_cases [] x b h)
+  where
+    one : Contains [] b ⊎ (x ≡ b) → x ≡ b
+    one (inl none) = absurd (in_none b none)
+    one (inr same) = same
+
+own_in : (x b : ℕ) → x ≡ b → Contains (x ∷ []) b
+own_in x b same = subst (Contains (x ∷ [])) same (Contains-push [] x)
+
+place_to : (place : Place) (b : ℕ) → Contains (place_names place) b → PlaceNames place b
+place_to (Dir block) b h = in_one block b h
+place_to (File head zero) b h = absurd (in_none b h)
+place_to (File head (suc n)) b h = (omega arith, in_one head b h)
+
+place_from : (place : Place) (b : ℕ) → PlaceNames place b → Contains (place_names place) b
+place_from (Dir block) b same = own_in block b same
+place_from (File head zero) b h = absurd (omega (arith, h.0))
+place_from (File head (suc n)) b h = own_in head b h.1
+
+-- an entry of a list names the block
+abbrev SomeNames : List Item → ℕ → Type 0
+SomeNames items b = (item : Item) × Contains items item × PlaceNames item.place b
+
+head_in : {X : Type 0} (x : X) (xs : List X) → Contains (x ∷ xs) x
+head_in x xs = (0, omega arith, refl)
+
+tail_in : {X : Type 0} (x y : X) (xs : List X) → Contains xs y → Contains (x ∷ xs) y
+tail_in x y xs (k, lt, is) = (suc k, omega arith, is)
+
+items_to : (items : List Item) (b : ℕ) → Contains (flat_map item_names items) b → SomeNames items b
+items_to [] b h = absurd (in_none b h)
+items_to (item ∷ items) b h = either (Contains-append_cases (item_names item) (flat_map item_names items) b h) (items_to items b)
+  where
+    either : Contains (item_names item) b ⊎ Contains (flat_map item_names items) b → (Contains (flat_map item_names items) b → SomeNames items b)
+        → SomeNames (item ∷ items) b
+    either (inl first) again = (item, head_in item items, place_to item.place b first)
+    either (inr rest) again = let found = again rest in (found.0, tail_in item found.0 items found.1, found.2)
+
+items_from : (items : List Item) (item : Item) (b : ℕ) → Contains items item → PlaceNames item.place b → Contains (flat_map item_names items) b
+items_from [] item b (k, lt, is) names = absurd (omega arith)
+items_from (first ∷ items) item b (zero, lt, is) names =
+    Contains-append_left (item_names first) (flat_map item_names items) b (place_from first.place b (subst (λ (i : Item). PlaceNames i.place b) (sym is) names))
+items_from (first ∷ items) item b (suc k, lt, is) names =
+    Contains-append_right (item_names first) (flat_map item_names items) b (items_from items item b (k, omega arith, is) names)
+
+-- ---- pointer places
+
+-- one place more
+pub places_named-has : (index : ℕ) (pointer : ℕ → ℕ) (x : ℕ) → has_place index x ≡ true
+    → places_named index pointer (x + 1) ≡ places_named index pointer x ++ pointer x ∷ []
+unfolding places_named
+places_named-has index pointer x has =
+    let e : x + 1 ≡ suc x = omega arith in
+    ap (places_named index pointer) e ∙ ap (λ b. cond b (places_named index pointer x ++ pointer x ∷ []) (places_named index pointer x)) has
+
+pub places_named-lacks : (index : ℕ) (pointer : ℕ → ℕ) (x : ℕ) → has_place index x ≡ false
+    → places_named index pointer (x + 1) ≡ places_named index pointer x
+unfolding places_named
+places_named-lacks index pointer x lacks =
+    let e : x + 1 ≡ suc x = omega arith in
+    ap (places_named index pointer) e ∙ ap (λ b. cond b (places_named index pointer x ++ pointer x ∷ []) (places_named index pointer x)) lacks
+
+pub places_named-none : (index : ℕ) (pointer : ℕ → ℕ) → places_named index pointer 0 ≡ []
+unfolding places_named
+places_named-none index pointer = refl
+
+-- the node has a pointer at a place below n, to the block
+abbrev HasPointer : ℕ → (ℕ → ℕ) → ℕ → ℕ → Type 0
+HasPointer index pointer n b = (x : ℕ) × (x < n) × (has_place index x ≡ true) × (pointer x ≡ b)
+
+places_to : (index : ℕ) (pointer : ℕ → ℕ) (n b : ℕ) → Contains (places_named index pointer n) b → HasPointer index pointer n b
+unfolding places_named
+places_to index pointer zero b h = absurd (in_none b h)
+places_to index pointer (suc n) b h = on (has_place index n) refl h (places_to index pointer n b)
+  where
+    more : HasPointer index pointer n b → HasPointer index pointer (suc n) b
+    more (x, lt, has, is) = (x, omega arith, has, is)
+
+    last : has_place index n ≡ true → Contains (places_named index pointer n) b ⊎ (pointer n ≡ b)
+        → (Contains (places_named index pointer n) b → HasPointer index pointer n b) → HasPointer index pointer (suc n) b
+    last has (inl before) again = more (again before)
+    last has (inr same) again = (n, omega arith, has, same)
+
+    on : (t : Bool) → has_place index n ≡ t → Contains (cond t (places_named index pointer n ++ pointer n ∷ []) (places_named index pointer n)) b
+        → (Contains (places_named index pointer n) b → HasPointer index pointer n b) → HasPointer index pointer (suc n) b
+    on true has h again = last has (Contains-push_cases (places_named index pointer n) (pointer n) b h) again
+    on false lacks h again = more (again h)
+
+places_from : (index : ℕ) (pointer : ℕ → ℕ) (n x : ℕ) → x < n → has_place index x ≡ true → Contains (places_named index pointer n) (pointer x)
+unfolding places_named
+places_from index pointer zero x lt has = absurd (omega arith)
+places_from index pointer (suc n) x lt has =
+    elim (cases_lt x n) [
+      | inl before ↦ on (has_place index n) (places_from index pointer n x before has)
+      | inr past ↦
+          let same : n ≡ x = omega arith in
+          let here : has_place index n ≡ true = ap (has_place index) same ∙ has in
+          subst (λ (t : Bool). Contains (cond t (places_named index pointer n ++ pointer n ∷ []) (places_named index pointer n)) (pointer x)) (sym here)
+          (subst (λ (k : ℕ). Contains (places_named index pointer n ++ pointer n ∷ []) (pointer k)) same (Contains-push (places_named index pointer n) (pointer n)))
+    ]
+  where
+    on : (t : Bool) → Contains (places_named index pointer n) (pointer x)
+        → Contains (cond t (places_named index pointer n ++ pointer n ∷ []) (places_named index pointer n)) (pointer x)
+    on true h = Contains-append_left (places_named index pointer n) (pointer n ∷ []) (pointer x) h
+    on false h = h
+
+-- the test of a place
+pub has_place-divides : (index x : ℕ) → has_place index x ≡ true → (0 < index) × Divides x index
+has_place-divides index x has =
+    let parts = and_parts (nat_lt 0 index) (index % 2 ^ x == 0) has in
+    let e : index % 2 ^ x ≡ 0 = eqb-true (index % 2 ^ x) 0 parts.1 in
+    (ltb-true 0 index parts.0, (index / 2 ^ x, omega (arith, e, div-add-mod' index (2 ^ x))))
+
+pub divides-has_place : (index x : ℕ) → 0 < index → Divides x index → has_place index x ≡ true
+divides-has_place index x some (m, is) =
+    let e : index % 2 ^ x ≡ 0 = ap (λ (n : ℕ). n % 2 ^ x) is ∙ mul-mod_left m (2 ^ x) in
+    and_from (nat_lt 0 index) (index % 2 ^ x == 0) (lt-ltb 0 index some) (eq-eqb (index % 2 ^ x) 0 e)
+
+-- no place from 32 on divides a number of four bytes
+pub divides-below : (index x : ℕ) → 0 < index → index < 2 ^ 32 → Divides x index → x < 32
+divides-below index x some fits divides =
+    elim (cases_lt x 32) [
+      | inl below ↦ below
+      | inr past ↦ absurd (place_beyond index x fits past (some, divides))
+    ]
+
+body_to : (o : Option ℕ) (pointer : ℕ → ℕ) (b : ℕ) → Contains (body_named o pointer) b → BodyNames o pointer b
+body_to None pointer b h = absurd (in_none b h)
+body_to (Some index) pointer b h =
+    let found = places_to index pointer 32 b h in
+    let has = has_place-divides index found.0 found.2 in
+    (found.0, has.0, has.1, found.3)
+
+body_from : (o : Option ℕ) (pointer : ℕ → ℕ) (b : ℕ) → IfSome o (λ index. index < 2 ^ 32) → BodyNames o pointer b → Contains (body_named o pointer) b
+body_from None pointer b fits h = absurd h
+body_from (Some index) pointer b fits (x, some, divides, is) =
+    subst (Contains (places_named index pointer 32)) is
+    (places_from index pointer 32 x (divides-below index x some fits divides) (divides-has_place index x some divides))
+
+-- ---- both
+
+-- the list has what the node names, and nothing else
+pub named_all : (bytes list : List ℕ) → IfSome (index_of (Some bytes)) (λ index. index < 2 ^ 32)
+    → list ≡ flat_map item_names (items_of (Some bytes)) ++ body_named (index_of (Some bytes)) (pointer_of (Some bytes))
+    → (b : ℕ) → Contains list b ↔ Names (Some bytes) b
+named_all bytes list fits is b = (
+  λ h. to (Contains-append_cases (flat_map item_names (items_of (Some bytes))) (body_named (index_of (Some bytes)) (pointer_of (Some bytes))) b (subst (λ (xs : List ℕ). Contains xs b) is h)),
+  λ h. subst (λ (xs : List ℕ). Contains xs b) (sym is) (from h),
+)
+  where
+    to : Contains (flat_map item_names (items_of (Some bytes))) b ⊎ Contains (body_named (index_of (Some bytes)) (pointer_of (Some bytes))) b → Names (Some bytes) b
+    to (inl h) = inl (items_to (items_of (Some bytes)) b h)
+    to (inr h) = inr (body_to (index_of (Some bytes)) (pointer_of (Some bytes)) b h)
+
+    from : Names (Some bytes) b → Contains (flat_map item_names (items_of (Some bytes)) ++ body_named (index_of (Some bytes)) (pointer_of (Some bytes))) b
+    from (inl (item, within, names)) =
+        Contains-append_left (flat_map item_names (items_of (Some bytes))) (body_named (index_of (Some bytes)) (pointer_of (Some bytes))) b (items_from (items_of (Some bytes)) item b within names)
+    from (inr h) =
+        Contains-append_right (flat_map item_names (items_of (Some bytes))) (body_named (index_of (Some bytes)) (pointer_of (Some bytes))) b (body_from (index_of (Some bytes)) (pointer_of (Some bytes)) b fits h)

@@ -1,0 +1,29 @@
+-- The blocks that a node names, as lists.
+use Rattle.std.specs.Prelude.{ℕ, zero, suc, ◌%◌, ◌^◌, ◌&&◌, ◌==◌, nat_lt, Bool, Option, Some, None, List, [], ◌∷◌, ◌++◌, if◌then◌else◌}
+use Rattle.node_format.specs.Items.{Item}
+use Rattle.node_format.specs.declared.places.Place.{Place}
+use Rattle.node_format.specs.declared.places.Place.TheVariants.{Dir, File}
+
+-- a directory's block, and the head of a file that is not empty
+abbrev pub place_names : Place → List ℕ
+place_names (Dir block) = block ∷ []
+place_names (File head zero) = []
+place_names (File head (suc n)) = head ∷ []
+
+abbrev pub item_names : Item → List ℕ
+item_names item = place_names item.place
+
+-- whether the node of an index has a pointer at place x
+abbrev pub has_place : ℕ → ℕ → Bool
+has_place index x = nat_lt 0 index && (index % 2 ^ x == 0)
+
+-- the blocks of the pointers of an index at its first places, so many
+unfoldable pub places_named : ℕ → (ℕ → ℕ) → ℕ → List ℕ
+places_named index pointer zero = []
+places_named index pointer (suc x) =
+    if has_place index x then places_named index pointer x ++ pointer x ∷ [] else places_named index pointer x
+
+-- the blocks of the pointers of a body node
+abbrev pub body_named : Option ℕ → (ℕ → ℕ) → List ℕ
+body_named None pointer = []
+body_named (Some index) pointer = places_named index pointer 32

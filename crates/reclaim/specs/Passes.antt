@@ -1,0 +1,69 @@
+-- A marking of the blocks that roots reach, in steps.
+use Rattle.std.specs.Prelude.{◌≡◌, ◌≢◌, ◌⊎◌, ◌↔◌, ℕ, ◌<◌, ◌≤◌, ◌++◌, List, length, slice_index, Contains, refl}
+use Rattle.std.specs.Coded.{Coded, code_by, coded×, coded_ℕ, coded_list}
+use Rattle.std.specs.FinSet as set
+use Rattle.fs_types.specs.declared.faults.Fault.{Fault}
+use Rattle.fs_types.specs.declared.faults.Fault.TheVariants.{NoMemory, Damaged}
+use Rattle.allocator.specs.BlockSet.{BlockSet}
+use Rattle.allocator.specs.Ring.{IsDataBlock}
+use Rattle.block_trees.specs.Bodies.{Blocks}
+use Rattle.block_trees.specs.Reached.{Reached, Names, Agrees}
+
+-- how many blocks the flash has, the roots, the marked blocks in order of marking, and how many of these were read:
+-- the first ones
+pub record Pass : Type 0 where
+  pub blocks : ℕ
+  pub roots : List ℕ
+  pub order : List ℕ
+  pub next : ℕ
+
+-- it is stored as the tuple of its fields
+abbrev pub pass_code : Coded Pass
+pass_code =
+    code_by ((ℕ × List ℕ) × (List ℕ × ℕ)) (coded× (coded× coded_ℕ (coded_list coded_ℕ)) (coded× (coded_list coded_ℕ) coded_ℕ))
+    (λ p. ((p.blocks, p.roots), (p.order, p.next))) (λ p. record { blocks = p.0.0; roots = p.0.1; order = p.1.0; next = p.1.1 }) (λ _. refl)
+
+-- the set of marks has the blocks of the list, of which so many were read
+pub record IsOrder (marks : BlockSet) (order : List ℕ) (next : ℕ) : Type 0 where
+  pub members : marks.members ≡ set.from_list order
+  pub within : next ≤ length order
+
+-- no block is in the list twice
+abbrev pub AreDistinct : List ℕ → Type 0
+AreDistinct order = (i j : ℕ) → i < j → j < length order → slice_index order i ≢ slice_index order j
+
+-- the second list begins with the first
+abbrev pub Begins : List ℕ → List ℕ → Type 0
+Begins old new = (rest : List ℕ) × (old ++ rest ≡ new)
+
+-- names were added to a list of blocks, each where it was not there
+pub record IsMarked (old names new : List ℕ) : Type 0 where
+  pub begins : Begins old new
+  pub each : (b : ℕ) → Contains names b → Contains new b
+  pub only : (b : ℕ) → Contains new b → Contains old b ⊎ Contains names b
+  pub distinct : AreDistinct old → AreDistinct new
+
+-- a pass over these nodes: the roots are marked, and what the blocks read so far name; all that is marked is reached,
+-- and none is marked twice
+pub record IsPass (f : Blocks) (p : Pass) : Type 0 where
+  pub rooted : (b : ℕ) → Contains p.roots b → Contains p.order b
+  pub reached : (b : ℕ) → Contains p.order b → Reached f p.roots b
+  pub named : (k b : ℕ) → k < p.next → Names (f (slice_index p.order k)) b → Contains p.order b
+  pub distinct : AreDistinct p.order
+  pub within : p.next ≤ length p.order
+
+-- no marked block is left to be read
+abbrev pub IsFinished : Pass → Type 0
+IsFinished p = p.next ≡ length p.order
+
+-- marking was refused: for memory, or for a name that is no data block
+abbrev pub IsMarkFault : ℕ → List ℕ → Fault → Type 0
+IsMarkFault blocks names fault = (fault ≡ NoMemory) ⊎ ((fault ≡ Damaged) × ((b : ℕ) × Contains names b × (IsDataBlock blocks b → ⊥)))
+
+-- what the roots reach keeps its nodes: the pass is one over the later nodes too
+abbrev pub PassStays : Type 0
+PassStays = (old new : Blocks) (p : Pass) → Agrees p.roots old new → IsPass old p → IsPass new p
+
+-- a finished pass has marked exactly what the roots reach
+abbrev pub PassMarks : Type 0
+PassMarks = (f : Blocks) (p : Pass) → IsPass f p → IsFinished p → (b : ℕ) → Contains p.order b ↔ Reached f p.roots b

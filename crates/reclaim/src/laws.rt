@@ -1,0 +1,19 @@
+//! The laws of passes. Each function does nothing: its contract is the law.
+ghost use Rattle.std.specs.Prelude.{◌≡◌, ℕ, true};
+ghost use Rattle.block_trees.specs.Reached.{Reached};
+ghost use Rattle.reclaim.specs.Passes.{Pass as Marking, IsPass, PassStays, PassMarks};
+
+use node_store::Nodes;
+
+/// Where all that the roots of a pass reach keeps its nodes, the pass goes on; a finished one has
+/// marked exactly what its roots reach.
+pub fn pass_laws()
+    ensures stays { PassStays }
+    ensures marks { PassMarks }
+{}
+
+/// Where all that the roots of a pass reach is kept, the pass goes on whatever calls came between.
+pub fn frame_law<N: Nodes>()
+    ensures { (s t : N) (p : Marking) → N.is_sound s → N.follows s t → ((b : ℕ) → Reached (N.node s) p.roots b → N.kept s b ≡ true)
+        → IsPass (N.node s) p → IsPass (N.node t) p }
+{}

@@ -1,0 +1,76 @@
+//! The blocks that a node names.
+ghost use Rattle.std.specs.Prelude.{◌≡◌, ℕ, ◌^◌, ◌<◌, ◌↔◌, ◌++◌, Some, OnOk, IfOk, IfErr, IfSome, Contains, option_to_list};
+ghost use Rattle.std.specs.List.{flat_map};
+ghost use Rattle.block_trees.specs.Bodies.{index_of, pointer_of};
+ghost use Rattle.block_trees.specs.Trees.{items_of};
+ghost use Rattle.block_trees.specs.Reached.{Names};
+ghost use Rattle.reclaim.specs.Naming.{place_names, item_names, places_named, body_named};
+
+use crate::fields::{PLACES, has_pointer, index_in, pointer_in};
+use fs_types::Fault;
+use node_format::{Entries, Place};
+use std::alloc::{AllocError, Global};
+
+// The block that a place names: none for an empty file.
+fn block_of(place: Place) -> Option<u32>
+    ensures { option_to_list result ≡ place_names place }
+{
+    match place {
+        Place::Dir { block } => Some(block),
+        Place::File { head: _, length: 0 } => None,
+        Place::File { head, length: _ } => Some(head),
+    }
+}
+
+fn push_entries(out: &mut Vec<u32>, entries: Entries<'_>) -> Result<(), AllocError>
+    ensures { OnOk result (out.new.items ≡ out.old.items ++ flat_map item_names entries.entry) }
+{
+    for entry in entries {
+        if let Some(block) = block_of(entry.place()) {
+            out.push(block)?;
+        }
+    }
+    Ok(())
+}
+
+fn push_places(out: &mut Vec<u32>, index: u32, bytes: &[u8]) -> Result<(), AllocError>
+    ensures { OnOk result (out.new.items ≡ out.old.items ++ places_named index (pointer_of (Some bytes.now)) 32) }
+{
+    for place in 0..PLACES {
+        if has_pointer(index, place) {
+            out.push(pointer_in(bytes, place))?;
+        }
+    }
+    Ok(())
+}
+
+fn push_directory(out: &mut Vec<u32>, bytes: &[u8]) -> Result<(), AllocError>
+    ensures { OnOk result (out.new.items ≡ out.old.items ++ flat_map item_names (items_of (Some bytes.now))) }
+{
+    let Some(entries) = Entries::of(bytes) else {
+        return Ok(());
+    };
+    push_entries(out, entries)
+}
+
+fn push_body(out: &mut Vec<u32>, bytes: &[u8]) -> Result<(), AllocError>
+    ensures list { OnOk result (out.new.items ≡ out.old.items ++ body_named (index_of (Some bytes.now)) (pointer_of (Some bytes.now))) }
+    ensures fits { IfSome (index_of (Some bytes.now)) (λ index. index < 2 ^ 32) }
+{
+    let Some(index) = index_in(bytes) else {
+        return Ok(());
+    };
+    push_places(out, index, bytes)
+}
+
+/// The blocks that the node of some bytes names, by an entry or by a pointer place. A block may be
+/// there more than once; bytes of no node name none.
+pub fn named(alloc: Global, bytes: &[u8]) -> Result<Vec<u32>, Fault>
+    ensures names { IfOk result (λ v. (b : ℕ) → Contains v.items b ↔ Names (Some bytes.now) b) }
+    ensures memory { IfErr result (λ fault. fault ≡ Fault.NoMemory) }
+{
+    let mut out = Vec::new(alloc);
+    push_directory(&mut out, bytes)?;
+    push_body(&mut out, bytes)?;
+    Ok(out)
+}

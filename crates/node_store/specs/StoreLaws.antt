@@ -24,10 +24,7 @@ module _ {F : Type 0} (device : F → Device) where
   pub Follows_itself : (s : Store F) → Follows device s s
   Follows_itself s = record {
     same_flash = refl;
-    same_bad = refl;
-    same_ring = refl;
-    same_page = refl;
-    same_node = refl;
+    same_storage = refl;
     page_len = refl;
     node_room = omega arith;
     evolved = Evolved_itself (parts device s);
@@ -40,10 +37,7 @@ module _ {F : Type 0} (device : F → Device) where
   pub Follows_on : (s t u : Store F) → Follows device s t → Follows device t u → Follows device s u
   Follows_on s t u f g = record {
     same_flash = g.same_flash ∙ f.same_flash;
-    same_bad = g.same_bad ∙ f.same_bad;
-    same_ring = g.same_ring ∙ f.same_ring;
-    same_page = g.same_page ∙ f.same_page;
-    same_node = g.same_node ∙ f.same_node;
+    same_storage = g.same_storage ∙ f.same_storage;
     page_len = g.page_len ∙ f.page_len;
     node_room = omega arith;
     evolved = Evolved_on (parts device s) (parts device t) (parts device u) f.evolved g.evolved;
@@ -77,5 +71,5 @@ module _ {F : Type 0} (device : F → Device) where
         lawful = subst IsGeometry (sym same) sound.lawful;
         ring_blocks = f.evolved.blocks ∙ sound.ring_blocks ∙ ap (λ (g : Geometry). g.blocks) (sym same);
         page_len = f.page_len ∙ sound.page_len ∙ ap (λ (g : Geometry). g.page) (sym same);
-        node_room = subst (λ (g : Geometry). block_bytes g ≤ vec_capacity t.node.now) (sym same) (let room = sound.node_room in let more = f.node_room in omega arith);
+        node_room = subst (λ (g : Geometry). block_bytes g ≤ vec_capacity t.storage.now.node) (sym same) (let room = sound.node_room in let more = f.node_room in omega arith);
       }

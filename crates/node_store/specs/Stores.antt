@@ -12,42 +12,39 @@ use Rattle.node_store.specs.Storage.{Storage, storage, most_bad, Evolved, IsUnto
 module _ {F : Type 0} (device : F → Device) where
   -- the parts that it works on
   abbrev pub parts : Store F → Storage
-  parts s = storage (device s.flash.now) s.bad.now s.ring.now
+  parts s = storage (device s.flash.now) s.storage.now.bad s.storage.now.ring
 
   -- what calls ask of the store, and leave
   pub record IsSound (s : Store F) : Type 0 where
     pub lawful : IsGeometry (device s.flash.now).geometry
-    pub ring_blocks : s.ring.now.blocks ≡ (device s.flash.now).geometry.blocks
-    pub page_len : vec_len s.page.now ≡ (device s.flash.now).geometry.page
-    pub node_room : block_bytes (device s.flash.now).geometry ≤ vec_capacity s.node.now
+    pub ring_blocks : s.storage.now.ring.blocks ≡ (device s.flash.now).geometry.blocks
+    pub page_len : vec_len s.storage.now.page ≡ (device s.flash.now).geometry.page
+    pub node_room : block_bytes (device s.flash.now).geometry ≤ vec_capacity s.storage.now.node
 
   -- the second state came of the first by calls
   pub record Follows (s t : Store F) : Type 0 where
     pub same_flash : t.flash.ghost_name ≡ s.flash.ghost_name
-    pub same_bad : t.bad.ghost_name ≡ s.bad.ghost_name
-    pub same_ring : t.ring.ghost_name ≡ s.ring.ghost_name
-    pub same_page : t.page.ghost_name ≡ s.page.ghost_name
-    pub same_node : t.node.ghost_name ≡ s.node.ghost_name
-    pub page_len : vec_len t.page.now ≡ vec_len s.page.now
-    pub node_room : vec_capacity s.node.now ≤ vec_capacity t.node.now
+    pub same_storage : t.storage.ghost_name ≡ s.storage.ghost_name
+    pub page_len : vec_len t.storage.now.page ≡ vec_len s.storage.now.page
+    pub node_room : vec_capacity s.storage.now.node ≤ vec_capacity t.storage.now.node
     pub evolved : Evolved (parts s) (parts t)
     -- each take beyond those of bad blocks is paid for by a write, and without a write nothing changes
     pub more_writes : s.writes.n ≤ t.writes.n
-    pub paid : t.ring.now.takes + set.len s.bad.now + s.writes.n ≤ s.ring.now.takes + set.len t.bad.now + t.writes.n
+    pub paid : t.storage.now.ring.takes + set.len s.storage.now.bad + s.writes.n ≤ s.storage.now.ring.takes + set.len t.storage.now.bad + t.writes.n
     pub untouched : t.writes.n ≡ s.writes.n → IsUntouched (parts s) (parts t)
     -- where the bad list is at its limit, nothing is written any more
-    pub at_limit : set.len s.bad.now ≡ most_bad → IsUntouched (parts s) (parts t)
+    pub at_limit : set.len s.storage.now.bad ≡ most_bad → IsUntouched (parts s) (parts t)
 
   -- no block is free, and those that were free were fewer than the writes asked and the blocks that went bad
   pub record IsFull (s t : Store F) : Type 0 where
-    pub none_free : free_count t.ring.now t.bad.now ≡ 0
-    pub few_free : free_count s.ring.now s.bad.now + set.len s.bad.now + s.writes.n < set.len t.bad.now + t.writes.n
-    pub room : set.len t.bad.now < most_bad
+    pub none_free : free_count t.storage.now.ring t.storage.now.bad ≡ 0
+    pub few_free : free_count s.storage.now.ring s.storage.now.bad + set.len s.storage.now.bad + s.writes.n < set.len t.storage.now.bad + t.writes.n
+    pub room : set.len t.storage.now.bad < most_bad
 
   -- why a refusal may come between two states
   abbrev pub Reasons : Store F → Store F → Fault → Type 0
   Reasons s t FlashFull = IsFull s t
-  Reasons s t ReadOnly = set.len t.bad.now ≡ most_bad
+  Reasons s t ReadOnly = set.len t.storage.now.bad ≡ most_bad
   Reasons s t ReadFailed = (device s.flash.now).failed_reads < (device t.flash.now).failed_reads
   Reasons s t PowerCut = (device t.flash.now).powered ≡ false
   Reasons s t NoMemory = Unit {0}

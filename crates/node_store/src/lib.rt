@@ -4,8 +4,10 @@
 mod adding;
 mod nodes;
 mod reading;
+mod storage;
 mod stores;
 mod writing;
 
 pub use nodes::Nodes;
+pub use storage::Storage;
 pub use stores::Store;

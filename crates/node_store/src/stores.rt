@@ -2,8 +2,7 @@
 use crate::adding::write_node;
 use crate::nodes::Nodes;
 use crate::reading::read_node;
-use allocator::Ring;
-use bad_blocks::BadBlocks;
+use crate::storage::Storage;
 use counts::Count;
 use flash_model::Flash;
 use fs_types::Fault;
@@ -17,18 +16,31 @@ use fs_types::Fault;
 pub struct Store<'a, F: Flash> {
     /// The flash.
     pub flash: &'a mut F,
-    /// The bad blocks.
-    pub bad: &'a mut BadBlocks,
-    /// The used blocks, for as many as the flash has.
-    pub ring: &'a mut Ring,
-    /// Room for the bytes of a page: as long as a page.
-    pub page: &'a mut Vec<u8>,
-    /// The node that the last read brought. It has the capacity of a block.
-    pub node: &'a mut Vec<u8>,
+    /// The bad and the used blocks, and room for a page and for a node.
+    pub storage: &'a mut Storage,
     /// How many reads were asked.
     pub reads: Count,
     /// How many writes were asked.
     pub writes: Count,
+}
+
+impl<'a, F: Flash> Store<'a, F> {
+    ghost use Rattle.std.specs.Prelude.{◌≡◌};
+
+    /// The nodes on a flash, of which no read and no write was asked yet.
+    pub fn new(flash: &'a mut F, storage: &'a mut Storage) -> Store<'a, F>
+        ensures flash { result.flash ≡ flash.entry }
+        ensures storage { result.storage ≡ storage.entry }
+        ensures reads { result.reads.n ≡ 0 }
+        ensures writes { result.writes.n ≡ 0 }
+    {
+        Store {
+            flash,
+            storage,
+            reads: Count::zero(),
+            writes: Count::zero(),
+        }
+    }
 }
 
 impl<F: Flash> Nodes for Store<'_, F> {
@@ -43,9 +55,9 @@ impl<F: Flash> Nodes for Store<'_, F> {
 
     ghost node = { λ s. node_of (F.device s.flash.now) };
 
-    ghost kept = { λ s. set.contains s.ring.now.used };
+    ghost kept = { λ s. set.contains s.storage.now.ring.used };
 
-    ghost shown = { λ s. s.node.now.items };
+    ghost shown = { λ s. s.storage.now.node.items };
 
     ghost lends = { λ _. Unit {0} };
 
@@ -73,16 +85,23 @@ impl<F: Flash> Nodes for Store<'_, F> {
 
     fn read(&mut self, block: u32) -> Result<(), Fault> {
         self.reads = self.reads.more();
-        read_node(self.flash, block, self.page, self.node)
+        let Storage { page, node, .. } = &mut *self.storage;
+        read_node(self.flash, block, page, node)
     }
 
     fn lent(&self) -> &[u8] {
-        self.node
+        &self.storage.node
     }
 
     fn write(&mut self, bytes: &[u8]) -> Result<u32, Fault> {
         self.writes = self.writes.more();
-        write_node(self.flash, self.bad, self.ring, self.page, bytes)
+        let Storage {
+            bad,
+            ring,
+            page,
+            ..
+        } = &mut *self.storage;
+        write_node(self.flash, bad, ring, page, bytes)
     }
 
     ghost follows_itself = { Follows_itself F.device };

@@ -48,7 +48,7 @@ needs room m call version more = subst (λ b. 0 < (if b then change_need room m 
 
 -- read-only mode, or no serial left
 abbrev ChangeFault : Fault → State → Type 0
-ChangeFault fault t = ((fault ≡ ReadOnly) × (is_read_only t.bad ≡ true)) ⊎ ((fault ≡ Overflow) × (t.history.next ≡ last_serial))
+ChangeFault fault t = ((fault ≡ ReadOnly) × (is_read_only t.storage.bad ≡ true)) ⊎ ((fault ≡ Overflow) × (t.history.next ≡ last_serial))
 
 pub change_refuses : (d : Device) (s : State) (e : Device) (t : State) (call : Call) (fault : Fault) → IsLooked d s e t → makes_version (machine_on d s) call ≡ true → ChangeFault fault t
     → Refuses (seen_on d s) (machine_on d s) call fault (seen_on e t)
@@ -70,7 +70,7 @@ writing_refuses d s e t f u call fault l heavy version more is why =
 later_root : (d : Device) (s : State) (e : Device) (t : State) (root : ℕ) → present_root s.history ≡ Some root → IsLooked d s e t → present_root t.history ≡ Some root
 later_root d s e t root is l = ap (λ (h : Past ℕ). present_root h) l.rest.history ∙ is
 
-pub later_stands : (d : Device) (s : State) (e : Device) (t : State) (root : ℕ) → IsMounted d s → present_root s.history ≡ Some root → IsLooked d s e t → IsStanding e t.ring root
+pub later_stands : (d : Device) (s : State) (e : Device) (t : State) (root : ℕ) → IsMounted d s → present_root s.history ≡ Some root → IsLooked d s e t → IsStanding e t.storage.ring root
 later_stands d s e t root m is l = present_stands e t root (worked_mounted d s e t m (looked_worked d s e t l)) (later_root d s e t root is l)
 
 pub later_tree : (d : Device) (s : State) (e : Device) (t : State) (root : ℕ) → IsMounted d s → present_root s.history ≡ Some root → IsLooked d s e t → present_tree (machine_on d s) ≡ tree_on e root
@@ -79,21 +79,21 @@ later_tree d s e t root m is l =
 
 -- A path written anew.
 
-pub worked_keeps : (d : Device) (s : State) (e : Device) (t : State) → IsMounted d s → IsWorked d s e t → Keeps (set.contains s.ring.used) (node_of d) (set.contains t.ring.used) (node_of e)
+pub worked_keeps : (d : Device) (s : State) (e : Device) (t : State) → IsMounted d s → IsWorked d s e t → Keeps (set.contains s.storage.ring.used) (node_of d) (set.contains t.storage.ring.used) (node_of e)
 worked_keeps d s e t m w = keeps (storage_on d s) (storage_on e t) m.lawful w.evolved
 
 -- a root stands, and has this tree
 pub record HasNewTree (e : Device) (t : State) (to : ℕ) (tree : Tree) : Type 0 where
-  pub stands : IsStanding e t.ring to
+  pub stands : IsStanding e t.storage.ring to
   pub is : tree_on e to ≡ tree
 
 -- a path below a root that stood was written anew, its new entry holds what it reaches, and the law of the edit gives the tree: so the new root stands
-pub rewritten_root : (d : Device) (s : State) (e : Device) (t : State) (from to : ℕ) (path : Path) (at : Option Place) (tree : Tree) → IsMounted d s → IsStanding d s.ring from → IsWorked d s e t
-    → IsRewritten (node_of d) (set.contains t.ring.used) (node_of e) from to path at → IsHeldOrNothing (node_of e) (set.contains t.ring.used) at
+pub rewritten_root : (d : Device) (s : State) (e : Device) (t : State) (from to : ℕ) (path : Path) (at : Option Place) (tree : Tree) → IsMounted d s → IsStanding d s.storage.ring from → IsWorked d s e t
+    → IsRewritten (node_of d) (set.contains t.storage.ring.used) (node_of e) from to path at → IsHeldOrNothing (node_of e) (set.contains t.storage.ring.used) at
     → IsRoot (room_of d) (node_of e) to × (root_tree (room_of d) (node_of e) to ≡ tree) → HasNewTree e t to tree
 rewritten_root d s e t from to path at tree m stands w rewritten held law =
     let same : room_of e ≡ room_of d = same_room (storage_on d s) (storage_on e t) w.evolved in
-    let edit = edit_law (node_of d) (node_of e) (set.contains s.ring.used) (set.contains t.ring.used) from to path at (worked_keeps d s e t m w) stands.held rewritten in
+    let edit = edit_law (node_of d) (node_of e) (set.contains s.storage.ring.used) (set.contains t.storage.ring.used) from to path at (worked_keeps d s e t m w) stands.held rewritten in
     record {
       stands = record { held = edit.held held; rooted = subst (λ room. IsRoot room (node_of e) to) (sym same) law.0 };
       is = ap (λ room. root_tree room (node_of e) to) same ∙ law.1;
@@ -101,10 +101,10 @@ rewritten_root d s e t from to path at tree m stands w rewritten held law =
 
 -- The new root becomes the present one.
 
-pub all_pushed : (e : Device) (t : State) (to : ℕ) → AllStand e t.ring t.history → IsStanding e t.ring to → AllStand e t.ring (changed t.history to)
+pub all_pushed : (e : Device) (t : State) (to : ℕ) → AllStand e t.storage.ring t.history → IsStanding e t.storage.ring to → AllStand e t.storage.ring (changed t.history to)
 all_pushed e t to all stands = record {
-  versions = all_changed (IsStanding e t.ring) t.history to all.versions stands;
-  checkpoints = kept_changed (IsStanding e t.ring) t.history to all.checkpoints;
+  versions = all_changed (IsStanding e t.storage.ring) t.history to all.versions stands;
+  checkpoints = kept_changed (IsStanding e t.storage.ring) t.history to all.checkpoints;
 }
 
 -- the trees of the history are those before, and the new one
@@ -129,7 +129,7 @@ changed_state u h files = record u { history = h; files = files }
 -- a change that was looked at from `d` to `e` and written from `e` to `f`
 pub changed_step : (d : Device) (s : State) (e : Device) (t : State) (f : Device) (u : State) (to : ℕ) (call : Call) (tree : Tree) (reply : Reply) (h : Past ℕ) (files : Descriptors) → h ≡ changed u.history to → files ≡ descriptors_after (machine_on d s) call
     → IsMounted d s → IsLooked d s e t → refusal (machine_on d s) call ≡ None → tree_after (machine_on d s) call ≡ Some tree → reply_of (seen_on f u).space (machine_on d s) call ≡ reply
-    → is_read_only t.bad ≡ false → t.history.next < last_serial → IsWorked e t f u → HasNewTree f u to tree
+    → is_read_only t.storage.bad ≡ false → t.history.next < last_serial → IsWorked e t f u → HasNewTree f u to tree
     → CallStep (seen_on d s) (machine_on d s) false call (Ok reply) (seen_on f (changed_state u h files)) (machine_on f (changed_state u h files)) false
 changed_step d s e t f u to call tree reply h files pushes opens m l fine after replies writable serial w new =
     let all = worked_on d s e t f u (looked_worked d s e t l) w in
@@ -153,7 +153,7 @@ pub changed_mounted : (d : Device) (s : State) (f : Device) (u : State) (to : �
     → has_paths call ≡ true → CallStep (seen_on d s) (machine_on d s) false call result (seen_on f (changed_state u h files)) (machine_on f (changed_state u h files)) false → IsMounted f (changed_state u h files)
 changed_mounted d s f u to call tree result h files pushes m w new paths step =
     let mounted = worked_mounted d s f u m w in
-    let all : AllStand f u.ring h = subst (AllStand f u.ring) (sym pushes) (all_pushed f u to (all_stand f u mounted) new.stands) in
+    let all : AllStand f u.storage.ring h = subst (AllStand f u.storage.ring) (sym pushes) (all_pushed f u to (all_stand f u mounted) new.stands) in
     record {
       lawful = mounted.lawful;
       ring_blocks = mounted.ring_blocks;
@@ -179,7 +179,7 @@ refused_called reply d s e t call fault result is m w refuses = record {
 -- a change that was carried out, which answers nothing and leaves the open files
 pub changed_called : (d : Device) (s : State) (e : Device) (t : State) (f : Device) (u : State) (to : ℕ) (call : Call) (tree : Tree) (h : Past ℕ) → h ≡ changed u.history to → IsMounted d s → IsLooked d s e t
     → refusal (machine_on d s) call ≡ None → tree_after (machine_on d s) call ≡ Some tree → descriptors_after (machine_on d s) call ≡ s.files → reply_of (seen_on f u).space (machine_on d s) call ≡ Reply.Empty → has_paths call ≡ true
-    → is_read_only t.bad ≡ false → t.history.next < last_serial → IsWorked e t f u → HasNewTree f u to tree → IsCalled (Unit {0}) d s call empty (Ok tt) f (record u { history = h })
+    → is_read_only t.storage.bad ≡ false → t.history.next < last_serial → IsWorked e t f u → HasNewTree f u to tree → IsCalled (Unit {0}) d s call empty (Ok tt) f (record u { history = h })
 changed_called d s e t f u to call tree h pushes m l fine after opens replies paths writable serial w new =
     let all = worked_on d s e t f u (looked_worked d s e t l) w in
     let step = changed_step d s e t f u to call tree Reply.Empty h u.files pushes (all.rest.files ∙ sym opens) m l fine after replies writable serial w new in

@@ -104,7 +104,7 @@ long_body room f head (suc n) is =
 -- the body of a file of the present tree
 pub record IsPresentBody (d : Device) (s : State) (path : Path) (head size : ℕ) : Type 0 where
   pub whole : IsBody (room_of d) (node_of d) head size
-  pub held : IsHeld (node_of d) (set.contains s.ring.used) (place.File head size)
+  pub held : IsHeld (node_of d) (set.contains s.storage.ring.used) (place.File head size)
   pub shown : bytes_at (present_tree (machine_on d s)) path ≡ body (room_of d) (node_of d) head size
   pub short : size ≤ 16777216
 
@@ -118,7 +118,7 @@ present_body d s root path head size m is led =
     let most = (present-file_tree (machine_on d s) m.machine).lengths path (body (room_of d) (node_of d) head size) there in
     record {
       whole = whole;
-      held = held_leads (node_of d) (set.contains s.ring.used) path (place.Dir root) (place.File head size) leads stands.held;
+      held = held_leads (node_of d) (set.contains s.storage.ring.used) path (place.Dir root) (place.File head size) leads stands.held;
       shown = ap bytes_of there;
       short = omega (arith, most, long_body (room_of d) (node_of d) head size whole);
     }
@@ -175,7 +175,7 @@ work_refuses d s f u h v call path bytes fault w change is why =
 later_root : (d : Device) (s : State) (f : Device) (u : State) (root : ℕ) → present_root s.history ≡ Some root → IsWorked d s f u → present_root u.history ≡ Some root
 later_root d s f u root is w = ap (λ (h : Past ℕ). present_root h) w.rest.history ∙ is
 
-pub still_root : (d : Device) (s : State) (f : Device) (u : State) (root : ℕ) → IsMounted d s → present_root s.history ≡ Some root → IsWorked d s f u → IsStanding f u.ring root
+pub still_root : (d : Device) (s : State) (f : Device) (u : State) (root : ℕ) → IsMounted d s → present_root s.history ≡ Some root → IsWorked d s f u → IsStanding f u.storage.ring root
 still_root d s f u root m is w = present_stands f u root (worked_mounted d s f u m w) (later_root d s f u root is w)
 
 pub later_body : (d : Device) (s : State) (f : Device) (u : State) (root : ℕ) (path : Path) (head size : ℕ) → IsMounted d s → present_root s.history ≡ Some root → IsWorked d s f u → look_up (node_of f) root path ≡ Ok (found.File head size)
@@ -225,19 +225,19 @@ stays_body room old new kept kept' x bytes keeps written =
 
 -- the new body is written, and then the path to it: the new root stands, and its tree is the present one with the new bytes
 pub put_root : (d : Device) (s : State) (f : Device) (u : State) (h : Device) (v : State) (root to : ℕ) (path : Path) (x : Body) (bytes : List ℕ) → IsMounted d s → present_root s.history ≡ Some root → IsWorked d s f u
-    → IsFile (present_tree (machine_on d s)) path → IsWritten (room_of f) (node_of f) (set.contains u.ring.used) x bytes → IsWorked f u h v
-    → IsRewritten (node_of f) (set.contains v.ring.used) (node_of h) root to path (Some (place.File x.head x.length)) → HasNewTree h v to (file_put (present_tree (machine_on d s)) path bytes)
+    → IsFile (present_tree (machine_on d s)) path → IsWritten (room_of f) (node_of f) (set.contains u.storage.ring.used) x bytes → IsWorked f u h v
+    → IsRewritten (node_of f) (set.contains v.storage.ring.used) (node_of h) root to path (Some (place.File x.head x.length)) → HasNewTree h v to (file_put (present_tree (machine_on d s)) path bytes)
 put_root d s f u h v root to path x bytes m is w file written wrote rewritten =
     let mid = worked_mounted d s f u m w in
     let there = later_root d s f u root is w in
     let stands = present_stands f u root mid there in
     let keeps = worked_keeps f u h v mid wrote in
-    let stays = stays_body (room_of f) (node_of f) (node_of h) (set.contains u.ring.used) (set.contains v.ring.used) x bytes keeps written in
+    let stays = stays_body (room_of f) (node_of f) (node_of h) (set.contains u.storage.ring.used) (set.contains v.storage.ring.used) x bytes keeps written in
     let old_tree : tree_on f root ≡ present_tree (machine_on d s) = sym (present_tree_is f u root there) ∙ ap present_tree (worked_machine d s f u m w) in
     let entry : tree (room_of f) (node_of f) root path ≡ Some (Entry.File file.0) =
     ap (λ (t : Contents). t path) (sym (present_is f u root mid there)) ∙ ap (λ (x : Machine). get (present_tree x) path) (worked_machine d s f u m w) ∙ file.1 in
     let deep = path_within path ((present-file_tree (machine_on d s) m.machine).paths path (ap is_some file.1)) in
-    let law = put_file_law (room_of f) (node_of f) (node_of h) (set.contains u.ring.used) (set.contains v.ring.used) root to x.head x.length path keeps stands.held stands.rooted
+    let law = put_file_law (room_of f) (node_of f) (node_of h) (set.contains u.storage.ring.used) (set.contains v.storage.ring.used) root to x.head x.length path keeps stands.held stands.rooted
     (λ dir. let both = sym entry ∙ dir in absurd cc) deep stays.whole rewritten in
     rewritten_root f u h v root to path (Some (place.File x.head x.length)) (file_put (present_tree (machine_on d s)) path bytes) mid stands wrote rewritten stays.held
     (law.0, law.1 ∙ (λ i. file_put (old_tree i) path (stays.shown i)))
@@ -245,7 +245,7 @@ put_root d s f u h v root to path x bytes m is w file written wrote rewritten =
 -- The step.
 
 pub changed_answer : (d : Device) (s : State) (e : Device) (t : State) (h : Device) (v : State) (to : ℕ) (call : Call) (path : Path) (bytes : List ℕ) (reply : Reply) (k : Past ℕ) → IsMounted d s → IsLooked d s e t
-    → IsFileChange (machine_on d s) call path bytes → is_read_only t.bad ≡ false → t.history.next < last_serial → IsWorked e t h v → HasNewTree h v to (file_put (present_tree (machine_on d s)) path bytes)
+    → IsFileChange (machine_on d s) call path bytes → is_read_only t.storage.bad ≡ false → t.history.next < last_serial → IsWorked e t h v → HasNewTree h v to (file_put (present_tree (machine_on d s)) path bytes)
     → reply_of (seen_on h v).space (machine_on d s) call ≡ reply → k ≡ changed v.history to
     → IsAnswered d s call (Ok reply) h (changed_state v k v.files) false
 changed_answer d s e t h v to call path bytes reply k m l change writable serial w new replies pushes =
@@ -295,10 +295,10 @@ overwritten_short old bytes offset size n is long short fits some =
 
 -- the new body, at the room that the flash has by now
 pub written_at : (d : Device) (s : State) (e : Device) (t : State) (f : Device) (u : State) (x : Body) (bytes other : List ℕ) → IsWorked d s e t → IsWorked e t f u → bytes ≡ other
-    → IsWritten (room_of e) (node_of f) (set.contains u.ring.used) x bytes → IsWritten (room_of f) (node_of f) (set.contains u.ring.used) x other
+    → IsWritten (room_of e) (node_of f) (set.contains u.storage.ring.used) x bytes → IsWritten (room_of f) (node_of f) (set.contains u.storage.ring.used) x other
 written_at d s e t f u x bytes other w wrote same written =
-    subst (λ (bs : List ℕ). IsWritten (room_of f) (node_of f) (set.contains u.ring.used) x bs) same
-    (subst (λ room. IsWritten room (node_of f) (set.contains u.ring.used) x bytes) (sym (same_room (storage_on e t) (storage_on f u) wrote.evolved)) written)
+    subst (λ (bs : List ℕ). IsWritten (room_of f) (node_of f) (set.contains u.storage.ring.used) x bs) same
+    (subst (λ room. IsWritten room (node_of f) (set.contains u.storage.ring.used) x bytes) (sym (same_room (storage_on e t) (storage_on f u) wrote.evolved)) written)
 
 some_more : (a b : ℕ) → 0 < b → 0 < a + b
 some_more a b some = omega arith

@@ -21,15 +21,15 @@ use Rattle.block_trees.proofs.EmptyDirectories.{empty_held}
 use Rattle.undofs.proofs.Standing.{AllStand}
 
 -- an empty root stands
-empty_stands : (d : Device) (s : State) (root : ℕ) → entries_of (node_of d root) ≡ Some [] → set.contains s.ring.used root ≡ true → IsStanding d s.ring root
+empty_stands : (d : Device) (s : State) (root : ℕ) → entries_of (node_of d root) ≡ Some [] → set.contains s.storage.ring.used root ≡ true → IsStanding d s.storage.ring root
 empty_stands d s root empty kept = record {
-  held = empty_held (node_of d) root empty (set.contains s.ring.used) kept;
+  held = empty_held (node_of d) root empty (set.contains s.storage.ring.used) kept;
   rooted = (empty_root (room_of d) (node_of d) root empty).0;
 }
 
-fresh_stand : (d : Device) (s : State) (limit root : ℕ) → IsStanding d s.ring root → AllStand d s.ring (fresh limit root)
+fresh_stand : (d : Device) (s : State) (limit root : ℕ) → IsStanding d s.storage.ring root → AllStand d s.storage.ring (fresh limit root)
 fresh_stand d s limit root stands = record {
-  versions = All-push (λ (v : Version ℕ). IsStanding d s.ring v.root) [] (record { serial = 1; root = root }) (λ k v below. absurd (omega arith)) stands;
+  versions = All-push (λ (v : Version ℕ). IsStanding d s.storage.ring v.root) [] (record { serial = 1; root = root }) (λ k v below. absurd (omega arith)) stands;
   checkpoints = λ k e below. absurd (omega arith);
 }
 
@@ -41,10 +41,10 @@ fresh_machine d h files limit root is none empty =
     ∙ ap (λ (t : Tree). fresh limit t) (empty_root (room_of d) (node_of d) root empty).1 in
     (λ i. record { history = history i; descriptors = none i })
 
-pub fresh_mounted : (d : Device) (s : State) (limit root : ℕ) → IsGeometry d.geometry → s.ring.blocks ≡ d.geometry.blocks → vec_len s.page ≡ d.geometry.page → block_bytes d.geometry ≤ vec_capacity s.node
-    → 2 ≤ limit → s.history ≡ fresh limit root → s.files ≡ none_open → entries_of (node_of d root) ≡ Some [] → set.contains s.ring.used root ≡ true → IsMounted d s
+pub fresh_mounted : (d : Device) (s : State) (limit root : ℕ) → IsGeometry d.geometry → s.storage.ring.blocks ≡ d.geometry.blocks → vec_len s.storage.page ≡ d.geometry.page → block_bytes d.geometry ≤ vec_capacity s.storage.node
+    → 2 ≤ limit → s.history ≡ fresh limit root → s.files ≡ none_open → entries_of (node_of d root) ≡ Some [] → set.contains s.storage.ring.used root ≡ true → IsMounted d s
 fresh_mounted d s limit root lawful blocks len room some is none empty kept =
-    let all = subst (AllStand d s.ring) (sym is) (fresh_stand d s limit root (empty_stands d s root empty kept)) in
+    let all = subst (AllStand d s.storage.ring) (sym is) (fresh_stand d s limit root (empty_stands d s root empty kept)) in
     record {
       lawful = lawful;
       ring_blocks = blocks;

@@ -134,14 +134,14 @@ mkdir_more room m path = omega arith
 
 -- what is made of a flash and a state by writing nodes
 abbrev Made : Device → State → Device → State → ℕ → ℕ → Path → Type 0
-Made d s e t from to path = IsMade (node_of d) (node_of e) (set.contains s.ring.used) (set.contains t.ring.used) from to path
+Made d s e t from to path = IsMade (node_of d) (node_of e) (set.contains s.storage.ring.used) (set.contains t.storage.ring.used) from to path
 
-made_root : (d : Device) (s : State) (e : Device) (t : State) (from to : ℕ) (path : Path) → IsMounted d s → IsStanding d s.ring from → IsWorked d s e t
+made_root : (d : Device) (s : State) (e : Device) (t : State) (from to : ℕ) (path : Path) → IsMounted d s → IsStanding d s.storage.ring from → IsWorked d s e t
     → look_up (node_of d) from path ≡ Ok (found.Missing false) → is_path path ≡ true → Made d s e t from to path → HasNewTree e t to (put (tree_on d from) path Entry.Dir)
 made_root d s e t from to path m stands w missing lawful made =
     let nothing = (found_is (room_of d) (node_of d) from path (found.Missing false) missing).1 in
-    rewritten_root d s e t from to path (Some (Dir made.block)) (put (tree_on d from) path Entry.Dir) m stands w made.rewritten (empty_held (node_of e) made.block made.empty (set.contains t.ring.used) made.is_kept)
-    (mkdir_law (room_of d) (node_of d) (node_of e) (set.contains s.ring.used) (set.contains t.ring.used) from to made.block path (worked_keeps d s e t m w) stands.held stands.rooted nothing (path_within path lawful) made.empty made.rewritten)
+    rewritten_root d s e t from to path (Some (Dir made.block)) (put (tree_on d from) path Entry.Dir) m stands w made.rewritten (empty_held (node_of e) made.block made.empty (set.contains t.storage.ring.used) made.is_kept)
+    (mkdir_law (room_of d) (node_of d) (node_of e) (set.contains s.storage.ring.used) (set.contains t.storage.ring.used) from to made.block path (worked_keeps d s e t m w) stands.held stands.rooted nothing (path_within path lawful) made.empty made.rewritten)
 
 -- the present root with the directory, after reads
 pub mkdir_root : (d : Device) (s : State) (e : Device) (t : State) (f : Device) (u : State) (root to : ℕ) (path : Path) → IsMounted d s → present_root s.history ≡ Some root → IsLooked d s e t
@@ -150,7 +150,7 @@ mkdir_root d s e t f u root to path m is l missing lawful w made =
     made_root e t f u root to path (worked_mounted d s e t m (looked_worked d s e t l)) (later_stands d s e t root m is l) w missing lawful made
 
 pub mkdir_called : (d : Device) (s : State) (e : Device) (t : State) (f : Device) (u : State) (root to : ℕ) (path : Path) (h : Past ℕ) → h ≡ changed u.history to → IsMounted d s → present_root s.history ≡ Some root → IsLooked d s e t
-    → refusal (machine_on d s) (Call.Mkdir path) ≡ None → is_path path ≡ true → is_read_only t.bad ≡ false → t.history.next < last_serial → IsWorked e t f u → HasNewTree f u to (put (tree_on e root) path Entry.Dir)
+    → refusal (machine_on d s) (Call.Mkdir path) ≡ None → is_path path ≡ true → is_read_only t.storage.bad ≡ false → t.history.next < last_serial → IsWorked e t f u → HasNewTree f u to (put (tree_on e root) path Entry.Dir)
     → IsCalled (Unit {0}) d s (Call.Mkdir path) empty (Ok tt) f (record u { history = h })
 mkdir_called d s e t f u root to path h pushes m is l fine lawful writable serial w new =
     changed_called d s e t f u to (Call.Mkdir path) (put (tree_on e root) path Entry.Dir) h pushes m l fine (ap (λ (x : Tree). Some (put x path Entry.Dir)) (later_tree d s e t root m is l)) refl refl lawful writable serial w new

@@ -186,7 +186,7 @@ pub at_answer : {T : Type 0} (f : T → Reply) (d : Device) (s : State) (e : Dev
 at_answer f d s e t call fault result is answered = subst (λ r. IsAnswered d s call (replied f r) e t (is_cut_answer r)) (sym is) answered
 
 -- the same but for the history and the open files
-mounted_at : (e : Device) (t : State) (h : Past ℕ) (files : Descriptors) → IsMounted e t → AllStand e t.ring h → IsMachine (machine_on e (record t { history = h; files = files })) → IsMounted e (record t { history = h; files = files })
+mounted_at : (e : Device) (t : State) (h : Past ℕ) (files : Descriptors) → IsMounted e t → AllStand e t.storage.ring h → IsMachine (machine_on e (record t { history = h; files = files })) → IsMounted e (record t { history = h; files = files })
 mounted_at e t h files m all machine = record {
   lawful = m.lawful;
   ring_blocks = m.ring_blocks;
@@ -316,7 +316,7 @@ room_for f root (n ∷ m ∷ p) at x free e =
 -- read-only mode, or no serial left
 pub change_answer : (d : Device) (s : State) (e : Device) (t : State) (path : Path) (flags : OpenFlags) (fault : Fault) → IsLooked d s e t → refusal (machine_on d s) (Call.Open path flags) ≡ None
     → open_changes (present_tree (machine_on d s)) path flags ≡ true
-    → ((fault ≡ ReadOnly) × (is_read_only t.bad ≡ true)) ⊎ ((fault ≡ Overflow) × (t.history.next ≡ last_serial))
+    → ((fault ≡ ReadOnly) × (is_read_only t.storage.bad ≡ true)) ⊎ ((fault ≡ Overflow) × (t.history.next ≡ last_serial))
     → Refuses (seen_on d s) (machine_on d s) (Call.Open path flags) fault (seen_on e t)
 change_answer d s e t path flags fault l fine change why = change_refuses d s e t (Call.Open path flags) fault l (makes (machine_on d s) path flags fine change) why
 
@@ -331,21 +331,21 @@ writing_answer d s e t f u path flags root at x fault l fine change led fits ref
     writing_refuses d s e t f u (Call.Open path flags) fault l refl (makes (machine_on d s) path flags fine change) below (make_fault fault other is) (why other)
 
 -- the new root stands, and its tree is the old one with the empty file
-new_root : (d : Device) (s : State) (e : Device) (t : State) (from to : ℕ) (path : Path) (flags : OpenFlags) (x : Found) → IsMounted d s → IsStanding d s.ring from → IsWorked d s e t
+new_root : (d : Device) (s : State) (e : Device) (t : State) (from to : ℕ) (path : Path) (flags : OpenFlags) (x : Found) → IsMounted d s → IsStanding d s.storage.ring from → IsWorked d s e t
     → look_up (node_of d) from path ≡ Ok x → found_refusal flags x ≡ None → is_path path ≡ true
-    → IsRewritten (node_of d) (set.contains t.ring.used) (node_of e) from to path (Some (place.File 0 0)) → HasNewTree e t to (file_put (tree_on d from) path [])
+    → IsRewritten (node_of d) (set.contains t.storage.ring.used) (node_of e) from to path (Some (place.File 0 0)) → HasNewTree e t to (file_put (tree_on d from) path [])
 new_root d s e t from to path flags x m stands w led fits lawful rewritten =
     let differs : tree (room_of d) (node_of d) from path ≢ Some Entry.Dir =
     λ is. no_directory (room_of d) (node_of d) flags x fits (sym (found_is (room_of d) (node_of d) from path x led).1 ∙ is) in
     rewritten_root d s e t from to path (Some (place.File 0 0)) (file_put (tree_on d from) path []) m stands w rewritten (λ root names block reached. let none = names.0 in absurd (omega arith))
-    (put_file_law (room_of d) (node_of d) (node_of e) (set.contains s.ring.used) (set.contains t.ring.used) from to 0 0 path (worked_keeps d s e t m w) stands.held stands.rooted differs (path_within path lawful) refl rewritten)
+    (put_file_law (room_of d) (node_of d) (node_of e) (set.contains s.storage.ring.used) (set.contains t.storage.ring.used) from to 0 0 path (worked_keeps d s e t m w) stands.held stands.rooted differs (path_within path lawful) refl rewritten)
 
 -- a file that is made or cut, in the tree of the new root
 pub made_answer : (d : Device) (s : State) (e : Device) (t : State) (f : Device) (u : State) (path : Path) (flags : OpenFlags) (root to number : ℕ) (x : Found) (h : Past ℕ) (files : Descriptors)
     → IsMounted d s → present_root s.history ≡ Some root → IsLooked d s e t → is_path path ≡ true
     → refusal (machine_on d s) (Call.Open path flags) ≡ None → open_changes (present_tree (machine_on d s)) path flags ≡ true → least_free s.files ≡ Some number
-    → look_up (node_of e) root path ≡ Ok x → found_refusal flags x ≡ None → is_read_only t.bad ≡ false → t.history.next < last_serial → IsWorked e t f u
-    → IsRewritten (node_of e) (set.contains u.ring.used) (node_of f) root to path (Some (place.File 0 0))
+    → look_up (node_of e) root path ≡ Ok x → found_refusal flags x ≡ None → is_read_only t.storage.bad ≡ false → t.history.next < last_serial → IsWorked e t f u
+    → IsRewritten (node_of e) (set.contains u.storage.ring.used) (node_of f) root to path (Some (place.File 0 0))
     → h ≡ changed u.history to → files ≡ opened u.files number (record { path = path; flags = flags })
     → IsAnswered d s (Call.Open path flags) (Ok (Reply.Fd number)) f (record u { history = h; files = files }) false
 made_answer d s e t f u path flags root to number x h files m is l lawful fine change free led fits writable serial w rewritten pushes opens =

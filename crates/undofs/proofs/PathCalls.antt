@@ -41,8 +41,8 @@ use Rattle.undofs.proofs.Refusals.{read_refuses, cause_later}
 pub present_tree_is : (d : Device) (s : State) (root : ℕ) → present_root s.history ≡ Some root → present_tree (machine_on d s) ≡ tree_on d root
 present_tree_is d s root is = ap (λ o. unwrap_or o bare) (present_root-map (tree_on d) s.history ∙ ap (option_map (tree_on d)) is)
 
-pub present_stands : (d : Device) (s : State) (root : ℕ) → IsMounted d s → present_root s.history ≡ Some root → IsStanding d s.ring root
-present_stands d s root m is = of_present (IsStanding d s.ring) s.history root m.versions is
+pub present_stands : (d : Device) (s : State) (root : ℕ) → IsMounted d s → present_root s.history ≡ Some root → IsStanding d s.storage.ring root
+present_stands d s root m is = of_present (IsStanding d s.storage.ring) s.history root m.versions is
 
 -- what stands in the present tree stands at a lawful path
 pub found_lawful : (d : Device) (s : State) (root : ℕ) (path : Path) (x : Found) (entry : Entry) → IsMounted d s → present_root s.history ≡ Some root → look_up (node_of d) root path ≡ Ok x → entry_of (room_of d) (node_of d) x ≡ Some entry

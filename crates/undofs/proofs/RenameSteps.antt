@@ -92,14 +92,14 @@ rename_apart d s old new m fine differ = elim (machine.rename_law (machine_on d 
 
 -- the tree where what stood at the one path stands at the other
 pub rename_root : (d : Device) (s : State) (e : Device) (t : State) (f : Device) (u : State) (root to : ℕ) (old new : Path) (place : Place) → IsMounted d s → present_root s.history ≡ Some root → IsLooked d s e t
-    → IsMovable (node_of e) root old new place → IsWorked e t f u → IsMoved (node_of e) (node_of f) (set.contains t.ring.used) (set.contains u.ring.used) root to old new place → HasNewTree f u to (move (tree_on e root) old new)
+    → IsMovable (node_of e) root old new place → IsWorked e t f u → IsMoved (node_of e) (node_of f) (set.contains t.storage.ring.used) (set.contains u.storage.ring.used) root to old new place → HasNewTree f u to (move (tree_on e root) old new)
 rename_root d s e t f u root to old new place m is l movable w moved =
     let mid = worked_mounted d s e t m (looked_worked d s e t l) in
     let stands = later_stands d s e t root m is l in
     let keeps = worked_keeps e t f u mid w in
     let short = path_within new (and_parts (is_path old) (is_path new) movable.lawful).1 in
-    let all = trees.move_law (node_of e) (node_of f) (set.contains t.ring.used) (set.contains u.ring.used) root to old new place keeps stands.held movable.stands moved in
-    let law = trees.rename_law (room_of e) (node_of e) (node_of f) (set.contains t.ring.used) (set.contains u.ring.used) root to old new place keeps stands.held stands.rooted movable.stands short movable.shallow moved in
+    let all = trees.move_law (node_of e) (node_of f) (set.contains t.storage.ring.used) (set.contains u.storage.ring.used) root to old new place keeps stands.held movable.stands moved in
+    let law = trees.rename_law (room_of e) (node_of e) (node_of f) (set.contains t.storage.ring.used) (set.contains u.storage.ring.used) root to old new place keeps stands.held stands.rooted movable.stands short movable.shallow moved in
     let same : room_of f ≡ room_of e = same_room (storage_on e t) (storage_on f u) w.evolved in
     record {
       stands = record { held = all.held; rooted = subst (λ room. IsRoot room (node_of f) to) (sym same) law.0 };
@@ -107,7 +107,7 @@ rename_root d s e t f u root to old new place m is l movable w moved =
     }
 
 pub rename_step : (d : Device) (s : State) (e : Device) (t : State) (f : Device) (u : State) (root to : ℕ) (old new : Path) (h : Past ℕ) → h ≡ changed u.history to → IsMounted d s → present_root s.history ≡ Some root → IsLooked d s e t
-    → refusal (machine_on d s) (Call.Rename old new) ≡ None → same_path old new ≡ false → is_read_only t.bad ≡ false → t.history.next < last_serial → IsWorked e t f u → HasNewTree f u to (move (tree_on e root) old new)
+    → refusal (machine_on d s) (Call.Rename old new) ≡ None → same_path old new ≡ false → is_read_only t.storage.bad ≡ false → t.history.next < last_serial → IsWorked e t f u → HasNewTree f u to (move (tree_on e root) old new)
     → CallStep (seen_on d s) (machine_on d s) false (Call.Rename old new) (Ok Reply.Empty) (seen_on f (record u { history = h })) (machine_on f (record u { history = h })) false
 rename_step d s e t f u root to old new h pushes m is l fine differ writable serial w tree =
     changed_step d s e t f u to (Call.Rename old new) (move (tree_on e root) old new) Reply.Empty h u.files pushes (w.rest.files ∙ l.rest.files) m l fine

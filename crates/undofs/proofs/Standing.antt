@@ -59,7 +59,7 @@ pub record AllStand (d : Device) (ring : Ring) (h : Past ℕ) : Type 0 where
   pub versions : All (λ v. IsStanding d ring v.root) h.versions
   pub checkpoints : All (λ e. IsStanding d ring e.1) h.checkpoints
 
-pub all_stand : (d : Device) (s : State) → IsMounted d s → AllStand d s.ring s.history
+pub all_stand : (d : Device) (s : State) → IsMounted d s → AllStand d s.storage.ring s.history
 all_stand d s m = record { versions = m.versions; checkpoints = m.checkpoints }
 
 all_still_stand : (s t : Storage) (h : Past ℕ) → IsGeometry s.device.geometry → Evolved s t → AllStand s.device s.ring h → AllStand t.device t.ring h
@@ -96,7 +96,7 @@ pub looked_on : (d : Device) (s : State) (e : Device) (t : State) (f : Device) (
 looked_on d s e t f u a b = record { untouched = Untouched_on (storage_on d s) (storage_on e t) (storage_on f u) a.untouched b.untouched; rest = same_but_on s t u a.rest b.rest }
 
 -- all roots stand on
-pub worked_stand : (d : Device) (s : State) (e : Device) (t : State) → IsMounted d s → IsWorked d s e t → AllStand e t.ring s.history
+pub worked_stand : (d : Device) (s : State) (e : Device) (t : State) → IsMounted d s → IsWorked d s e t → AllStand e t.storage.ring s.history
 worked_stand d s e t m w = all_still_stand (storage_on d s) (storage_on e t) s.history m.lawful w.evolved (all_stand d s m)
 
 pub worked_trees : (d : Device) (s : State) (e : Device) (t : State) → IsMounted d s → IsWorked d s e t → map_roots (tree_on e) s.history ≡ map_roots (tree_on d) s.history
@@ -108,7 +108,7 @@ worked_machine d s e t m w =
     (λ i. record { history = history i; descriptors = w.rest.files i })
 
 -- a mounted system, with any history of roots that stand
-pub mounted_with : (d : Device) (s : State) (e : Device) (t : State) (h : Past ℕ) → IsMounted d s → IsWorked d s e t → AllStand e t.ring h → IsMachine (machine_on e (record t { history = h }))
+pub mounted_with : (d : Device) (s : State) (e : Device) (t : State) (h : Past ℕ) → IsMounted d s → IsWorked d s e t → AllStand e t.storage.ring h → IsMachine (machine_on e (record t { history = h }))
     → IsMounted e (record t { history = h })
 mounted_with d s e t h m w all machine =
     let same = sym w.evolved.geometry in
@@ -116,14 +116,14 @@ mounted_with d s e t h m w all machine =
       lawful = subst IsGeometry same m.lawful;
       ring_blocks = w.evolved.blocks ∙ m.ring_blocks ∙ ap (λ (g : Geometry). g.blocks) same;
       page_len = w.rest.page_len ∙ m.page_len ∙ ap (λ (g : Geometry). g.page) same;
-      node_room = subst (λ (g : Geometry). block_bytes g ≤ vec_capacity t.node) same (let room = m.node_room in let more = w.rest.node_room in omega arith);
+      node_room = subst (λ (g : Geometry). block_bytes g ≤ vec_capacity t.storage.node) same (let room = m.node_room in let more = w.rest.node_room in omega arith);
       versions = all.versions;
       checkpoints = all.checkpoints;
       machine = machine;
     }
 
 pub worked_mounted : (d : Device) (s : State) (e : Device) (t : State) → IsMounted d s → IsWorked d s e t → IsMounted e t
-worked_mounted d s e t m w = mounted_with d s e t t.history m w (subst (AllStand e t.ring) (sym w.rest.history) (worked_stand d s e t m w))
+worked_mounted d s e t m w = mounted_with d s e t t.history m w (subst (AllStand e t.storage.ring) (sym w.rest.history) (worked_stand d s e t m w))
     (subst IsMachine (sym (worked_machine d s e t m w)) m.machine)
 
 pub worked_later : (d : Device) (s : State) (e : Device) (t : State) → IsWorked d s e t → IsLater (seen_on d s) (seen_on e t)
@@ -131,9 +131,9 @@ worked_later d s e t w = record {
   room = same_room (storage_on d s) (storage_on e t) w.evolved;
   failed_reads = w.evolved.failed_reads;
   was_on = w.evolved.was_on;
-  stays_read_only = stays_read_only s.bad t.bad w.evolved.stays_bad;
+  stays_read_only = stays_read_only s.storage.bad t.storage.bad w.evolved.stays_bad;
 }
 
 pub worked_pages : (d : Device) (s : State) (e : Device) (t : State) → IsMounted d s → IsWorked d s e t → KeepsPages d s.history e
 worked_pages d s e t m w root p has reached =
-    w.evolved.kept_pages p ((root_stands d s.ring s.history root (all_stand d s m) has).held root refl (block_of d p) reached)
+    w.evolved.kept_pages p ((root_stands d s.storage.ring s.history root (all_stand d s m) has).held root refl (block_of d p) reached)

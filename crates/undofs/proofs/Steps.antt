@@ -35,7 +35,7 @@ module _ (d : Device) (s : State) (call : Call) where
 
   -- a call that was carried out
   pub done : (p : Past ℕ) (reply : Reply) → s.is_off ≡ false → refusal before call ≡ None → reply_of (seen_on d s).space before call ≡ reply → machine_of before call None ≡ machine_on d (with_history s p)
-      → (is_writing before call ≡ true → is_read_only s.bad ≡ false) → (makes_version before call ≡ true → s.history.next < last_serial) → StateStep d s call (Ok reply) d (with_history s p)
+      → (is_writing before call ≡ true → is_read_only s.storage.bad ≡ false) → (makes_version before call ≡ true → s.history.next < last_serial) → StateStep d s call (Ok reply) d (with_history s p)
   done p reply on ok tells leaves writable serial = record {
     later = same-later (seen_on d s);
     answers = (
@@ -91,13 +91,13 @@ writes-record m call ok e = and_from (is_accepted m call) _ (ap is_none ok) (ap 
 
 -- what refuses a change that the machine accepts
 pub refused_change : (d : Device) (s : State) (call : Call) (fault : Fault) → s.is_off ≡ false → makes_version (machine_on d s) call ≡ true
-    → ((fault ≡ Fault.ReadOnly) × (is_read_only s.bad ≡ true)) ⊎ ((fault ≡ Fault.Overflow) × (s.history.next ≡ last_serial)) → StateStep d s call (Err fault) d s
+    → ((fault ≡ Fault.ReadOnly) × (is_read_only s.storage.bad ≡ true)) ⊎ ((fault ≡ Fault.Overflow) × (s.history.next ≡ last_serial)) → StateStep d s call (Err fault) d s
 refused_change d s call fault on makes (inl why) = subst (λ f. StateStep d s call (Err f) d s) (sym why.0) (refused d s call Fault.ReadOnly on refl (inr (writes-version (machine_on d s) call makes, why.1)))
 refused_change d s call fault on makes (inr why) = subst (λ f. StateStep d s call (Err f) d s) (sym why.0) (refused d s call Fault.Overflow on refl (inr (makes, why.1)))
 
 -- what refuses another call that the record has to take
 pub refused_record : (d : Device) (s : State) (call : Call) (fault : Fault) → s.is_off ≡ false → refusal (machine_on d s) call ≡ None → is_for_record call ≡ true
-    → (fault ≡ Fault.ReadOnly) × (is_read_only s.bad ≡ true) → StateStep d s call (Err fault) d s
+    → (fault ≡ Fault.ReadOnly) × (is_read_only s.storage.bad ≡ true) → StateStep d s call (Err fault) d s
 refused_record d s call fault on ok record_call why = subst (λ f. StateStep d s call (Err f) d s) (sym why.0) (refused d s call Fault.ReadOnly on refl (inr (writes-record (machine_on d s) call ok record_call, why.1)))
 
 -- no file is open, so that the present version may move
@@ -143,7 +143,7 @@ module _ {R : Type 0} (p : Past R) (name : Name) where
   checkpoint-free new few = (λ i. cond (new i) (Some Fault.Exists) (cond (lt-leb 16 (length p.checkpoints) few i) (Some Fault.CheckpointsFull) None))
 
 -- a checkpoint that the machine accepts, which may want memory
-pub checkpointed : (d : Device) (s : State) (name : Name) (result : Result (Unit {0}) Fault) (p : Past ℕ) → s.is_off ≡ false → is_read_only s.bad ≡ false → checkpoint_refusal s.history name ≡ None
+pub checkpointed : (d : Device) (s : State) (name : Name) (result : Result (Unit {0}) Fault) (p : Past ℕ) → s.is_off ≡ false → is_read_only s.storage.bad ≡ false → checkpoint_refusal s.history name ≡ None
     → OnOk result (p ≡ with_checkpoint s.history name) → IfErr result (λ fault. fault ≡ unwrap_or (checkpoint_refusal s.history name) Fault.NoMemory) → OnErr result (p ≡ s.history)
     → StateStep d s (Call.Checkpoint name) (replied empty result) d (with_history s p)
 checkpointed d s name (Ok x) p on writable free ok why err =
@@ -179,7 +179,7 @@ still_machine s t m n true off' call (Err fault) is paths step = subst IsMachine
 still_machine s t m n false off' call (Err fault) is paths step = subst IsMachine (sym step.answers.1) is
 
 -- a call that leaves another history, on roots that stand
-pub mounted_by : (d : Device) (s : State) (call : Call) (result : Result Reply Fault) (p : Past ℕ) → IsMounted d s → has_paths call ≡ true → StateStep d s call result d (with_history s p) → AllStand d s.ring p → IsMounted d (with_history s p)
+pub mounted_by : (d : Device) (s : State) (call : Call) (result : Result Reply Fault) (p : Past ℕ) → IsMounted d s → has_paths call ≡ true → StateStep d s call result d (with_history s p) → AllStand d s.storage.ring p → IsMounted d (with_history s p)
 mounted_by d s call result p is paths step all = record {
   lawful = is.lawful;
   ring_blocks = is.ring_blocks;
@@ -192,9 +192,9 @@ mounted_by d s call result p is paths step all = record {
 
 -- a call that the history answers
 pub mounted_after : (d : Device) (s : State) (call : Call) (result : Result (Unit {0}) Fault) (after p : Past ℕ) → OnOk result (p ≡ after) → OnErr result (p ≡ s.history)
-    → IsMounted d s → has_paths call ≡ true → StateStep d s call (replied empty result) d (with_history s p) → AllStand d s.ring after → IsMounted d (with_history s p)
+    → IsMounted d s → has_paths call ≡ true → StateStep d s call (replied empty result) d (with_history s p) → AllStand d s.storage.ring after → IsMounted d (with_history s p)
 mounted_after d s call result after p ok err is paths step all =
-    mounted_by d s call (replied empty result) p is paths step (by_result result (AllStand d s.ring) after s.history p ok err all (record { versions = is.versions; checkpoints = is.checkpoints }))
+    mounted_by d s call (replied empty result) p is paths step (by_result result (AllStand d s.storage.ring) after s.history p ok err all (record { versions = is.versions; checkpoints = is.checkpoints }))
 
 -- No refusal of the history is a cut of power.
 

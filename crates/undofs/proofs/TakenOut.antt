@@ -55,19 +55,19 @@ found_editable f root (n ∷ m ∷ p) x e =
 
 -- the present root without what a path leads to and nothing stands below, after reads
 removed_root : (d : Device) (s : State) (e : Device) (t : State) (f : Device) (u : State) (root to : ℕ) (path : Path) (at : Place) → IsMounted d s → present_root s.history ≡ Some root → IsLooked d s e t
-    → leads (node_of e) (Dir root) path ≡ Some at → ((n : Name) → child (node_of e) at n ≡ None) → IsWorked e t f u → IsRewritten (node_of e) (set.contains u.ring.used) (node_of f) root to path None → HasNewTree f u to (remove (tree_on e root) path)
+    → leads (node_of e) (Dir root) path ≡ Some at → ((n : Name) → child (node_of e) at n ≡ None) → IsWorked e t f u → IsRewritten (node_of e) (set.contains u.storage.ring.used) (node_of f) root to path None → HasNewTree f u to (remove (tree_on e root) path)
 removed_root d s e t f u root to path at m is l led none w rewritten =
     let mid = worked_mounted d s e t m (looked_worked d s e t l) in
     let stands = later_stands d s e t root m is l in
     rewritten_root e t f u root to path None (remove (tree_on e root) path) mid stands w rewritten tt
-    (remove_law (room_of e) (node_of e) (node_of f) (set.contains t.ring.used) (set.contains u.ring.used) root to path (worked_keeps e t f u mid w) stands.held stands.rooted
+    (remove_law (room_of e) (node_of e) (node_of f) (set.contains t.storage.ring.used) (set.contains u.storage.ring.used) root to path (worked_keeps e t f u mid w) stands.held stands.rooted
     (last_at (room_of e) (node_of e) path (Dir root) at led none) (stands.rooted path at led).1 rewritten)
 
 -- An empty directory.
 
 -- the tree without an empty directory
 pub rmdir_root : (d : Device) (s : State) (e : Device) (t : State) (f : Device) (u : State) (root to : ℕ) (path : Path) (block : ℕ) → IsMounted d s → present_root s.history ≡ Some root → IsLooked d s e t
-    → look_up (node_of e) root path ≡ Ok (found.Dir block) → entries_of (node_of e block) ≡ Some [] → IsWorked e t f u → IsRewritten (node_of e) (set.contains u.ring.used) (node_of f) root to path None
+    → look_up (node_of e) root path ≡ Ok (found.Dir block) → entries_of (node_of e block) ≡ Some [] → IsWorked e t f u → IsRewritten (node_of e) (set.contains u.storage.ring.used) (node_of f) root to path None
     → HasNewTree f u to (remove (tree_on e root) path)
 rmdir_root d s e t f u root to path block m is l led empty w rewritten =
     removed_root d s e t f u root to path (Dir block) m is l (found_leads (node_of e) root path block led) (λ n. ap (λ (o : Option (List Item)). named (unwrap_or o []) n) empty) w rewritten
@@ -131,7 +131,7 @@ pub rmdir_makes : (m : Machine) (path : Path) → refusal m (Call.Rmdir path) �
 rmdir_makes m path fine = makes m (Call.Rmdir path) fine refl
 
 pub rmdir_called : (d : Device) (s : State) (e : Device) (t : State) (f : Device) (u : State) (root to : ℕ) (path : Path) (h : Past ℕ) → h ≡ changed u.history to → IsMounted d s → present_root s.history ≡ Some root → IsLooked d s e t
-    → refusal (machine_on d s) (Call.Rmdir path) ≡ None → is_path path ≡ true → is_read_only t.bad ≡ false → t.history.next < last_serial → IsWorked e t f u → HasNewTree f u to (remove (tree_on e root) path)
+    → refusal (machine_on d s) (Call.Rmdir path) ≡ None → is_path path ≡ true → is_read_only t.storage.bad ≡ false → t.history.next < last_serial → IsWorked e t f u → HasNewTree f u to (remove (tree_on e root) path)
     → IsCalled (Unit {0}) d s (Call.Rmdir path) empty (Ok tt) f (record u { history = h })
 rmdir_called d s e t f u root to path h pushes m is l fine lawful writable serial w new =
     changed_called d s e t f u to (Call.Rmdir path) (remove (tree_on e root) path) h pushes m l fine (ap (λ (x : Tree). Some (remove x path)) (later_tree d s e t root m is l)) refl refl lawful writable serial w new
@@ -144,7 +144,7 @@ file_below f root (n ∷ path) head size e = omega arith
 
 -- the tree without a file
 pub unlink_root : (d : Device) (s : State) (e : Device) (t : State) (f : Device) (u : State) (root to : ℕ) (path : Path) (head size : ℕ) → IsMounted d s → present_root s.history ≡ Some root → IsLooked d s e t
-    → look_up (node_of e) root path ≡ Ok (found.File head size) → IsWorked e t f u → IsRewritten (node_of e) (set.contains u.ring.used) (node_of f) root to path None → HasNewTree f u to (remove (tree_on e root) path)
+    → look_up (node_of e) root path ≡ Ok (found.File head size) → IsWorked e t f u → IsRewritten (node_of e) (set.contains u.storage.ring.used) (node_of f) root to path None → HasNewTree f u to (remove (tree_on e root) path)
 unlink_root d s e t f u root to path head size m is l led w rewritten =
     removed_root d s e t f u root to path (File head size) m is l (found_leads_file (node_of e) root path head size led) (λ n. refl) w rewritten
 
@@ -166,7 +166,7 @@ pub unlink_makes : (m : Machine) (path : Path) → refusal m (Call.Unlink path) 
 unlink_makes m path fine = makes m (Call.Unlink path) fine refl
 
 pub unlink_called : (d : Device) (s : State) (e : Device) (t : State) (f : Device) (u : State) (root to : ℕ) (path : Path) (h : Past ℕ) → h ≡ changed u.history to → IsMounted d s → present_root s.history ≡ Some root → IsLooked d s e t
-    → refusal (machine_on d s) (Call.Unlink path) ≡ None → is_path path ≡ true → is_read_only t.bad ≡ false → t.history.next < last_serial → IsWorked e t f u → HasNewTree f u to (remove (tree_on e root) path)
+    → refusal (machine_on d s) (Call.Unlink path) ≡ None → is_path path ≡ true → is_read_only t.storage.bad ≡ false → t.history.next < last_serial → IsWorked e t f u → HasNewTree f u to (remove (tree_on e root) path)
     → IsCalled (Unit {0}) d s (Call.Unlink path) empty (Ok tt) f (record u { history = h })
 unlink_called d s e t f u root to path h pushes m is l fine lawful writable serial w new =
     changed_called d s e t f u to (Call.Unlink path) (remove (tree_on e root) path) h pushes m l fine (ap (λ (x : Tree). Some (remove x path)) (later_tree d s e t root m is l)) refl refl lawful writable serial w new

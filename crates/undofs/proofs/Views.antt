@@ -42,8 +42,8 @@ pub record Shows (h : Past ℕ) (view : View) (root : ℕ) : Type 0 where
   pub fine : view_refusal h view ≡ None
   pub shown : view_root h view ≡ Some root
 
-pub view_stands : (d : Device) (s : State) (view : View) (root : ℕ) → IsMounted d s → Shows s.history view root → IsStanding d s.ring root
-view_stands d s view root m shows = of_view (IsStanding d s.ring) s.history view root m.versions m.checkpoints shows.shown
+pub view_stands : (d : Device) (s : State) (view : View) (root : ℕ) → IsMounted d s → Shows s.history view root → IsStanding d s.storage.ring root
+view_stands d s view root m shows = of_view (IsStanding d s.storage.ring) s.history view root m.versions m.checkpoints shows.shown
 
 pub view_tree_is : (d : Device) (s : State) (view : View) (root : ℕ) → Shows s.history view root → view_tree (machine_on d s) view ≡ tree_on d root
 view_tree_is d s view root shows = ap (λ o. unwrap_or o bare) (view_root-map (tree_on d) s.history view ∙ ap (option_map (tree_on d)) shows.shown)

@@ -26,11 +26,11 @@ pub record IsStanding (device : Device) (ring : Ring) (root : ℕ) : Type 0 wher
 -- and checkpoints stand, and what it shows is a machine: so each open file is a file of the present tree
 pub record IsMounted (device : Device) (state : State) : Type 0 where
   pub lawful : IsGeometry device.geometry
-  pub ring_blocks : state.ring.blocks ≡ device.geometry.blocks
-  pub page_len : vec_len state.page ≡ device.geometry.page
-  pub node_room : block_bytes device.geometry ≤ vec_capacity state.node
-  pub versions : All (λ v. IsStanding device state.ring v.root) state.history.versions
-  pub checkpoints : All (λ e. IsStanding device state.ring e.1) state.history.checkpoints
+  pub ring_blocks : state.storage.ring.blocks ≡ device.geometry.blocks
+  pub page_len : vec_len state.storage.page ≡ device.geometry.page
+  pub node_room : block_bytes device.geometry ≤ vec_capacity state.storage.node
+  pub versions : All (λ v. IsStanding device state.storage.ring v.root) state.history.versions
+  pub checkpoints : All (λ e. IsStanding device state.storage.ring e.1) state.history.checkpoints
   pub machine : IsMachine (machine_on device state)
 
 -- a call's step, as it is seen of the flash and the state before and after

@@ -10,6 +10,7 @@ use Rattle.flash_model.specs.Device.{Device}
 use Rattle.flash_model.specs.Geometry.{block_bytes}
 use Rattle.allocator.specs.Ring.{data_blocks, free_count}
 use Rattle.node_format.specs.Headers.{body_front}
+use Rattle.node_store.specs.declared.storage.Storage.{Storage}
 use Rattle.node_store.specs.NodePages.{first_data, node_of}
 use Rattle.block_trees.specs.Trees.{root_tree}
 use Rattle.undofs.specs.declared.state.State.{State}
@@ -39,8 +40,8 @@ abbrev pub is_read_only : set.FinSet nat_cmp → Bool
 is_read_only bad = nat_le 256 (set.len bad) || nat_le 7 (bad_anchors bad)
 
 -- what is used of a flash: free blocks are those that the ring has as neither used nor bad
-abbrev pub space_on : Device → State → Space
-space_on d state = record { blocks = d.geometry.blocks - first_data; bad = bad_data d.geometry.blocks state.bad; free = free_count state.ring state.bad; anchors = first_data - bad_anchors state.bad }
+abbrev pub space_of : Device → Storage → Space
+space_of d storage = record { blocks = d.geometry.blocks - first_data; bad = bad_data d.geometry.blocks storage.bad; free = free_count storage.ring storage.bad; anchors = first_data - bad_anchors storage.bad }
 
 -- what the refusals of a call depend on
 pub record Seen : Type 0 where
@@ -50,8 +51,11 @@ pub record Seen : Type 0 where
   pub room : ℕ
   pub space : Space
 
+abbrev pub seen_of : Device → Storage → Seen
+seen_of d storage = record { powered = d.powered; failed_reads = d.failed_reads; read_only = is_read_only storage.bad; room = room_of d; space = space_of d storage }
+
 abbrev pub seen_on : Device → State → Seen
-seen_on d state = record { powered = d.powered; failed_reads = d.failed_reads; read_only = is_read_only state.bad; room = room_of d; space = space_on d state }
+seen_on d state = seen_of d state.storage
 
 -- the flash came of the other by operations
 pub record IsLaterFlash (old new : Device) : Type 0 where

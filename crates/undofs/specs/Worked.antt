@@ -9,12 +9,12 @@ use Rattle.undofs.specs.declared.state.State.{State}
 
 -- the parts that nodes are kept in
 abbrev pub storage_on : Device → State → Storage
-storage_on d state = storage d state.bad state.ring
+storage_on d state = storage d state.storage.bad state.storage.ring
 
 -- the room for a page and for a node is kept, and the history and the open files are the same
 pub record IsSameBut (s t : State) : Type 0 where
-  pub page_len : vec_len t.page ≡ vec_len s.page
-  pub node_room : vec_capacity s.node ≤ vec_capacity t.node
+  pub page_len : vec_len t.storage.page ≡ vec_len s.storage.page
+  pub node_room : vec_capacity s.storage.node ≤ vec_capacity t.storage.node
   pub history : t.history ≡ s.history
   pub files : t.files ≡ s.files
   pub is_off : t.is_off ≡ s.is_off

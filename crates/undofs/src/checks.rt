@@ -36,22 +36,24 @@ impl State {
 
     /// Whether at least seven anchors or 256 blocks are bad.
     pub(crate) fn is_read_only(&self) -> bool
-        ensures { result ≡ is_read_only self.now.bad }
+        ensures { result ≡ is_read_only self.now.storage.bad }
     {
-        self.bad.len() >= LIMIT || self.bad_anchors() >= 7
+        self.storage.bad.len() >= LIMIT || self.bad_anchors() >= 7
     }
 
     /// How many of the anchors, blocks 0 to 7, are bad.
     fn bad_anchors(&self) -> usize
-        ensures { result ≡ bad_anchors self.now.bad }
+        ensures { result ≡ bad_anchors self.now.storage.bad }
     {
-        (0..8).filter(|block| self.bad.contains(*block)).count()
+        (0..8)
+            .filter(|block| self.storage.bad.contains(*block))
+            .count()
     }
 
     /// Refuses in read-only mode.
     pub(crate) fn check_writable(&self) -> Result<(), Fault>
-        ensures ok { OnOk result (is_read_only self.now.bad ≡ false) }
-        ensures err { IfErr result (λ fault. (fault ≡ Fault.ReadOnly) × (is_read_only self.now.bad ≡ true)) }
+        ensures ok { OnOk result (is_read_only self.now.storage.bad ≡ false) }
+        ensures err { IfErr result (λ fault. (fault ≡ Fault.ReadOnly) × (is_read_only self.now.storage.bad ≡ true)) }
     {
         if self.is_read_only() {
             Err(Fault::ReadOnly)
@@ -62,9 +64,9 @@ impl State {
 
     /// Refuses a change in read-only mode, and where no serial is left for it.
     pub(crate) fn check_change(&self) -> Result<(), Fault>
-        ensures writable { OnOk result (is_read_only self.now.bad ≡ false) }
+        ensures writable { OnOk result (is_read_only self.now.storage.bad ≡ false) }
         ensures serial { OnOk result (self.now.history.next < last_serial) }
-        ensures err { IfErr result (λ fault. ((fault ≡ Fault.ReadOnly) × (is_read_only self.now.bad ≡ true)) ⊎ ((fault ≡ Fault.Overflow) × (self.now.history.next ≡ last_serial))) }
+        ensures err { IfErr result (λ fault. ((fault ≡ Fault.ReadOnly) × (is_read_only self.now.storage.bad ≡ true)) ⊎ ((fault ≡ Fault.Overflow) × (self.now.history.next ≡ last_serial))) }
     {
         self.check_writable()?;
         if self.history.is_exhausted() {

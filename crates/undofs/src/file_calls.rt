@@ -25,7 +25,6 @@ ghost use Rattle.undofs.specs.Worked.{IsWorked, IsLooked, WorkCause};
 
 use crate::state::State;
 use bitflags::Flags;
-use counts::Count;
 use directory::{Found, with_entry};
 use flash_model::Flash;
 use fs_types::{Fault, OpenFlags, Path};
@@ -138,22 +137,14 @@ impl State {
         requires mounted { IsMounted (F.device flash.old) self.old }
         requires below { 0 < length path.now }
         requires place { is_place place ≡ true }
-        requires held { IsHeld (node_of (F.device flash.old)) (set.contains self.old.ring.used) (Dir root) }
+        requires held { IsHeld (node_of (F.device flash.old)) (set.contains self.old.storage.ring.used) (Dir root) }
         ensures worked { IsWorked (F.device flash.old) self.old (F.device flash.new) self.new }
-        ensures rewritten { IfOk result (λ to. IsRewritten (node_of (F.device flash.old)) (set.contains self.new.ring.used) (node_of (F.device flash.new)) root to path.now (Some place)) }
+        ensures rewritten { IfOk result (λ to. IsRewritten (node_of (F.device flash.old)) (set.contains self.new.storage.ring.used) (node_of (F.device flash.new)) root to path.now (Some place)) }
         ensures refused { IfErr result (λ fault. is_edit_fault fault ≡ true → path_refusal (node_of (F.device flash.old)) root path.now (Some place) ≡ Some fault) }
         ensures why { IfErr result (λ fault. is_edit_fault fault ≡ false → WorkCause (seen_on (F.device flash.old) self.old) fault (seen_on (F.device flash.new) self.new)) }
         ensures faults { IfErr result IsEditFault }
     {
-        let mut store = Store {
-            flash,
-            bad: &mut self.bad,
-            ring: &mut self.ring,
-            page: &mut self.page,
-            node: &mut self.node,
-            reads: Count::zero(),
-            writes: Count::zero(),
-        };
+        let mut store = Store::new(flash, &mut self.storage);
         with_entry(alloc, &mut store, root, path, place)
     }
 }

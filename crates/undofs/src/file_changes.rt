@@ -30,7 +30,6 @@ ghost use Rattle.undofs.specs.Worked.{IsWorked, IsLooked, WorkCause};
 
 use crate::state::State;
 use bitflags::Flags;
-use counts::Count;
 use directory::Found;
 use flash_model::Flash;
 use fs_types::{Fault, OpenFlags, Path};
@@ -207,9 +206,9 @@ impl State {
         requires mounted { IsMounted (F.device flash.old) self.old }
         requires below { 0 < length path.now }
         requires short { body.length ≤ 16777216 }
-        requires held { IsHeld (node_of (F.device flash.old)) (set.contains self.old.ring.used) (Dir root) }
+        requires held { IsHeld (node_of (F.device flash.old)) (set.contains self.old.storage.ring.used) (Dir root) }
         ensures worked { IsWorked (F.device flash.old) self.old (F.device flash.new) self.new }
-        ensures rewritten { IfOk result (λ to. IsRewritten (node_of (F.device flash.old)) (set.contains self.new.ring.used) (node_of (F.device flash.new)) root to path.now (Some (File body.head body.length))) }
+        ensures rewritten { IfOk result (λ to. IsRewritten (node_of (F.device flash.old)) (set.contains self.new.storage.ring.used) (node_of (F.device flash.new)) root to path.now (Some (File body.head body.length))) }
         ensures refused { IfErr result (λ fault. is_edit_fault fault ≡ true → path_refusal (node_of (F.device flash.old)) root path.now (Some (File body.head body.length)) ≡ Some fault) }
         ensures why { IfErr result (λ fault. is_edit_fault fault ≡ false → WorkCause (seen_on (F.device flash.old) self.old) fault (seen_on (F.device flash.new) self.new)) }
         ensures faults { IfErr result IsEditFault }
@@ -232,24 +231,16 @@ impl State {
     ) -> Result<Body, Fault>
         requires mounted { IsMounted (F.device flash.old) self.old }
         requires whole { IsBody (room_of (F.device flash.old)) (node_of (F.device flash.old)) body.head body.length }
-        requires held { IsHeld (node_of (F.device flash.old)) (set.contains self.old.ring.used) (File body.head body.length) }
+        requires held { IsHeld (node_of (F.device flash.old)) (set.contains self.old.storage.ring.used) (File body.head body.length) }
         requires some { 0 < length bytes.now }
         requires fits { offset + length bytes.now ≤ 16777216 }
         requires length { body.length ≤ 16777216 }
         ensures worked { IsWorked (F.device flash.old) self.old (F.device flash.new) self.new }
-        ensures written { IfOk result (λ new. IsWritten (room_of (F.device flash.old)) (node_of (F.device flash.new)) (set.contains self.new.ring.used) new (overwritten (bodies.body (room_of (F.device flash.old)) (node_of (F.device flash.old)) body.head body.length) offset bytes.now)) }
+        ensures written { IfOk result (λ new. IsWritten (room_of (F.device flash.old)) (node_of (F.device flash.new)) (set.contains self.new.storage.ring.used) new (overwritten (bodies.body (room_of (F.device flash.old)) (node_of (F.device flash.old)) body.head body.length) offset bytes.now)) }
         ensures why { IfErr result (λ fault. WorkCause (seen_on (F.device flash.old) self.old) fault (seen_on (F.device flash.new) self.new)) }
         ensures faults { IfErr result IsWritingFault }
     {
-        let mut store = Store {
-            flash,
-            bad: &mut self.bad,
-            ring: &mut self.ring,
-            page: &mut self.page,
-            node: &mut self.node,
-            reads: Count::zero(),
-            writes: Count::zero(),
-        };
+        let mut store = Store::new(flash, &mut self.storage);
         write_range(alloc, &mut store, body, offset, bytes)
     }
 
@@ -263,22 +254,14 @@ impl State {
     ) -> Result<Body, Fault>
         requires mounted { IsMounted (F.device flash.old) self.old }
         requires whole { IsBody (room_of (F.device flash.old)) (node_of (F.device flash.old)) body.head body.length }
-        requires held { IsHeld (node_of (F.device flash.old)) (set.contains self.old.ring.used) (File body.head body.length) }
+        requires held { IsHeld (node_of (F.device flash.old)) (set.contains self.old.storage.ring.used) (File body.head body.length) }
         requires most { size ≤ 16777216 }
         ensures worked { IsWorked (F.device flash.old) self.old (F.device flash.new) self.new }
-        ensures written { IfOk result (λ new. IsWritten (room_of (F.device flash.old)) (node_of (F.device flash.new)) (set.contains self.new.ring.used) new (resized (bodies.body (room_of (F.device flash.old)) (node_of (F.device flash.old)) body.head body.length) size)) }
+        ensures written { IfOk result (λ new. IsWritten (room_of (F.device flash.old)) (node_of (F.device flash.new)) (set.contains self.new.storage.ring.used) new (resized (bodies.body (room_of (F.device flash.old)) (node_of (F.device flash.old)) body.head body.length) size)) }
         ensures why { IfErr result (λ fault. WorkCause (seen_on (F.device flash.old) self.old) fault (seen_on (F.device flash.new) self.new)) }
         ensures faults { IfErr result IsWritingFault }
     {
-        let mut store = Store {
-            flash,
-            bad: &mut self.bad,
-            ring: &mut self.ring,
-            page: &mut self.page,
-            node: &mut self.node,
-            reads: Count::zero(),
-            writes: Count::zero(),
-        };
+        let mut store = Store::new(flash, &mut self.storage);
         set_length(alloc, &mut store, body, size)
     }
 }

@@ -18,7 +18,6 @@ ghost use Rattle.undofs.specs.Worked.{IsLooked, WorkCause};
 
 use crate::state::State;
 use bitflags::Flags;
-use counts::Count;
 use directory::{Found, lookup};
 use flash_model::Flash;
 use fs_types::{Bytes, Fault, OpenFlags, Path, View};
@@ -120,15 +119,7 @@ impl State {
         ensures refused { IfErr result (λ fault. is_body_fault fault ≡ false → file_refusal (tree_on (F.device flash.old) root) path.now ≡ Some fault) }
         ensures why { IfErr result (λ fault. is_body_fault fault ≡ true → WorkCause (seen_on (F.device flash.old) self.old) fault (seen_on (F.device flash.new) self.new)) }
     {
-        let mut store = Store {
-            flash,
-            bad: &mut self.bad,
-            ring: &mut self.ring,
-            page: &mut self.page,
-            node: &mut self.node,
-            reads: Count::zero(),
-            writes: Count::zero(),
-        };
+        let mut store = Store::new(flash, &mut self.storage);
         read_file(alloc, &mut store, root, path, offset, count)
     }
 }

@@ -23,7 +23,6 @@ ghost use Rattle.undofs.specs.Steps.{replied, empty, Refuses};
 ghost use Rattle.undofs.specs.Worked.{IsWorked, IsLooked, WorkCause};
 
 use crate::state::State;
-use counts::Count;
 use directory::{Found, without_entry};
 use flash_model::Flash;
 use fs_types::{Fault, Path};
@@ -160,22 +159,14 @@ impl State {
     ) -> Result<u32, Fault>
         requires mounted { IsMounted (F.device flash.old) self.old }
         requires below { 0 < length path.now }
-        requires held { IsHeld (node_of (F.device flash.old)) (set.contains self.old.ring.used) (Dir root) }
+        requires held { IsHeld (node_of (F.device flash.old)) (set.contains self.old.storage.ring.used) (Dir root) }
         requires editable { path_refusal (node_of (F.device flash.old)) root path.now None ≡ None }
         ensures worked { IsWorked (F.device flash.old) self.old (F.device flash.new) self.new }
-        ensures rewritten { IfOk result (λ to. IsRewritten (node_of (F.device flash.old)) (set.contains self.new.ring.used) (node_of (F.device flash.new)) root to path.now None) }
+        ensures rewritten { IfOk result (λ to. IsRewritten (node_of (F.device flash.old)) (set.contains self.new.storage.ring.used) (node_of (F.device flash.new)) root to path.now None) }
         ensures why { IfErr result (λ fault. WorkCause (seen_on (F.device flash.old) self.old) fault (seen_on (F.device flash.new) self.new)) }
         ensures faults { IfErr result IsMakeFault }
     {
-        let mut store = Store {
-            flash,
-            bad: &mut self.bad,
-            ring: &mut self.ring,
-            page: &mut self.page,
-            node: &mut self.node,
-            reads: Count::zero(),
-            writes: Count::zero(),
-        };
+        let mut store = Store::new(flash, &mut self.storage);
         without_entry(alloc, &mut store, root, path)
     }
 }

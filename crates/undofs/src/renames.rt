@@ -29,7 +29,6 @@ ghost use Rattle.undofs.specs.Steps.{replied, empty, is_cut_answer, Refuses, Cal
 ghost use Rattle.undofs.specs.Worked.{IsWorked, IsLooked, WorkCause, ReadCause};
 
 use crate::state::State;
-use counts::Count;
 use directory::{Found, is_deeper, moved};
 use flash_model::Flash;
 use fs_types::{Fault, Name, Path};
@@ -251,15 +250,7 @@ impl State {
         ensures why { IfErr result (λ fault. WorkCause (seen_on (F.device flash.old) self.old) fault (seen_on (F.device flash.new) self.new)) }
         ensures faults { IfErr result IsDepthFault }
     {
-        let mut store = Store {
-            flash,
-            bad: &mut self.bad,
-            ring: &mut self.ring,
-            page: &mut self.page,
-            node: &mut self.node,
-            reads: Count::zero(),
-            writes: Count::zero(),
-        };
+        let mut store = Store::new(flash, &mut self.storage);
         is_deeper(alloc, &mut store, block, most)
     }
 
@@ -275,23 +266,15 @@ impl State {
         place: Place,
     ) -> Result<u32, Fault>
         requires mounted { IsMounted (F.device flash.old) self.old }
-        requires held { IsHeld (node_of (F.device flash.old)) (set.contains self.old.ring.used) (Dir root) }
+        requires held { IsHeld (node_of (F.device flash.old)) (set.contains self.old.storage.ring.used) (Dir root) }
         requires apart { Apart old.now new.now }
         requires movable { IsMovable (node_of (F.device flash.old)) root old.now new.now place }
         ensures worked { IsWorked (F.device flash.old) self.old (F.device flash.new) self.new }
-        ensures moved { IfOk result (λ to. IsMoved (node_of (F.device flash.old)) (node_of (F.device flash.new)) (set.contains self.old.ring.used) (set.contains self.new.ring.used) root to old.now new.now place) }
+        ensures moved { IfOk result (λ to. IsMoved (node_of (F.device flash.old)) (node_of (F.device flash.new)) (set.contains self.old.storage.ring.used) (set.contains self.new.storage.ring.used) root to old.now new.now place) }
         ensures why { IfErr result (λ fault. WorkCause (seen_on (F.device flash.old) self.old) fault (seen_on (F.device flash.new) self.new)) }
         ensures faults { IfErr result IsMakeFault }
     {
-        let mut store = Store {
-            flash,
-            bad: &mut self.bad,
-            ring: &mut self.ring,
-            page: &mut self.page,
-            node: &mut self.node,
-            reads: Count::zero(),
-            writes: Count::zero(),
-        };
+        let mut store = Store::new(flash, &mut self.storage);
         moved(alloc, &mut store, root, old, new, place)
     }
 }

@@ -15,7 +15,6 @@ ghost use Rattle.undofs.specs.Steps.{replied, is_cut_answer, CallStep};
 ghost use Rattle.undofs.specs.Worked.{IsLooked, WorkCause};
 
 use crate::state::State;
-use counts::Count;
 use directory::{Found, entry_count};
 use flash_model::Flash;
 use fs_types::{Fault, Path, Stat, View};
@@ -68,15 +67,7 @@ impl State {
         ensures why { IfErr result (λ fault. is_path_fault fault ≡ false → WorkCause (seen_on (F.device flash.old) self.old) fault (seen_on (F.device flash.new) self.new)) }
         ensures faults { IfErr result IsReadFault }
     {
-        let mut store = Store {
-            flash,
-            bad: &mut self.bad,
-            ring: &mut self.ring,
-            page: &mut self.page,
-            node: &mut self.node,
-            reads: Count::zero(),
-            writes: Count::zero(),
-        };
+        let mut store = Store::new(flash, &mut self.storage);
         entry_count(&mut store, block)
     }
 }

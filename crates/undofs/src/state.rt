@@ -14,12 +14,11 @@ ghost use Rattle.undofs.specs.Worked.{IsFreshFault};
 
 use allocator::Ring;
 use bad_blocks::BadBlocks;
-use counts::Count;
 use flash_model::Flash;
 use fs_types::Fault;
 use history::History;
 use node_format::empty_directory;
-use node_store::{Nodes, Store};
+use node_store::{Nodes, Storage, Store};
 use open_files::OpenFiles;
 use std::alloc::Global;
 
@@ -28,14 +27,8 @@ use std::alloc::Global;
 pub(crate) struct State {
     /// The versions and checkpoints, by the blocks of their roots.
     pub(crate) history: History<u32>,
-    /// The blocks whose erase or program failed.
-    pub(crate) bad: BadBlocks,
-    /// The blocks that are in use.
-    pub(crate) ring: Ring,
-    /// Room for a page.
-    pub(crate) page: Vec<u8>,
-    /// Room for the node that was read last.
-    pub(crate) node: Vec<u8>,
+    /// What nodes are kept with: the bad and the used blocks, and room for a page and for a node.
+    pub(crate) storage: Storage,
     /// The open files, each a file of the present tree.
     pub(crate) files: OpenFiles,
     /// Whether a call answered that the power is off; each later one does too.
@@ -72,18 +65,17 @@ impl State {
         ensures refused { IfErr result (IsFreshFault (F.device flash.new)) }
     {
         let geometry = flash.geometry();
-        let mut bad = BadBlocks::new();
-        let mut ring = Ring::new(alloc, geometry.blocks, geometry.blocks - 1)?;
-        let mut page = vec![in alloc; 0; geometry.page as usize]?;
-        let mut node = Vec::with_capacity(alloc, geometry.block_bytes())?;
-        let root = write_root(flash, &mut bad, &mut ring, &mut page, &mut node)?;
+        let mut storage = Storage {
+            bad: BadBlocks::new(),
+            ring: Ring::new(alloc, geometry.blocks, geometry.blocks - 1)?,
+            page: vec![in alloc; 0; geometry.page as usize]?,
+            node: Vec::with_capacity(alloc, geometry.block_bytes())?,
+        };
+        let root = write_root(flash, &mut storage)?;
         let history = History::new(alloc, limit as usize, root)?;
         Ok(State {
             history,
-            bad,
-            ring,
-            page,
-            node,
+            storage,
             files: OpenFiles::new(),
             is_off: false,
         })
@@ -91,34 +83,20 @@ impl State {
 }
 
 /// Writes an empty directory, and answers its block.
-fn write_root<F: Flash>(
-    flash: &mut F,
-    bad: &mut BadBlocks,
-    ring: &mut Ring,
-    page: &mut Vec<u8>,
-    node: &mut Vec<u8>,
-) -> Result<u32, Fault>
+fn write_root<F: Flash>(flash: &mut F, storage: &mut Storage) -> Result<u32, Fault>
     requires lawful { IsGeometry (F.device flash.old).geometry }
-    requires ring_blocks { ring.old.blocks ≡ (F.device flash.old).geometry.blocks }
-    requires page_len { vec_len page.old ≡ (F.device flash.old).geometry.page }
-    requires node_room { block_bytes (F.device flash.old).geometry ≤ vec_capacity node.old }
+    requires ring_blocks { storage.old.ring.blocks ≡ (F.device flash.old).geometry.blocks }
+    requires page_len { vec_len storage.old.page ≡ (F.device flash.old).geometry.page }
+    requires node_room { block_bytes (F.device flash.old).geometry ≤ vec_capacity storage.old.node }
     ensures later { IsLaterFlash (F.device flash.old) (F.device flash.new) }
     ensures lawful { IsGeometry (F.device flash.new).geometry }
-    ensures ring_blocks { ring.new.blocks ≡ (F.device flash.new).geometry.blocks }
-    ensures page_len { vec_len page.new ≡ (F.device flash.new).geometry.page }
-    ensures node_room { block_bytes (F.device flash.new).geometry ≤ vec_capacity node.new }
-    ensures kept { IfOk result (λ root. set.contains ring.new.used root ≡ true) }
+    ensures ring_blocks { storage.new.ring.blocks ≡ (F.device flash.new).geometry.blocks }
+    ensures page_len { vec_len storage.new.page ≡ (F.device flash.new).geometry.page }
+    ensures node_room { block_bytes (F.device flash.new).geometry ≤ vec_capacity storage.new.node }
+    ensures kept { IfOk result (λ root. set.contains storage.new.ring.used root ≡ true) }
     ensures empty { IfOk result (λ root. entries_of (node_of (F.device flash.new) root) ≡ Some []) }
     ensures refused { IfErr result (IsFreshFault (F.device flash.new)) }
 {
-    let mut store = Store {
-        flash,
-        bad,
-        ring,
-        page,
-        node,
-        reads: Count::zero(),
-        writes: Count::zero(),
-    };
+    let mut store = Store::new(flash, storage);
     store.write(&empty_directory())
 }

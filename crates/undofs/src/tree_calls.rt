@@ -24,7 +24,6 @@ ghost use Rattle.undofs.specs.Steps.{replied, empty, is_cut_answer, Refuses, Cal
 ghost use Rattle.undofs.specs.Worked.{IsWorked, IsLooked, WorkCause};
 
 use crate::state::State;
-use counts::Count;
 use directory::{Found, lookup, make_directory, names};
 use flash_model::Flash;
 use fs_types::{Fault, Name, Path, Sequence, View};
@@ -146,15 +145,7 @@ impl State {
         ensures why { IfErr result (λ fault. is_path_fault fault ≡ false → WorkCause (seen_on (F.device flash.old) self.old) fault (seen_on (F.device flash.new) self.new)) }
         ensures faults { IfErr result IsLookupFault }
     {
-        let mut store = Store {
-            flash,
-            bad: &mut self.bad,
-            ring: &mut self.ring,
-            page: &mut self.page,
-            node: &mut self.node,
-            reads: Count::zero(),
-            writes: Count::zero(),
-        };
+        let mut store = Store::new(flash, &mut self.storage);
         lookup(&mut store, root, path)
     }
 
@@ -172,15 +163,7 @@ impl State {
         ensures why { IfErr result (λ fault. is_path_fault fault ≡ false → WorkCause (seen_on (F.device flash.old) self.old) fault (seen_on (F.device flash.new) self.new)) }
         ensures faults { IfErr result IsReadFault }
     {
-        let mut store = Store {
-            flash,
-            bad: &mut self.bad,
-            ring: &mut self.ring,
-            page: &mut self.page,
-            node: &mut self.node,
-            reads: Count::zero(),
-            writes: Count::zero(),
-        };
+        let mut store = Store::new(flash, &mut self.storage);
         names(alloc, &mut store, block)
     }
 
@@ -193,22 +176,14 @@ impl State {
         path: &Path,
     ) -> Result<u32, Fault>
         requires mounted { IsMounted (F.device flash.old) self.old }
-        requires held { IsHeld (node_of (F.device flash.old)) (set.contains self.old.ring.used) (Dir root) }
+        requires held { IsHeld (node_of (F.device flash.old)) (set.contains self.old.storage.ring.used) (Dir root) }
         requires missing { look_up (node_of (F.device flash.old)) root path.now ≡ Ok (Missing false) }
         ensures worked { IsWorked (F.device flash.old) self.old (F.device flash.new) self.new }
-        ensures made { IfOk result (λ to. IsMade (node_of (F.device flash.old)) (node_of (F.device flash.new)) (set.contains self.old.ring.used) (set.contains self.new.ring.used) root to path.now) }
+        ensures made { IfOk result (λ to. IsMade (node_of (F.device flash.old)) (node_of (F.device flash.new)) (set.contains self.old.storage.ring.used) (set.contains self.new.storage.ring.used) root to path.now) }
         ensures why { IfErr result (λ fault. WorkCause (seen_on (F.device flash.old) self.old) fault (seen_on (F.device flash.new) self.new)) }
         ensures faults { IfErr result IsMakeFault }
     {
-        let mut store = Store {
-            flash,
-            bad: &mut self.bad,
-            ring: &mut self.ring,
-            page: &mut self.page,
-            node: &mut self.node,
-            reads: Count::zero(),
-            writes: Count::zero(),
-        };
+        let mut store = Store::new(flash, &mut self.storage);
         make_directory(alloc, &mut store, root, path)
     }
 }

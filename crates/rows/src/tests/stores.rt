@@ -1,10 +1,9 @@
 //! Nodes written to a flash and read back.
 use allocator::Ring;
 use bad_blocks::BadBlocks;
-use counts::Count;
 use flash_model::{FaultKind, Geometry, PlannedFault, SimFlash};
 use fs_types::Fault;
-use node_store::{Nodes, Store};
+use node_store::{Nodes, Storage, Store};
 use std::test::Fail;
 
 /// The empty directory.
@@ -22,20 +21,14 @@ fn a_node_is_written_past_a_block_that_fails(rt: HostRuntime) -> Result<(), Fail
         kind: FaultKind::ProgramFail,
     }];
     let mut flash = SimFlash::new(rt.alloc(), geometry, &plan)?;
-    let mut bad = BadBlocks::new();
-    let mut ring = Ring::new(rt.alloc(), 16, 15)?;
-    let mut page = vec![in rt.alloc(); 0; 256]?;
-    let mut node = Vec::with_capacity(rt.alloc(), 4096)?;
+    let mut storage = Storage {
+        bad: BadBlocks::new(),
+        ring: Ring::new(rt.alloc(), 16, 15)?,
+        page: vec![in rt.alloc(); 0; 256]?,
+        node: Vec::with_capacity(rt.alloc(), 4096)?,
+    };
     {
-        let mut store = Store {
-            flash: &mut flash,
-            bad: &mut bad,
-            ring: &mut ring,
-            page: &mut page,
-            node: &mut node,
-            reads: Count::zero(),
-            writes: Count::zero(),
-        };
+        let mut store = Store::new(&mut flash, &mut storage);
         assert_eq!(rt; store.write(&EMPTY), Ok(9));
         assert_eq!(rt; store.read(9), Ok(()));
         assert_eq!(rt; store.lent(), EMPTY.as_slice());
@@ -44,7 +37,7 @@ fn a_node_is_written_past_a_block_that_fails(rt: HostRuntime) -> Result<(), Fail
         assert_eq!(rt; store.read(u32::MAX), Err(Fault::Damaged));
         assert_eq!(rt; store.write(&EMPTY), Ok(10));
     }
-    assert!(rt; bad.contains(8) && !bad.contains(9));
-    assert!(rt; ring.is_used(8) && ring.is_used(10) && !ring.is_used(11));
+    assert!(rt; storage.bad.contains(8) && !storage.bad.contains(9));
+    assert!(rt; storage.ring.is_used(8) && storage.ring.is_used(10) && !storage.ring.is_used(11));
     Ok(())
 }

@@ -65,4 +65,4 @@ returns-clause-mounted c = λ device is.
     let s = c.args.self.now in
     let name = c.args.name.now in
     mounted_after device s (Call.Checkpoint name) c.checkpoint.result (with_checkpoint s.history name) c.checkpoint.new.self (made c) c.checkpoint.ensures.err is refl (returns-clause-step c device)
-    (record { versions = all_with_checkpoint (IsStanding device s.ring) s.history name is.versions; checkpoints = kept_with_checkpoint (IsStanding device s.ring) s.history name is.versions is.checkpoints })
+    (record { versions = all_with_checkpoint (IsStanding device s.storage.ring) s.history name is.versions; checkpoints = kept_with_checkpoint (IsStanding device s.storage.ring) s.history name is.versions is.checkpoints })

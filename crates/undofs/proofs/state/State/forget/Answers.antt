@@ -24,4 +24,4 @@ pub returns-clause-mounted : goal.returns-clause-mounted
 returns-clause-mounted c = λ device is.
     let s = c.args.self.now in
     mounted_after device s (Call.Forget c.args.count) c.forget.result (forgotten s.history c.args.count) c.forget.new.self c.forget.ensures.ok c.forget.ensures.err is refl (returns-clause-step c device)
-    (record { versions = all_forgotten (IsStanding device s.ring) s.history c.args.count is.versions; checkpoints = is.checkpoints })
+    (record { versions = all_forgotten (IsStanding device s.storage.ring) s.history c.args.count is.versions; checkpoints = is.checkpoints })

@@ -45,4 +45,4 @@ returns-clause-mounted c = λ device is.
     let s = c.args.self.now in
     let name = c.args.name.now in
     mounted_after device s (Call.RemoveCheckpoint name) c.remove_checkpoint.result (without_checkpoint s.history name) c.remove_checkpoint.new.self c.remove_checkpoint.ensures.ok c.remove_checkpoint.ensures.err is refl (returns-clause-step c device)
-    (record { versions = is.versions; checkpoints = kept_without_checkpoint (IsStanding device s.ring) s.history name is.checkpoints })
+    (record { versions = is.versions; checkpoints = kept_without_checkpoint (IsStanding device s.storage.ring) s.history name is.checkpoints })

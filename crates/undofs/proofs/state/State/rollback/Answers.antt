@@ -44,6 +44,6 @@ pub returns-clause-mounted : goal.returns-clause-mounted
 returns-clause-mounted c = λ device is.
     let s = c.args.self.now in
     let root = c.in_ok-root.root in
-    let stands = of_checkpoint (IsStanding device s.ring) s.history c.args.name.now root is.checkpoints c.in_ok-root.ensures in
+    let stands = of_checkpoint (IsStanding device s.storage.ring) s.history c.args.name.now root is.checkpoints c.in_ok-root.ensures in
     mounted_by device s (Call.Rollback c.args.name.now) (Ok Reply.Empty) c.push.new.self is refl (returns-clause-step c device)
-    (rw c.push.ensures (record { versions = all_changed (IsStanding device s.ring) s.history root is.versions stands; checkpoints = kept_changed (IsStanding device s.ring) s.history root is.checkpoints }))
+    (rw c.push.ensures (record { versions = all_changed (IsStanding device s.storage.ring) s.history root is.versions stands; checkpoints = kept_changed (IsStanding device s.storage.ring) s.history root is.checkpoints }))

@@ -1,0 +1,185 @@
+-- The root of a tree with a file of other bytes: its body is written first, and then the path to it.
+use Rattle.std.proofs.Common.{◌≡◌, ◌⊎◌, ℕ, suc, ◌+◌, ◌≤◌, Bool, true, false, Option, Some, None, Result, Ok, List, [], ◌∷◌, length, refl, sym, ap, subst, ◌∙◌, inl, inr, arith, length-take}
+use Rattle.std.proofs.lemmas.Bool.{cases_Bool}
+use Rattle.std.specs.Prelude.{zero, Err, IfOk}
+use Rattle.std.specs.Option.{option_and_then}
+use Rattle.fs_types.specs.Names.{Path, is_path}
+use Rattle.fs_types.specs.Contents.{Contents, Entry, overwritten, resized}
+use Rattle.fs_types.specs.Trees.{put}
+use Rattle.fs_types.specs.Machine.{bytes_of, bytes_at}
+use Rattle.fs_types.proofs.Files.{length-resized, length-overwritten}
+use Rattle.fs_types.specs.declared.faults.Fault.{Fault}
+use Rattle.fs_types.specs.declared.faults.Fault.TheVariants.{FlashFull, ReadOnly, ReadFailed, PowerCut, NoMemory}
+use Rattle.node_format.specs.declared.places.Place.{Place}
+use Rattle.node_format.specs.declared.places.Place.TheVariants.{Dir, File}
+use Rattle.block_trees.specs.Bodies.{Blocks, body, data_to, head_index, IsBody}
+use Rattle.block_trees.specs.Reached.{Reached, IsHeld, Keeps, PlaceNames}
+use Rattle.block_trees.specs.Rewritten.{IsRewritten}
+use Rattle.block_trees.specs.Trees.{child, leads, HasTree, IsWhole, IsRoot, root_tree}
+use Rattle.block_trees.proofs.EditedMaps.{put_file_law}
+use Rattle.block_trees.proofs.EditedTrees.{edit_law}
+use Rattle.block_trees.proofs.Entries.{place_is}
+use Rattle.block_trees.proofs.Frames.{frame_law}
+use Rattle.block_trees.proofs.Reaching.{child_names, held_leads, reached_below}
+use Rattle.block_trees.proofs.RootMaps.{map_law}
+use Rattle.directory.specs.declared.lookups.Found.{Found}
+use Rattle.directory.specs.declared.lookups.Found.TheVariants as found
+use Rattle.directory.specs.Edits as directories
+use Rattle.directory.specs.Lookups.{look_up}
+use Rattle.directory.specs.Making.{IsMakeFault}
+use Rattle.directory.proofs.LookupLaws.{found_is, found_leads_file}
+use Rattle.directory.proofs.NewDirectories.{rewritten_before}
+use Rattle.skip_list_file.specs.Writing as bodies
+use Rattle.skip_list_file.specs.Writing.{IsWritten, IsWritingFault}
+use Rattle.skip_list_file.specs.declared.bodies.Body.{Body}
+use Rattle.tree_edits.specs.Edits.{TakesFile}
+use Rattle.tree_edits.specs.Roots.{IsNewRoot}
+use Rattle.tree_edits.proofs.Lookups.{path_within, no_directory}
+
+pub body_fault : (fault : Fault) → IsWritingFault fault → IsMakeFault fault
+body_fault FlashFull is = refl
+body_fault ReadOnly is = refl
+body_fault ReadFailed is = refl
+body_fault PowerCut is = refl
+body_fault NoMemory is = refl
+body_fault _ is = absurd is
+
+-- ---- a body stays where nothing of it changes
+
+file_shape : (room : ℕ) (f : Blocks) (head size : ℕ) → IsBody room f head size → HasTree room f (File head size) 0
+file_shape room f head size is [] there e = (subst (IsWhole room f) (place_is (File head size) there e) is, omega arith)
+file_shape room f head size is (n ∷ q) there e = absurd cc
+
+record StaysBody (room : ℕ) (new : Blocks) (kept : ℕ → Bool) (head size : ℕ) (bytes : List ℕ) : Type 0 where
+  whole : IsBody room new head size
+  shown : body room new head size ≡ bytes
+  held : IsHeld new kept (File head size)
+
+stays_body : (room : ℕ) (old new : Blocks) (kept kept' : ℕ → Bool) (x : Body) (bytes : List ℕ) → Keeps kept old kept' new → IsWritten room old kept x bytes → StaysBody room new kept' x.head x.length bytes
+stays_body room old new kept kept' x bytes keeps written =
+    let law = frame_law old new kept kept' keeps in
+    let at = File x.head x.length in
+    let has = file_shape room old x.head x.length written.whole in
+    record {
+      whole = (law.shape room 0 at written.held has [] at refl).0;
+      shown = ap (λ (t : Contents). bytes_of (t [])) (law.same room 0 at written.held has) ∙ written.shown;
+      held = law.held at written.held;
+    }
+
+-- ---- what is reached
+
+-- what a path leads to reaches nothing that the root does not
+pub reached_leads : (f : Blocks) (path : Path) (from root b : ℕ) (place : Place) → leads f (Dir from) path ≡ Some place → PlaceNames place root → Reached f (root ∷ []) b → Reached f (from ∷ []) b
+reached_leads f [] from root b place led names reached =
+    let same : from ≡ root = subst (λ (p : Place). PlaceNames p root) (sym (place_is (Dir from) place led)) names in
+    subst (λ (r : ℕ). Reached f (r ∷ []) b) (sym same) reached
+reached_leads f (n ∷ path) from root b place led names reached = on (child f (Dir from) n) refl led (λ below. reached_leads f path below root b place)
+  where
+    on : (o : Option Place) → child f (Dir from) n ≡ o → option_and_then (λ next. leads f next path) o ≡ Some place
+        → ((below : ℕ) → leads f (Dir below) path ≡ Some place → PlaceNames place root → Reached f (root ∷ []) b → Reached f (below ∷ []) b) → Reached f (from ∷ []) b
+    on None is e again = absurd cc
+    on (Some (Dir below)) is e again = reached_below f from below (child_names f from n (Dir below) below is refl) (again below e names reached)
+    on (Some (File head size)) is e again = at_file path e
+      where
+        at_file : (p : Path) → leads f (File head size) p ≡ Some place → Reached f (from ∷ []) b
+        at_file [] e =
+            let named = subst (λ (q : Place). PlaceNames q root) (sym (place_is (File head size) place e)) names in
+            reached_below f from root (child_names f from n (File head size) root is named) reached
+        at_file (m ∷ p) e = absurd cc
+
+-- the blocks that a new body reaches, of those before it: the root reached them, or they were not kept
+abbrev pub IsFrom : Blocks → (ℕ → Bool) → ℕ → Blocks → Body → Type 0
+IsFrom old kept from mid x = (root block : ℕ) → PlaceNames (File x.head x.length) root → Reached mid (root ∷ []) block → Reached old (from ∷ []) block ⊎ (kept block ≡ false)
+
+-- a body made of that of a file of the tree
+pub from_file : (old mid : Blocks) (kept : ℕ → Bool) (from : ℕ) (path : Path) (x y : Body) → look_up old from path ≡ Ok (found.File x.head x.length) → bodies.OnlyReaches old mid kept x y → IsFrom old kept from mid y
+from_file old mid kept from path x y led only root block names reached = elim (only root block names reached) [
+  | inl before ↦ inl (reached_leads old path from before.0 block (File x.head x.length) (found_leads_file old from path x.head x.length led) before.1 before.2)
+  | inr fresh ↦ inr fresh
+]
+
+-- ---- the new root
+
+-- the body was written from `old` to `mid`, and the path to it from there to `new`
+pub file_root : (room : ℕ) (old mid new : Blocks) (kept held_mid kept' : ℕ → Bool) (from to : ℕ) (path : Path) (found_there : Found) (x : Body) (bytes : List ℕ) → Keeps kept old held_mid mid → Keeps held_mid mid kept' new
+    → IsHeld old kept (Dir from) → IsRoot room old from → is_path path ≡ true → look_up old from path ≡ Ok found_there → TakesFile found_there
+    → IsWritten room mid held_mid x bytes → IsFrom old kept from mid x → IsRewritten mid kept' new from to path (Some (File x.head x.length)) → directories.OnlyReaches mid new held_mid from to (Some (File x.head x.length))
+    → IsNewRoot room old kept new kept' from to (put (root_tree room old from) path (Entry.File bytes))
+file_root room old mid new kept held_mid kept' from to path found_there x bytes first second held rooted lawful led takes written is_from rewritten reaches =
+    let both : Keeps kept old kept' new = record { same = λ b k. second.same b (first.stays b k) ∙ first.same b k; stays = λ b k. second.stays b (first.stays b k) } in
+    let stays = stays_body room mid new held_mid kept' x bytes second written in
+    let whole = rewritten_before old mid new kept held_mid kept' first path from to (Some (File x.head x.length)) held rewritten in
+    let edit = edit_law old new kept kept' from to path (Some (File x.head x.length)) both held whole in
+    let law = put_file_law room old new kept kept' from to x.head x.length path both held rooted (no_directory room old from path found_there led takes) (path_within path lawful) stays.whole whole in
+    record {
+      rooted = law.0;
+      held = edit.held stays.held;
+      shows = law.1 ∙ ap (λ (bs : List ℕ). put (root_tree room old from) path (Entry.File bs)) stays.shown;
+      reached = λ block r. on block (reaches block r);
+    }
+  where
+    was_fresh : (block : ℕ) → held_mid block ≡ false → kept block ≡ false
+    was_fresh block free = elim (cases_Bool (kept block)) [
+      | inl is ↦ absurd (let both = sym (first.stays block is) ∙ free in cc)
+      | inr is ↦ is
+    ]
+
+    on : (block : ℕ) → Reached mid (from ∷ []) block ⊎ (held_mid block ≡ false) ⊎ ((root : ℕ) × (place : Place) × (let at : Option Place = Some (File x.head x.length) in at ≡ Some place) × PlaceNames place root × Reached new (root ∷ []) block)
+        → Reached old (from ∷ []) block ⊎ (kept block ≡ false)
+    on block (inl before) = inl ((frame_law old mid kept held_mid first).reached from block held before)
+    on block (inr (inl free)) = inr (was_fresh block free)
+    on block (inr (inr (root, place, is, names, below))) =
+        let named : PlaceNames (File x.head x.length) root = subst (λ (p : Place). PlaceNames p root) (sym (place_is (File x.head x.length) place is)) names in
+        let own : IsHeld mid held_mid (Dir root) = λ other same. written.held other (subst (λ (r : ℕ). PlaceNames (File x.head x.length) r) same named) in
+        is_from root block named ((frame_law mid new held_mid kept' second).reached root block own below)
+
+pub file_result : (room : ℕ) (old mid new : Blocks) (kept held_mid kept' : ℕ → Bool) (from : ℕ) (path : Path) (found_there : Found) (x : Body) (bytes : List ℕ) (result : Result ℕ Fault) → Keeps kept old held_mid mid → Keeps held_mid mid kept' new
+    → IsHeld old kept (Dir from) → IsRoot room old from → is_path path ≡ true → look_up old from path ≡ Ok found_there → TakesFile found_there
+    → IsWritten room mid held_mid x bytes → IsFrom old kept from mid x → IfOk result (λ to. IsRewritten mid kept' new from to path (Some (File x.head x.length)))
+    → IfOk result (λ to. directories.OnlyReaches mid new held_mid from to (Some (File x.head x.length)))
+    → IfOk result (λ to. IsNewRoot room old kept new kept' from to (put (root_tree room old from) path (Entry.File bytes)))
+file_result room old mid new kept held_mid kept' from path found_there x bytes (Ok to) first second held rooted lawful led takes written is_from rewritten reaches =
+    file_root room old mid new kept held_mid kept' from to path found_there x bytes first second held rooted lawful led takes written is_from rewritten reaches
+file_result room old mid new kept held_mid kept' from path found_there x bytes (Err fault) first second held rooted lawful led takes written is_from rewritten reaches = tt
+
+pub keeps_itself : (kept : ℕ → Bool) (f : Blocks) → Keeps kept f kept f
+keeps_itself kept f = record { same = λ b k. refl; stays = λ b k. k }
+
+-- an empty file has no body
+pub empty_written : (room : ℕ) (f : Blocks) (kept : ℕ → Bool) (x : Body) → x.head ≡ 0 → x.length ≡ 0 → IsWritten room f kept x []
+empty_written room f kept x none short = record {
+  whole = subst (λ (n : ℕ). IsBody room f x.head n) (sym short) none;
+  shown = ap (body room f x.head) short;
+  held = λ root names block reached. let some = names.0 in absurd (omega arith);
+  counted = short;
+}
+
+pub empty_from : (old : Blocks) (kept : ℕ → Bool) (from : ℕ) (mid : Blocks) (x : Body) → x.length ≡ 0 → IsFrom old kept from mid x
+empty_from old kept from mid x short root block names reached = let some = names.0 in absurd (omega arith)
+
+-- ---- the file that is there
+
+-- a body is as long as its file
+body_length : (room : ℕ) (f : Blocks) (head size : ℕ) → IsBody room f head size → length (body room f head size) ≡ size
+body_length room f head zero is = refl
+body_length room f head (suc n) is =
+    let enough : suc n ≤ length (data_to f (head_index room (suc n)) head) = is.1 in
+    omega (arith, length-take (suc n) (data_to f (head_index room (suc n)) head))
+
+pub file_whole : (room : ℕ) (f : Blocks) (root : ℕ) (path : Path) (head size : ℕ) → IsRoot room f root → look_up f root path ≡ Ok (found.File head size) → IsBody room f head size
+file_whole room f root path head size rooted led = (rooted path (File head size) (found_leads_file f root path head size led)).0
+
+pub file_held : (f : Blocks) (kept : ℕ → Bool) (root : ℕ) (path : Path) (head size : ℕ) → IsHeld f kept (Dir root) → look_up f root path ≡ Ok (found.File head size) → IsHeld f kept (File head size)
+file_held f kept root path head size held led = held_leads f kept path (Dir root) (File head size) (found_leads_file f root path head size led) held
+
+pub file_bytes : (room : ℕ) (f : Blocks) (root : ℕ) (path : Path) (head size : ℕ) → IsRoot room f root → look_up f root path ≡ Ok (found.File head size) → body room f head size ≡ bytes_at (root_tree room f root) path
+file_bytes room f root path head size rooted led =
+    sym (ap bytes_of (ap (λ (t : Contents). t path) (map_law room f root rooted).same ∙ (found_is room f root path (found.File head size) led).1))
+
+-- an overwritten body is no longer than the most bytes of a file
+pub overwritten_short : (room : ℕ) (f : Blocks) (head size offset n : ℕ) (bytes : List ℕ) → IsBody room f head size → n ≡ length (overwritten (body room f head size) offset bytes) → size ≤ 16777216 → offset + length bytes ≤ 16777216 → n ≤ 16777216
+overwritten_short room f head size offset n bytes whole is short fits =
+    omega (arith, body_length room f head size whole, length-overwritten (body room f head size) bytes offset)
+
+pub resized_short : (old : List ℕ) (size n : ℕ) → n ≡ length (resized old size) → size ≤ 16777216 → n ≤ 16777216
+resized_short old size n is fits = omega (arith, length-resized old size)

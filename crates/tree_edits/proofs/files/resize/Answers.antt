@@ -1,0 +1,42 @@
+use Rattle.std.proofs.Common.{◌-◌, List, ℕ, subst}
+use Rattle.fs_types.specs.Contents.{resized}
+use Rattle.fs_types.specs.Machine.{bytes_at}
+use Rattle.node_format.specs.Headers.{body_front}
+use Rattle.block_trees.specs.Trees.{root_tree}
+use Rattle.directory.specs.declared.lookups.Found.TheVariants as found
+use Rattle.directory.proofs.NewDirectories.{held_later}
+use Rattle.skip_list_file.specs.Writing.{IsWritten}
+use Rattle.tree_edits.proofs.Lookups.{look_later}
+use Rattle.tree_edits.proofs.NewBytes.{file_result, from_file, file_whole, file_held, file_bytes}
+use Rattle.tree_edits.proofs.files.resize.Goals as goal
+
+pub set_length-requires-clause-whole : goal.set_length-requires-clause-whole
+set_length-requires-clause-whole g c = file_whole (g.N.Nodes.limit c.args.nodes.now - body_front) (g.N.Nodes.node c.args.nodes.now) c.args.root c.args.path.now c.args.body.head c.args.body.length c.requires.rooted c.requires.found
+
+pub set_length-requires-clause-held : goal.set_length-requires-clause-held
+set_length-requires-clause-held g c = file_held (g.N.Nodes.node c.args.nodes.now) (g.N.Nodes.kept c.args.nodes.now) c.args.root c.args.path.now c.args.body.head c.args.body.length c.requires.held c.requires.found
+
+pub put_body-requires-clause-held : goal.put_body-requires-clause-held
+put_body-requires-clause-held g c =
+    let old = c.args.nodes.now in
+    let mid = c.set_length.new.nodes in
+    held_later (g.N.Nodes.node old) (g.N.Nodes.node mid) (g.N.Nodes.kept old) (g.N.Nodes.kept mid) c.set_length.ensures.keeps c.args.root c.requires.held
+
+pub put_body-requires-clause-fits : goal.put_body-requires-clause-fits
+put_body-requires-clause-fits g c =
+    let old = c.args.nodes.now in
+    let mid = c.set_length.new.nodes in
+    let there = found.File c.args.body.head c.args.body.length in
+    (there, look_later (g.N.Nodes.node old) (g.N.Nodes.node mid) (g.N.Nodes.kept old) (g.N.Nodes.kept mid) c.set_length.ensures.keeps c.args.path.now c.args.root there c.requires.held c.requires.found, tt)
+
+pub returns-clause-root : goal.returns-clause-root
+returns-clause-root g c =
+    let old = c.args.nodes.now in
+    let mid = c.set_length.new.nodes in
+    let new = c.put_body.new.nodes in
+    let room = (g.N.Nodes.limit c.args.nodes.now - body_front) in
+    let written = subst (λ (bs : List ℕ). IsWritten room (g.N.Nodes.node mid) (g.N.Nodes.kept mid) c.in_ok-new.new (resized bs c.args.size))
+    (file_bytes room (g.N.Nodes.node old) c.args.root c.args.path.now c.args.body.head c.args.body.length c.requires.rooted c.requires.found) c.in_ok-new.ensures.written in
+    file_result room (g.N.Nodes.node old) (g.N.Nodes.node mid) (g.N.Nodes.node new) (g.N.Nodes.kept old) (g.N.Nodes.kept mid) (g.N.Nodes.kept new) c.args.root c.args.path.now (found.File c.args.body.head c.args.body.length) c.in_ok-new.new
+    (resized (bytes_at (root_tree room (g.N.Nodes.node old) c.args.root) c.args.path.now) c.args.size) c.put_body.result c.set_length.ensures.keeps c.put_body.ensures.keeps c.requires.held c.requires.rooted c.requires.lawful c.requires.found tt written
+    (from_file (g.N.Nodes.node old) (g.N.Nodes.node mid) (g.N.Nodes.kept old) c.args.root c.args.path.now c.args.body c.in_ok-new.new c.requires.found c.in_ok-new.ensures.reaches) c.put_body.ensures.rewritten c.put_body.ensures.reaches

@@ -1,0 +1,15 @@
+-- New roots.
+use Rattle.std.specs.Prelude.{◌≡◌, ◌⊎◌, ℕ, Bool, false, [], ◌∷◌}
+use Rattle.fs_types.specs.Trees.{Tree}
+use Rattle.node_format.specs.declared.places.Place.TheVariants.{Dir}
+use Rattle.block_trees.specs.Bodies.{Blocks}
+use Rattle.block_trees.specs.Reached.{Reached, IsHeld}
+use Rattle.block_trees.specs.Trees.{IsRoot, root_tree}
+
+-- a root has this tree; all that it reaches is kept, and another root reached it before, or it is in a block that was
+-- not kept
+pub record IsNewRoot (room : ℕ) (old : Blocks) (kept : ℕ → Bool) (new : Blocks) (kept' : ℕ → Bool) (from to : ℕ) (tree : Tree) : Type 0 where
+  pub rooted : IsRoot room new to
+  pub held : IsHeld new kept' (Dir to)
+  pub shows : root_tree room new to ≡ tree
+  pub reached : (block : ℕ) → Reached new (to ∷ []) block → Reached old (from ∷ []) block ⊎ (kept block ≡ false)

@@ -1,0 +1,54 @@
+//! Edits carried out.
+ghost use Rattle.std.specs.Prelude.{◌≡◌, ℕ, ◌+◌, ◌-◌, ◌≤◌, IfOk, IfErr};
+ghost use Rattle.node_format.specs.Headers.{body_front};
+ghost use Rattle.node_format.specs.declared.places.Place.TheVariants.{Dir};
+ghost use Rattle.block_trees.specs.Reached.{IsHeld, Keeps};
+ghost use Rattle.block_trees.specs.Trees.{IsRoot, root_tree};
+ghost use Rattle.directory.specs.Making.{IsMakeFault};
+ghost use Rattle.tree_edits.specs.Edits.{IsEditable, effect, source, need};
+ghost use Rattle.tree_edits.specs.Roots.{IsNewRoot};
+
+use crate::edits::Edit;
+use crate::entries::{make, remove, rename};
+use crate::files::{overwrite, put_empty, resize};
+use fs_types::Fault;
+use node_store::Nodes;
+use std::alloc::Global;
+
+/// Applies an edit to the tree of a root, as what was looked up allows, and answers the new root. It
+/// writes exactly as many nodes as the edit needs. The old root stays as it was, whatever is answered.
+///
+/// Refused only with what reads and writes are refused with, and with `NoMemory`.
+pub fn apply<N: Nodes>(
+    alloc: Global,
+    nodes: &mut N,
+    root: u32,
+    edit: Edit<'_>,
+) -> Result<u32, Fault>
+    requires sound { N.is_sound nodes.old }
+    requires held { IsHeld (N.node nodes.old) (N.kept nodes.old) (Dir root) }
+    requires rooted { IsRoot (N.limit nodes.old - body_front) (N.node nodes.old) root }
+    requires editable { IsEditable (N.limit nodes.old - body_front) (N.node nodes.old) (N.kept nodes.old) root edit }
+    ensures root { IfOk result (λ to. IsNewRoot (N.limit nodes.old - body_front) (N.node nodes.old) (N.kept nodes.old) (N.node nodes.new) (N.kept nodes.new) (source root edit.entry) to (effect (root_tree (N.limit nodes.old - body_front) (N.node nodes.old)) edit.entry (root_tree (N.limit nodes.old - body_front) (N.node nodes.old) root))) }
+    ensures keeps { Keeps (N.kept nodes.old) (N.node nodes.old) (N.kept nodes.new) (N.node nodes.new) }
+    ensures why { IfErr result (λ fault. N.causes nodes.old nodes.new fault) }
+    ensures faults { IfErr result IsMakeFault }
+    ensures written { IfOk result (λ _. N.writes nodes.new ≡ N.writes nodes.old + need (N.limit nodes.old - body_front) edit.entry) }
+    ensures writes { N.writes nodes.new ≤ N.writes nodes.old + need (N.limit nodes.old - body_front) edit.entry }
+    ensures follows { N.follows nodes.old nodes.new }
+{
+    match edit {
+        Edit::MakeDirectory { path } => make(alloc, nodes, root, path),
+        Edit::PutEmptyFile { path } => put_empty(alloc, nodes, root, path),
+        Edit::Overwrite {
+            path,
+            body,
+            offset,
+            bytes,
+        } => overwrite(alloc, nodes, root, path, body, offset, bytes),
+        Edit::SetLength { path, body, length } => { resize(alloc, nodes, root, path, body, length) }
+        Edit::Remove { path } => remove(alloc, nodes, root, path),
+        Edit::Move { old, new, place } => rename(alloc, nodes, root, old, new, place),
+        Edit::Restore { root } => Ok(root),
+    }
+}

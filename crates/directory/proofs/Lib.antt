@@ -5,3 +5,4 @@ pub mod MovedPaths
 pub mod LookupLaws
 pub mod Levels
 pub mod Ways
+pub mod TrailEdits

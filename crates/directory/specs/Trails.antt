@@ -1,5 +1,5 @@
 -- The directories that a path goes through, and what an edit by them asks.
-use Rattle.std.specs.Prelude.{◌≡◌, ℕ, ◌<◌, Bool, true, false, not, ◌||◌, nat_le, IsTrue, Option, Some, None, Result, Ok, Err, List, length, take, slice_index}
+use Rattle.std.specs.Prelude.{◌≡◌, ℕ, ◌<◌, Bool, true, false, not, ◌||◌, nat_le, IsTrue, Option, Some, None, Result, Ok, Err, List, [], length, take, ◌-◌, slice_index, slice_index_or}
 use Rattle.std.specs.Option.{is_some}
 use Rattle.fs_types.specs.Names.{Name, Path}
 use Rattle.fs_types.specs.declared.faults.Fault.{Fault}
@@ -9,7 +9,8 @@ use Rattle.node_format.specs.Items.{Item, named}
 use Rattle.node_format.specs.declared.places.Place.{Place}
 use Rattle.node_format.specs.declared.places.Place.TheVariants.{Dir}
 use Rattle.block_trees.specs.Bodies.{Blocks}
-use Rattle.block_trees.specs.Trees.{leads}
+use Rattle.block_trees.specs.Trees.{entries_of, leads}
+use Rattle.block_trees.specs.Reached.{IsHeld}
 use Rattle.directory.specs.declared.lookups.Found.{Found}
 use Rattle.directory.specs.declared.lookups.Found.TheVariants as found
 
@@ -31,6 +32,16 @@ abbrev pub takes : Option (List Item) → Name → Option Place → Bool
 takes None name place = false
 takes (Some items) name None = true
 takes (Some items) name (Some place) = is_some (named items name) || not (nat_le 32 (length items))
+
+-- so does the last directory of a trail, with the last name of its path
+abbrev pub IsTaken : Blocks → List ℕ → Path → Option Place → Type 0
+IsTaken f trail path place = takes (entries_of (f (slice_index trail (length path - 1)))) (slice_index_or path (length path - 1) []) place ≡ true
+
+-- the trail of a path below a root of which all is kept
+pub record IsHeldTrail (f : Blocks) (kept : ℕ → Bool) (path : Path) (trail : List ℕ) : Type 0 where
+  pub root : ℕ
+  pub trail_of : IsTrail f root path trail
+  pub held : IsHeld f kept (Dir root)
 
 -- what an edit is refused with where a look up decided the rest: the refusals of reads, but that nothing is damaged,
 -- and those of writes

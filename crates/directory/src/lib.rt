@@ -7,6 +7,7 @@ mod listings;
 mod lookups;
 mod making;
 mod moves;
+mod rewriting;
 mod trails;
 
 pub use depths::is_deeper;
@@ -15,4 +16,5 @@ pub use listings::{entry_count, names};
 pub use lookups::{Found, lookup};
 pub use making::make_directory;
 pub use moves::moved;
+pub use rewriting::{put_directory, put_entry, remove_entry};
 pub use trails::{Trail, find};

@@ -1,0 +1,77 @@
+use Rattle.std.proofs.Common.{Some, ap, ◌∙◌}
+use Rattle.std.proofs.lemmas.Result.{err_from_is_err_and}
+use Rattle.block_trees.specs.Trees.{entries_of}
+use Rattle.block_trees.specs.Reached.{Keeps}
+use Rattle.node_format.specs.declared.places.Place.TheVariants.{Dir}
+use Rattle.directory.specs.Trails.{has_room}
+use Rattle.directory.proofs.EditedPaths.{made_reaches}
+use Rattle.directory.proofs.NewDirectories.{held_later, rewritten_before, fresh_before}
+use Rattle.directory.proofs.TrailEdits.{look_later, trail_later}
+use Rattle.directory.proofs.rewriting.put_directory.Goals as goal
+
+pub put_entry-requires-clause-held : goal.put_entry-requires-clause-held
+put_entry-requires-clause-held g c =
+    let old = c.args.nodes.now in
+    let mid = c.write.new.self in
+    let keeps : Keeps (g.N.Nodes.kept old) (g.N.Nodes.node old) (g.N.Nodes.kept mid) (g.N.Nodes.node mid) = record {
+      same = λ b kept. g.met.N.Nodes.same_node old mid b c.requires.sound c.write.ensures.follows kept;
+      stays = λ b kept. g.met.N.Nodes.stays_kept old mid b c.write.ensures.follows kept;
+    } in
+    held_later (g.N.Nodes.node old) (g.N.Nodes.node mid) (g.N.Nodes.kept old) (g.N.Nodes.kept mid) keeps c.args.root c.requires.held
+
+pub put_entry-requires-clause-way : goal.put_entry-requires-clause-way
+put_entry-requires-clause-way g c =
+    let old = c.args.nodes.now in
+    let mid = c.write.new.self in
+    let keeps : Keeps (g.N.Nodes.kept old) (g.N.Nodes.node old) (g.N.Nodes.kept mid) (g.N.Nodes.node mid) = record {
+      same = λ b kept. g.met.N.Nodes.same_node old mid b c.requires.sound c.write.ensures.follows kept;
+      stays = λ b kept. g.met.N.Nodes.stays_kept old mid b c.write.ensures.follows kept;
+    } in
+    trail_later (g.N.Nodes.node old) (g.N.Nodes.node mid) (g.N.Nodes.kept old) (g.N.Nodes.kept mid) keeps c.args.path.now c.args.root c.args.trail.now c.requires.held c.requires.way
+
+pub put_entry-requires-clause-room : goal.put_entry-requires-clause-room
+put_entry-requires-clause-room g c =
+    let old = c.args.nodes.now in
+    let mid = c.write.new.self in
+    let keeps : Keeps (g.N.Nodes.kept old) (g.N.Nodes.node old) (g.N.Nodes.kept mid) (g.N.Nodes.node mid) = record {
+      same = λ b kept. g.met.N.Nodes.same_node old mid b c.requires.sound c.write.ensures.follows kept;
+      stays = λ b kept. g.met.N.Nodes.stays_kept old mid b c.write.ensures.follows kept;
+    } in
+    ap has_room (look_later (g.N.Nodes.node old) (g.N.Nodes.node mid) (g.N.Nodes.kept old) (g.N.Nodes.kept mid) keeps c.args.path.now c.args.root c.requires.held ∙ c.requires.missing)
+
+pub returns-in_err-to-clause-why : goal.returns-in_err-to-clause-why
+returns-in_err-to-clause-why g c =
+    let why = g.met.N.Nodes.causes_on c.args.nodes.now c.write.new.self c.put_entry.new.nodes c.in_err-to.field-0.0 c.write.ensures.follows c.in_err-to.ensures.why in
+    let p = err_from_is_err_and c.from_residual-in_err-to.result c.from_residual-in_err-to.ensures.1 in
+    rw (p.1, p.2) why
+
+pub returns-clause-made : goal.returns-clause-made
+returns-clause-made g c =
+    let old = c.args.nodes.now in
+    let mid = c.write.new.self in
+    let new = c.put_entry.new.nodes in
+    let keeps : Keeps (g.N.Nodes.kept old) (g.N.Nodes.node old) (g.N.Nodes.kept mid) (g.N.Nodes.node mid) = record {
+      same = λ b kept. g.met.N.Nodes.same_node old mid b c.requires.sound c.write.ensures.follows kept;
+      stays = λ b kept. g.met.N.Nodes.stays_kept old mid b c.write.ensures.follows kept;
+    } in
+    let block = c.in_ok-block.block in
+    let same = g.met.N.Nodes.same_node mid new block c.write.ensures.sound c.put_entry.ensures.follows c.in_ok-block.ensures.kept in
+    record {
+      block = block;
+      empty = ap entries_of (same ∙ c.in_ok-block.ensures.written) ∙ c.empty_directory.ensures.read;
+      was_free = c.in_ok-block.ensures.fresh;
+      is_kept = g.met.N.Nodes.stays_kept mid new block c.put_entry.ensures.follows c.in_ok-block.ensures.kept;
+      rewritten = rewritten_before (g.N.Nodes.node old) (g.N.Nodes.node mid) (g.N.Nodes.node new) (g.N.Nodes.kept old) (g.N.Nodes.kept mid) (g.N.Nodes.kept new) keeps c.args.path.now c.args.root c.in_ok-to.to (Some (Dir block)) c.requires.held c.in_ok-to.ensures.rewritten;
+      fresh = fresh_before (g.N.Nodes.kept old) (g.N.Nodes.kept mid) (g.N.Nodes.kept new) (g.N.Nodes.node new) (λ b free. g.met.N.Nodes.was_fresh old mid b c.write.ensures.follows free) c.args.path.now c.in_ok-to.to c.in_ok-to.ensures.fresh;
+    }
+
+pub returns-clause-reaches : goal.returns-clause-reaches
+returns-clause-reaches g c =
+    let old = c.args.nodes.now in
+    let new = c.put_entry.new.nodes in
+    let before = g.met.N.Nodes.follows_on old c.write.new.self new c.write.ensures.follows c.put_entry.ensures.follows in
+    let keeps : Keeps (g.N.Nodes.kept old) (g.N.Nodes.node old) (g.N.Nodes.kept new) (g.N.Nodes.node new) = record {
+      same = λ b kept. g.met.N.Nodes.same_node old new b c.requires.sound before kept;
+      stays = λ b kept. g.met.N.Nodes.stays_kept old new b before kept;
+    } in
+    made_reaches (g.N.Nodes.node old) (g.N.Nodes.node new) (g.N.Nodes.kept old) (g.N.Nodes.kept new) c.args.root c.in_ok-to.to c.args.path.now keeps c.requires.held (returns-clause-made g c)

@@ -1,0 +1,223 @@
+//! Entries put and taken out: the directories that a look up went through written anew, from the
+//! deepest up.
+ghost use Rattle.std.specs.Prelude.{◌≡◌, ℕ, ◌+◌, ◌-◌, ◌≤◌, ◌<◌, true, false, length, drop, slice_index, Some, None, IsSome, Ok, IfOk, IfErr, IfSome};
+ghost use Rattle.node_format.specs.Items.{is_place};
+ghost use Rattle.node_format.specs.Edits.{IsEdited};
+ghost use Rattle.node_format.specs.Headers.{IsNode};
+ghost use Rattle.node_format.specs.declared.places.Place.TheVariants.{Dir};
+ghost use Rattle.block_trees.specs.Trees.{entries_of, items_of, leads};
+ghost use Rattle.block_trees.specs.Reached.{IsHeld, Keeps};
+ghost use Rattle.block_trees.specs.Rewritten.{IsDirectoryEdit, IsRewritten, AreFresh};
+ghost use Rattle.directory.specs.Lookups.{look_up};
+ghost use Rattle.directory.specs.declared.lookups.Found.TheVariants.{Missing};
+ghost use Rattle.directory.specs.Edits.{OnlyReaches};
+ghost use Rattle.directory.specs.Making.{IsMade};
+ghost use Rattle.directory.specs.Trails as spec;
+
+use crate::trails::Trail;
+use fs_types::{Fault, Name, Path};
+use node_format::{Entries, Place, empty_directory};
+use node_store::Nodes;
+use std::alloc::{AllocError, Global};
+
+/// The bytes of a directory with a name leading to a place, or to nothing.
+fn edit_bytes(
+    alloc: Global,
+    bytes: &[u8],
+    name: &Name,
+    place: Option<Place>,
+) -> Result<Vec<u8>, AllocError>
+    requires place { IfSome place (λ p. is_place p ≡ true) }
+    requires takes { spec.takes (entries_of (Some bytes.now)) name.now place ≡ true }
+    ensures edited { IfOk result (λ new. IsEdited (items_of (Some bytes.now)) name.now place new.items) }
+    ensures node { IfOk result (λ new. (block : ℕ) → 4096 ≤ block → IsNode block new.items) }
+    ensures size { IfOk result (λ new. length new.items ≤ 4096) }
+{
+    let Some(entries) = Entries::of(bytes) else {
+        unreachable!()
+    };
+    match place {
+        Some(place) => entries.with_entry(alloc, name.as_bytes(), place),
+        None => entries.without_entry(alloc, name.as_bytes()),
+    }
+}
+
+/// Writes the directory of a block anew, with a name leading to a place, or to nothing.
+pub(crate) fn edit_directory<N: Nodes>(
+    alloc: Global,
+    nodes: &mut N,
+    block: u32,
+    name: &Name,
+    place: Option<Place>,
+) -> Result<u32, Fault>
+    requires sound { N.is_sound nodes.old }
+    requires place { IfSome place (λ p. is_place p ≡ true) }
+    requires takes { spec.takes (entries_of (N.node nodes.old block)) name.now place ≡ true }
+    ensures edited { IfOk result (λ to. IsDirectoryEdit (N.node nodes.old) (N.node nodes.new) block to name.now place) }
+    ensures fresh { IfOk result (λ to. N.kept nodes.old to ≡ false) }
+    ensures kept { IfOk result (λ to. N.kept nodes.new to ≡ true) }
+    ensures why { IfErr result (λ fault. N.causes nodes.old nodes.new fault) }
+    ensures faults { IfErr result spec.IsChangeFault }
+    ensures one { IfOk result (λ _. N.writes nodes.new ≡ N.writes nodes.old + 1) }
+    ensures writes { N.writes nodes.new ≤ N.writes nodes.old + 1 }
+    ensures reads { N.reads nodes.new ≡ N.reads nodes.old + 1 }
+    ensures follows { N.follows nodes.old nodes.new }
+    ensures sound { N.is_sound nodes.new }
+    ensures limit { N.limit nodes.new ≡ N.limit nodes.old }
+    ensures blocks { N.blocks nodes.new ≡ N.blocks nodes.old }
+{
+    nodes.read(block)?;
+    let bytes = edit_bytes(alloc, nodes.lent(), name, place)?;
+    let node = bytes.as_slice();
+    let fits = node.len() <= nodes.block_bytes() as usize;
+    prove!(fits);
+    nodes.write(node)
+}
+
+/// Writes the directories of a trail anew from one level down, the deepest first, so that the last
+/// name leads to a place, or to nothing. Answers the block of the new one in place of the first.
+pub(crate) fn rewrite_from<N: Nodes>(
+    alloc: Global,
+    nodes: &mut N,
+    trail: &[u32],
+    names: &[Name],
+    level: usize,
+    place: Option<Place>,
+) -> Result<u32, Fault>
+    requires sound { N.is_sound nodes.old }
+    requires level { level < length names.now }
+    requires place { IfSome place (λ p. is_place p ≡ true) }
+    requires way { spec.IsHeldTrail (N.node nodes.old) (N.kept nodes.old) names.now trail.now }
+    requires taken { spec.IsTaken (N.node nodes.old) trail.now names.now place }
+    ensures rewritten { IfOk result (λ to. IsRewritten (N.node nodes.old) (N.kept nodes.new) (N.node nodes.new) (slice_index trail.now level) to (drop level names.now) place) }
+    ensures fresh { IfOk result (λ to. AreFresh (N.kept nodes.old) (N.kept nodes.new) (N.node nodes.new) to (drop level names.now)) }
+    ensures why { IfErr result (λ fault. N.causes nodes.old nodes.new fault) }
+    ensures faults { IfErr result spec.IsChangeFault }
+    ensures written { IfOk result (λ _. N.writes nodes.new + level ≡ N.writes nodes.old + length names.now) }
+    ensures writes { N.writes nodes.new + level ≤ N.writes nodes.old + length names.now }
+    ensures reads { N.reads nodes.new + level ≤ N.reads nodes.old + length names.now }
+    ensures follows { N.follows nodes.old nodes.new }
+    ensures sound { N.is_sound nodes.new }
+    ensures limit { N.limit nodes.new ≡ N.limit nodes.old }
+    ensures blocks { N.blocks nodes.new ≡ N.blocks nodes.old }
+{
+    let last = names.len() - 1;
+    let mut to = edit_directory(alloc, nodes, trail[last], &names[last], place)?;
+    for i in (level..last).rev() {
+        let below = Place::Dir { block: to };
+        to = edit_directory(alloc, nodes, trail[i], &names[i], Some(below))?;
+    }
+    Ok(to)
+}
+
+/// Puts an entry: the last name of a path below a root leads to a place, and all else stays. `trail`
+/// is that of the path below the root, and the name is there, or there is room for it, as a look up
+/// told. Each directory along the path is read once more and written anew, the deepest first.
+/// Answers the block of the new root. The old root stays as it was, whatever is answered.
+///
+/// Refused only with what reads and writes are refused with, and with `NoMemory`.
+pub fn put_entry<N: Nodes>(
+    alloc: Global,
+    nodes: &mut N,
+    root: u32,
+    trail: &Trail,
+    path: &Path,
+    place: Place,
+) -> Result<u32, Fault>
+    requires sound { N.is_sound nodes.old }
+    requires below { 0 < length path.now }
+    requires place { is_place place ≡ true }
+    requires held { IsHeld (N.node nodes.old) (N.kept nodes.old) (Dir root) }
+    requires way { spec.IsTrail (N.node nodes.old) root path.now trail.now }
+    requires room { spec.has_room (look_up (N.node nodes.old) root path.now) ≡ true }
+    ensures rewritten { IfOk result (λ to. IsRewritten (N.node nodes.old) (N.kept nodes.new) (N.node nodes.new) root to path.now (Some place)) }
+    ensures fresh { IfOk result (λ to. AreFresh (N.kept nodes.old) (N.kept nodes.new) (N.node nodes.new) to path.now) }
+    ensures reaches { IfOk result (λ to. OnlyReaches (N.node nodes.old) (N.node nodes.new) (N.kept nodes.old) root to (Some place)) }
+    ensures keeps { Keeps (N.kept nodes.old) (N.node nodes.old) (N.kept nodes.new) (N.node nodes.new) }
+    ensures why { IfErr result (λ fault. N.causes nodes.old nodes.new fault) }
+    ensures faults { IfErr result spec.IsChangeFault }
+    ensures written { IfOk result (λ _. N.writes nodes.new ≡ N.writes nodes.old + length path.now) }
+    ensures writes { N.writes nodes.new ≤ N.writes nodes.old + length path.now }
+    ensures reads { N.reads nodes.new ≤ N.reads nodes.old + length path.now }
+    ensures follows { N.follows nodes.old nodes.new }
+    ensures sound { N.is_sound nodes.new }
+    ensures limit { N.limit nodes.new ≡ N.limit nodes.old }
+    ensures blocks { N.blocks nodes.new ≡ N.blocks nodes.old }
+{
+    let blocks = trail.blocks();
+    let begins = blocks[0] == root;
+    prove!(begins);
+    rewrite_from(alloc, nodes, blocks, path.names(), 0, Some(place))
+}
+
+/// Takes an entry out: the last name of a path below a root leads nowhere, and all else stays.
+/// `trail` is that of the path below the root, and something stands there, as a look up told. What
+/// is read, written, answered and refused is as with `put_entry`.
+pub fn remove_entry<N: Nodes>(
+    alloc: Global,
+    nodes: &mut N,
+    root: u32,
+    trail: &Trail,
+    path: &Path,
+) -> Result<u32, Fault>
+    requires sound { N.is_sound nodes.old }
+    requires below { 0 < length path.now }
+    requires held { IsHeld (N.node nodes.old) (N.kept nodes.old) (Dir root) }
+    requires way { spec.IsTrail (N.node nodes.old) root path.now trail.now }
+    requires stands { IsSome (leads (N.node nodes.old) (Dir root) path.now) }
+    ensures rewritten { IfOk result (λ to. IsRewritten (N.node nodes.old) (N.kept nodes.new) (N.node nodes.new) root to path.now None) }
+    ensures fresh { IfOk result (λ to. AreFresh (N.kept nodes.old) (N.kept nodes.new) (N.node nodes.new) to path.now) }
+    ensures reaches { IfOk result (λ to. OnlyReaches (N.node nodes.old) (N.node nodes.new) (N.kept nodes.old) root to None) }
+    ensures keeps { Keeps (N.kept nodes.old) (N.node nodes.old) (N.kept nodes.new) (N.node nodes.new) }
+    ensures why { IfErr result (λ fault. N.causes nodes.old nodes.new fault) }
+    ensures faults { IfErr result spec.IsChangeFault }
+    ensures written { IfOk result (λ _. N.writes nodes.new ≡ N.writes nodes.old + length path.now) }
+    ensures writes { N.writes nodes.new ≤ N.writes nodes.old + length path.now }
+    ensures reads { N.reads nodes.new ≤ N.reads nodes.old + length path.now }
+    ensures follows { N.follows nodes.old nodes.new }
+    ensures sound { N.is_sound nodes.new }
+    ensures limit { N.limit nodes.new ≡ N.limit nodes.old }
+    ensures blocks { N.blocks nodes.new ≡ N.blocks nodes.old }
+{
+    let blocks = trail.blocks();
+    let begins = blocks[0] == root;
+    prove!(begins);
+    rewrite_from(alloc, nodes, blocks, path.names(), 0, None)
+}
+
+/// Puts a new empty directory at a path whose last name is missing from a directory with room for
+/// it, as a look up told, with `trail` that of the path below the root. Its node is written first,
+/// then the directories along the path anew, each of which is read once more. Answers the block of
+/// the new root. The old root stays as it was, whatever is answered.
+///
+/// Refused only with what reads and writes are refused with, and with `NoMemory`.
+pub fn put_directory<N: Nodes>(
+    alloc: Global,
+    nodes: &mut N,
+    root: u32,
+    trail: &Trail,
+    path: &Path,
+) -> Result<u32, Fault>
+    requires sound { N.is_sound nodes.old }
+    requires held { IsHeld (N.node nodes.old) (N.kept nodes.old) (Dir root) }
+    requires way { spec.IsTrail (N.node nodes.old) root path.now trail.now }
+    requires missing { look_up (N.node nodes.old) root path.now ≡ Ok (Missing false) }
+    ensures made { IfOk result (λ to. IsMade (N.node nodes.old) (N.node nodes.new) (N.kept nodes.old) (N.kept nodes.new) root to path.now) }
+    ensures reaches { IfOk result (λ to. OnlyReaches (N.node nodes.old) (N.node nodes.new) (N.kept nodes.old) root to None) }
+    ensures keeps { Keeps (N.kept nodes.old) (N.node nodes.old) (N.kept nodes.new) (N.node nodes.new) }
+    ensures why { IfErr result (λ fault. N.causes nodes.old nodes.new fault) }
+    ensures faults { IfErr result spec.IsChangeFault }
+    ensures written { IfOk result (λ _. N.writes nodes.new ≡ N.writes nodes.old + (length path.now + 1)) }
+    ensures writes { N.writes nodes.new ≤ N.writes nodes.old + (length path.now + 1) }
+    ensures reads { N.reads nodes.new ≤ N.reads nodes.old + length path.now }
+    ensures follows { N.follows nodes.old nodes.new }
+    ensures sound { N.is_sound nodes.new }
+    ensures limit { N.limit nodes.new ≡ N.limit nodes.old }
+    ensures blocks { N.blocks nodes.new ≡ N.blocks nodes.old }
+{
+    let fits = nodes.block_bytes() >= 4096;
+    prove!(fits);
+    let block = nodes.write(&empty_directory())?;
+    let to = put_entry(alloc, nodes, root, trail, path, Place::Dir { block })?;
+    Ok(to)
+}

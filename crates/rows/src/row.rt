@@ -1,6 +1,7 @@
 //! A row: a script with the replies that are expected, and what it runs on.
 use crate::error::RowError;
-use flash_model::{FaultKind, Geometry, PlannedFault};
+use flash_model::{Geometry, PlannedFault};
+use script::kind_of;
 use std::alloc::Global;
 
 /// Where a row is run.
@@ -96,7 +97,7 @@ impl<'a> Row<'a> {
     fn set_plan(&mut self, value: &str) -> Result<(), RowError> {
         let (kind, range) = value.split_once(" ").ok_or(RowError::Layout)?;
         let (first, last) = range.split_once(" ").ok_or(RowError::Layout)?;
-        let kind = kind_of(kind).ok_or(RowError::Layout)?;
+        let kind = kind_of(kind.as_bytes()).ok_or(RowError::Layout)?;
         for number in number(first)?..=number(last)? {
             self.plan.push(PlannedFault {
                 number: u128::from(number),
@@ -122,13 +123,4 @@ fn skips(text_line: &str, side: Side) -> bool {
 
 fn number(text: &str) -> Result<u32, RowError> {
     text.parse::<u32>().map_err(|_| RowError::Layout)
-}
-
-fn kind_of(word: &str) -> Option<FaultKind> {
-    match word {
-        "read-fail" => Some(FaultKind::ReadFail),
-        "program-fail" => Some(FaultKind::ProgramFail),
-        "erase-fail" => Some(FaultKind::EraseFail),
-        _ => None,
-    }
 }

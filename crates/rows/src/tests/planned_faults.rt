@@ -194,6 +194,25 @@ fn cuts_erases(rt: HostRuntime) -> Result<(), Fail> {
 }
 
 #[test]
+fn takes_the_last_entry_for_an_operation(rt: HostRuntime) -> Result<(), Fail> {
+    let plan = [
+        entry(2, FaultKind::EraseFail),
+        entry(1, FaultKind::EraseFail),
+        entry(1, FaultKind::EraseCutNone),
+    ];
+    let mut flash = SimFlash::new(rt.alloc(), SIZES, &plan)?;
+    assert_eq!(rt; clear(&mut flash, 9), CUT);
+    flash.power_on();
+    assert_eq!(rt; flash.plan_fault(1, FaultKind::EraseCutTorn), Ok(()));
+    assert_eq!(rt; flash.plan_fault(1, FaultKind::EraseCutWhole), Ok(()));
+    assert_eq!(rt; clear(&mut flash, 9), CUT);
+    flash.power_on();
+    assert_eq!(rt; look(&mut flash, 144), Some(Ok((PageState::Erased, 7))));
+    assert_eq!(rt; clear(&mut flash, 9), DONE);
+    Ok(())
+}
+
+#[test]
 fn counts_while_power_is_on(rt: HostRuntime) -> Result<(), Fail> {
     let mut flash = SimFlash::new(rt.alloc(), SIZES, &[entry(2, FaultKind::ReadCut)])?;
     assert_eq!(rt; clear(&mut flash, 9), DONE);

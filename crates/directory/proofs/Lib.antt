@@ -6,3 +6,6 @@ pub mod LookupLaws
 pub mod Levels
 pub mod Ways
 pub mod TrailEdits
+pub mod Forks
+pub mod Branches
+pub mod Shallow

@@ -16,7 +16,7 @@ use Rattle.block_trees.proofs.Reaching.{held_child, held_leads}
 use Rattle.directory.specs.Lookups.{directory_at, below_in, found_of, found_in, look_up, ◌>>=◌}
 use Rattle.directory.specs.Trails.{IsTrail, IsHeldTrail, IsTaken, has_room, takes}
 use Rattle.directory.proofs.Rewrites.{child_below, rewritten_one, fresh_one}
-use Rattle.directory.proofs.NewDirectories.{same_held}
+use Rattle.directory.proofs.NewDirectories.{held_later, same_held}
 use Rattle.directory.proofs.Ways.{leads_more, looks_on}
 
 pub if_ok : {T E : Type 0} (P Q : T → Type 0) (r : Result T E) → ((x : T) → P x → Q x) → IfOk r P → IfOk r Q
@@ -25,7 +25,7 @@ if_ok P Q (Err e) f p = tt
 
 -- ---- names of a path
 
-drop_all : (i : ℕ) (path : Path) → length path ≤ i → drop i path ≡ []
+pub drop_all : (i : ℕ) (path : Path) → length path ≤ i → drop i path ≡ []
 drop_all zero [] short = refl
 drop_all zero (n ∷ path) short = absurd (omega arith)
 drop_all (suc i) [] short = refl
@@ -184,3 +184,15 @@ trail_later f g k l keeps path root trail held way = record {
   counted = way.counted;
   through = λ i less. leads_later f g k l keeps (take i path) (Dir root) held ∙ way.through i less;
 }
+
+pub way_later : (f g : Blocks) (k l : ℕ → Bool) (path : Path) (trail : List ℕ) → Keeps k f l g → IsHeldTrail f k path trail → IsHeldTrail g l path trail
+way_later f g k l path trail keeps way = record {
+  root = way.root;
+  trail_of = trail_later f g k l keeps path way.root trail way.held way.trail_of;
+  held = held_later f g k l keeps way.root way.held;
+}
+
+pub taken_later : (f g : Blocks) (k l : ℕ → Bool) (path : Path) (trail : List ℕ) (at : Option Place) → Keeps k f l g → IsHeldTrail f k path trail → 0 < length path → IsTaken f trail path at → IsTaken g trail path at
+taken_later f g k l path trail at keeps way some taken =
+    let i = length path - 1 in
+    ap (λ (node : Option (List ℕ)). takes (entries_of node) (get_or path i []) at) (level_same f g k l path trail i way (omega arith) keeps) ∙ taken

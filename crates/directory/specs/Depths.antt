@@ -1,5 +1,5 @@
 -- How many names the paths below a directory have.
-use Rattle.std.specs.Prelude.{◌≡◌, ℕ, ◌<◌, ◌==◌, Bool, true, false, IsTrue, IsSome, List, length}
+use Rattle.std.specs.Prelude.{◌≡◌, ℕ, ◌<◌, ◌≤◌, ◌-◌, ◌==◌, Bool, true, false, IsTrue, Some, IsSome, List, length}
 use Rattle.std.specs.List.{list_any}
 use Rattle.std.specs.FinSet.{FinSet, contains}
 use Rattle.std.specs.Ordering.{nat_cmp}
@@ -11,7 +11,8 @@ use Rattle.node_format.specs.Items.{Item}
 use Rattle.node_format.specs.declared.places.Place.{Place}
 use Rattle.node_format.specs.declared.places.Place.TheVariants.{Dir, File}
 use Rattle.block_trees.specs.Bodies.{Blocks}
-use Rattle.block_trees.specs.Trees.{items_of, leads}
+use Rattle.block_trees.specs.Trees.{items_of, leads, IsRoot}
+use Rattle.block_trees.specs.Laws.{IsShallow}
 
 -- some path below a place has more names than these
 abbrev pub IsDeeper : Blocks → Place → ℕ → Type 0
@@ -39,3 +40,11 @@ is_depth_fault fault = is_read_fault fault
 
 abbrev pub IsDepthFault : Fault → Type 0
 IsDepthFault fault = IsTrue (is_depth_fault fault)
+
+-- what stands at a path of a tree does not get too deep at a path of no more names
+abbrev pub AsDeepLaw : Type 0
+AsDeepLaw = (room : ℕ) (f : Blocks) (root : ℕ) (old new : Path) (place : Place) → IsRoot room f root → leads f (Dir root) old ≡ Some place → length new ≤ length old → IsShallow f place (16 - length new)
+
+-- nothing stands below a file
+abbrev pub FileLaw : Type 0
+FileLaw = (f : Blocks) (head size most : ℕ) → IsShallow f (File head size) most

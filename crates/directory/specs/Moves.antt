@@ -1,13 +1,16 @@
 -- What stands at a path of directories moved to another.
-use Rattle.std.specs.Prelude.{◌≡◌, ℕ, suc, ◌+◌, ◌-◌, Option, Some, None, List, [], ◌∷◌, length, if◌then◌else◌}
+use Rattle.std.specs.Prelude.{◌≡◌, ℕ, suc, ◌+◌, ◌-◌, ◌<◌, Bool, false, Option, Some, None, IsSome, List, [], ◌∷◌, length, slice_index, slice_index_or, if◌then◌else◌}
 use Rattle.fs_types.specs.Names.{Name, Path, same_name, same_path}
 use Rattle.fs_types.specs.Contents.{parent_of}
 use Rattle.fs_types.specs.declared.faults.Fault.{Fault}
 use Rattle.node_format.specs.Items.{Item, named}
 use Rattle.node_format.specs.Directories.{directory_at}
 use Rattle.node_format.specs.declared.places.Place.{Place}
+use Rattle.node_format.specs.declared.places.Place.TheVariants.{Dir}
 use Rattle.block_trees.specs.Bodies.{Blocks}
+use Rattle.block_trees.specs.Trees.{child}
 use Rattle.directory.specs.Edits.{edit_refusal, path_refusal}
+use Rattle.directory.specs.Trails.{IsHeldTrail, IsTaken}
 
 -- how many names two paths begin with in common
 abbrev pub common : Path → Path → ℕ
@@ -38,3 +41,16 @@ pub record IsEditedTwice (old : List Item) (name : Name) (gone : Option Place) (
   pub items : List Item
   pub spelled : directory_at bytes ≡ Some items
   pub leads : (k : Name) → named items k ≡ (if same_name other k then here else if same_name name k then gone else named old k)
+
+-- the directory where two paths part, `fork` names down, and what can be done there and below: what stands at the
+-- first is taken out, this place is put at the second
+pub record IsFork (f : Blocks) (kept : ℕ → Bool) (old : Path) (old_trail : List ℕ) (new : Path) (new_trail : List ℕ) (place : Place) (fork : ℕ) : Type 0 where
+  pub old_way : IsHeldTrail f kept old old_trail
+  pub new_way : IsHeldTrail f kept new new_trail
+  pub in_old : fork < length old
+  pub in_new : fork < length new
+  pub same : slice_index new_trail fork ≡ slice_index old_trail fork
+  pub differs : same_name (slice_index_or old fork []) (slice_index_or new fork []) ≡ false
+  pub stands : IsSome (child f (Dir (slice_index old_trail fork)) (slice_index_or old fork []))
+  pub gone : fork + 1 < length old → IsTaken f old_trail old None
+  pub here : 0 < (length old - (fork + 1)) + (length new - (fork + 1)) → IsTaken f new_trail new (Some place)

@@ -201,3 +201,10 @@ pub fn is_deeper<N: Nodes>(
     }
     any_has_entries(nodes, &level)
 }
+
+/// Where a rename asks no depth: what stands at a path gets too deep at no path of as many names or
+/// fewer, and a file nowhere. It does nothing: its contract is the law.
+pub fn depth_laws()
+    ensures as_deep { spec.AsDeepLaw }
+    ensures files { spec.FileLaw }
+{}

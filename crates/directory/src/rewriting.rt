@@ -21,7 +21,7 @@ use node_store::Nodes;
 use std::alloc::{AllocError, Global};
 
 /// The bytes of a directory with a name leading to a place, or to nothing.
-fn edit_bytes(
+pub(crate) fn edit_bytes(
     alloc: Global,
     bytes: &[u8],
     name: &Name,

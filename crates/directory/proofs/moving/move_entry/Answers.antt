@@ -1,0 +1,160 @@
+use Rattle.std.proofs.Common.{◌≡◌, ℕ, ◌+◌, ◌-◌, ◌<◌, true, Some, List, [], length, drop, get_or, ap, sym, subst, ◌∙◌, arith, rules}
+use Rattle.std.proofs.lemmas.List.{get_or_default}
+use Rattle.std.proofs.lemmas.Result.{err_from_is_err_and}
+use Rattle.std.specs.Prelude.{slice_index, Ok}
+use Rattle.fs_types.specs.Names.{Name, Path, same_name}
+use Rattle.node_format.specs.declared.places.Place.TheVariants.{Dir}
+use Rattle.block_trees.specs.Trees.{entries_of}
+use Rattle.block_trees.specs.Reached.{Keeps}
+use Rattle.block_trees.specs.Rewritten.{IsDirectoryEdit, IsMoved}
+use Rattle.directory.specs.Trails.{IsHeldTrail, takes}
+use Rattle.directory.specs.Moves.{common, IsFork}
+use Rattle.directory.proofs.MovedPaths.{only_moved}
+use Rattle.directory.proofs.TrailEdits.{first_is, level_takes}
+use Rattle.directory.proofs.Forks.{parted, fork_of}
+use Rattle.directory.proofs.Branches.{moved_up}
+use Rattle.directory.proofs.moving.move_entry.Goals as goal
+
+pub rewrite_fork-requires-clause-fork : goal.rewrite_fork-requires-clause-fork
+rewrite_fork-requires-clause-fork g c =
+    let f = g.N.Nodes.node c.args.nodes.now in
+    let k = g.N.Nodes.kept c.args.nodes.now in
+    let old = c.args.old.now in
+    let new = c.args.new.now in
+    let fork = fork_of f k c.args.root old new c.args.old_trail.now c.args.new_trail.now c.args.place c.requires.apart c.requires.held c.requires.old_way c.requires.new_way c.requires.stands c.requires.room in
+    let names = c.names-names.ensures.names in
+    let names' = c.names-2.ensures.names in
+    let blocks = c.blocks-blocks.ensures in
+    let blocks' = c.blocks-2.ensures in
+    let count : c.common_names-fork.result ≡ common old new = search rules in
+    subst (λ (n : ℕ). IsFork f k c.names-names.result.now c.blocks-blocks.result.now c.names-2.result.now c.blocks-2.result.now c.args.place n) (sym count)
+    (subst (λ (p : Path). IsFork f k p c.blocks-blocks.result.now c.names-2.result.now c.blocks-2.result.now c.args.place (common old new)) (sym names)
+    (subst (λ (t : List ℕ). IsFork f k old t c.names-2.result.now c.blocks-2.result.now c.args.place (common old new)) (sym blocks)
+    (subst (λ (p : Path). IsFork f k old c.args.old_trail.now p c.blocks-2.result.now c.args.place (common old new)) (sym names')
+    (subst (λ (t : List ℕ). IsFork f k old c.args.old_trail.now new t c.args.place (common old new)) (sym blocks') fork))))
+
+pub edit_directory-requires-clause-takes : goal.edit_directory-requires-clause-takes
+edit_directory-requires-clause-takes g c =
+    let old = c.args.nodes.now in
+    let mid = c.loop-i.nodes in
+    let f0 = g.N.Nodes.node old in
+    let f1 = g.N.Nodes.node mid in
+    let k0 = g.N.Nodes.kept old in
+    let k1 = g.N.Nodes.kept mid in
+    let names = c.names-names.result.now in
+    let trail = c.blocks-blocks.result.now in
+    let new_names = c.args.new.now in
+    let i = c.loop-i.i - 1 in
+    let test = c.loop-i-test.true in
+    let auto = c.loop-i.auto.i in
+    let is = parted c.args.old.now new_names c.requires.apart in
+    let count : c.common_names-fork.result ≡ common c.args.old.now new_names = search rules in
+    let in_first = is.in_first in
+    let in_second = is.in_second in
+    let size : length names ≡ length c.args.old.now = ap length c.names-names.ensures.names in
+    let more : i + 1 < length names = omega arith in
+    let within : i < length names = omega arith in
+    let before_fork : i < common c.args.old.now new_names = omega arith in
+    let name : c.index-names-i.result ≡ get_or names i [] = c.index-names-i.is ∙ get_or_default names i c.index-names-i.result [] within in
+    let way : IsHeldTrail f0 k0 names trail =
+    subst (λ (p : Path). IsHeldTrail f0 k0 p trail) (sym c.names-names.ensures.names)
+    (subst (λ (t : List ℕ). IsHeldTrail f0 k0 c.args.old.now t) (sym c.blocks-blocks.ensures) (record { root = c.args.root; trail_of = c.requires.old_way; held = c.requires.held })) in
+    let before : Keeps (g.N.Nodes.kept old) (g.N.Nodes.node old) (g.N.Nodes.kept mid) (g.N.Nodes.node mid) = record {
+      same = λ b kept. g.met.N.Nodes.same_node old mid b c.requires.sound c.loop-i.invariant.follows kept;
+      stays = λ b kept. g.met.N.Nodes.stays_kept old mid b c.loop-i.invariant.follows kept;
+    } in
+    subst (λ (n : Name). takes (entries_of (f1 (slice_index trail i))) n (Some (Dir c.loop-i.to)) ≡ true) (sym name) (level_takes f0 f1 k0 k1 names trail i c.loop-i.to way more before)
+
+pub returns-in_err-to-2-clause-keeps : goal.returns-in_err-to-2-clause-keeps
+returns-in_err-to-2-clause-keeps g c =
+    let follows = g.met.N.Nodes.follows_on c.args.nodes.now c.loop-i.nodes c.edit_directory.new.nodes c.loop-i.invariant.follows c.edit_directory.ensures.follows in
+    record {
+      same = λ b kept. g.met.N.Nodes.same_node c.args.nodes.now c.edit_directory.new.nodes b c.requires.sound follows kept;
+      stays = λ b kept. g.met.N.Nodes.stays_kept c.args.nodes.now c.edit_directory.new.nodes b follows kept;
+    }
+
+pub returns-in_err-to-2-clause-why : goal.returns-in_err-to-2-clause-why
+returns-in_err-to-2-clause-why g c =
+    let why = g.met.N.Nodes.causes_on c.args.nodes.now c.loop-i.nodes c.edit_directory.new.nodes c.in_err-to-2.field-0.0 c.loop-i.invariant.follows c.in_err-to-2.ensures.why in
+    let p = err_from_is_err_and c.from_residual-in_err-to-2.result c.from_residual-in_err-to-2.ensures.1 in
+    rw (p.1, p.2) why
+
+pub returns-in_err-to-2-clause-follows : goal.returns-in_err-to-2-clause-follows
+returns-in_err-to-2-clause-follows g c = g.met.N.Nodes.follows_on c.args.nodes.now c.loop-i.nodes c.edit_directory.new.nodes c.loop-i.invariant.follows c.edit_directory.ensures.follows
+
+pub loop-i-preserved : goal.loop-i-preserved
+loop-i-preserved g c =
+    let old = c.args.nodes.now in
+    let mid = c.loop-i.nodes in
+    let f0 = g.N.Nodes.node old in
+    let f1 = g.N.Nodes.node mid in
+    let k0 = g.N.Nodes.kept old in
+    let k1 = g.N.Nodes.kept mid in
+    let names = c.names-names.result.now in
+    let trail = c.blocks-blocks.result.now in
+    let new_names = c.args.new.now in
+    let i = c.loop-i.i - 1 in
+    let test = c.loop-i-test.true in
+    let auto = c.loop-i.auto.i in
+    let is = parted c.args.old.now new_names c.requires.apart in
+    let count : c.common_names-fork.result ≡ common c.args.old.now new_names = search rules in
+    let in_first = is.in_first in
+    let in_second = is.in_second in
+    let size : length names ≡ length c.args.old.now = ap length c.names-names.ensures.names in
+    let more : i + 1 < length names = omega arith in
+    let within : i < length names = omega arith in
+    let before_fork : i < common c.args.old.now new_names = omega arith in
+    let name : c.index-names-i.result ≡ get_or names i [] = c.index-names-i.is ∙ get_or_default names i c.index-names-i.result [] within in
+    let way : IsHeldTrail f0 k0 names trail =
+    subst (λ (p : Path). IsHeldTrail f0 k0 p trail) (sym c.names-names.ensures.names)
+    (subst (λ (t : List ℕ). IsHeldTrail f0 k0 c.args.old.now t) (sym c.blocks-blocks.ensures) (record { root = c.args.root; trail_of = c.requires.old_way; held = c.requires.held })) in
+    let before : Keeps (g.N.Nodes.kept old) (g.N.Nodes.node old) (g.N.Nodes.kept mid) (g.N.Nodes.node mid) = record {
+      same = λ b kept. g.met.N.Nodes.same_node old mid b c.requires.sound c.loop-i.invariant.follows kept;
+      stays = λ b kept. g.met.N.Nodes.stays_kept old mid b c.loop-i.invariant.follows kept;
+    } in
+    let last = c.edit_directory.new.nodes in
+    let f2 = g.N.Nodes.node last in
+    let k2 = g.N.Nodes.kept last in
+    let to = c.in_ok-to-2.to in
+    let next : c.loop-i.i ≡ i + 1 = omega arith in
+    let keeps : Keeps (g.N.Nodes.kept mid) (g.N.Nodes.node mid) (g.N.Nodes.kept last) (g.N.Nodes.node last) = record {
+      same = λ b kept. g.met.N.Nodes.same_node mid last b c.loop-i.invariant.sound c.edit_directory.ensures.follows kept;
+      stays = λ b kept. g.met.N.Nodes.stays_kept mid last b c.edit_directory.ensures.follows kept;
+    } in
+    let same : same_name (get_or names i []) (get_or new_names i []) ≡ true =
+    subst (λ (p : Path). same_name (get_or p i []) (get_or new_names i []) ≡ true) (sym c.names-names.ensures.names) (is.alike i before_fork) in
+    let edit : IsDirectoryEdit f1 f2 (slice_index trail i) to (get_or names i []) (Some (Dir c.loop-i.to)) =
+    subst (λ (n : Name). IsDirectoryEdit f1 f2 (slice_index trail i) to n (Some (Dir c.loop-i.to))) name c.in_ok-to-2.ensures.edited in
+    let lower : IsMoved f0 f1 k0 k1 (slice_index trail (i + 1)) c.loop-i.to (drop (i + 1) names) (drop (i + 1) new_names) c.args.place =
+    subst (λ (k : ℕ). IsMoved f0 f1 k0 k1 (slice_index trail k) c.loop-i.to (drop k names) (drop k new_names) c.args.place) next c.loop-i.invariant.moved in
+    let one = c.in_ok-to-2.ensures.one in
+    let read = c.in_ok-to-2.ensures.reads in
+    let written = c.loop-i.invariant.written in
+    let reads = c.loop-i.invariant.reads in
+    record {
+      lawful = search rules;
+      moved = moved_up f0 f1 f2 k0 k1 k2 names new_names trail i to c.loop-i.to c.args.place way more (omega arith) same before keeps lower edit (g.met.N.Nodes.was_fresh old mid to c.loop-i.invariant.follows c.in_ok-to-2.ensures.fresh) c.in_ok-to-2.ensures.kept;
+      written = omega arith;
+      reads = omega arith;
+      follows = g.met.N.Nodes.follows_on old mid last c.loop-i.invariant.follows c.edit_directory.ensures.follows;
+      sound = search rules;
+      limit = c.in_ok-to-2.ensures.limit ∙ c.loop-i.invariant.limit;
+      blocks = c.in_ok-to-2.ensures.blocks ∙ c.loop-i.invariant.blocks;
+    }
+
+pub prove-unreachable-requires : goal.prove-unreachable-requires
+prove-unreachable-requires g c =
+    let less = (parted c.args.old.now c.args.new.now c.requires.apart).in_first in
+    let first = first_is (g.N.Nodes.node c.args.nodes.now) c.args.root c.args.old.now c.args.old_trail.now c.requires.old_way (omega arith) in
+    c.if-prove.true (ap (λ (t : List ℕ). slice_index t 0) c.blocks-blocks.ensures ∙ first)
+
+pub returns-clause-reaches : goal.returns-clause-reaches
+returns-clause-reaches g c =
+    let old = c.args.nodes.now in
+    let new = c.loop-i.nodes in
+    let keeps : Keeps (g.N.Nodes.kept old) (g.N.Nodes.node old) (g.N.Nodes.kept new) (g.N.Nodes.node new) = record {
+      same = λ b kept. g.met.N.Nodes.same_node old new b c.requires.sound c.loop-i.invariant.follows kept;
+      stays = λ b kept. g.met.N.Nodes.stays_kept old new b c.loop-i.invariant.follows kept;
+    } in
+    let moved : IsMoved (g.N.Nodes.node old) (g.N.Nodes.node new) (g.N.Nodes.kept old) (g.N.Nodes.kept new) c.args.root c.loop-i.to c.args.old.now c.args.new.now c.args.place = search rules in
+    only_moved (g.N.Nodes.node old) (g.N.Nodes.node new) (g.N.Nodes.kept old) (g.N.Nodes.kept new) c.args.root c.args.old.now c.args.new.now c.args.place (Ok c.loop-i.to) keeps c.requires.held c.requires.stands moved

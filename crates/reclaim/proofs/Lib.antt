@@ -1,2 +1,4 @@
 pub mod NamedLaws
 pub mod Marking
+pub mod Chains
+pub mod Soundness

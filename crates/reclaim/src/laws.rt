@@ -2,6 +2,7 @@
 ghost use Rattle.std.specs.Prelude.{◌≡◌, ℕ, true};
 ghost use Rattle.block_trees.specs.Reached.{Reached};
 ghost use Rattle.reclaim.specs.Passes.{Pass as Marking, IsPass, PassStays, PassMarks};
+ghost use Rattle.reclaim.specs.Sound.{SoundHasTrees, TreesAreSound, TreesHoldNodes};
 
 use node_store::Nodes;
 
@@ -16,4 +17,12 @@ pub fn pass_laws()
 pub fn frame_law<N: Nodes>()
     ensures { (s t : N) (p : Marking) → N.is_sound s → N.follows s t → ((b : ℕ) → Reached (N.node s) p.roots b → N.kept s b ≡ true)
         → IsPass (N.node s) p → IsPass (N.node t) p }
+{}
+
+/// Each root has a tree of linked bodies exactly where all that the roots reach is sound, which one
+/// look at each block and at those that it names shows, and no path is too long.
+pub fn sound_laws()
+    ensures trees { SoundHasTrees }
+    ensures sound { TreesAreSound }
+    ensures nodes { TreesHoldNodes }
 {}

@@ -6,5 +6,5 @@ mod laws;
 mod naming;
 mod passes;
 
-pub use laws::{frame_law, pass_laws};
+pub use laws::{frame_law, pass_laws, sound_laws};
 pub use passes::Pass;

@@ -3,6 +3,7 @@
 mod histories;
 mod lines;
 mod nodes;
+mod passes;
 mod paths;
 mod planned_faults;
 mod rings;

@@ -1,0 +1,69 @@
+-- Chains of nodes: what stands so many nodes before another.
+use Rattle.std.proofs.Common.{◌≡◌, ℕ, zero, suc, ◌+◌, ◌-◌, ◌*◌, ◌^◌, ◌<◌, ◌≤◌, Option, Some, None, List, ◌++◌, length, refl, sym, ap, subst, ◌∙◌, arith, suc-mul}
+use Rattle.std.proofs.lemmas.List.{length-append}
+use Rattle.std.proofs.lemmas.Nat.{pow_pos}
+use Rattle.block_trees.specs.Bodies.{Blocks, index_of, pointer_of, data_of, data_to, back, Divides, IsChain, IsLinked}
+
+pub back_back : (f : Blocks) (m n block : ℕ) → back f (back f block m) n ≡ back f block (m + n)
+back_back f zero n block =
+    let e : n ≡ 0 + n = omega arith in
+    ap (back f block) e
+back_back f (suc m) n block =
+    let e : suc m + n ≡ suc (m + n) = omega arith in
+    back_back f m n (pointer_of (f block) 0) ∙ ap (back f block) (sym e)
+
+pub chain_node : (room i block : ℕ) (f : Blocks) → IsChain room f i block → index_of (f block) ≡ Some i
+chain_node room zero block f chain = chain
+chain_node room (suc i) block f chain = chain.0
+
+pub chain_back : (room : ℕ) (f : Blocks) (n i block : ℕ) → n ≤ i → IsChain room f i block → IsChain room f (i - n) (back f block n)
+chain_back room f zero i block le chain = subst (λ (k : ℕ). IsChain room f k block) (omega arith) chain
+chain_back room f (suc n) zero block le chain = absurd (omega arith)
+chain_back room f (suc n) (suc i) block le chain =
+    let e : i - n ≡ suc i - suc n = omega arith in
+    subst (λ (k : ℕ). IsChain room f k (back f (pointer_of (f block) 0) n)) e (chain_back room f n i (pointer_of (f block) 0) (omega arith) chain.2)
+
+pub linked_back : (f : Blocks) (n i block : ℕ) → n ≤ i → IsLinked f i block → IsLinked f (i - n) (back f block n)
+linked_back f zero i block le linked = subst (λ (k : ℕ). IsLinked f k block) (omega arith) linked
+linked_back f (suc n) zero block le linked = absurd (omega arith)
+linked_back f (suc n) (suc i) block le linked =
+    let e : i - n ≡ suc i - suc n = omega arith in
+    subst (λ (k : ℕ). IsLinked f k (back f (pointer_of (f block) 0) n)) e (linked_back f n i (pointer_of (f block) 0) (omega arith) linked.1)
+
+pub data_length : (room : ℕ) (f : Blocks) (i block : ℕ) → IsChain room f i block → length (data_to f i block) ≡ i * room + length (data_of (f block))
+data_length room f zero block chain = omega arith
+data_length room f (suc i) block chain =
+    let before = data_length room f i (pointer_of (f block) 0) chain.2 in
+    omega (arith, length-append (data_to f i (pointer_of (f block) 0)) (data_of (f block)), before, chain.1, suc-mul i room)
+
+-- ---- pointer places
+
+pub power_double : (x : ℕ) → 2 ^ suc x ≡ 2 ^ x + 2 ^ x
+power_double x = omega arith
+
+pub divides_least : (x index : ℕ) → 0 < index → Divides x index → 2 ^ x ≤ index
+divides_least x index some (zero, e) = absurd (omega arith)
+divides_least x index some (suc m, e) = omega (arith, suc-mul m (2 ^ x))
+
+halved : (m power n : ℕ) → n ≡ suc m * (power + power) → n - power ≡ suc (m + m) * power
+halved m power n e = omega arith
+
+-- the node that place x leads to has place x too
+pub half_divides : (x index : ℕ) → Divides (suc x) index → Divides x (index - 2 ^ x)
+half_divides x index (zero, e) = (0, omega arith)
+half_divides x index (suc m, e) = (suc (m + m), halved m (2 ^ x) index (e ∙ ap (λ (p : ℕ). suc m * p) (power_double x)))
+
+-- a node that has a place has each place before it
+doubled : (m power n : ℕ) → n ≡ m * (power + power) → n ≡ (m + m) * power
+doubled m power n e = omega arith
+
+pub fewer_divides : (x index : ℕ) → Divides (suc x) index → Divides x index
+fewer_divides x index (m, e) = (m + m, doubled m (2 ^ x) index (e ∙ ap (λ (p : ℕ). m * p) (power_double x)))
+
+-- the node before a place is not the first one, where there is a place more
+pub some_before : (x i : ℕ) → Divides (suc x) (suc i) → 2 ^ x ≤ i
+some_before x i divides = omega (arith, divides_least (suc x) (suc i) (omega arith) divides, power_double x, pow_pos x)
+
+-- so many nodes before, in two parts of the same length
+pub back_twice : (f : Blocks) (x block : ℕ) → back f (back f block (2 ^ x)) (2 ^ x) ≡ back f block (2 ^ suc x)
+back_twice f x block = back_back f (2 ^ x) (2 ^ x) block ∙ ap (back f block) (sym (power_double x))

@@ -1,0 +1,62 @@
+-- What one look at a block, and at the blocks that it names, shows: where each reached block is sound, whole trees hang
+-- from the roots.
+use Rattle.std.specs.Prelude.{◌≡◌, ◌≢◌, ℕ, zero, suc, ◌+◌, ◌*◌, ◌≤◌, Option, Some, None, List, length, Contains}
+use Rattle.node_format.specs.Items.{Item}
+use Rattle.node_format.specs.declared.places.Place.{Place}
+use Rattle.node_format.specs.declared.places.Place.TheVariants.{Dir, File}
+use Rattle.block_trees.specs.Bodies.{Blocks, index_of, pointer_of, data_of, head_index, Divides}
+use Rattle.block_trees.specs.Trees.{entries_of, IsRoot}
+use Rattle.block_trees.specs.Reached.{Reached}
+use Rattle.block_trees.specs.Laws.{IsShallow}
+
+-- the block holds a directory node
+abbrev pub IsDirectoryAt : Blocks → ℕ → Type 0
+IsDirectoryAt f block = (items : List Item) × (entries_of (f block) ≡ Some items)
+
+-- the head of a file has the index that the length asks, and bytes enough
+abbrev pub IsHead : ℕ → Blocks → ℕ → ℕ → Type 0
+IsHead room f head zero = head ≡ 0
+IsHead room f head (suc n) =
+    (index_of (f head) ≡ Some (head_index room (suc n))) × (suc n ≤ head_index room (suc n) * room + length (data_of (f head)))
+
+-- an entry leads to a directory node, or to the head of its file
+abbrev pub IsSoundPlace : ℕ → Blocks → Place → Type 0
+IsSoundPlace room f (Dir block) = IsDirectoryAt f block
+IsSoundPlace room f (File head size) = IsHead room f head size
+
+-- pointer place x of a node names this block
+abbrev pub HoldsPlace : Option (List ℕ) → ℕ → ℕ → Type 0
+HoldsPlace node x next = (bytes : List ℕ) × (node ≡ Some bytes) × (pointer_of (Some bytes) x ≡ next)
+
+-- each place is the one before it of the node that the one before it names
+abbrev pub AreStepped : Blocks → (ℕ → ℕ) → ℕ → Type 0
+AreStepped f pointer index = (x : ℕ) → Divides (suc x) index → HoldsPlace (f (pointer x)) x (pointer (suc x))
+
+-- the node before is full and has the index before, and the places are stepped
+abbrev pub IsSoundBody : ℕ → Blocks → (ℕ → ℕ) → ℕ → Type 0
+IsSoundBody room f pointer zero = Unit {0}
+IsSoundBody room f pointer (suc i) =
+    (index_of (f (pointer 0)) ≡ Some i) × (length (data_of (f (pointer 0))) ≡ room) × AreStepped f pointer (suc i)
+
+-- a directory's entries are sound, and so are a body node's pointers
+pub record IsSoundNode (room : ℕ) (f : Blocks) (node : Option (List ℕ)) : Type 0 where
+  pub entries : (items : List Item) → entries_of node ≡ Some items → (item : Item) → Contains items item → IsSoundPlace room f item.place
+  pub pointers : (index : ℕ) → index_of node ≡ Some index → IsSoundBody room f (pointer_of node) index
+
+-- all that the roots reach is sound, and they are directories below which no path has more than 16 names
+pub record AreSound (room : ℕ) (f : Blocks) (roots : List ℕ) : Type 0 where
+  pub nodes : (b : ℕ) → Reached f roots b → IsSoundNode room f (f b)
+  pub directories : (root : ℕ) → Contains roots root → IsDirectoryAt f root
+  pub shallow : (root : ℕ) → Contains roots root → IsShallow f (Dir root) 16
+
+-- then each root has a tree
+abbrev pub SoundHasTrees : Type 0
+SoundHasTrees = (room : ℕ) (f : Blocks) (roots : List ℕ) → AreSound room f roots → (root : ℕ) → Contains roots root → IsRoot room f root
+
+-- where each root has a tree, all of it is sound
+abbrev pub TreesAreSound : Type 0
+TreesAreSound = (room : ℕ) (f : Blocks) (roots : List ℕ) → ((root : ℕ) → Contains roots root → IsRoot room f root) → AreSound room f roots
+
+-- and each reached block holds a node
+abbrev pub TreesHoldNodes : Type 0
+TreesHoldNodes = (room : ℕ) (f : Blocks) (roots : List ℕ) → ((root : ℕ) → Contains roots root → IsRoot room f root) → (b : ℕ) → Reached f roots b → f b ≢ None

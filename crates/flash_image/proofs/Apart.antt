@@ -1,5 +1,5 @@
 -- No bytes have two faults, and an image has none.
-use Rattle.std.proofs.Common.{◌≡◌, ◌≢◌, ◌⊎◌, inl, inr, ℕ, zero, suc, ◌+◌, ◌*◌, ◌^◌, ◌<◌, ◌≤◌, Bool, true, false, List, [], ◌∷◌, ◌++◌, length, get_or, refl, sym, ap, subst, ◌∙◌, append_assoc, arith, Result, Ok, Err}
+use Rattle.std.proofs.Common.{◌≡◌, ◌≢◌, ◌⊎◌, inl, inr, ℕ, ◌+◌, ◌*◌, ◌<◌, ◌≤◌, Bool, true, false, List, [], ◌∷◌, ◌++◌, length, get_or, refl, sym, ap, subst, ◌∙◌, append_assoc, arith, Result, Ok, Err}
 use Rattle.std.specs.Prelude.{MatchResult, IfOk, IfErr}
 use Rattle.std.proofs.lemmas.List.{append-nil, length-append, get_or_append_left}
 use Rattle.flash_model.specs.declared.sizes.Geometry.{Geometry}
@@ -7,7 +7,7 @@ use Rattle.flash_model.specs.Geometry.{IsGeometry}
 use Rattle.flash_model.specs.Device.{Device, Page, erased, bytes_of, unreadable}
 use Rattle.flash_image.specs.declared.faults.ImageFault.{ImageFault}
 use Rattle.flash_image.specs.declared.faults.ImageFault.TheVariants.{NotImage, BadGeometry, BadState, Truncated, Trailing, Memory}
-use Rattle.flash_image.specs.Images.{magic, number_text, header, parts, page_text, worn_text, place_text, block_text, blocks_text, image_of, before_block, before_page, AreSizes, HasImage, HasOtherMagic, HasOtherSizes, IsPartOf, EndsInside, HasOtherWorn, HasOtherPage, GoesOn, IsFault, HoldsTheSame}
+use Rattle.flash_image.specs.Images.{magic, header, parts, page_text, worn_text, place_text, block_text, blocks_text, image_of, before_block, before_page, AreSizes, HasImage, HasOtherMagic, HasOtherSizes, IsPartOf, EndsInside, HasOtherWorn, HasOtherPage, GoesOn, IsFault, HoldsTheSame}
 use Rattle.flash_image.proofs.Texts.{length-header, header-then, header-cancel}
 use Rattle.flash_image.proofs.Stops.{before_block-splits, before_page-splits}
 use Rattle.flash_image.proofs.Once.{sizes-fit, image-once, before_block-cancel, before_page-cancel}
@@ -102,7 +102,7 @@ page-header bytes w =
       lawful = w.image.lawful;
       rest = parts w.block (block_text w.flash) ++ (place ++ w.byte ∷ w.rest);
       whole = w.spelled ∙ append_assoc (before_block w.flash w.block) place (w.byte ∷ w.rest)
-      ∙ append_assoc (header w.flash.geometry) (parts w.block (block_text w.flash)) (place ++ w.byte ∷ w.rest);
+          ∙ append_assoc (header w.flash.geometry) (parts w.block (block_text w.flash)) (place ++ w.byte ∷ w.rest);
     }
 
 state-header : (bytes : List ℕ) → HasOtherWorn bytes ⊎ HasOtherPage bytes → HasHeader bytes

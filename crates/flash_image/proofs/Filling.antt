@@ -1,5 +1,5 @@
 -- A flash that is filled from the left: what it spells as far as it is filled.
-use Rattle.std.proofs.Common.{◌≡◌, ◌≢◌, ℕ, ◌+◌, ◌*◌, ◌<◌, ◌≤◌, Bool, List, [], ◌∷◌, ◌++◌, refl, sym, ap, ◌∙◌, append_assoc, arith}
+use Rattle.std.proofs.Common.{◌≡◌, ◌≢◌, ℕ, ◌+◌, ◌*◌, ◌<◌, ◌≤◌, Bool, List, ◌++◌, sym, ap, ◌∙◌, append_assoc, arith}
 use Rattle.std.proofs.lemmas.Nat.{mul-add-lt}
 use Rattle.flash_model.specs.declared.sizes.Geometry.{Geometry}
 use Rattle.flash_model.specs.Device.{Device, Page}
@@ -63,13 +63,13 @@ block-fills old d e b worn puts fills =
     let all_pages : d.pages ≡ old.pages = ap (λ (x : Device). x.pages) puts.rest in
     record {
       earlier = λ p below.
-        let in_front : p < b * d.geometry.pages = rw geometry below in
-        fills.earlier p in_front ∙ ap (λ (f : ℕ → Page). f p) all_pages;
+          let in_front : p < b * d.geometry.pages = rw geometry below in
+          fills.earlier p in_front ∙ ap (λ (f : ℕ → Page). f p) all_pages;
       worn = λ c below.
-        let apart : c ≢ b = omega arith in
-        ap (λ (f : ℕ → Bool). f c) all_worn ∙ puts.others c apart;
+          let apart : c ≢ b = omega arith in
+          ap (λ (f : ℕ → Bool). f c) all_worn ∙ puts.others c apart;
       others = fills.others ∙ ap (λ (x : Device). record x { pages = e.pages }) puts.rest
-      ∙ ap (λ (f : ℕ → Bool). let x : Device = record old { pages = e.pages; worn = f } in x) (sym all_worn);
+          ∙ ap (λ (f : ℕ → Bool). let x : Device = record old { pages = e.pages; worn = f } in x) (sym all_worn);
     }
 
 -- the block is worn as said

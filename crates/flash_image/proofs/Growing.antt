@@ -1,14 +1,14 @@
 -- A text that grows by one part, and its length.
-use Rattle.std.proofs.Common.{◌≡◌, ℕ, ◌+◌, ◌*◌, ◌<◌, ◌≤◌, Bool, true, false, IsTrue, List, [], ◌∷◌, ◌++◌, length, refl, sym, ap, ◌∙◌, append_assoc, arith}
+use Rattle.std.proofs.Common.{◌≡◌, ℕ, ◌+◌, ◌*◌, ◌<◌, ◌≤◌, IsTrue, List, ◌++◌, length, sym, ap, ◌∙◌, append_assoc, arith}
 use Rattle.std.proofs.lemmas.Bool.Decides.{nat_tests}
 use Rattle.std.proofs.lemmas.List.{append-nil, length-append}
 use Rattle.std.proofs.lemmas.Nat.{mul-le}
 use Rattle.flash_model.specs.declared.sizes.Geometry.{Geometry}
-use Rattle.flash_model.specs.Geometry.{IsGeometry, is_page_size, page_count}
+use Rattle.flash_model.specs.Geometry.{IsGeometry, is_page_size}
 use Rattle.flash_model.specs.Device.{Device, Page, erased, bytes_of, unreadable}
 use Rattle.flash_model.specs.Contents.{IsWhole}
 use Rattle.flash_model.specs.Blocks.{page-below}
-use Rattle.flash_image.specs.Images.{parts, page_text, worn_text, place_text, block_text, HasImage}
+use Rattle.flash_image.specs.Images.{parts, page_text, place_text, HasImage}
 use Rattle.flash_image.proofs.Parts.{parts-none, parts-more}
 
 pub begun : (front : List ℕ) (part : ℕ → List ℕ) → front ≡ front ++ parts 0 part

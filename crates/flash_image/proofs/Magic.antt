@@ -1,5 +1,5 @@
 -- The header of an image: where the bytes end in it, and where they differ from it.
-use Rattle.std.proofs.Common.{◌≡◌, ◌≢◌, ◌⊎◌, inl, inr, ℕ, zero, suc, ◌+◌, ◌-◌, ◌^◌, ◌<◌, ◌≤◌, Bool, true, false, eqb, List, [], ◌∷◌, ◌++◌, length, get_or, take, drop, refl, sym, ap, subst, ◌∙◌, append_assoc, arith}
+use Rattle.std.proofs.Common.{◌≡◌, ◌≢◌, inl, inr, ℕ, zero, suc, ◌-◌, ◌^◌, ◌<◌, ◌≤◌, Bool, true, false, eqb, List, [], ◌∷◌, ◌++◌, length, get_or, take, drop, refl, sym, ap, subst, ◌∙◌, append_assoc, arith}
 use Rattle.std.specs.List.{starts_with}
 use Rattle.std.specs.Int.{w32, from_le_bytes}
 use Rattle.std.proofs.lemmas.Bool.Decides.{eqb_tells, Decides-eqb}
@@ -58,8 +58,8 @@ differ [] ys long short = absurd (short ys refl)
 differ (x ∷ xs) [] long short = absurd (long (x ∷ xs) refl)
 differ (x ∷ xs) (y ∷ ys) long short = elim (eqb_tells x y) [
   | inl same ↦
-    let p = differ xs ys (λ rest e. long rest (let h : x ≡ y = same.1 in cc)) (λ rest e. short rest (let h : x ≡ y = same.1 in cc)) in
-    (suc p.0, omega (arith, p.1), omega (arith, p.2), p.3)
+      let p = differ xs ys (λ rest e. long rest (let h : x ≡ y = same.1 in cc)) (λ rest e. short rest (let h : x ≡ y = same.1 in cc)) in
+      (suc p.0, omega (arith, p.1), omega (arith, p.2), p.3)
   | inr apart ↦ (0, omega arith, omega arith, apart.1)
 ]
 
@@ -85,11 +85,15 @@ magic-ends bytes more is =
     let tail : List ℕ = number_text 0 ++ (number_text 0 ++ number_text 0) in
     let len : length tail ≡ 12 = refl in
     let fit : AreSizes zero_sizes = record { page = omega arith; pages = omega arith; blocks = omega arith } in
-    inl (zero_sizes, fit, record {
-      more = more ++ tail;
-      some = λ same. let none : length (more ++ tail) ≡ 0 = ap length same in absurd (omega (arith, none, length-append more tail, len));
-      whole = sym (append_assoc bytes more tail) ∙ ap (λ (t : List ℕ). t ++ tail) (sym is);
-    })
+    inl (
+      zero_sizes,
+      fit,
+      record {
+        more = more ++ tail;
+        some = λ same. let none : length (more ++ tail) ≡ 0 = ap length same in absurd (omega (arith, none, length-append more tail, len));
+        whole = sym (append_assoc bytes more tail) ∙ ap (λ (t : List ℕ). t ++ tail) (sym is);
+      },
+    )
 
 -- ---- the sizes
 
@@ -133,11 +137,15 @@ sizes-end bytes rest fits is short =
     let fits_rest : IsBytes rest = IsBytes-back magic rest (subst (λ (t : List ℕ). (i : ℕ) → get_or t i 0 < 256) is fits) in
     let len : length (rest ++ more) ≡ 12 = omega (arith, length-append rest more, length-zeros (12 - length rest)) in
     let s = sizes-of (rest ++ more) len (IsBytes-append rest more fits_rest (IsBytes-zeros (12 - length rest))) in
-    inl (s.0, s.1, record {
-      more = more;
-      some = zeros-some (12 - length rest) (omega arith);
-      whole = ap (λ (t : List ℕ). t ++ more) is ∙ append_assoc magic rest more ∙ sym s.2;
-    })
+    inl (
+      s.0,
+      s.1,
+      record {
+        more = more;
+        some = zeros-some (12 - length rest) (omega arith);
+        whole = ap (λ (t : List ℕ). t ++ more) is ∙ append_assoc magic rest more ∙ sym s.2;
+      },
+    )
 
 -- ---- a page
 

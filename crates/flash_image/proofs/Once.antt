@@ -1,6 +1,5 @@
 -- Bytes are the image of one flash at most, whatever follows it.
-use Rattle.std.proofs.Common.{◌≡◌, ◌≢◌, ◌⊎◌, inl, inr, ℕ, ◌+◌, ◌*◌, ◌/◌, ◌%◌, ◌^◌, ◌<◌, ◌≤◌, Bool, true, false, List, [], ◌∷◌, ◌++◌, length, refl, sym, ap, subst, ◌∙◌, append_assoc, arith}
-use Rattle.std.proofs.lemmas.List.{append-nil}
+use Rattle.std.proofs.Common.{◌≡◌, ℕ, ◌+◌, ◌*◌, ◌%◌, ◌<◌, ◌≤◌, Bool, List, [], ◌++◌, refl, sym, ap, subst, ◌∙◌, append_assoc, arith}
 use Rattle.flash_model.specs.declared.sizes.Geometry.{Geometry}
 use Rattle.flash_model.specs.Geometry.{IsGeometry, page_count}
 use Rattle.flash_model.specs.Device.{Device, Page, block_of}
@@ -11,7 +10,6 @@ use Rattle.flash_image.proofs.Parts.{parts-cancel}
 use Rattle.flash_image.proofs.Texts.{header-cancel, worn-cancel, page-cancel}
 use Rattle.flash_image.proofs.Filling.{block-same, blocks-same, places-same}
 use Rattle.flash_image.proofs.Growing.{pages-most, page_size-most}
-use Rattle.flash_image.proofs.Stops.{before_block-splits, before_page-splits}
 
 -- lawful sizes are of four bytes each
 pub sizes-fit : (g : Geometry) → IsGeometry g → AreSizes g
@@ -69,10 +67,12 @@ blocks-cancel d pages worn n u v image whole few same =
     let all = parts-cancel n (block_text d) (block_text e) u v (λ b below s t eq.
     let inside : b < d.geometry.blocks = omega arith in
     let p = block-cancel d pages worn b s t image whole inside eq in
-    (block-text d pages worn b p.0, p.1)) same in
-    (λ b below.
-      let inside : b < d.geometry.blocks = omega arith in
-      (block-cancel d pages worn b [] [] image whole inside (ap (λ (x : List ℕ). x ++ []) (all.0 b below))).0, all.1)
+    (block-text d pages worn b p.0, p.1)) same in (
+      λ b below.
+          let inside : b < d.geometry.blocks = omega arith in
+          (block-cancel d pages worn b [] [] image whole inside (ap (λ (x : List ℕ). x ++ []) (all.0 b below))).0,
+      all.1,
+    )
 
 -- ---- any flashes
 
@@ -103,12 +103,14 @@ image-once d e x y image image' same =
     let f : Device = holding d e.pages e.worn in
     let blocks : blocks_text e ≡ parts d.geometry.blocks (block_text f) = ap (λ (g : Geometry). parts g.blocks (block_text e)) (sym sizes.0) ∙ blocks-as d e d.geometry.blocks sizes.0 in
     let rest : blocks_text d ++ x ≡ parts d.geometry.blocks (block_text f) ++ y = sizes.1 ∙ ap (λ (t : List ℕ). t ++ y) blocks in
-    let all = blocks-cancel d e.pages e.worn d.geometry.blocks x y image (whole-for d e image' sizes.0) (omega arith) rest in
-    (record {
-      geometry = sym sizes.0;
-      pages = same-pages d e image.lawful.some_pages all.0;
-      worn = λ b below. sym (all.0 b below).is_worn;
-    }, all.1)
+    let all = blocks-cancel d e.pages e.worn d.geometry.blocks x y image (whole-for d e image' sizes.0) (omega arith) rest in (
+      record {
+        geometry = sym sizes.0;
+        pages = same-pages d e image.lawful.some_pages all.0;
+        worn = λ b below. sym (all.0 b below).is_worn;
+      },
+      all.1,
+    )
 
 -- what stands before a block, and what follows it there
 pub before_block-cancel : (d e : Device) (b : ℕ) (x y : List ℕ) → HasImage d → HasImage e → b < d.geometry.blocks → before_block d b ++ x ≡ before_block e b ++ y → (d.geometry ≡ e.geometry) × (x ≡ y)

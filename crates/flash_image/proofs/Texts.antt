@@ -1,15 +1,12 @@
 -- The texts of sizes, pages and blocks: no one begins another.
-use Rattle.std.proofs.Common.{◌≡◌, ℕ, ◌+◌, ◌*◌, ◌^◌, ◌<◌, ◌≤◌, Bool, true, false, List, [], ◌∷◌, ◌++◌, length, take, drop, refl, sym, ap, ◌∙◌, append_assoc, arith}
+use Rattle.std.proofs.Common.{◌≡◌, ℕ, ◌^◌, ◌<◌, Bool, true, false, List, ◌++◌, length, take, drop, refl, sym, ap, ◌∙◌}
 use Rattle.std.specs.Int.{w32, from_le_bytes}
-use Rattle.std.proofs.lemmas.List.{take_at, drop_at, append_cancel_left, length-append}
-use Rattle.std.proofs.lemmas.Nat.{from_le_bytes-to_le_bytes_4, mul-add-lt}
+use Rattle.std.proofs.lemmas.List.{take_at, drop_at, append_cancel_left}
+use Rattle.std.proofs.lemmas.Nat.{from_le_bytes-to_le_bytes_4}
 use Rattle.flash_model.specs.declared.sizes.Geometry.{Geometry}
-use Rattle.flash_model.specs.Geometry.{page_count}
-use Rattle.flash_model.specs.Device.{Device, Page, erased, bytes_of, unreadable}
+use Rattle.flash_model.specs.Device.{Page, erased, bytes_of, unreadable}
 use Rattle.flash_model.specs.Contents.{IsWhole}
-use Rattle.flash_model.specs.Blocks.{page-below}
-use Rattle.flash_image.specs.Images.{magic, number_text, header, parts, page_text, worn_text, place_text, block_text, AreSizes, HasImage}
-use Rattle.flash_image.proofs.Parts.{parts-cancel}
+use Rattle.flash_image.specs.Images.{magic, number_text, header, page_text, worn_text, AreSizes}
 
 -- two texts of one length, and what follows them
 pub fronts : (a b u v : List ℕ) → length a ≡ length b → a ++ u ≡ b ++ v → (a ≡ b) × (u ≡ v)

@@ -110,11 +110,7 @@ fn page_at(size: usize, bytes: &[u8]) -> Result<(PageView<'_>, &[u8]), ImageFaul
 }
 
 /// Puts the pages of a block into the flash, and gives the bytes after them.
-fn read_pages<'a>(
-    flash: &mut SimFlash,
-    block: u32,
-    bytes: &'a [u8],
-) -> Result<&'a [u8], ImageFault>
+fn read_pages<'a>(flash: &mut SimFlash, block: u32, bytes: &'a [u8]) -> Result<&'a [u8], ImageFault>
     requires { block < (device_of flash.old).geometry.blocks }
     ensures ok { IfOk result (λ rest. bytes.now ≡ parts (device_of flash.new).geometry.pages (place_text (device_of flash.new) block) ++ rest.now) }
     ensures err { IfErr result (λ fault. PagesFault (device_of flash.new) block fault bytes.now) }
@@ -132,11 +128,7 @@ fn read_pages<'a>(
 }
 
 /// Puts a block into the flash, and gives the bytes after it.
-fn read_block<'a>(
-    flash: &mut SimFlash,
-    block: u32,
-    bytes: &'a [u8],
-) -> Result<&'a [u8], ImageFault>
+fn read_block<'a>(flash: &mut SimFlash, block: u32, bytes: &'a [u8]) -> Result<&'a [u8], ImageFault>
     requires { block < (device_of flash.old).geometry.blocks }
     ensures ok { IfOk result (λ rest. bytes.now ≡ block_text (device_of flash.new) block ++ rest.now) }
     ensures err { IfErr result (λ fault. BlockFault (device_of flash.new) block fault bytes.now) }

@@ -18,12 +18,10 @@ pub fn each_flash_has_an_image(flash: &SimFlash)
 pub fn images_are_told_apart()
     ensures same { (d e : Device) → HasImage d → HasImage e → image_of d ≡ image_of e → HoldsTheSame d e }
     ensures whole { (d e : Device) (more : List ℕ) → HasImage d → HasImage e → image_of d ++ more ≡ image_of e → more ≡ [] }
-{
-}
+{}
 
 /// Bytes have one fault at most, and an image has none.
 pub fn faults_are_told_apart()
     ensures one { (f g : ImageFault) (bytes : List ℕ) → IsFault f bytes → IsFault g bytes → f ≡ g }
     ensures none { (d : Device) (f : ImageFault) → HasImage d → ¬ IsFault f (image_of d) }
-{
-}
+{}

@@ -1,5 +1,5 @@
 -- What a flash holds, put there by no operation.
-use Rattle.std.specs.Prelude.{◌≡◌, ◌≢◌, ℕ, List, length, Bool}
+use Rattle.std.specs.Prelude.{◌≡◌, ◌≢◌, ℕ, length, Bool}
 use Rattle.flash_model.specs.Device.{Device, Page, erased, bytes_of, unreadable}
 
 -- a page with data has this many bytes

@@ -136,7 +136,10 @@ fn the_image_written_out_is_read(rt: HostRuntime) -> Result<(), Fail> {
         assert!(rt; right, "page {number}");
     }
     for block in 0..32 {
-        assert!(rt; block < flash.geometry().blocks && !flash.is_worn(block), "block {block}");
+        assert!(rt;
+            block < flash.geometry().blocks && !flash.is_worn(block),
+            "block {block}"
+        );
     }
     Ok(())
 }

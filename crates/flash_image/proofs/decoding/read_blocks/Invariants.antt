@@ -8,5 +8,5 @@ abbrev pub invariant-loop-block : goal.invariant-loop-block
 invariant-loop-block l = record {
   spelled : l.bytes ≡ parts l.block (block_text (device_of l.flash)) ++ l.rest;
   fills : FillsBlocks (device_of l.fn.flash) 0 (device_of l.flash);
-  plan : plan_of l.flash ≡ plan_of l.fn.flash
+  plan : plan_of l.flash ≡ plan_of l.fn.flash;
 }

@@ -1,11 +1,11 @@
-use Rattle.std.proofs.Common.{◌≡◌, ◌≢◌, ◌++◌, ◌⊎◌, List, ℕ, [], inl, inr, ap, sym, subst, ◌∙◌, arith, append_assoc}
+use Rattle.std.proofs.Common.{◌≡◌, ◌≢◌, ◌++◌, ◌⊎◌, List, ℕ, [], inr, ap, sym, subst, ◌∙◌, arith, append_assoc}
 use Rattle.std.proofs.lemmas.Result.{err_from_is_err_and}
 use Rattle.flash_model.specs.declared.sizes.Geometry.{Geometry}
 use Rattle.flash_model.specs.Device.{Device}
 use Rattle.flash_model.specs.Simulation.{device_of}
 use Rattle.flash_image.specs.declared.faults.ImageFault.{ImageFault}
-use Rattle.flash_image.specs.declared.faults.ImageFault.TheVariants.{Memory, Truncated, Trailing}
-use Rattle.flash_image.specs.Images.{header, blocks_text, image_of, IsFault, GoesOn}
+use Rattle.flash_image.specs.declared.faults.ImageFault.TheVariants.{Memory}
+use Rattle.flash_image.specs.Images.{header, blocks_text, IsFault}
 use Rattle.flash_image.proofs.Magic.{sizes-end, not-empty}
 use Rattle.flash_image.proofs.Stops.{has_image, stops}
 use Rattle.flash_image.proofs.decoding.read_image.Goals as goal

@@ -28,7 +28,7 @@ loop-place-preserved c =
     let from : c.args.block * old.geometry.pages ≤ c.page_number.result = omega (arith, number) in
     record {
       spelled = put_page-spells d e c.args.block c.loop-place.place c.page_number.result page c.args.bytes.now c.loop-place.rest.now c.in_ok-page.after.now number'
-        c.set_page.ensures.page c.loop-place.invariant.spelled c.in_ok-page.ensures.ok;
+          c.set_page.ensures.page c.loop-place.invariant.spelled c.in_ok-page.ensures.ok;
       fills = put_page-fills old d e (c.args.block * old.geometry.pages) c.page_number.result page from c.loop-place.invariant.fills c.set_page.ensures.page;
       plan = c.set_page.ensures.plan ∙ c.loop-place.invariant.plan;
     }

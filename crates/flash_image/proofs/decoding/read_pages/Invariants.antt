@@ -8,5 +8,5 @@ abbrev pub invariant-loop-place : goal.invariant-loop-place
 invariant-loop-place l = record {
   spelled : l.bytes ≡ parts l.place (place_text (device_of l.flash) l.block) ++ l.rest;
   fills : FillsPages (device_of l.fn.flash) (l.block * l.fn.flash.geometry.pages) (device_of l.flash);
-  plan : plan_of l.flash ≡ plan_of l.fn.flash
+  plan : plan_of l.flash ≡ plan_of l.fn.flash;
 }

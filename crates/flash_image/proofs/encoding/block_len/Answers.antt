@@ -1,7 +1,7 @@
-use Rattle.std.proofs.Common.{◌≡◌, ◌<◌, ◌≤◌, ◌+◌, ◌*◌, ◌++◌, List, ℕ, ap, sym, ◌∙◌, length, arith}
+use Rattle.std.proofs.Common.{◌≡◌, ◌<◌, ◌≤◌, ◌+◌, ◌*◌, ℕ, ap, ◌∙◌, length, arith}
 use Rattle.flash_model.specs.declared.sizes.Geometry.{Geometry}
 use Rattle.flash_model.specs.Simulation.{device_of}
-use Rattle.flash_image.specs.Images.{parts, place_text, page_text}
+use Rattle.flash_image.specs.Images.{place_text, page_text}
 use Rattle.flash_image.proofs.Growing.{length-begun, length-grown, place_text-most}
 use Rattle.flash_image.proofs.Stops.{has_image}
 use Rattle.flash_image.proofs.encoding.block_len.Goals as goal

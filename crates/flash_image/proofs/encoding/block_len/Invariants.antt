@@ -6,5 +6,5 @@ use Rattle.flash_image.proofs.encoding.block_len.Given as goal
 abbrev pub invariant-loop-place : goal.invariant-loop-place
 invariant-loop-place l = record {
   is : l.len ≡ 1 + length (parts l.place (place_text (device_of l.flash) l.block));
-  most : l.len ≤ 1 + 4097 * l.place
+  most : l.len ≤ 1 + 4097 * l.place;
 }

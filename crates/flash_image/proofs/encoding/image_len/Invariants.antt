@@ -6,5 +6,5 @@ use Rattle.flash_image.proofs.encoding.image_len.Given as goal
 abbrev pub invariant-loop-block : goal.invariant-loop-block
 invariant-loop-block l = record {
   is : l.len ≡ 20 + length (parts l.block (block_text (device_of l.flash)));
-  most : l.len ≤ 20 + 4195329 * l.block
+  most : l.len ≤ 20 + 4195329 * l.block;
 }

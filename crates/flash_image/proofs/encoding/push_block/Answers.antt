@@ -1,4 +1,4 @@
-use Rattle.std.proofs.Common.{◌++◌, ◌+◌, ◌*◌, ◌∷◌, [], List, ℕ, ap, sym, ◌∙◌, append_assoc}
+use Rattle.std.proofs.Common.{◌++◌, ◌+◌, ◌*◌, List, ℕ, ap, sym, ◌∙◌, append_assoc}
 use Rattle.flash_model.specs.declared.sizes.Geometry.{Geometry}
 use Rattle.flash_model.specs.Simulation.{device_of}
 use Rattle.flash_image.specs.Images.{parts, place_text, page_text, worn_text}

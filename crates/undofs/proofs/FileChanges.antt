@@ -49,7 +49,7 @@ use Rattle.undofs.specs.Mounted.{IsStanding, IsMounted}
 use Rattle.undofs.specs.Opening.{IsAnswered}
 use Rattle.undofs.specs.Worked.{storage_on, IsWorked, IsLooked, WorkCause}
 use Rattle.undofs.specs.declared.state.State.{State}
-use Rattle.undofs.proofs.Changes.{makes, needs, path_within, worked_keeps, HasNewTree, rewritten_root, changed_state, changed_step, changed_mounted}
+use Rattle.undofs.proofs.ChangeSteps.{makes, needs, path_within, worked_keeps, HasNewTree, rewritten_root, changed_state, changed_step, changed_mounted}
 use Rattle.undofs.proofs.OpenCalls.{present_is, room_for}
 use Rattle.undofs.proofs.PathCalls.{OnlyReads, present_tree_is, present_stands, read_done}
 use Rattle.undofs.proofs.Refusals.{read_refuses, write_refuses, cause_later}

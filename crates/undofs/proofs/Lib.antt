@@ -1,5 +1,6 @@
 pub mod BadCounts
-pub mod Changes
+pub mod ChangeSteps
+pub mod ChangedCalls
 pub mod FileChanges
 pub mod FileReads
 pub mod FreshSystems

@@ -1,40 +1,36 @@
 -- The step of a new directory.
-use Rattle.std.proofs.Common.{◌≡◌, ℕ, ◌<◌, Bool, true, false, Option, Some, None, Ok, Err, [], ◌∷◌, length, refl, sym, ap, ◌∙◌, inl, inr, arith}
+use Rattle.std.proofs.Common.{◌≡◌, ℕ, Bool, true, false, Option, Some, None, Ok, Err, [], ◌∷◌, length, refl, sym, ap, ◌∙◌, inl, inr, arith}
 use Rattle.std.proofs.lemmas.Bool.{cases_Bool, ne_eqb}
 use Rattle.std.specs.Prelude.{if◌then◌else◌, ◌==◌}
 use Rattle.std.specs.Option.{option_or, is_some}
 use Rattle.std.specs.FinMap.{get}
-use Rattle.std.specs.FinSet as set
 use Rattle.fs_types.specs.Names.{Name, Path, is_path}
 use Rattle.fs_types.specs.Contents.{Contents, Entry, parent_of, lookup_refusal}
 use Rattle.fs_types.specs.Trees.{Tree, put, is_full}
-use Rattle.fs_types.specs.History.{Past, present_root, changed}
-use Rattle.fs_types.specs.Machine.{Machine, refusal, makes_version, change_need}
+use Rattle.fs_types.specs.History.{present_root}
+use Rattle.fs_types.specs.Machine.{refusal}
 use Rattle.fs_types.specs.declared.calls.Call.{Call}
+use Rattle.fs_types.specs.declared.calls.Reply.{Reply}
 use Rattle.fs_types.specs.declared.faults.Fault.{Fault}
 use Rattle.fs_types.specs.declared.faults.Fault.TheVariants.{Exists, DirectoryFull}
 use Rattle.flash_model.specs.Device.{Device}
-use Rattle.node_format.specs.declared.places.Place.TheVariants.{Dir}
 use Rattle.node_store.specs.NodePages.{node_of}
 use Rattle.block_trees.specs.Bodies.{Blocks, body}
 use Rattle.block_trees.specs.Trees.{tree, root_tree, IsRoot}
-use Rattle.block_trees.proofs.EditedTrees.{mkdir_law}
-use Rattle.block_trees.proofs.EmptyDirectories.{empty_held}
 use Rattle.block_trees.proofs.RootMaps.{map_law, full_directory}
 use Rattle.directory.specs.declared.lookups.Found.{Found}
 use Rattle.directory.specs.declared.lookups.Found.TheVariants as found
 use Rattle.directory.specs.Lookups.{look_up, entry_of, is_path_fault, IsLookupFault}
-use Rattle.directory.specs.Making.{IsMade}
 use Rattle.directory.proofs.LookupLaws.{found_is, missing_parent, refused_is}
-use Rattle.undofs.specs.Seen.{room_of, tree_on, seen_on, machine_on, is_read_only}
-use Rattle.undofs.specs.Steps.{empty, last_serial, Refuses}
-use Rattle.undofs.specs.Mounted.{IsStanding, IsMounted, IsCalled}
-use Rattle.undofs.specs.Worked.{IsWorked, IsLooked, WorkCause}
+use Rattle.undofs.specs.Seen.{room_of, tree_on, seen_on, machine_on}
+use Rattle.undofs.specs.Steps.{Refuses}
+use Rattle.undofs.specs.Mounted.{IsMounted}
+use Rattle.undofs.specs.Worked.{IsLooked, WorkCause}
 use Rattle.undofs.specs.declared.state.State.{State}
-use Rattle.undofs.proofs.Changes.{path_within, makes, later_stands, later_tree, worked_keeps, HasNewTree, rewritten_root, changed_called}
+use Rattle.undofs.proofs.ChangeSteps.{later_tree}
+use Rattle.undofs.proofs.ChangedCalls.{IsChangeBy}
 use Rattle.undofs.proofs.PathCalls.{present_tree_is, present_stands}
 use Rattle.undofs.proofs.Refusals.{read_refuses}
-use Rattle.undofs.proofs.Standing.{worked_mounted, looked_worked}
 
 -- Refusals.
 
@@ -126,31 +122,13 @@ mkdir_refuses d s e t path root x y fault m is led same refused = inl (mkdir_by 
 
 -- A directory that is made.
 
-pub mkdir_makes : (m : Machine) (path : Path) → refusal m (Call.Mkdir path) ≡ None → makes_version m (Call.Mkdir path) ≡ true
-mkdir_makes m path fine = makes m (Call.Mkdir path) fine refl
-
-pub mkdir_more : (room : ℕ) (m : Machine) (path : Path) → 0 < change_need room m (Call.Mkdir path)
-mkdir_more room m path = omega arith
-
--- what is made of a flash and a state by writing nodes
-abbrev Made : Device → State → Device → State → ℕ → ℕ → Path → Type 0
-Made d s e t from to path = IsMade (node_of d) (node_of e) (set.contains s.storage.ring.used) (set.contains t.storage.ring.used) from to path
-
-made_root : (d : Device) (s : State) (e : Device) (t : State) (from to : ℕ) (path : Path) → IsMounted d s → IsStanding d s.storage.ring from → IsWorked d s e t
-    → look_up (node_of d) from path ≡ Ok (found.Missing false) → is_path path ≡ true → Made d s e t from to path → HasNewTree e t to (put (tree_on d from) path Entry.Dir)
-made_root d s e t from to path m stands w missing lawful made =
-    let nothing = (found_is (room_of d) (node_of d) from path (found.Missing false) missing).1 in
-    rewritten_root d s e t from to path (Some (Dir made.block)) (put (tree_on d from) path Entry.Dir) m stands w made.rewritten (empty_held (node_of e) made.block made.empty (set.contains t.storage.ring.used) made.is_kept)
-    (mkdir_law (room_of d) (node_of d) (node_of e) (set.contains s.storage.ring.used) (set.contains t.storage.ring.used) from to made.block path (worked_keeps d s e t m w) stands.held stands.rooted nothing (path_within path lawful) made.empty made.rewritten)
-
--- the present root with the directory, after reads
-pub mkdir_root : (d : Device) (s : State) (e : Device) (t : State) (f : Device) (u : State) (root to : ℕ) (path : Path) → IsMounted d s → present_root s.history ≡ Some root → IsLooked d s e t
-    → look_up (node_of e) root path ≡ Ok (found.Missing false) → is_path path ≡ true → IsWorked e t f u → Made e t f u root to path → HasNewTree f u to (put (tree_on e root) path Entry.Dir)
-mkdir_root d s e t f u root to path m is l missing lawful w made =
-    made_root e t f u root to path (worked_mounted d s e t m (looked_worked d s e t l)) (later_stands d s e t root m is l) w missing lawful made
-
-pub mkdir_called : (d : Device) (s : State) (e : Device) (t : State) (f : Device) (u : State) (root to : ℕ) (path : Path) (h : Past ℕ) → h ≡ changed u.history to → IsMounted d s → present_root s.history ≡ Some root → IsLooked d s e t
-    → refusal (machine_on d s) (Call.Mkdir path) ≡ None → is_path path ≡ true → is_read_only t.storage.bad ≡ false → t.history.next < last_serial → IsWorked e t f u → HasNewTree f u to (put (tree_on e root) path Entry.Dir)
-    → IsCalled (Unit {0}) d s (Call.Mkdir path) empty (Ok tt) f (record u { history = h })
-mkdir_called d s e t f u root to path h pushes m is l fine lawful writable serial w new =
-    changed_called d s e t f u to (Call.Mkdir path) (put (tree_on e root) path Entry.Dir) h pushes m l fine (ap (λ (x : Tree). Some (put x path Entry.Dir)) (later_tree d s e t root m is l)) refl refl lawful writable serial w new
+pub mkdir_change : (d : Device) (s : State) (e : Device) (t : State) (path : Path) → IsMounted d s → IsLooked d s e t → refusal (machine_on d s) (Call.Mkdir path) ≡ None → is_path path ≡ true
+    → IsChangeBy d s (Call.Mkdir path) (λ root. put (tree_on e root) path Entry.Dir) Reply.Empty
+mkdir_change d s e t path m l fine lawful = record {
+  fine = fine;
+  after = λ root is. ap (λ (x : Tree). Some (put x path Entry.Dir)) (later_tree d s e t root m is l);
+  heavy = refl;
+  paths = lawful;
+  more = λ room. omega arith;
+  replies = λ space. refl;
+}

@@ -39,7 +39,7 @@ use Rattle.undofs.specs.Mounted.{IsStanding, IsMounted}
 use Rattle.undofs.specs.Opening.{found_refusal, changes_found, IsAnswered}
 use Rattle.undofs.specs.Worked.{IsWorked, IsLooked, WorkCause}
 use Rattle.undofs.specs.declared.state.State.{State}
-use Rattle.undofs.proofs.Changes.{path_within, later_stands, later_tree, worked_keeps, HasNewTree, rewritten_root, change_refuses, writing_refuses, changed_step, changed_mounted}
+use Rattle.undofs.proofs.ChangeSteps.{path_within, later_stands, later_tree, worked_keeps, HasNewTree, rewritten_root, change_refuses, writing_refuses, changed_step, changed_mounted}
 use Rattle.undofs.proofs.PathCalls.{present_tree_is, present_stands}
 use Rattle.undofs.proofs.Refusals.{read_refuses, refused_step, never}
 use Rattle.undofs.proofs.Standing.{all_stand, AllStand, worked_machine, worked_later, worked_mounted, worked_pages, looked_worked, worked_on}

@@ -26,7 +26,7 @@ use Rattle.undofs.specs.Mounted.{IsMounted}
 use Rattle.undofs.specs.Renames.{IsMovable}
 use Rattle.undofs.specs.Worked.{storage_on, IsWorked, IsLooked}
 use Rattle.undofs.specs.declared.state.State.{State}
-use Rattle.undofs.proofs.Changes.{path_within, makes, later_stands, later_tree, worked_keeps, HasNewTree, changed_step}
+use Rattle.undofs.proofs.ChangeSteps.{path_within, makes, later_stands, later_tree, worked_keeps, HasNewTree, changed_step}
 use Rattle.undofs.proofs.MovedEntries.{PlaceRefused, PlaceFound, MoveRefused, read_later, read_may}
 use Rattle.undofs.proofs.PathCalls.{OnlyReads, read_done}
 use Rattle.undofs.proofs.Standing.{same_room, looked_worked, worked_later, worked_machine, worked_mounted}

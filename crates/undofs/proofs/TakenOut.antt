@@ -33,7 +33,7 @@ use Rattle.undofs.specs.Steps.{empty, last_serial, Refuses}
 use Rattle.undofs.specs.Mounted.{IsMounted, IsCalled}
 use Rattle.undofs.specs.Worked.{IsWorked, IsLooked}
 use Rattle.undofs.specs.declared.state.State.{State}
-use Rattle.undofs.proofs.Changes.{makes, later_stands, later_tree, worked_keeps, HasNewTree, rewritten_root, changed_called}
+use Rattle.undofs.proofs.ChangeSteps.{makes, later_stands, later_tree, worked_keeps, HasNewTree, rewritten_root, changed_called}
 use Rattle.undofs.proofs.PathCalls.{present_tree_is, present_stands, LooksUp, found_by}
 use Rattle.undofs.proofs.Standing.{worked_mounted, looked_worked}
 

@@ -1,4 +1,5 @@
 pub mod Built
+pub mod Changes
 pub mod Changing
 pub mod Mounted
 pub mod Opening

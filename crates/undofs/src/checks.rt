@@ -6,8 +6,10 @@ ghost use Rattle.undofs.specs.Seen.{is_read_only, bad_anchors};
 ghost use Rattle.undofs.specs.Steps.{last_serial, is_cut_answer};
 
 use crate::state::State;
-use bad_blocks::LIMIT;
+use bad_blocks::{BadBlocks, LIMIT};
 use fs_types::Fault;
+use history::History;
+use node_store::Storage;
 
 impl State {
     /// Refuses a call where an earlier one answered that the power is off.
@@ -34,48 +36,6 @@ impl State {
         }
     }
 
-    /// Whether at least seven anchors or 256 blocks are bad.
-    pub(crate) fn is_read_only(&self) -> bool
-        ensures { result ≡ is_read_only self.now.storage.bad }
-    {
-        self.storage.bad.len() >= LIMIT || self.bad_anchors() >= 7
-    }
-
-    /// How many of the anchors, blocks 0 to 7, are bad.
-    fn bad_anchors(&self) -> usize
-        ensures { result ≡ bad_anchors self.now.storage.bad }
-    {
-        (0..8)
-            .filter(|block| self.storage.bad.contains(*block))
-            .count()
-    }
-
-    /// Refuses in read-only mode.
-    pub(crate) fn check_writable(&self) -> Result<(), Fault>
-        ensures ok { OnOk result (is_read_only self.now.storage.bad ≡ false) }
-        ensures err { IfErr result (λ fault. (fault ≡ Fault.ReadOnly) × (is_read_only self.now.storage.bad ≡ true)) }
-    {
-        if self.is_read_only() {
-            Err(Fault::ReadOnly)
-        } else {
-            Ok(())
-        }
-    }
-
-    /// Refuses a change in read-only mode, and where no serial is left for it.
-    pub(crate) fn check_change(&self) -> Result<(), Fault>
-        ensures writable { OnOk result (is_read_only self.now.storage.bad ≡ false) }
-        ensures serial { OnOk result (self.now.history.next < last_serial) }
-        ensures err { IfErr result (λ fault. ((fault ≡ Fault.ReadOnly) × (is_read_only self.now.storage.bad ≡ true)) ⊎ ((fault ≡ Fault.Overflow) × (self.now.history.next ≡ last_serial))) }
-    {
-        self.check_writable()?;
-        if self.history.is_exhausted() {
-            Err(Fault::Overflow)
-        } else {
-            Ok(())
-        }
-    }
-
     /// Remembers that the power is off, where a call answers that.
     pub(crate) fn remember_cut<T>(&mut self, answer: Result<T, Fault>) -> Result<T, Fault>
         ensures same { result ≡ answer }
@@ -85,5 +45,45 @@ impl State {
             self.is_off = true;
         }
         answer
+    }
+}
+
+/// Whether at least seven anchors or 256 blocks are bad.
+fn is_read_only(bad: &BadBlocks) -> bool
+    ensures { result ≡ is_read_only bad.now }
+{
+    bad.len() >= LIMIT || bad_anchors(bad) >= 7
+}
+
+/// How many of the anchors, blocks 0 to 7, are bad.
+fn bad_anchors(bad: &BadBlocks) -> usize
+    ensures { result ≡ bad_anchors bad.now }
+{
+    (0..8).filter(|block| bad.contains(*block)).count()
+}
+
+/// Refuses in read-only mode.
+pub(crate) fn check_writable(storage: &Storage) -> Result<(), Fault>
+    ensures ok { OnOk result (is_read_only storage.now.bad ≡ false) }
+    ensures err { IfErr result (λ fault. (fault ≡ Fault.ReadOnly) × (is_read_only storage.now.bad ≡ true)) }
+{
+    if is_read_only(&storage.bad) {
+        Err(Fault::ReadOnly)
+    } else {
+        Ok(())
+    }
+}
+
+/// Refuses a change in read-only mode, and where no serial is left for it.
+pub(crate) fn check_change(history: &History<u32>, storage: &Storage) -> Result<(), Fault>
+    ensures writable { OnOk result (is_read_only storage.now.bad ≡ false) }
+    ensures serial { OnOk result (history.now.next < last_serial) }
+    ensures err { IfErr result (λ fault. ((fault ≡ Fault.ReadOnly) × (is_read_only storage.now.bad ≡ true)) ⊎ ((fault ≡ Fault.Overflow) × (history.now.next ≡ last_serial))) }
+{
+    check_writable(storage)?;
+    if history.is_exhausted() {
+        Err(Fault::Overflow)
+    } else {
+        Ok(())
     }
 }

@@ -23,6 +23,7 @@ ghost use Rattle.undofs.specs.Seen.{seen_on, machine_on};
 ghost use Rattle.undofs.specs.Steps.{replied, empty, is_cut_answer, Refuses};
 ghost use Rattle.undofs.specs.Worked.{IsWorked, IsLooked, WorkCause};
 
+use crate::checks::check_change;
 use crate::state::State;
 use bitflags::Flags;
 use directory::{Found, with_entry};
@@ -84,7 +85,7 @@ impl State {
             self.files.open(number, file);
             return Ok(number);
         }
-        self.check_change()?;
+        check_change(&self.history, &self.storage)?;
         let file = OpenFile::new(path.clone()?, flags);
         let place = Place::File { head: 0, length: 0 };
         let root = self.write_entry(alloc, flash, root, path, place)?;

@@ -28,6 +28,7 @@ ghost use Rattle.undofs.specs.Seen.{room_of, seen_on, machine_on};
 ghost use Rattle.undofs.specs.Steps.{replied, empty, is_cut_answer};
 ghost use Rattle.undofs.specs.Worked.{IsWorked, IsLooked, WorkCause};
 
+use crate::checks::check_change;
 use crate::state::State;
 use bitflags::Flags;
 use directory::Found;
@@ -80,7 +81,7 @@ impl State {
         let path = self.open_path(number)?;
         let root = self.history.root();
         let body = self.body_at(flash, root, &path)?;
-        self.check_change()?;
+        check_change(&self.history, &self.storage)?;
         let body = self.write_bytes(alloc, flash, body, offset as u32, bytes)?;
         let root = self.put_body(alloc, flash, root, &path, body)?;
         self.history.push(root);
@@ -123,7 +124,7 @@ impl State {
         if u64::from(body.length) == size {
             return Ok(());
         }
-        self.check_change()?;
+        check_change(&self.history, &self.storage)?;
         let body = self.resize_body(alloc, flash, body, size as u32)?;
         let root = self.put_body(alloc, flash, root, &path, body)?;
         self.history.push(root);

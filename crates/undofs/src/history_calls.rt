@@ -8,6 +8,7 @@ ghost use Rattle.flash_model.specs.Device.{Device};
 ghost use Rattle.undofs.specs.Mounted.{IsMounted, StateStep};
 ghost use Rattle.undofs.specs.Steps.{replied, empty};
 
+use crate::checks::{check_change, check_writable};
 use crate::state::State;
 use fs_types::{CpName, Fault, Reply, Sequence, Version};
 use history::MAX_CHECKPOINTS;
@@ -53,7 +54,7 @@ impl State {
         self.check_power()?;
         self.check_none_open()?;
         let root = self.history.checkpoint_root(name)?;
-        self.check_change()?;
+        check_change(&self.history, &self.storage)?;
         self.history.push(root);
         Ok(())
     }
@@ -67,7 +68,7 @@ impl State {
         if count > self.history.cursor() as u64 {
             return Err(Fault::Invalid);
         }
-        self.check_writable()?;
+        check_writable(&self.storage)?;
         self.history.forget(count)
     }
 
@@ -83,7 +84,7 @@ impl State {
         if self.history.checkpoints().len() >= MAX_CHECKPOINTS {
             return Err(Fault::CheckpointsFull);
         }
-        self.check_writable()?;
+        check_writable(&self.storage)?;
         self.history.checkpoint(name.clone()?)
     }
 
@@ -94,7 +95,7 @@ impl State {
     {
         self.check_power()?;
         self.history.checkpoint_root(name)?;
-        self.check_writable()?;
+        check_writable(&self.storage)?;
         self.history.remove_checkpoint(name)
     }
 

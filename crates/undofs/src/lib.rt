@@ -1,6 +1,7 @@
 //! The file system: calls on a flash, with undo, redo and checkpoints.
 #![tactic(auto)]
 
+mod changes;
 mod checks;
 mod events;
 mod file_calls;

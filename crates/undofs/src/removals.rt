@@ -22,6 +22,7 @@ ghost use Rattle.undofs.specs.Seen.{seen_on, machine_on};
 ghost use Rattle.undofs.specs.Steps.{replied, empty, Refuses};
 ghost use Rattle.undofs.specs.Worked.{IsWorked, IsLooked, WorkCause};
 
+use crate::checks::check_change;
 use crate::state::State;
 use directory::{Found, without_entry};
 use flash_model::Flash;
@@ -59,7 +60,7 @@ impl State {
     {
         let root = self.history.root();
         self.check_empty(flash, root, path)?;
-        self.check_change()?;
+        check_change(&self.history, &self.storage)?;
         let root = self.write_without(alloc, flash, root, path)?;
         self.history.push(root);
         Ok(())
@@ -120,7 +121,7 @@ impl State {
     {
         let root = self.history.root();
         self.check_file(flash, root, path)?;
-        self.check_change()?;
+        check_change(&self.history, &self.storage)?;
         let root = self.write_without(alloc, flash, root, path)?;
         self.history.push(root);
         Ok(())

@@ -28,6 +28,7 @@ ghost use Rattle.undofs.specs.Seen.{seen_on, machine_on};
 ghost use Rattle.undofs.specs.Steps.{replied, empty, is_cut_answer, Refuses, CallStep};
 ghost use Rattle.undofs.specs.Worked.{IsWorked, IsLooked, WorkCause, ReadCause};
 
+use crate::checks::check_change;
 use crate::state::State;
 use directory::{Found, is_deeper, moved};
 use flash_model::Flash;
@@ -74,7 +75,7 @@ impl State {
         let Some(place) = self.check_rename(alloc, flash, root, old, new)? else {
             return Ok(());
         };
-        self.check_change()?;
+        check_change(&self.history, &self.storage)?;
         let root = self.write_moved(alloc, flash, root, old, new, place)?;
         self.history.push(root);
         Ok(())

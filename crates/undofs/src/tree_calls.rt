@@ -2,7 +2,6 @@
 //! call answered that the power is off; its own refusals; read-only mode; the greatest serial; and
 //! then it works.
 ghost use Rattle.std.specs.Prelude.{◌≡◌, ℕ, true, false, None, Some, List, Ok, Err, IfOk, IfErr, OnOk, IsErrOf};
-ghost use Rattle.std.specs.FinSet as set;
 ghost use Rattle.fs_types.specs.History.{present_root};
 ghost use Rattle.fs_types.specs.Names.{is_path};
 ghost use Rattle.fs_types.specs.Machine.{refusal};
@@ -10,25 +9,25 @@ ghost use Rattle.fs_types.specs.declared.calls.Call.{Call};
 ghost use Rattle.fs_types.specs.declared.calls.Reply.{Reply};
 ghost use Rattle.fs_types.specs.declared.faults.Fault.TheVariants.{Damaged};
 ghost use Rattle.node_format.specs.Items.{Item};
-ghost use Rattle.node_format.specs.declared.places.Place.TheVariants.{Dir};
 ghost use Rattle.node_store.specs.Faults.{IsReadFault};
 ghost use Rattle.node_store.specs.NodePages.{node_of};
-ghost use Rattle.block_trees.specs.Reached.{IsHeld};
 ghost use Rattle.block_trees.specs.Trees.{entries_of, names_of};
 ghost use Rattle.directory.specs.declared.lookups.Found.TheVariants.{Missing};
 ghost use Rattle.directory.specs.Lookups.{look_up, is_path_fault, IsLookupFault};
-ghost use Rattle.directory.specs.Making.{IsMade, IsMakeFault};
-ghost use Rattle.undofs.specs.Mounted.{IsMounted, IsCalled, StateStep, KeepsPages};
+ghost use Rattle.undofs.specs.Mounted.{IsMounted, StateStep, KeepsPages};
+ghost use Rattle.undofs.specs.Opening.{IsAnswered};
 ghost use Rattle.undofs.specs.Seen.{seen_on, machine_on};
 ghost use Rattle.undofs.specs.Steps.{replied, empty, is_cut_answer, Refuses, CallStep};
-ghost use Rattle.undofs.specs.Worked.{IsWorked, IsLooked, WorkCause};
+ghost use Rattle.undofs.specs.Worked.{IsLooked, WorkCause};
 
+use crate::changes::change;
 use crate::state::State;
-use directory::{Found, lookup, make_directory, names};
+use directory::{Found, lookup, names};
 use flash_model::Flash;
 use fs_types::{Fault, Name, Path, Sequence, View};
 use node_store::Store;
 use std::alloc::Global;
+use tree_edits::Edit;
 
 impl State {
     /// The names in a directory of the tree that a view shows.
@@ -94,14 +93,12 @@ impl State {
         path: &Path,
     ) -> Result<(), Fault>
         requires { IsMounted (F.device flash.old) self.old }
-        ensures { IsCalled (Unit {0}) (F.device flash.old) self.old (Call.Mkdir path.now) empty result (F.device flash.new) self.new }
+        ensures { IsAnswered (F.device flash.old) self.old (Call.Mkdir path.now) (replied empty result) (F.device flash.new) self.new (is_cut_answer result) }
     {
         let root = self.history.root();
         self.check_missing(flash, root, path)?;
-        self.check_change()?;
-        let root = self.write_directory(alloc, flash, root, path)?;
-        self.history.push(root);
-        Ok(())
+        let edit = Edit::MakeDirectory { path };
+        change(alloc, flash, &mut self.history, &mut self.storage, edit)
     }
 
     /// Refuses the root, a path where something stands, and a new name in a full directory.
@@ -165,25 +162,5 @@ impl State {
     {
         let mut store = Store::new(flash, &mut self.storage);
         names(alloc, &mut store, block)
-    }
-
-    /// Writes an empty directory at a path, and answers the block of the new root.
-    fn write_directory<F: Flash>(
-        &mut self,
-        alloc: Global,
-        flash: &mut F,
-        root: u32,
-        path: &Path,
-    ) -> Result<u32, Fault>
-        requires mounted { IsMounted (F.device flash.old) self.old }
-        requires held { IsHeld (node_of (F.device flash.old)) (set.contains self.old.storage.ring.used) (Dir root) }
-        requires missing { look_up (node_of (F.device flash.old)) root path.now ≡ Ok (Missing false) }
-        ensures worked { IsWorked (F.device flash.old) self.old (F.device flash.new) self.new }
-        ensures made { IfOk result (λ to. IsMade (node_of (F.device flash.old)) (node_of (F.device flash.new)) (set.contains self.old.storage.ring.used) (set.contains self.new.storage.ring.used) root to path.now) }
-        ensures why { IfErr result (λ fault. WorkCause (seen_on (F.device flash.old) self.old) fault (seen_on (F.device flash.new) self.new)) }
-        ensures faults { IfErr result IsMakeFault }
-    {
-        let mut store = Store::new(flash, &mut self.storage);
-        make_directory(alloc, &mut store, root, path)
     }
 }

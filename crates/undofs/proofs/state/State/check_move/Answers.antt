@@ -5,7 +5,7 @@ use Rattle.fs_types.specs.Names.{is_path}
 use Rattle.fs_types.specs.Machine.{present_tree}
 use Rattle.node_store.specs.NodePages.{node_of}
 use Rattle.undofs.specs.Seen.{seen_on, machine_on}
-use Rattle.undofs.proofs.Changes.{path_within}
+use Rattle.undofs.proofs.ChangeSteps.{path_within}
 use Rattle.undofs.proofs.MovedEntries.{of_fault, MoveRefused, move_below, move_target, move_then, is_deep, is_shallow, deeper_before, shallow_before, busy_before, deep_refuses, busy_refuses, moves_by, move_editable, room_is, read_later}
 use Rattle.undofs.proofs.Standing.{looked_worked, worked_mounted, worked_later}
 use Rattle.undofs.proofs.state.State.check_move.Goals as goal

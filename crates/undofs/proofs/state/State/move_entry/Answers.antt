@@ -7,7 +7,7 @@ use Rattle.node_store.specs.NodePages.{node_of}
 use Rattle.undofs.specs.Seen.{room_of, machine_on}
 use Rattle.undofs.specs.Renames.{IsToMove}
 use Rattle.undofs.specs.Steps.{empty, last_serial}
-use Rattle.undofs.proofs.Changes.{change_refuses, writing_refuses, later_stands, changed_mounted}
+use Rattle.undofs.proofs.ChangeSteps.{change_refuses, writing_refuses, later_stands, changed_mounted}
 use Rattle.undofs.proofs.RenameSteps.{same_step, rename_makes, rename_more, rename_apart, rename_root, rename_step}
 use Rattle.undofs.proofs.Refusals.{at_fault, refused_step}
 use Rattle.undofs.proofs.Standing.{looked_worked, worked_on, worked_mounted, worked_pages}

@@ -11,7 +11,7 @@ use Rattle.block_trees.specs.Bodies.{Blocks}
 use Rattle.directory.specs.Lookups.{look_up}
 use Rattle.undofs.specs.Seen.{machine_on}
 use Rattle.undofs.specs.Steps.{last_serial}
-use Rattle.undofs.proofs.Changes.{later_stands}
+use Rattle.undofs.proofs.ChangeSteps.{later_stands}
 use Rattle.undofs.proofs.OpenCalls.{changes_is, found_below, at_answer, refused_answer, change_answer, writing_answer, opened_answer, made_answer}
 use Rattle.undofs.proofs.Standing.{looked_worked, worked_on, worked_mounted}
 use Rattle.undofs.proofs.state.State.open_file.Goals as goal

@@ -6,7 +6,7 @@ use Rattle.node_store.specs.NodePages.{node_of}
 use Rattle.directory.specs.declared.lookups.Found.TheVariants as found
 use Rattle.undofs.specs.Seen.{machine_on}
 use Rattle.undofs.specs.Steps.{empty, last_serial}
-use Rattle.undofs.proofs.Changes.{change_refuses, writing_refuses, later_stands, refused_called}
+use Rattle.undofs.proofs.ChangeSteps.{change_refuses, writing_refuses, later_stands, refused_called}
 use Rattle.undofs.proofs.TakenOut.{found_editable, file_below, unlink_makes, unlink_root, unlink_called}
 use Rattle.undofs.proofs.Standing.{looked_worked, worked_on, worked_mounted}
 use Rattle.undofs.proofs.state.State.remove_file.Goals as goal

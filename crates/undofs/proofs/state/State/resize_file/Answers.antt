@@ -7,7 +7,7 @@ use Rattle.fs_types.specs.declared.calls.Call.{Call}
 use Rattle.fs_types.specs.declared.calls.Reply.{Reply}
 use Rattle.undofs.specs.Seen.{machine_on}
 use Rattle.undofs.specs.Steps.{last_serial, empty}
-use Rattle.undofs.proofs.Changes.{change_refuses}
+use Rattle.undofs.proofs.ChangeSteps.{change_refuses}
 use Rattle.undofs.proofs.FileChanges as changes
 use Rattle.undofs.proofs.OpenCalls.{at_answer, refused_answer}
 use Rattle.undofs.proofs.Standing.{looked_worked, worked_on, worked_mounted, worked_machine}

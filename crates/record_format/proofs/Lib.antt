@@ -1,0 +1,7 @@
+pub mod LawfulRecords
+pub mod Many
+pub mod Ascending
+pub mod Appends
+pub mod Pushed
+pub mod Again
+pub mod PayloadLaws

@@ -1,0 +1,4 @@
+pub mod Pages
+pub mod Fields
+pub mod Payloads
+pub mod Laws

@@ -1,0 +1,17 @@
+//! The laws of the definitions, as contracts of functions that do nothing.
+ghost use Rattle.record_format.specs.Laws.{MeaningSays, SaysMeaning, OneMeaning, WrittenIsRead, IsShort, PageIsRead};
+
+/// The laws of payloads: meaning and spelling belong together, a payload has at most one meaning,
+/// and what is written is read.
+pub fn payload_laws()
+    ensures says { MeaningSays }
+    ensures means { SaysMeaning }
+    ensures one { OneMeaning }
+    ensures written { WrittenIsRead }
+    ensures short { IsShort }
+{}
+
+/// The law of pages: what is written is read.
+pub fn page_laws()
+    ensures { PageIsRead }
+{}

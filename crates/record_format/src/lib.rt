@@ -1,0 +1,19 @@
+//! The bytes of a commit record: the header of its pages, and its payload.
+#![tactic(auto)]
+
+mod fields;
+mod fronts;
+mod lawful;
+mod laws;
+mod pages;
+mod reading;
+mod records;
+mod writing;
+
+pub use laws::{page_laws, payload_laws};
+pub use pages::{HEAD_SIZE, PageHead, write_page};
+pub use reading::read_payload;
+pub use records::{
+    Checkpoint, LONGEST_PAYLOAD, MOST_BAD, MOST_CHECKPOINTS, MOST_VERSIONS, Payload, Record,
+};
+pub use writing::write_payload;

@@ -1,0 +1,170 @@
+//! The spelling of a payload.
+ghost use Rattle.std.specs.Prelude.{◌≡◌, ◌≤◌, ◌+◌, ◌*◌, ◌^◌, ◌<◌, ◌++◌, ◌∷◌, [], ◌&&◌, true, nat_lt, length};
+ghost use Rattle.std.specs.List.{flat_map, list_all};
+ghost use Rattle.arrayvec.specs.ArrayVec.{array_vec_len};
+ghost use Rattle.byteorder.specs.Endian.{little_bytes};
+ghost use Rattle.fs_types.specs.Names.{is_checkpoint_name};
+ghost use Rattle.record_format.specs.Payloads as payload;
+
+use crate::reading::FORMAT;
+use crate::records::{Checkpoint, Payload, Record};
+use arrayvec::ArrayVec;
+use flash_model::Geometry;
+use fs_types::Version;
+
+fn push_bytes(out: &mut Payload, bytes: &[u8])
+    requires { array_vec_len out.old + length bytes.now ≤ 2408 }
+    ensures items { out.new.items ≡ out.old.items ++ bytes.now }
+    ensures len { array_vec_len out.new ≡ array_vec_len out.old + length bytes.now }
+{
+    out.try_extend_from_slice(bytes).unwrap();
+}
+
+fn push_byte(out: &mut Payload, byte: u8)
+    requires { array_vec_len out.old + 1 ≤ 2408 }
+    ensures items { out.new.items ≡ out.old.items ++ byte ∷ [] }
+    ensures len { array_vec_len out.new ≡ array_vec_len out.old + 1 }
+{
+    out.push(byte);
+}
+
+fn push_short(out: &mut Payload, number: u16)
+    requires { array_vec_len out.old + 2 ≤ 2408 }
+    ensures items { out.new.items ≡ out.old.items ++ little_bytes 2 number }
+    ensures len { array_vec_len out.new ≡ array_vec_len out.old + 2 }
+{
+    push_bytes(out, &number.to_le_bytes());
+}
+
+fn push_number(out: &mut Payload, number: u32)
+    requires { array_vec_len out.old + 4 ≤ 2408 }
+    ensures items { out.new.items ≡ out.old.items ++ little_bytes 4 number }
+    ensures len { array_vec_len out.new ≡ array_vec_len out.old + 4 }
+    ensures fits { number < 2 ^ 32 }
+{
+    push_bytes(out, &number.to_le_bytes());
+}
+
+fn push_long(out: &mut Payload, number: u64)
+    requires { array_vec_len out.old + 8 ≤ 2408 }
+    ensures items { out.new.items ≡ out.old.items ++ little_bytes 8 number }
+    ensures len { array_vec_len out.new ≡ array_vec_len out.old + 8 }
+    ensures fits { number < 2 ^ 64 }
+{
+    push_bytes(out, &number.to_le_bytes());
+}
+
+fn push_sizes(out: &mut Payload, geometry: Geometry)
+    requires { array_vec_len out.old + 16 ≤ 2408 }
+    ensures items { out.new.items ≡ out.old.items ++ payload.sizes_bytes geometry }
+    ensures len { array_vec_len out.new ≡ array_vec_len out.old + 16 }
+    ensures fits { payload.SizesFit geometry }
+{
+    push_number(out, FORMAT);
+    push_number(out, geometry.page);
+    push_number(out, geometry.pages);
+    push_number(out, geometry.blocks);
+}
+
+/// 1 for true.
+fn flag_of(b: bool) -> u8
+    ensures { result ≡ payload.flag b }
+{
+    if b { 1 } else { 0 }
+}
+
+fn push_places(out: &mut Payload, limit: u16, cursor: u16)
+    requires { array_vec_len out.old + 4 ≤ 2408 }
+    ensures items { out.new.items ≡ out.old.items ++ (little_bytes 2 limit ++ little_bytes 2 cursor) }
+    ensures len { array_vec_len out.new ≡ array_vec_len out.old + 4 }
+{
+    push_short(out, limit);
+    push_short(out, cursor);
+}
+
+fn push_ends(out: &mut Payload, bad: u16, two: u16, next: u64, last: u32)
+    requires { array_vec_len out.old + 16 ≤ 2408 }
+    ensures items { out.new.items ≡ out.old.items ++ (little_bytes 2 bad ++ (little_bytes 2 two ++ (little_bytes 8 next ++ little_bytes 4 last))) }
+    ensures len { array_vec_len out.new ≡ array_vec_len out.old + 16 }
+    ensures fits { next < 2 ^ 64 }
+{
+    push_short(out, bad);
+    push_short(out, two);
+    push_long(out, next);
+    push_number(out, last);
+}
+
+fn push_versions(out: &mut Payload, versions: &[Version<u32>])
+    requires { array_vec_len out.old + 12 * length versions.now ≤ 2408 }
+    ensures items { out.new.items ≡ out.old.items ++ flat_map payload.version_bytes versions.now }
+    ensures len { array_vec_len out.new ≤ array_vec_len out.old + 12 * length versions.now }
+    ensures fits { list_all (λ version. nat_lt version.root (2 ^ 32)) versions.now ≡ true }
+{
+    for version in versions {
+        push_long(out, version.serial);
+        push_number(out, version.root);
+    }
+}
+
+fn push_checkpoints(out: &mut Payload, checkpoints: &[Checkpoint])
+    requires { array_vec_len out.old + 36 * length checkpoints.now ≤ 2408 }
+    ensures items { out.new.items ≡ out.old.items ++ flat_map payload.checkpoint_bytes checkpoints.now }
+    ensures len { array_vec_len out.new ≤ array_vec_len out.old + 36 * length checkpoints.now }
+    ensures fits { list_all (λ checkpoint. is_checkpoint_name checkpoint.name && nat_lt checkpoint.root (2 ^ 32)) checkpoints.now ≡ true }
+{
+    for checkpoint in checkpoints {
+        let name = checkpoint.name.as_bytes();
+        push_byte(out, name.len() as u8);
+        push_bytes(out, name);
+        push_number(out, checkpoint.root);
+    }
+}
+
+fn push_blocks(out: &mut Payload, blocks: &[u32])
+    requires { array_vec_len out.old + 4 * length blocks.now ≤ 2408 }
+    ensures items { out.new.items ≡ out.old.items ++ flat_map payload.block_bytes blocks.now }
+    ensures len { array_vec_len out.new ≤ array_vec_len out.old + 4 * length blocks.now }
+{
+    for block in blocks {
+        push_number(out, *block);
+    }
+}
+
+fn push_counts(out: &mut Payload, saved: &Record, bad: &[u32], one: u8, two: u16)
+    requires room { array_vec_len out.old + 24 ≤ 2408 }
+    requires lawful { payload.is_record (record saved.now { bad = bad.now }) ≡ true }
+    ensures items { out.new.items ≡ out.old.items ++ payload.counts_bytes one two (record saved.now { bad = bad.now }) }
+    ensures len { array_vec_len out.new ≡ array_vec_len out.old + 24 }
+    ensures fits { saved.now.next < 2 ^ 64 }
+{
+    let versions = saved.versions.as_slice().len() as u8;
+    let checkpoints = saved.checkpoints.as_slice().len() as u8;
+    push_places(out, saved.limit, saved.cursor);
+    push_bytes(out, &[flag_of(saved.dropped), versions, checkpoints, one]);
+    push_ends(out, bad.len() as u16, two, saved.next, saved.last);
+}
+
+/// The payload that says a record, with another list of bad blocks and the numbers that are not
+/// looked at.
+pub(crate) fn spell(saved: &Record, bad: &[u32], one: u8, two: u16) -> Payload
+    requires { payload.is_record (record saved.now { bad = bad.now }) ≡ true }
+    ensures spelled { result.items ≡ payload.spelling one two (record saved.now { bad = bad.now }) }
+    ensures fits { payload.Fits (record saved.now { bad = bad.now }) }
+{
+    let mut out = ArrayVec::new();
+    push_sizes(&mut out, saved.geometry);
+    push_counts(&mut out, saved, bad, one, two);
+    push_versions(&mut out, saved.versions.as_slice());
+    push_checkpoints(&mut out, saved.checkpoints.as_slice());
+    push_blocks(&mut out, bad);
+    out
+}
+
+/// The payload of a record with another list of bad blocks, which ascends. It takes no memory.
+pub fn write_payload(saved: &Record, bad: &[u32]) -> Payload
+    requires { payload.is_record (record saved.now { bad = bad.now }) ≡ true }
+    ensures spelled { result.items ≡ payload.payload_bytes (record saved.now { bad = bad.now }) }
+    ensures fits { payload.Fits (record saved.now { bad = bad.now }) }
+{
+    spell(saved, bad, 0, 0)
+}

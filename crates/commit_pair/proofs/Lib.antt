@@ -1,0 +1,4 @@
+pub mod Committed
+pub mod NewestLaws
+pub mod Places
+pub mod ReadParts

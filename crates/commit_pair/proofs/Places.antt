@@ -1,0 +1,32 @@
+-- Pages of the anchors.
+use Rattle.std.specs.Prelude.{◌≡◌, ℕ, ◌+◌, ◌*◌, ◌/◌, ◌%◌, ◌<◌, ◌≤◌}
+use Rattle.std.proofs.Common.{arith}
+use Rattle.std.proofs.lemmas.Nat.{div_below, div-add-mod', mul-le}
+use Rattle.flash_model.specs.declared.sizes.Geometry.{Geometry}
+use Rattle.flash_model.specs.Geometry.{IsGeometry, page_count}
+use Rattle.flash_model.specs.Geometry.{is_page_size}
+use Rattle.std.proofs.lemmas.Bool.Decides.{nat_tests}
+use Rattle.std.specs.Prelude.{IsTrue}
+use Rattle.commit_pair.specs.Parts.{first_data}
+
+page_size-least : (n : ℕ) → IsTrue (is_page_size n) → 256 ≤ n
+page_size-least n h = grind (arith, nat_tests)
+
+pub page_least : (g : Geometry) → IsGeometry g → 256 ≤ g.page
+page_least g lawful = page_size-least g.page lawful.page_size
+
+pub anchor_below : (g : Geometry) (p : ℕ) → IsGeometry g → p < first_data * g.pages → p / g.pages < first_data
+anchor_below g p lawful lt = div_below p g.pages first_data (let h : 1 ≤ g.pages = lawful.some_pages in omega arith) lt
+
+pub page_below : (g : Geometry) (p : ℕ) → IsGeometry g → p < first_data * g.pages → p < page_count g
+page_below g p lawful lt =
+    let more : first_data * g.pages ≤ g.blocks * g.pages = mul-le first_data g.pages g.blocks g.pages (let h : 16 ≤ g.blocks = lawful.blocks_least in omega arith) (omega arith) in
+    omega arith
+
+-- pages that follow in the block of an anchor are pages of anchors
+pub record_ends : (g : Geometry) (p count : ℕ) → IsGeometry g → p < first_data * g.pages → p % g.pages + count ≤ g.pages → p + count ≤ first_data * g.pages
+record_ends g p count lawful lt le =
+    let block : p / g.pages < first_data = anchor_below g p lawful lt in
+    let is : p / g.pages * g.pages + p % g.pages ≡ p = div-add-mod' p g.pages in
+    let most : (p / g.pages + 1) * g.pages ≤ first_data * g.pages = mul-le (p / g.pages + 1) g.pages first_data g.pages (omega arith) (omega arith) in
+    omega arith

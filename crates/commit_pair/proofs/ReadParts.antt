@@ -1,0 +1,102 @@
+-- What was read, one page after the other.
+use Rattle.std.proofs.Common.{◌≡◌, ℕ, suc, ◌+◌, ◌-◌, ◌/◌, ◌<◌, ◌≤◌, Bool, true, false, List, ◌++◌, length, Option, Some, None, refl, sym, ap, ◌∙◌, append_assoc, arith}
+use Rattle.std.proofs.lemmas.Bool.{lt-ltb}
+use Rattle.std.proofs.lemmas.List.{append-nil, length-append}
+use Rattle.std.specs.Prelude.{◌&&◌}
+use Rattle.std.specs.Option.{option_map}
+use Rattle.fs_types.specs.declared.faults.Fault.{Fault}
+use Rattle.fs_types.specs.declared.faults.Fault.TheVariants.{ReadFailed, PowerCut}
+use Rattle.flash_model.specs.declared.sizes.Geometry.{Geometry}
+use Rattle.flash_model.specs.Device.{Device, Page, bytes_of}
+use Rattle.record_format.specs.Pages.{head_of, used_bytes}
+use Rattle.record_format.specs.declared.pages.PageHead.{PageHead}
+use Rattle.commit_pair.specs.Parts.{first_data, Part, parts_on, part_bytes, head_at, is_part, are_parts, record_head, considered, best_below, bytes_from, held_bytes}
+use Rattle.commit_pair.specs.declared.best.Best.{Best}
+use Rattle.commit_pair.specs.Reading.{OnlyReads, ReadCause}
+
+-- the part in a page of an anchor whose bytes are read
+pub data_part : (g : Geometry) (pages : ℕ → Page) (p : ℕ) (shown : List ℕ) (found : Option PageHead) → p / g.pages < first_data → pages p ≡ bytes_of shown → found ≡ head_of shown
+    → option_map (λ head. record { head = head; bytes = used_bytes head shown }) found ≡ parts_on g pages p
+data_part g pages p shown found lt held tells = rw (lt-ltb _ _ lt, held, tells) refl
+
+-- the header of a part that was read, and its bytes
+pub part_head : (parts : ℕ → Option Part) (p : ℕ) (shown : List ℕ) (found : Option PageHead) → option_map (λ head. record { head = head; bytes = used_bytes head shown }) found ≡ parts p → found ≡ head_at parts p
+part_head parts p shown None e = ap (option_map (λ part. part.head)) e
+part_head parts p shown (Some head) e = ap (option_map (λ part. part.head)) e
+
+pub part_held : (parts : ℕ → Option Part) (p : ℕ) (shown : List ℕ) (found : Option PageHead) → option_map (λ head. record { head = head; bytes = used_bytes head shown }) found ≡ parts p → held_bytes found shown ≡ part_bytes (parts p)
+part_held parts p shown None e = ap part_bytes e
+part_held parts p shown (Some head) e = ap part_bytes e
+
+-- a refusal after reads
+pub ReadCause_on : (old mid new : Device) (fault : Fault) → OnlyReads old mid → ReadCause mid new fault → ReadCause old new fault
+ReadCause_on old mid new ReadFailed reads cause = let h = reads.failed_reads in omega arith
+ReadCause_on old mid new PowerCut reads cause = cause
+ReadCause_on old mid new _ reads cause = cause
+
+-- one page of a record after the other
+are_parts_first : (g : Geometry) (parts : ℕ → Option Part) (p : ℕ) (first : PageHead) (n others : ℕ) → are_parts g parts p first n (suc others) ≡ (is_part g first n (head_at parts (p + n)) && are_parts g parts p first (n + 1) others)
+unfolding are_parts
+are_parts_first g parts p first n others = refl
+
+pub parts_go_on : (g : Geometry) (parts : ℕ → Option Part) (p : ℕ) (first : PageHead) (n : ℕ) (found : Option PageHead) (total : Bool) → n < first.count → found ≡ head_at parts (p + n) → is_part g first n found ≡ true
+    → are_parts g parts p first n (first.count - n) ≡ total → are_parts g parts p first (n + 1) (first.count - (n + 1)) ≡ total
+parts_go_on g parts p first n found total lt read is so_far =
+    let k : suc (first.count - (n + 1)) ≡ first.count - n = omega arith in
+    let one : is_part g first n (head_at parts (p + n)) ≡ true = ap (is_part g first n) (sym read) ∙ is in
+    sym (ap (λ b. b && are_parts g parts p first (n + 1) (first.count - (n + 1))) one) ∙ sym (are_parts_first g parts p first n (first.count - (n + 1))) ∙ ap (are_parts g parts p first n) k ∙ so_far
+
+pub parts_stop : (g : Geometry) (parts : ℕ → Option Part) (p : ℕ) (first : PageHead) (n : ℕ) (found : Option PageHead) (total : Bool) → n < first.count → found ≡ head_at parts (p + n) → is_part g first n found ≡ false
+    → are_parts g parts p first n (first.count - n) ≡ total → false ≡ total
+parts_stop g parts p first n found total lt read is so_far =
+    let k : suc (first.count - (n + 1)) ≡ first.count - n = omega arith in
+    let one : is_part g first n (head_at parts (p + n)) ≡ false = ap (is_part g first n) (sym read) ∙ is in
+    sym (ap (λ b. b && are_parts g parts p first (n + 1) (first.count - (n + 1))) one) ∙ sym (are_parts_first g parts p first n (first.count - (n + 1))) ∙ ap (are_parts g parts p first n) k ∙ so_far
+
+pub parts_end : (g : Geometry) (parts : ℕ → Option Part) (p : ℕ) (first : PageHead) (n : ℕ) (total : Bool) → first.count ≤ n → are_parts g parts p first n (first.count - n) ≡ total → true ≡ total
+unfolding are_parts
+parts_end g parts p first n total le so_far =
+    let k : first.count - n ≡ 0 = omega arith in
+    sym (ap (are_parts g parts p first n) k) ∙ so_far
+
+-- the bytes of one page after the other
+bytes_first : (g : Geometry) (parts : ℕ → Option Part) (p n others : ℕ) → bytes_from g parts p n (suc others) ≡ part_bytes (parts (p + n)) ++ bytes_from g parts p (n + 1) others
+unfolding bytes_from
+bytes_first g parts p n others = refl
+
+pub bytes_go_on : (g : Geometry) (parts : ℕ → Option Part) (p n count : ℕ) (bytes more total : List ℕ) → n < count → more ≡ part_bytes (parts (p + n))
+    → bytes ++ bytes_from g parts p n (count - n) ≡ total → (bytes ++ more) ++ bytes_from g parts p (n + 1) (count - (n + 1)) ≡ total
+bytes_go_on g parts p n count bytes more total lt is so_far =
+    let k : suc (count - (n + 1)) ≡ count - n = omega arith in
+    let rest = bytes_from g parts p (n + 1) (count - (n + 1)) in
+    append_assoc bytes more rest
+    ∙ ap (λ x. bytes ++ x) (ap (λ x. x ++ rest) is ∙ sym (bytes_first g parts p n (count - (n + 1))) ∙ ap (bytes_from g parts p n) k)
+    ∙ so_far
+
+pub bytes_end : (g : Geometry) (parts : ℕ → Option Part) (p n count : ℕ) (bytes total : List ℕ) → count ≤ n → bytes ++ bytes_from g parts p n (count - n) ≡ total → bytes ≡ total
+unfolding bytes_from
+bytes_end g parts p n count bytes total le so_far =
+    let k : count - n ≡ 0 = omega arith in
+    sym (ap (λ m. bytes ++ bytes_from g parts p n m) k ∙ append-nil bytes) ∙ so_far
+
+pub bytes_long : (g : Geometry) (parts : ℕ → Option Part) (p n count most : ℕ) (bytes more total : List ℕ) → n < count → more ≡ part_bytes (parts (p + n)) → most < length bytes + length more
+    → bytes ++ bytes_from g parts p n (count - n) ≡ total → most < length total
+bytes_long g parts p n count most bytes more total lt is long so_far =
+    let all = ap length (bytes_go_on g parts p n count bytes more total lt is so_far) in
+    omega (arith, length-append bytes more, length-append (bytes ++ more) (bytes_from g parts p (n + 1) (count - (n + 1))))
+
+-- a part that is read later is the part that was there
+pub read_on : (g : Geometry) (old mid : ℕ → Page) (p : ℕ) (shown : List ℕ) (found : Option PageHead) → mid ≡ old
+    → option_map (λ head. record { head = head; bytes = used_bytes head shown }) found ≡ parts_on g mid p → option_map (λ head. record { head = head; bytes = used_bytes head shown }) found ≡ parts_on g old p
+read_on g old mid p shown found same e = e ∙ ap (λ (pages : ℕ → Page). parts_on g pages p) same
+
+-- one page more
+pub best_more : (g : Geometry) (parts : ℕ → Option Part) (n : ℕ) (best after : Best) (head : Option PageHead) → best ≡ best_below g parts n → head ≡ record_head g parts n → after ≡ considered best n head → after ≡ best_below g parts (n + 1)
+unfolding best_below
+best_more g parts n best after head so_far is made =
+    let k : suc n ≡ n + 1 = omega arith in
+    made ∙ (λ i. considered (so_far i) n (is i)) ∙ ap (best_below g parts) k
+
+pub best_none : (g : Geometry) (parts : ℕ → Option Part) → record { found = None; twice = false } ≡ best_below g parts 0
+unfolding best_below
+best_none g parts = refl

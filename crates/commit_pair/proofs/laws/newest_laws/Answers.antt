@@ -1,0 +1,11 @@
+use Rattle.commit_pair.proofs.NewestLaws.{found_is_newest, newest_is_found, only_anchors_matter}
+use Rattle.commit_pair.proofs.laws.newest_laws.Goals as goal
+
+pub returns-clause-newest : goal.returns-clause-newest
+returns-clause-newest c = found_is_newest
+
+pub returns-clause-found : goal.returns-clause-found
+returns-clause-found c = newest_is_found
+
+pub returns-clause-anchors : goal.returns-clause-anchors
+returns-clause-anchors c = only_anchors_matter

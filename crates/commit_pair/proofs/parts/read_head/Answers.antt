@@ -1,0 +1,28 @@
+use Rattle.std.proofs.Common.{◌<◌, sym, ap, subst, ◌∙◌}
+use Rattle.flash_model.specs.declared.sizes.Geometry.{Geometry}
+use Rattle.flash_model.specs.Geometry.{page_count}
+use Rattle.commit_pair.specs.Reading.{OnlyReads_from}
+use Rattle.commit_pair.proofs.Places.{anchor_below, page_below}
+use Rattle.commit_pair.proofs.ReadParts.{data_part}
+use Rattle.commit_pair.proofs.parts.read_head.Goals as goal
+
+pub read-requires-clause-in_range : goal.read-requires-clause-in_range
+read-requires-clause-in_range g c =
+    subst (λ (h : Geometry). c.args.page < page_count h) (sym c.requires.same) (page_below c.args.geometry c.args.page c.requires.lawful c.requires.in_range)
+
+pub read-requires-clause-whole : goal.read-requires-clause-whole
+read-requires-clause-whole g c = c.requires.whole ∙ ap (λ (h : Geometry). h.page) (sym c.requires.same)
+
+pub returns-in-Ok-Data-clause-part : goal.returns-in-Ok-Data-clause-part
+returns-in-Ok-Data-clause-part g c =
+    data_part c.args.geometry (g.F.Flash.device c.args.flash.now).pages c.args.page c.read.new.buffer c.of.result
+    (anchor_below c.args.geometry c.args.page c.requires.lawful c.requires.in_range) (rw c.in-Ok-Data.field-0-is at c.in-Ok-Data.ensures.shows) c.of.ensures
+
+pub returns-in-Ok-Data-clause-only_reads : goal.returns-in-Ok-Data-clause-only_reads
+returns-in-Ok-Data-clause-only_reads g c = OnlyReads_from _ _ _ _ _ _ c.in-Ok-Data.ensures
+
+pub returns-in-Err-Failed-clause-only_reads : goal.returns-in-Err-Failed-clause-only_reads
+returns-in-Err-Failed-clause-only_reads g c = OnlyReads_from _ _ _ _ _ _ c.in-Err-Failed.ensures
+
+pub returns-in-Err-PowerCut-clause-only_reads : goal.returns-in-Err-PowerCut-clause-only_reads
+returns-in-Err-PowerCut-clause-only_reads g c = OnlyReads_from _ _ _ _ _ _ c.in-Err-PowerCut.ensures

@@ -1,0 +1,34 @@
+-- The newest record of a flash, and why it may not be told.
+use Rattle.std.specs.Prelude.{◌≡◌, ◌⊎◌, ◌<◌, false, Option, Some, None, Result, Ok, Err}
+use Rattle.std.specs.Option.{option_map}
+use Rattle.fs_types.specs.declared.faults.Fault.{Fault}
+use Rattle.fs_types.specs.declared.faults.Fault.TheVariants.{ReadFailed, PowerCut, NoMemory, Damaged, BadGeometry}
+use Rattle.flash_model.specs.Device.{Device}
+use Rattle.record_format.specs.declared.records.Record.{Record}
+use Rattle.record_format.specs.Payloads.{payload_at}
+use Rattle.commit_pair.specs.declared.best.Found.{Found}
+use Rattle.commit_pair.specs.declared.anchors.Anchors.{Anchors}
+use Rattle.commit_pair.specs.Parts.{parts_on, newest_on}
+use Rattle.commit_pair.specs.Laws.{HasNone, HasTie}
+
+-- the place that is remembered
+abbrev pub remembered : Anchors → Option Found
+remembered anchors = anchors.newest
+
+-- what the payload of the newest record means, where there is a newest record
+abbrev pub committed_on : Device → Option (Result Record Fault)
+committed_on d = option_map (λ entry. payload_at d.geometry entry.sequence entry.payload) (newest_on d.geometry d.pages)
+
+-- the newest record, or none where no record is valid
+abbrev pub IsNewestRecord : Device → Option Record → Type 0
+IsNewestRecord d None = HasNone d.geometry (parts_on d.geometry d.pages)
+IsNewestRecord d (Some newest) = committed_on d ≡ Some (Ok newest)
+
+-- two records share the greatest sequence, or the payload of the newest means none
+abbrev pub NewestCause : Device → Device → Fault → Type 0
+NewestCause old new Damaged = HasTie old.geometry (parts_on old.geometry old.pages) ⊎ (committed_on old ≡ Some (Err Damaged))
+NewestCause old new BadGeometry = committed_on old ≡ Some (Err BadGeometry)
+NewestCause old new ReadFailed = old.failed_reads < new.failed_reads
+NewestCause old new PowerCut = new.powered ≡ false
+NewestCause old new NoMemory = Unit {0}
+NewestCause old new _ = ⊥

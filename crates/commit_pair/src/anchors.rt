@@ -1,0 +1,85 @@
+//! The newest record on the anchors.
+ghost use Rattle.std.specs.Prelude.{◌≡◌, ◌*◌, ◌<◌, ◌≤◌, length, None, IfOk, OnOk, OnErr, IfErr};
+ghost use Rattle.flash_model.specs.Geometry.{IsGeometry};
+ghost use Rattle.commit_pair.specs.Parts as spec;
+ghost use Rattle.commit_pair.specs.Reading.{OnlyReads};
+ghost use Rattle.commit_pair.specs.Newest.{remembered, IsNewestRecord, NewestCause};
+
+use crate::best::{Best, Found};
+use crate::scan::{find_best, find_payload};
+use flash_model::{Flash, Geometry};
+use fs_types::Fault;
+use record_format::{Record, read_payload};
+use std::alloc::Global;
+
+/// The place of the newest record on the first eight blocks of a flash, where it is known.
+#[derive(Debug, Drop)]
+pub struct Anchors {
+    newest: Option<Found>,
+}
+
+impl Anchors {
+    /// No place is known.
+    pub fn new() -> Anchors
+        ensures { remembered result ≡ None }
+    {
+        Anchors { newest: None }
+    }
+
+    /// Reads all pages of the eight anchors, and answers the newest record, or None where no record
+    /// is valid. Its place is remembered; after a refusal none is.
+    ///
+    /// `Damaged` where two valid records have the greatest sequence; `Damaged` or `BadGeometry`
+    /// where the payload of the newest is no record of a flash of these sizes; `ReadFailed` and
+    /// `PowerCut` by the device; `NoMemory` where memory could not be had. Nothing is written.
+    pub fn newest<F: Flash>(
+        &mut self,
+        alloc: Global,
+        flash: &mut F,
+    ) -> Result<Option<Record>, Fault>
+        requires { IsGeometry (F.device flash.old).geometry }
+        ensures newest { IfOk result (IsNewestRecord (F.device flash.old)) }
+        ensures remembers { OnOk result (remembered self.new ≡ spec.newest_at (F.device flash.old).geometry (spec.parts_on (F.device flash.old).geometry (F.device flash.old).pages)) }
+        ensures forgets { OnErr result (remembered self.new ≡ None) }
+        ensures only_reads { OnlyReads (F.device flash.old) (F.device flash.new) }
+        ensures why { IfErr result (NewestCause (F.device flash.old) (F.device flash.new)) }
+    {
+        self.newest = None;
+        let geometry = flash.geometry();
+        let mut page = vec![in alloc; 0u8; geometry.page as usize]?;
+        let best = find_best(flash, geometry, &mut page)?;
+        let newest = read_best(alloc, flash, geometry, best, &mut page)?;
+        self.newest = best.found;
+        Ok(newest)
+    }
+}
+
+/// The record of greatest sequence, where no other has that sequence.
+fn read_best<F: Flash>(
+    alloc: Global,
+    flash: &mut F,
+    geometry: Geometry,
+    best: Best,
+    page: &mut [u8],
+) -> Result<Option<Record>, Fault>
+    requires same { (F.device flash.old).geometry ≡ geometry }
+    requires lawful { IsGeometry geometry }
+    requires whole { length page.old ≡ geometry.page }
+    requires best { best ≡ spec.best_on geometry (spec.parts_on geometry (F.device flash.old).pages) }
+    ensures newest { IfOk result (IsNewestRecord (F.device flash.old)) }
+    ensures found { OnOk result (best.found ≡ spec.newest_at geometry (spec.parts_on geometry (F.device flash.old).pages)) }
+    ensures only_reads { OnlyReads (F.device flash.old) (F.device flash.new) }
+    ensures why { IfErr result (NewestCause (F.device flash.old) (F.device flash.new)) }
+{
+    if best.twice {
+        return Err(Fault::Damaged);
+    }
+    let Some(found) = best.found else {
+        return Ok(None);
+    };
+    let Some(payload) = find_payload(flash, geometry, found, page)? else {
+        return Err(Fault::Damaged);
+    };
+    let newest = read_payload(alloc, geometry, found.head.sequence, payload.as_slice())?;
+    Ok(Some(newest))
+}

@@ -1,0 +1,11 @@
+//! The newest commit record on the anchors of a flash: where it is, and what it says.
+#![tactic(auto)]
+
+mod anchors;
+mod best;
+mod laws;
+mod parts;
+mod scan;
+
+pub use anchors::Anchors;
+pub use laws::newest_laws;

@@ -1,0 +1,118 @@
+//! The pages of a record, read from the flash.
+ghost use Rattle.std.specs.Prelude.{◌≡◌, ℕ, ◌+◌, ◌*◌, ◌%◌, ◌≤◌, ◌<◌, length, IfOk, IfErr};
+ghost use Rattle.std.specs.Option.{option_map};
+ghost use Rattle.flash_model.specs.Geometry.{IsGeometry};
+ghost use Rattle.record_format.specs.Pages.{used_bytes};
+ghost use Rattle.commit_pair.specs.Parts as spec;
+ghost use Rattle.commit_pair.specs.Reading.{OnlyReads, ReadCause};
+
+use flash_model::{DevFault, Flash, Geometry, PageState};
+use fs_types::Fault;
+use record_format::{HEAD_SIZE, PageHead};
+
+/// The first block that is no anchor.
+pub(crate) const FIRST_DATA: u32 = 8;
+
+/// Reads a page of an anchor: the header of a part of a record, whose bytes are then in the buffer,
+/// or None.
+pub(crate) fn read_head<F: Flash>(
+    flash: &mut F,
+    geometry: Geometry,
+    page: u32,
+    buffer: &mut [u8],
+) -> Result<Option<PageHead>, Fault>
+    requires same { (F.device flash.old).geometry ≡ geometry }
+    requires lawful { IsGeometry geometry }
+    requires in_range { page < spec.first_data * geometry.pages }
+    requires whole { length buffer.old ≡ geometry.page }
+    ensures part { IfOk result (λ found. option_map (λ head. record { head = head; bytes = used_bytes head buffer.new }) found ≡ spec.parts_on geometry (F.device flash.old).pages page) }
+    ensures only_reads { OnlyReads (F.device flash.old) (F.device flash.new) }
+    ensures why { IfErr result (ReadCause (F.device flash.old) (F.device flash.new)) }
+{
+    match flash.read(page, buffer) {
+        Ok(PageState::Data) => Ok(PageHead::of(buffer)),
+        Ok(_) => Ok(None),
+        Err(DevFault::Failed) => Err(Fault::ReadFailed),
+        Err(DevFault::PowerCut) => Err(Fault::PowerCut),
+    }
+}
+
+/// Whether the n-th page of `count` holds as many bytes as it must.
+fn is_filled(geometry: Geometry, count: u16, n: u16, used: u16) -> bool
+    requires { 20 ≤ geometry.page }
+    ensures { result ≡ spec.is_filled geometry count n used }
+{
+    let room = geometry.page - HEAD_SIZE as u32;
+    if n as u32 + 1 == count as u32 {
+        0 < used && used as u32 <= room
+    } else {
+        used as u32 == room
+    }
+}
+
+/// Whether a page is the n-th of the record whose first header is given.
+fn is_part(geometry: Geometry, first: PageHead, n: u16, head: Option<PageHead>) -> bool
+    requires { 20 ≤ geometry.page }
+    ensures { result ≡ spec.is_part geometry first n head }
+{
+    let Some(head) = head else {
+        return false;
+    };
+    head.sequence == first.sequence
+        && head.count == first.count
+        && head.index == n
+        && is_filled(geometry, first.count, n, head.used)
+}
+
+/// Whether the pages from `page` on are those of the record whose first header is given.
+fn has_parts<F: Flash>(
+    flash: &mut F,
+    geometry: Geometry,
+    page: u32,
+    first: PageHead,
+    buffer: &mut [u8],
+) -> Result<bool, Fault>
+    requires same { (F.device flash.old).geometry ≡ geometry }
+    requires lawful { IsGeometry geometry }
+    requires in_range { page + first.count ≤ spec.first_data * geometry.pages }
+    requires whole { length buffer.old ≡ geometry.page }
+    ensures parts { IfOk result (λ has. has ≡ spec.are_parts geometry (spec.parts_on geometry (F.device flash.old).pages) page first 0 first.count) }
+    ensures only_reads { OnlyReads (F.device flash.old) (F.device flash.new) }
+    ensures why { IfErr result (ReadCause (F.device flash.old) (F.device flash.new)) }
+{
+    for n in 0..first.count {
+        let head = read_head(flash, geometry, page + n as u32, buffer)?;
+        if !is_part(geometry, first, n, head) {
+            return Ok(false);
+        }
+    }
+    Ok(true)
+}
+
+/// The first header of the valid record that begins at a page of an anchor.
+pub(crate) fn read_record_head<F: Flash>(
+    flash: &mut F,
+    geometry: Geometry,
+    page: u32,
+    buffer: &mut [u8],
+) -> Result<Option<PageHead>, Fault>
+    requires same { (F.device flash.old).geometry ≡ geometry }
+    requires lawful { IsGeometry geometry }
+    requires in_range { page < spec.first_data * geometry.pages }
+    requires whole { length buffer.old ≡ geometry.page }
+    ensures head { IfOk result (λ head. head ≡ spec.record_head geometry (spec.parts_on geometry (F.device flash.old).pages) page) }
+    ensures only_reads { OnlyReads (F.device flash.old) (F.device flash.new) }
+    ensures why { IfErr result (ReadCause (F.device flash.old) (F.device flash.new)) }
+{
+    let Some(first) = read_head(flash, geometry, page, buffer)? else {
+        return Ok(None);
+    };
+    if first.count == 0 || page % geometry.pages + first.count as u32 > geometry.pages {
+        return Ok(None);
+    }
+    if has_parts(flash, geometry, page, first, buffer)? {
+        Ok(Some(first))
+    } else {
+        Ok(None)
+    }
+}

@@ -1,0 +1,79 @@
+//! All pages of all anchors, gone over once.
+ghost use Rattle.std.specs.Prelude.{◌≡◌, ℕ, ◌+◌, ◌*◌, ◌%◌, ◌≤◌, ◌<◌, length, IfOk, IfErr, MatchOption};
+ghost use Rattle.flash_model.specs.Geometry.{IsGeometry};
+ghost use Rattle.commit_pair.specs.Parts as spec;
+ghost use Rattle.commit_pair.specs.Reading.{OnlyReads, ReadCause};
+
+use crate::best::{Best, Found};
+use crate::parts::{FIRST_DATA, read_head, read_record_head};
+use arrayvec::ArrayVec;
+use flash_model::{Flash, Geometry};
+use fs_types::Fault;
+use record_format::{HEAD_SIZE, LONGEST_PAYLOAD, PageHead, Payload};
+
+/// The valid record of greatest sequence on the anchors, and whether another has its sequence.
+pub(crate) fn find_best<F: Flash>(
+    flash: &mut F,
+    geometry: Geometry,
+    buffer: &mut [u8],
+) -> Result<Best, Fault>
+    requires same { (F.device flash.old).geometry ≡ geometry }
+    requires lawful { IsGeometry geometry }
+    requires whole { length buffer.old ≡ geometry.page }
+    ensures best { IfOk result (λ best. best ≡ spec.best_on geometry (spec.parts_on geometry (F.device flash.old).pages)) }
+    ensures only_reads { OnlyReads (F.device flash.old) (F.device flash.new) }
+    ensures why { IfErr result (ReadCause (F.device flash.old) (F.device flash.new)) }
+{
+    let mut best = Best {
+        found: None,
+        twice: false,
+    };
+    for page in 0..FIRST_DATA * geometry.pages {
+        let head = read_record_head(flash, geometry, page, buffer)?;
+        best = best.considered(page, head);
+    }
+    Ok(best)
+}
+
+/// The payload bytes of a part of a record whose page is in the buffer.
+fn bytes_of(head: Option<PageHead>, page: &[u8]) -> &[u8]
+    requires { 20 ≤ length page.now }
+    ensures { result.now ≡ spec.held_bytes head page.now }
+{
+    let Some(head) = head else {
+        return &[];
+    };
+    let bytes = &page[HEAD_SIZE..];
+    if (head.used as usize) < bytes.len() {
+        &bytes[..head.used as usize]
+    } else {
+        bytes
+    }
+}
+
+/// The payload of a record that was found, or None where it is longer than any payload.
+pub(crate) fn find_payload<F: Flash>(
+    flash: &mut F,
+    geometry: Geometry,
+    found: Found,
+    buffer: &mut [u8],
+) -> Result<Option<Payload>, Fault>
+    requires same { (F.device flash.old).geometry ≡ geometry }
+    requires lawful { IsGeometry geometry }
+    requires in_range { found.page + found.head.count ≤ spec.first_data * geometry.pages }
+    requires whole { length buffer.old ≡ geometry.page }
+    ensures payload { IfOk result (λ read. MatchOption read (2408 < length (spec.payload_of geometry (spec.parts_on geometry (F.device flash.old).pages) found)) (λ payload. payload.items ≡ spec.payload_of geometry (spec.parts_on geometry (F.device flash.old).pages) found)) }
+    ensures only_reads { OnlyReads (F.device flash.old) (F.device flash.new) }
+    ensures why { IfErr result (ReadCause (F.device flash.old) (F.device flash.new)) }
+{
+    let mut payload = ArrayVec::new();
+    for n in 0..found.head.count {
+        let head = read_head(flash, geometry, found.page + n as u32, buffer)?;
+        let bytes = bytes_of(head, buffer);
+        if payload.len() + bytes.len() > LONGEST_PAYLOAD {
+            return Ok(None);
+        }
+        payload.try_extend_from_slice(bytes).unwrap();
+    }
+    Ok(Some(payload))
+}

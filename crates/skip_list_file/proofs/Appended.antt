@@ -10,9 +10,8 @@ use Rattle.block_trees.specs.Reached.{Reached, Names, BodyNames}
 use Rattle.block_trees.proofs.Entries.{directory_no_index}
 use Rattle.block_trees.proofs.Reaching.{IsReachedBy, reached_by}
 use Rattle.skip_list_file.specs.Writing.{place_before}
-use Rattle.skip_list_file.proofs.Chains.{back_back}
 use Rattle.skip_list_file.proofs.Parts.{data_length}
-use Rattle.skip_list_file.proofs.Fronts.{front_linked, reached_back, HasHead, has_head, is_body, body_taken}
+use Rattle.skip_list_file.proofs.Fronts.{reached_back, HasHead, has_head, is_body, body_taken}
 
 -- ---- pointer places
 
@@ -22,27 +21,6 @@ power_double x = omega arith
 pub divides_least : (x index : ℕ) → 0 < index → Divides x index → 2 ^ x ≤ index
 divides_least x index some (zero, e) = absurd (omega arith)
 divides_least x index some (suc m, e) = omega (arith, suc-mul m (2 ^ x))
-
-halved : (m power n : ℕ) → n ≡ suc m * (power + power) → n - power ≡ suc (m + m) * power
-halved m power n e = omega arith
-
--- the node that place x leads to has place x too
-pub half_divides : (x index : ℕ) → Divides (suc x) index → Divides x (index - 2 ^ x)
-half_divides x index (zero, e) = (0, omega arith)
-half_divides x index (suc m, e) = (suc (m + m), halved m (2 ^ x) index (e ∙ ap (λ (p : ℕ). suc m * p) (power_double x)))
-
-pub next_place : (room : ℕ) (f : Blocks) (x i head : ℕ) → IsChain room f i head → IsLinked f i head → Divides (suc x) (suc i)
-    → pointer_of (f (place_before f head x)) x ≡ place_before f head (suc x)
-next_place room f x i head chain linked divides = on (suc i - 2 ^ x) refl
-  where
-    on : (j : ℕ) → suc i - 2 ^ x ≡ j → pointer_of (f (place_before f head x)) x ≡ place_before f head (suc x)
-    on zero e = absurd (omega (arith, divides_least (suc x) (suc i) (omega arith) divides, power_double x, pow_pos x))
-    on (suc j) e =
-        let sum : 2 ^ x - 1 + suc j ≡ i = omega (arith, divides_least (suc x) (suc i) (omega arith) divides, power_double x, pow_pos x) in
-        let here = front_linked f (2 ^ x - 1) (suc j) i head sum linked in
-        let own : Divides x (suc j) = subst (Divides x) e (half_divides x (suc i) divides) in
-        let twice : 2 ^ x - 1 + 2 ^ x ≡ 2 ^ suc x - 1 = omega (arith, power_double x, pow_pos x) in
-        here.0 x own ∙ back_back f (2 ^ x - 1) (2 ^ x) head ∙ ap (back f head) twice
 
 -- ---- one node more
 

@@ -1,12 +1,11 @@
 -- The bytes of an edited body, one by one.
-use Rattle.std.proofs.Common.{◌≡◌, ℕ, zero, suc, ◌+◌, ◌-◌, ◌<◌, ◌≤◌, ◌⊎◌, inl, inr, max, ◌&&◌, if◌then◌else◌, List, [], ◌∷◌, ◌++◌, length, get_or, take, drop, replicate, refl, sym, ap, ◌∙◌, arith, length-append, length-drop}
-use Rattle.std.proofs.lemmas.List.{take_more, length-take, length-take-le, length-replicate, get_or_append_left, get_or-append_right, get_or-take, get_or-drop, get_or_past, ext_get_or}
+use Rattle.std.proofs.Common.{◌≡◌, ℕ, zero, suc, ◌+◌, ◌-◌, ◌<◌, ◌≤◌, ◌⊎◌, inl, inr, max, ◌&&◌, if◌then◌else◌, List, [], ◌++◌, length, get_or, take, drop, replicate, refl, sym, ap, ◌∙◌, arith, length-append, length-drop}
+use Rattle.std.proofs.lemmas.List.{length-take, length-take-le, length-replicate, get_or_append_left, get_or-append_right, get_or-take, get_or-drop, get_or_past, ext_get_or}
 use Rattle.std.proofs.lemmas.Bool.{cases_lt}
-use Rattle.std.specs.Prelude.{nat_le, nat_lt, slice_index}
+use Rattle.std.specs.Prelude.{nat_le, nat_lt}
 use Rattle.std.proofs.lemmas.Bool.Decides.{nat_tests}
-use Rattle.fs_types.specs.Machine.{read_from}
 use Rattle.fs_types.specs.Contents.{resized, overwritten}
-use Rattle.skip_list_file.specs.Writing.{edited, byte_after}
+use Rattle.skip_list_file.specs.Writing.{edited}
 
 -- ---- bytes cut or filled up with zeros
 
@@ -97,34 +96,13 @@ edited_front old offset bytes n m by_offset by_old by_size =
         ∙ sym (get_or-take m old i 0 lt)
 
 -- the byte at a place
-abbrev byte_of : List ℕ → ℕ → List ℕ → ℕ → ℕ
+abbrev pub byte_of : List ℕ → ℕ → List ℕ → ℕ → ℕ
 byte_of old offset bytes i = if nat_le offset i && nat_lt i (offset + length bytes) then get_or bytes (i - offset) 0 else get_or old i 0
 
-edited_at : (old : List ℕ) (offset : ℕ) (bytes : List ℕ) (n i : ℕ) → i < n → get_or (edited old offset bytes n) i 0 ≡ byte_of old offset bytes i
+pub edited_at : (old : List ℕ) (offset : ℕ) (bytes : List ℕ) (n i : ℕ) → i < n → get_or (edited old offset bytes n) i 0 ≡ byte_of old offset bytes i
 edited_at old offset bytes n i lt = resized_at (overwritten old offset bytes) n i lt ∙ on (cases_lt i offset) (cases_lt i (offset + length bytes))
   where
     on : (i < offset) ⊎ (offset ≤ i) → (i < offset + length bytes) ⊎ (offset + length bytes ≤ i) → get_or (overwritten old offset bytes) i 0 ≡ byte_of old offset bytes i
     on (inl before) other = before_offset old offset bytes i before ∙ grind (arith, nat_tests)
     on (inr from) (inl within) = at_offset old offset bytes i from within ∙ grind (arith, nat_tests)
     on (inr from) (inr past) = past_offset old offset bytes i past ∙ grind (arith, nat_tests)
-
--- where the old bytes are those of a file from `start` on, the new ones are so many of those of the edited file
-abbrev pub AreBegun : List ℕ → ℕ → ℕ → ℕ → List ℕ → ℕ → List ℕ → Type 0
-AreBegun old start count offset bytes done new =
-    (file : List ℕ) (size : ℕ) → old ≡ read_from file start count → start + count ≤ size → new ≡ take done (drop start (edited file offset bytes size))
-
-pub one_more : (old : List ℕ) (start count offset : ℕ) (bytes new : List ℕ) (place byte : ℕ) → start ≤ place → place < start + count → byte ≡ byte_after old start offset bytes place
-    → AreBegun old start count offset bytes (place - start) new → AreBegun old start count offset bytes (place + 1 - start) (new ++ byte ∷ [])
-one_more old start count offset bytes new place byte from within is begun file size part fits =
-    let i : ℕ = place - start in
-    let whole : List ℕ = edited file offset bytes size in
-    let there : start + i ≡ place = omega arith in
-    let more : i + 1 ≡ place + 1 - start = omega arith in
-    let long : i < length (drop start whole) = omega (arith, length-drop start whole, edited_length file offset bytes size) in
-    let old_byte : slice_index old i ≡ get_or file place 0 =
-    ap (λ (xs : List ℕ). slice_index xs i) part ∙ get_or-take count (drop start file) i 0 (omega arith) ∙ get_or-drop start file i 0 ∙ ap (λ (j : ℕ). get_or file j 0) there in
-    let same : byte ≡ byte_of file offset bytes place =
-    is ∙ ap (λ (other : ℕ). if nat_le offset place && nat_lt place (offset + length bytes) then slice_index bytes (place - offset) else other) old_byte in
-    let shown : get_or (drop start whole) i 0 ≡ byte = get_or-drop start whole i 0 ∙ ap (λ (j : ℕ). get_or whole j 0) there ∙ edited_at file offset bytes size place (omega arith) ∙ sym same in
-    ap (λ (front : List ℕ). front ++ byte ∷ []) (begun file size part fits) ∙ ap (λ (b : ℕ). take i (drop start whole) ++ b ∷ []) (sym shown)
-    ∙ sym (take_more (drop start whole) i 0 long) ∙ ap (λ (n : ℕ). take n (drop start whole)) more

@@ -16,6 +16,7 @@ use Rattle.block_trees.proofs.Entries.{place_is}
 use Rattle.block_trees.proofs.Frames.{frame_law}
 use Rattle.block_trees.proofs.Reaching.{reached_own, reached_below, before_named}
 use Rattle.skip_list_file.specs.declared.bodies.Body.{Body}
+use Rattle.skip_list_file.specs.Reading.{AreBlocks}
 use Rattle.skip_list_file.specs.Writing.{place_before, AreLinked, IsFront, IsGrown, IsWritten, OnlyReaches}
 use Rattle.skip_list_file.proofs.Fronts.{has_head, body_length}
 use Rattle.skip_list_file.proofs.Chains.{chain_node}
@@ -54,13 +55,24 @@ body_stays room old new kept kept' head size keeps is held =
     }
 
 -- so do the nodes before a held one
-back_stays : (room : ℕ) (old new : Blocks) (kept kept' : ℕ → Bool) → Keeps kept old kept' new → (i n block : ℕ) → n ≤ i → IsChain room old i block → ((b : ℕ) → Reached old (block ∷ []) b → kept b ≡ true) → back new block n ≡ back old block n
+pub back_stays : (room : ℕ) (old new : Blocks) (kept kept' : ℕ → Bool) → Keeps kept old kept' new → (i n block : ℕ) → n ≤ i → IsChain room old i block → ((b : ℕ) → Reached old (block ∷ []) b → kept b ≡ true) → back new block n ≡ back old block n
 back_stays room old new kept kept' keeps i zero block le chain held = refl
 back_stays room old new kept kept' keeps zero (suc n) block le chain held = absurd (omega arith)
 back_stays room old new kept kept' keeps (suc i) (suc n) block le chain held =
     let before = pointer_of (old block) 0 in
     ap (λ (node : Option (List ℕ)). back new (pointer_of node 0) n) (keeps.same block (held block (reached_own old block)))
     ∙ back_stays room old new kept kept' keeps i n before (omega arith) chain.2 (λ b reached. held b (reached_below old block before (before_named old i block chain.0) reached))
+
+-- so do the blocks of its last nodes
+pub blocks_stay : (room : ℕ) (old new : Blocks) (kept kept' : ℕ → Bool) (head size : ℕ) (blocks : List ℕ) → Keeps kept old kept' new → IsBody room old head size → IsHeld old kept (File head size)
+    → length blocks ≤ head_index room size + 1 → AreBlocks old head blocks → AreBlocks new head blocks
+blocks_stay room old new kept kept' head zero blocks keeps is held few listed k lt = listed k lt ∙ sym (none_back k (omega arith))
+  where
+    none_back : (k : ℕ) → k < 1 → back new head k ≡ back old head k
+    none_back zero lt = refl
+    none_back (suc k) lt = absurd (omega arith)
+blocks_stay room old new kept kept' head (suc n) blocks keeps is held few listed k lt =
+    listed k lt ∙ sym (back_stays room old new kept kept' keeps (head_index room (suc n)) k head (omega arith) is.0 (held head (omega arith, refl)))
 
 -- ---- one node more
 

@@ -7,3 +7,6 @@ pub mod EditedBytes
 pub mod Growth
 pub mod NodeBytes
 pub mod Places
+pub mod Marks
+pub mod Kept
+pub mod Counted

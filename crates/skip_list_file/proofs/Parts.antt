@@ -28,7 +28,7 @@ range_front xs ys start end le within =
     ap (take (end - start)) (drop-append-le start xs ys (omega arith)) ∙ take-append-le (end - start) (drop start xs) ys (omega (arith, length-drop start xs))
 
 -- what follows the front
-drop_past : (xs ys : List ℕ) (n : ℕ) → length xs ≤ n → drop n (xs ++ ys) ≡ drop (n - length xs) ys
+pub drop_past : (xs ys : List ℕ) (n : ℕ) → length xs ≤ n → drop n (xs ++ ys) ≡ drop (n - length xs) ys
 drop_past xs ys n le =
     let e : n ≡ length xs + (n - length xs) = omega arith in
     ap (λ (k : ℕ). drop k (xs ++ ys)) e ∙ drop-append-add xs ys (n - length xs)
@@ -197,10 +197,10 @@ filled_length a k out ys within long =
 
 -- ---- reads
 
-count_some : (room start end : ℕ) → start < end → nodes_between room start end ≡ (end - 1) / room + 1 - start / room
+pub count_some : (room start end : ℕ) → start < end → nodes_between room start end ≡ (end - 1) / room + 1 - start / room
 count_some room start end lt = rw (lt-ltb start end lt) refl
 
-count_none : (room start end : ℕ) → end ≤ start → nodes_between room start end ≡ 0
+pub count_none : (room start end : ℕ) → end ≤ start → nodes_between room start end ≡ 0
 count_none room start end le = rw (le-ltb start end le) refl
 
 -- each node that is read is one fewer that is left

@@ -1,9 +1,9 @@
 -- Reading a range of a file's bytes: which pointers lead to its last node, and how many nodes hold it.
-use Rattle.std.specs.Prelude.{ℕ, ◌+◌, ◌-◌, ◌/◌, ◌^◌, ◌≤◌, Bool, false, IsTrue, min, nat_lt, if◌then◌else◌}
+use Rattle.std.specs.Prelude.{◌≡◌, ◌<◌, List, length, slice_index, ℕ, ◌+◌, ◌-◌, ◌/◌, ◌^◌, ◌≤◌, Bool, false, IsTrue, min, nat_lt, if◌then◌else◌}
 use Rattle.fs_types.specs.declared.faults.Fault.{Fault}
 use Rattle.fs_types.specs.declared.faults.Fault.TheVariants.{Damaged}
 use Rattle.node_store.specs.Faults.{is_read_fault}
-use Rattle.block_trees.specs.Bodies.{Divides}
+use Rattle.block_trees.specs.Bodies.{Blocks, back, Divides}
 
 -- pointer place x leads from index i towards index j, and not past it
 abbrev pub IsUseful : ℕ → ℕ → ℕ → Type 0
@@ -20,6 +20,10 @@ nodes_between room from to = if nat_lt from to then (to - 1) / room + 1 - from /
 -- how many nodes hold what is read from an offset on of a file of this length, at most so many bytes
 abbrev pub nodes_of_range : ℕ → ℕ → ℕ → ℕ → ℕ
 nodes_of_range room size offset count = nodes_between room offset (min size (offset + count))
+
+-- blocks of the last nodes of a body, from its head back
+abbrev pub AreBlocks : Blocks → ℕ → List ℕ → Type 0
+AreBlocks f head blocks = (k : ℕ) → k < length blocks → slice_index blocks k ≡ back f head k
 
 -- the refusals of reading a body: those of reads, but that nothing is damaged
 abbrev pub is_body_fault : Fault → Bool

@@ -1,12 +1,11 @@
 -- Bodies written anew from a node on, where the nodes before it are shared.
-use Rattle.std.specs.Prelude.{◌≡◌, ◌⊎◌, ℕ, zero, suc, ◌+◌, ◌-◌, ◌*◌, ◌^◌, ◌<◌, ◌≤◌, Bool, false, ◌&&◌, nat_le, nat_lt, if◌then◌else◌, slice_index, List, [], ◌∷◌, ◌++◌, length, take}
+use Rattle.std.specs.Prelude.{◌≡◌, ◌⊎◌, ℕ, zero, suc, ◌+◌, ◌-◌, ◌*◌, ◌%◌, ◌^◌, ◌<◌, ◌≤◌, min, Bool, false, ◌&&◌, nat_le, nat_lt, if◌then◌else◌, slice_index, List, [], ◌∷◌, ◌++◌, length, take}
 use Rattle.fs_types.specs.declared.faults.Fault.{Fault}
 use Rattle.fs_types.specs.declared.faults.Fault.TheVariants.{FlashFull, ReadOnly, ReadFailed, PowerCut, NoMemory}
 use Rattle.fs_types.specs.Contents.{resized, overwritten}
-use Rattle.fs_types.specs.Machine.{read_from}
 use Rattle.node_format.specs.declared.places.Place.TheVariants.{File}
 use Rattle.block_trees.specs.Bodies as bodies
-use Rattle.block_trees.specs.Bodies.{Blocks, index_of, back, IsChain, IsLinked, IsBody}
+use Rattle.block_trees.specs.Bodies.{Blocks, index_of, back, Divides, IsChain, IsLinked, IsBody}
 use Rattle.block_trees.specs.Reached.{Reached, IsHeld, PlaceNames}
 use Rattle.skip_list_file.specs.declared.bodies.Body.{Body}
 
@@ -36,14 +35,13 @@ IsWritingFault _ = ⊥
 abbrev pub edited : List ℕ → ℕ → List ℕ → ℕ → List ℕ
 edited old offset bytes size = resized (overwritten old offset bytes) size
 
+-- no byte of an old body of this length, from one place to another, stays in an edit from `offset` to `end`
+abbrev pub KeepsNone : ℕ → ℕ → ℕ → ℕ → ℕ → Type 0
+KeepsNone size offset end from to = (size ≤ from) ⊎ ((offset ≤ from) × (min to size ≤ end))
+
 -- the byte at a place after an edit, where the old bytes are given from `start` on
 abbrev pub byte_after : List ℕ → ℕ → ℕ → List ℕ → ℕ → ℕ
 byte_after old start offset bytes place = if nat_le offset place && nat_lt place (offset + length bytes) then slice_index bytes (place - offset) else slice_index old (place - start)
-
--- where the old bytes are those of a file from `start` on, the new ones are those of the edited file
-abbrev pub AreEdited : List ℕ → ℕ → ℕ → ℕ → List ℕ → List ℕ → Type 0
-AreEdited old start count offset bytes new =
-    (file : List ℕ) (size : ℕ) → old ≡ read_from file start count → start + count ≤ size → new ≡ read_from (edited file offset bytes size) start count
 
 -- the block that pointer place x of the node after a head names: the node 2 to the x before it
 abbrev pub place_before : Blocks → ℕ → ℕ → ℕ
@@ -53,6 +51,12 @@ place_before f head x = back f head (2 ^ x - 1)
 abbrev pub AreLinked : ℕ → Blocks → ℕ → ℕ → Type 0
 AreLinked room f head zero = Unit {0}
 AreLinked room f head (suc i) = IsChain room f i head × IsLinked f i head
+
+-- a table for the nodes from the one after a head, of this index, to the last: place x is the block of
+-- the greatest index below it that 2 to the x divides, for each place that one of those nodes has
+abbrev pub IsTable : Blocks → ℕ → ℕ → ℕ → List ℕ → Type 0
+IsTable f head index last table =
+    (x k : ℕ) → 0 < index → index ≤ k → k ≤ last → Divides x k → slice_index table x ≡ back f head ((index - 1) % 2 ^ x)
 
 -- the front of a body: its first bytes, in the nodes that hold them
 pub record IsFront (room : ℕ) (f : Blocks) (head size front part : ℕ) : Type 0 where

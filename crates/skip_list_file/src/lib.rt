@@ -3,7 +3,9 @@
 #![tactic(auto)]
 
 mod bodies;
+mod old_nodes;
 mod reading;
+mod tables;
 mod writing;
 
 pub use bodies::Body;

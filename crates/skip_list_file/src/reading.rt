@@ -88,7 +88,12 @@ pub(crate) fn find<N: Nodes>(
 
 /// Fills a slice with the data of a body node from a place on. Answers the block of the node before it,
 /// or 0 where it is the first.
-fn copy_data<N: Nodes>(nodes: &mut N, block: u32, from: u32, out: &mut [u8]) -> Result<u32, Fault>
+pub(crate) fn copy_data<N: Nodes>(
+    nodes: &mut N,
+    block: u32,
+    from: u32,
+    out: &mut [u8],
+) -> Result<u32, Fault>
     requires sound { N.is_sound nodes.old }
     requires node { (index : ℕ) × (index_of (N.node nodes.old block) ≡ Some index) }
     requires within { from + length out.old ≤ length (data_of (N.node nodes.old block)) }

@@ -1,12 +1,18 @@
-use Rattle.std.proofs.Common.{◌≡◌, ℕ, ◌+◌, ◌-◌, ◌*◌, ◌/◌, ◌<◌, min, List, length, take, drop, sym, ap, subst, ◌∙◌, arith}
+use Rattle.std.proofs.Common.{Bool, ◌^◌, ◌≤◌, ◌≡◌, ℕ, ◌+◌, ◌-◌, ◌*◌, ◌/◌, ◌<◌, min, List, length, take, drop, sym, ap, subst, ◌∙◌, arith}
 use Rattle.std.proofs.lemmas.Result.{err_from_is_err_and}
-use Rattle.block_trees.specs.Bodies.{body, IsBody}
+use Rattle.std.proofs.Math.Nat.{div-mul-le_self}
+use Rattle.block_trees.specs.Bodies.{Blocks, body, IsBody}
 use Rattle.block_trees.specs.Reached.{Keeps}
 use Rattle.fs_types.specs.Machine.{nodes_from}
 use Rattle.skip_list_file.specs.declared.bodies.Body.{Body}
+use Rattle.skip_list_file.specs.Reading.{AreBlocks}
 use Rattle.skip_list_file.specs.Writing as spec
-use Rattle.skip_list_file.proofs.Growth.{IsBegun, body_stays, starts_before, starts_within, ends_past, part_length, turn, written_whole, written_reaches}
-use Rattle.skip_list_file.proofs.EditedBytes.{edited_length}
+use Rattle.skip_list_file.specs.Writing.{AreLinked, IsTable}
+use Rattle.skip_list_file.proofs.Fronts.{body_length}
+use Rattle.skip_list_file.proofs.Marks.{table_places}
+use Rattle.skip_list_file.proofs.Counted.{AreFew, AreAll, few_first, few_begun, few_on, few_all, few_listed, few_indices}
+use Rattle.skip_list_file.proofs.Growth.{IsBegun, body_stays, blocks_stay, are_linked, begun_front, starts_before, starts_within, ends_past, part_length, turn, written_whole, written_reaches}
+use Rattle.skip_list_file.proofs.EditedBytes.{edited_length, edited_front}
 use Rattle.skip_list_file.proofs.writing.edited.Goals as goal
 
 pub edited_bytes-requires-clause-whole : goal.edited_bytes-requires-clause-whole
@@ -18,7 +24,9 @@ edited_bytes-requires-clause-whole g c =
       stays = λ b kept. g.met.N.Nodes.stays_kept old at b c.loop-index.invariant.follows kept;
     } in
     let stays = body_stays (g.N.Nodes.limit old - 80) (g.N.Nodes.node old) (g.N.Nodes.node at) (g.N.Nodes.kept old) (g.N.Nodes.kept at) c.args.body.head c.args.body.length keeps c.requires.whole c.requires.held in
-    subst (λ (limit : ℕ). IsBody (limit - 80) (g.N.Nodes.node at) c.args.body.head c.args.body.length) (sym c.loop-index.invariant.limit) stays.whole
+    let room : ℕ = c.block_bytes-room.result - 80 in
+    let room_is : room ≡ g.N.Nodes.limit old - 80 = omega (arith, c.block_bytes-room.ensures.value) in
+    subst (λ (r : ℕ). IsBody r (g.N.Nodes.node at) c.args.body.head c.args.body.length) (sym room_is) stays.whole
 
 pub returns-in_err-data-clause-why : goal.returns-in_err-data-clause-why
 returns-in_err-data-clause-why g c =
@@ -37,7 +45,7 @@ append-requires-clause-some g c =
     let count = c.min-count.result in
     let within : i * room < c.args.size = starts_within room i c.args.size least (omega arith) (omega (arith, c.loop-index-test.true)) in
     let count_is : count ≡ min room (c.args.size - i * room) = c.min-count.ensures in
-    let new : List ℕ = spec.edited (body (g.N.Nodes.limit at - 80) (g.N.Nodes.node at) c.args.body.head c.args.body.length) c.args.offset c.args.bytes.now c.args.size in
+    let new : List ℕ = spec.edited (body room (g.N.Nodes.node at) c.args.body.head c.args.body.length) c.args.offset c.args.bytes.now c.args.size in
     let part : c.in_ok-data.data.items ≡ take count (drop (i * room) new) = c.in_ok-data.ensures.edited c.args.size (omega arith) in
     let sized = part_length new (i * room) count c.args.size (edited_length _ c.args.offset c.args.bytes.now c.args.size) (omega arith) in
     let counted : length c.deref.result.now ≡ count = ap length (c.deref.ensures.value ∙ part) ∙ sized in
@@ -54,7 +62,7 @@ append-requires-clause-fits g c =
     let count = c.min-count.result in
     let within : i * room < c.args.size = starts_within room i c.args.size least (omega arith) (omega (arith, c.loop-index-test.true)) in
     let count_is : count ≡ min room (c.args.size - i * room) = c.min-count.ensures in
-    let new : List ℕ = spec.edited (body (g.N.Nodes.limit at - 80) (g.N.Nodes.node at) c.args.body.head c.args.body.length) c.args.offset c.args.bytes.now c.args.size in
+    let new : List ℕ = spec.edited (body room (g.N.Nodes.node at) c.args.body.head c.args.body.length) c.args.offset c.args.bytes.now c.args.size in
     let part : c.in_ok-data.data.items ≡ take count (drop (i * room) new) = c.in_ok-data.ensures.edited c.args.size (omega arith) in
     let sized = part_length new (i * room) count c.args.size (edited_length _ c.args.offset c.args.bytes.now c.args.size) (omega arith) in
     let counted : length c.deref.result.now ≡ count = ap length (c.deref.ensures.value ∙ part) ∙ sized in
@@ -83,7 +91,7 @@ loop-index-preserved g c =
     let count = c.min-count.result in
     let within : i * room < c.args.size = starts_within room i c.args.size least (omega arith) (omega (arith, c.loop-index-test.true)) in
     let count_is : count ≡ min room (c.args.size - i * room) = c.min-count.ensures in
-    let new : List ℕ = spec.edited (body (g.N.Nodes.limit at - 80) (g.N.Nodes.node at) c.args.body.head c.args.body.length) c.args.offset c.args.bytes.now c.args.size in
+    let new : List ℕ = spec.edited (body room (g.N.Nodes.node at) c.args.body.head c.args.body.length) c.args.offset c.args.bytes.now c.args.size in
     let part : c.in_ok-data.data.items ≡ take count (drop (i * room) new) = c.in_ok-data.ensures.edited c.args.size (omega arith) in
     let sized = part_length new (i * room) count c.args.size (edited_length _ c.args.offset c.args.bytes.now c.args.size) (omega arith) in
     let counted : length c.deref.result.now ≡ count = ap length (c.deref.ensures.value ∙ part) ∙ sized in
@@ -94,8 +102,8 @@ loop-index-preserved g c =
       stays = λ b kept. g.met.N.Nodes.stays_kept old at b c.loop-index.invariant.follows kept;
     } in
     let stays = body_stays (g.N.Nodes.limit old - 80) f (g.N.Nodes.node at) (g.N.Nodes.kept old) (g.N.Nodes.kept at) c.args.body.head c.args.body.length keeps c.requires.whole c.requires.held in
-    let same : body (g.N.Nodes.limit at - 80) (g.N.Nodes.node at) c.args.body.head c.args.body.length ≡ body room f c.args.body.head c.args.body.length =
-    ap (λ (limit : ℕ). body (limit - 80) (g.N.Nodes.node at) c.args.body.head c.args.body.length) c.loop-index.invariant.limit ∙ stays.shown
+    let same : body room (g.N.Nodes.node at) c.args.body.head c.args.body.length ≡ body room f c.args.body.head c.args.body.length =
+    ap (λ (r : ℕ). body r (g.N.Nodes.node at) c.args.body.head c.args.body.length) room_is ∙ stays.shown
     ∙ ap (λ (r : ℕ). body r f c.args.body.head c.args.body.length) (sym room_is) in
     let wanted : List ℕ = spec.edited (body room f c.args.body.head c.args.body.length) c.args.offset c.args.bytes.now c.args.size in
     let chunk : c.deref.result.now ≡ take count (drop (i * room) wanted) =
@@ -104,6 +112,18 @@ loop-index-preserved g c =
       begun = turn room f (g.N.Nodes.node at) (g.N.Nodes.node c.edited_bytes.new.nodes) (g.N.Nodes.node c.append.new.nodes) (g.N.Nodes.kept old) (g.N.Nodes.kept at) (g.N.Nodes.kept c.edited_bytes.new.nodes) (g.N.Nodes.kept c.append.new.nodes)
           c.args.body wanted c.loop-index.head i c.in_ok-head-2.head c.deref.result.now count c.args.size least within count_is (edited_length _ c.args.offset c.args.bytes.now c.args.size) c.loop-index.invariant.begun
           c.edited_bytes.ensures.same_nodes c.edited_bytes.ensures.same_kept c.in_ok-head-2.ensures.grown (λ b fresh. g.met.N.Nodes.was_fresh old at b c.loop-index.invariant.follows fresh) chunk;
+      table = c.in_ok-head-2.ensures.table ((c.args.size - 1) / room) (few_indices room c.args.size (omega (arith, c.block_bytes-room.ensures.least)) c.requires.most)
+          (subst (λ (h : Blocks). IsTable h c.loop-index.head i ((c.args.size - 1) / room) c.loop-index.table.blocks) (sym c.edited_bytes.ensures.same_nodes) c.loop-index.invariant.table);
+      old = blocks_stay (g.N.Nodes.limit old - 80) (g.N.Nodes.node at) (g.N.Nodes.node c.append.new.nodes) (g.N.Nodes.kept at) (g.N.Nodes.kept c.append.new.nodes) c.args.body.head c.args.body.length c.in_ok-old.old.items
+          (record {
+            same = λ b kept. g.met.N.Nodes.same_node at c.append.new.nodes b c.loop-index.invariant.sound (g.met.N.Nodes.follows_on at c.edited_bytes.new.nodes c.append.new.nodes c.edited_bytes.ensures.follows c.append.ensures.follows) kept;
+            stays = λ b kept. g.met.N.Nodes.stays_kept at c.append.new.nodes b (g.met.N.Nodes.follows_on at c.edited_bytes.new.nodes c.append.new.nodes c.edited_bytes.ensures.follows c.append.ensures.follows) kept;
+          }) stays.whole stays.held c.loop-index.invariant.few_blocks c.loop-index.invariant.old;
+      few_blocks = c.loop-index.invariant.few_blocks;
+      reads = subst (AreFew room c.args.body.length (c.args.offset + length c.args.bytes.now) (c.min.result / room) (i + 1) (g.N.Nodes.reads old)) (sym c.append.ensures.reads)
+          (few_on room c.args.body.length c.args.offset (c.args.offset + length c.args.bytes.now) (c.min.result / room) i count (g.N.Nodes.reads old) (g.N.Nodes.reads at) (g.N.Nodes.reads c.edited_bytes.new.nodes) (length c.in_ok-old.old.items)
+          least (ap (λ (n : ℕ). n / room) c.min.ensures) (omega (arith, c.loop-index.auto.index)) (omega arith) c.in_ok-old.ensures.count
+          c.edited_bytes.ensures.unread (λ within. c.edited_bytes.ensures.listed (omega (arith, within, c.as_slice.ensures.len, ap length c.as_slice.ensures.value))) c.edited_bytes.ensures.reads c.loop-index.invariant.reads);
       writes = omega (arith, c.in_ok-head-2.ensures.one, c.edited_bytes.ensures.writes, c.loop-index.invariant.writes, c.loop-index.auto.index);
       follows = g.met.N.Nodes.follows_on old c.edited_bytes.new.nodes c.append.new.nodes before c.append.ensures.follows;
       sound = c.append.ensures.sound;
@@ -193,3 +213,138 @@ returns-clause-writes g c =
     let begun = subst (IsBegun room f (g.N.Nodes.kept old) c.args.body wanted (g.N.Nodes.node at) (g.N.Nodes.kept at) c.loop-index.head) all c.loop-index.invariant.begun in
     let need : nodes_from room (min c.args.offset c.args.body.length) c.args.size ≡ nodes_from (g.N.Nodes.limit old - 80) (min c.args.offset c.args.body.length) c.args.size = ap (λ (r : ℕ). nodes_from r (min c.args.offset c.args.body.length) c.args.size) room_is in
     omega (arith, c.loop-index.invariant.writes)
+
+pub start_table-requires-clause-linked : goal.start_table-requires-clause-linked
+start_table-requires-clause-linked g c =
+    let room : ℕ = c.block_bytes-room.result - 80 in
+    let least : 0 < room = omega (arith, c.block_bytes-room.ensures.least) in
+    let linked = are_linked room (g.N.Nodes.node c.args.nodes.now) c.in_ok-head.head (c.min.result / room) least c.in_ok-head.ensures.front.whole in
+    (room, subst (λ (h : Blocks). AreLinked room h c.in_ok-head.head (c.min.result / room)) (sym c.in_ok-head.ensures.same_nodes) linked)
+
+pub returns-in_err-table-clause-reads : goal.returns-in_err-table-clause-reads
+returns-in_err-table-clause-reads g c =
+    let old = c.args.nodes.now in
+    let room : ℕ = c.block_bytes-room.result - 80 in
+    let room_is : room ≡ g.N.Nodes.limit old - 80 = omega (arith, c.block_bytes-room.ensures.value) in
+    let least : 0 < room = omega (arith, c.block_bytes-room.ensures.least) in
+    let first : c.min.result / room ≡ min c.args.offset c.args.body.length / room = ap (λ (n : ℕ). n / room) c.min.ensures in
+    let end : ℕ = c.args.offset + length c.args.bytes.now in
+    subst (AreAll c.args.body.length end (g.N.Nodes.reads old) (g.N.Nodes.reads c.start_table.new.nodes)) room_is (λ digits small.
+    let a = c.in_ok-head.ensures.reads digits small in
+    let b = c.start_table.ensures.reads digits (few_first room c.args.body.length c.args.offset (c.min.result / room) digits least first small) in
+    omega (arith, a, b))
+
+pub returns-in_err-old-clause-reads : goal.returns-in_err-old-clause-reads
+returns-in_err-old-clause-reads g c =
+    let old = c.args.nodes.now in
+    let room : ℕ = c.block_bytes-room.result - 80 in
+    let room_is : room ≡ g.N.Nodes.limit old - 80 = omega (arith, c.block_bytes-room.ensures.value) in
+    let least : 0 < room = omega (arith, c.block_bytes-room.ensures.least) in
+    let first : c.min.result / room ≡ min c.args.offset c.args.body.length / room = ap (λ (n : ℕ). n / room) c.min.ensures in
+    let end : ℕ = c.args.offset + length c.args.bytes.now in
+    let begun = few_begun room c.args.body.length c.args.offset end (c.min.result / room) (g.N.Nodes.reads old) (g.N.Nodes.reads c.front.new.nodes) (g.N.Nodes.reads c.start_table.new.nodes) (g.N.Nodes.reads c.list_blocks.new.nodes)
+    least first c.in_ok-head.ensures.reads c.in_ok-table.ensures.reads c.list_blocks.ensures.reads in
+    subst (AreAll c.args.body.length end (g.N.Nodes.reads old) (g.N.Nodes.reads c.list_blocks.new.nodes)) room_is (λ digits small.
+    few_all room c.args.body.length end (c.min.result / room) (c.min.result / room) (g.N.Nodes.reads old) (g.N.Nodes.reads c.list_blocks.new.nodes) digits begun small)
+
+pub loop-index-init : goal.loop-index-init
+loop-index-init g c =
+    let old = c.args.nodes.now in
+    let now = c.list_blocks.new.nodes in
+    let f = g.N.Nodes.node old in
+    let from = c.args.body in
+    let room : ℕ = c.block_bytes-room.result - 80 in
+    let room_is : room ≡ g.N.Nodes.limit old - 80 = omega (arith, c.block_bytes-room.ensures.value) in
+    let least : 0 < room = omega (arith, c.block_bytes-room.ensures.least) in
+    let first : ℕ = c.min.result / room in
+    let first_is : first ≡ min c.args.offset from.length / room = ap (λ (n : ℕ). n / room) c.min.ensures in
+    let end : ℕ = c.args.offset + length c.args.bytes.now in
+    let rows : first * room ≤ c.min.result = div-mul-le_self c.min.result room in
+    let so_far : min (first * room) c.args.size ≡ first * room = omega (arith, rows, c.min.ensures, c.requires.changed) in
+    let whole : IsBody room f from.head from.length = subst (λ (r : ℕ). IsBody r f from.head from.length) (sym room_is) c.requires.whole in
+    let wanted : List ℕ = spec.edited (body room f from.head from.length) c.args.offset c.args.bytes.now c.args.size in
+    let size : length (body room f from.head from.length) ≡ from.length = body_length room f from.head from.length whole in
+    let same = edited_front (body room f from.head from.length) c.args.offset c.args.bytes.now c.args.size (first * room) (omega (arith, rows, c.min.ensures)) (omega (arith, rows, c.min.ensures, size)) (omega (arith, so_far)) in
+    let begun = begun_front room f (g.N.Nodes.kept old) from wanted c.in_ok-head.head (first * room) (omega (arith, rows, c.min.ensures)) c.requires.held c.in_ok-head.ensures.front same in
+    let same_nodes : g.N.Nodes.node now ≡ f = c.in_ok-old.ensures.same_nodes ∙ c.in_ok-table.ensures.same_nodes ∙ c.in_ok-head.ensures.same_nodes in
+    let same_kept : g.N.Nodes.kept now ≡ g.N.Nodes.kept old = c.in_ok-old.ensures.same_kept ∙ c.in_ok-table.ensures.same_kept ∙ c.in_ok-head.ensures.same_kept in
+    let at_table : g.N.Nodes.node now ≡ g.N.Nodes.node c.front.new.nodes = c.in_ok-old.ensures.same_nodes ∙ c.in_ok-table.ensures.same_nodes in
+    record {
+      begun = subst (λ (n : ℕ). IsBegun room f (g.N.Nodes.kept old) from wanted (g.N.Nodes.node now) (g.N.Nodes.kept now) c.in_ok-head.head n) (sym so_far)
+          (subst (λ (h : Blocks). IsBegun room f (g.N.Nodes.kept old) from wanted h (g.N.Nodes.kept now) c.in_ok-head.head (first * room)) (sym same_nodes)
+          (subst (λ (k : ℕ → Bool). IsBegun room f (g.N.Nodes.kept old) from wanted f k c.in_ok-head.head (first * room)) (sym same_kept) begun));
+      table = subst (λ (h : Blocks). IsTable h c.in_ok-head.head first ((c.args.size - 1) / room) c.in_ok-table.table.blocks) (sym at_table) c.in_ok-table.ensures.table;
+      old = subst (λ (h : Blocks). AreBlocks h from.head c.in_ok-old.old.items) (sym c.in_ok-old.ensures.same_nodes) c.in_ok-old.ensures.listed;
+      few_blocks = few_listed room c.args.body.length end (length c.in_ok-old.old.items) (g.N.Nodes.limit old - 80) room_is c.in_ok-old.ensures.count;
+      reads = few_begun room from.length c.args.offset end first (g.N.Nodes.reads old) (g.N.Nodes.reads c.front.new.nodes) (g.N.Nodes.reads c.start_table.new.nodes) (g.N.Nodes.reads now)
+          least first_is c.in_ok-head.ensures.reads c.in_ok-table.ensures.reads c.in_ok-old.ensures.reads;
+      writes = omega (arith, c.in_ok-old.ensures.writes, c.in_ok-table.ensures.writes, c.in_ok-head.ensures.writes);
+      follows = g.met.N.Nodes.follows_on old c.start_table.new.nodes now (g.met.N.Nodes.follows_on old c.front.new.nodes c.start_table.new.nodes c.in_ok-head.ensures.follows c.in_ok-table.ensures.follows) c.in_ok-old.ensures.follows;
+      sound = c.in_ok-old.ensures.sound;
+      limit = c.in_ok-old.ensures.limit ∙ c.in_ok-table.ensures.limit ∙ c.in_ok-head.ensures.limit;
+      blocks = c.in_ok-old.ensures.blocks ∙ c.in_ok-table.ensures.blocks ∙ c.in_ok-head.ensures.blocks;
+    }
+
+pub edited_bytes-requires-clause-blocks : goal.edited_bytes-requires-clause-blocks
+edited_bytes-requires-clause-blocks g c = subst (AreBlocks (g.N.Nodes.node c.loop-index.nodes) c.args.body.head) (sym c.as_slice.ensures.value) c.loop-index.invariant.old
+
+pub edited_bytes-requires-clause-fits : goal.edited_bytes-requires-clause-fits
+edited_bytes-requires-clause-fits g c =
+    let room : ℕ = c.block_bytes-room.result - 80 in
+    let least : 0 < room = omega (arith, c.block_bytes-room.ensures.least) in
+    let within : c.loop-index.index * room < c.args.size = starts_within room c.loop-index.index c.args.size least (omega arith) (omega (arith, c.loop-index-test.true)) in
+    let ends : c.loop-index.index * room + c.min-count.result ≤ c.args.size = omega (arith, within, c.min-count.ensures) in
+    omega (arith, ends, c.requires.most)
+
+pub returns-in_err-data-clause-reads : goal.returns-in_err-data-clause-reads
+returns-in_err-data-clause-reads g c =
+    let old = c.args.nodes.now in
+    let at = c.loop-index.nodes in
+    let room : ℕ = c.block_bytes-room.result - 80 in
+    let room_is : room ≡ g.N.Nodes.limit old - 80 = omega (arith, c.block_bytes-room.ensures.value) in
+    let least : 0 < room = omega (arith, c.block_bytes-room.ensures.least) in
+    let end : ℕ = c.args.offset + length c.args.bytes.now in
+    let i = c.loop-index.index in
+    let few = few_on room c.args.body.length c.args.offset end (c.min.result / room) i c.min-count.result (g.N.Nodes.reads old) (g.N.Nodes.reads at) (g.N.Nodes.reads c.edited_bytes.new.nodes) (length c.in_ok-old.old.items)
+    least (ap (λ (n : ℕ). n / room) c.min.ensures) (omega (arith, c.loop-index.auto.index)) (omega (arith, c.min-count.ensures)) c.in_ok-old.ensures.count
+    c.edited_bytes.ensures.unread (λ within. c.edited_bytes.ensures.listed (omega (arith, within, c.as_slice.ensures.len, ap length c.as_slice.ensures.value))) c.edited_bytes.ensures.reads c.loop-index.invariant.reads in
+    subst (AreAll c.args.body.length end (g.N.Nodes.reads old) (g.N.Nodes.reads c.edited_bytes.new.nodes)) room_is (λ digits small.
+    few_all room c.args.body.length end (c.min.result / room) (i + 1) (g.N.Nodes.reads old) (g.N.Nodes.reads c.edited_bytes.new.nodes) digits few small)
+
+pub append-requires-clause-few : goal.append-requires-clause-few
+append-requires-clause-few g c =
+    let room : ℕ = c.block_bytes-room.result - 80 in
+    let few : (c.args.size - 1) / room < 2 ^ 15 = few_indices room c.args.size (omega (arith, c.block_bytes-room.ensures.least)) c.requires.most in
+    omega (arith, few, c.loop-index-test.true)
+
+pub append-requires-clause-places : goal.append-requires-clause-places
+append-requires-clause-places g c =
+    let room : ℕ = c.block_bytes-room.result - 80 in
+    let last : ℕ = (c.args.size - 1) / room in
+    let is = subst (λ (h : Blocks). IsTable h c.loop-index.head c.loop-index.index last c.loop-index.table.blocks) (sym c.edited_bytes.ensures.same_nodes) c.loop-index.invariant.table in
+    table_places (g.N.Nodes.node c.edited_bytes.new.nodes) c.loop-index.head c.loop-index.index last c.loop-index.table.blocks (omega (arith, c.loop-index-test.true)) is
+
+pub returns-in_err-head-2-clause-reads : goal.returns-in_err-head-2-clause-reads
+returns-in_err-head-2-clause-reads g c =
+    let old = c.args.nodes.now in
+    let at = c.loop-index.nodes in
+    let room : ℕ = c.block_bytes-room.result - 80 in
+    let room_is : room ≡ g.N.Nodes.limit old - 80 = omega (arith, c.block_bytes-room.ensures.value) in
+    let least : 0 < room = omega (arith, c.block_bytes-room.ensures.least) in
+    let end : ℕ = c.args.offset + length c.args.bytes.now in
+    let i = c.loop-index.index in
+    let few = few_on room c.args.body.length c.args.offset end (c.min.result / room) i c.min-count.result (g.N.Nodes.reads old) (g.N.Nodes.reads at) (g.N.Nodes.reads c.edited_bytes.new.nodes) (length c.in_ok-old.old.items)
+    least (ap (λ (n : ℕ). n / room) c.min.ensures) (omega (arith, c.loop-index.auto.index)) (omega (arith, c.min-count.ensures)) c.in_ok-old.ensures.count
+    c.edited_bytes.ensures.unread (λ within. c.edited_bytes.ensures.listed (omega (arith, within, c.as_slice.ensures.len, ap length c.as_slice.ensures.value))) c.edited_bytes.ensures.reads c.loop-index.invariant.reads in
+    subst (AreAll c.args.body.length end (g.N.Nodes.reads old) (g.N.Nodes.reads c.append.new.nodes)) room_is (λ digits small.
+    let most = few_all room c.args.body.length end (c.min.result / room) (i + 1) (g.N.Nodes.reads old) (g.N.Nodes.reads c.edited_bytes.new.nodes) digits few small in
+    omega (arith, most, c.append.ensures.reads))
+
+pub returns-clause-reads : goal.returns-clause-reads
+returns-clause-reads g c =
+    let old = c.args.nodes.now in
+    let room : ℕ = c.block_bytes-room.result - 80 in
+    let room_is : room ≡ g.N.Nodes.limit old - 80 = omega (arith, c.block_bytes-room.ensures.value) in
+    let end : ℕ = c.args.offset + length c.args.bytes.now in
+    subst (AreAll c.args.body.length end (g.N.Nodes.reads old) (g.N.Nodes.reads c.loop-index.nodes)) room_is (λ digits small.
+    few_all room c.args.body.length end (c.min.result / room) c.loop-index.index (g.N.Nodes.reads old) (g.N.Nodes.reads c.loop-index.nodes) digits c.loop-index.invariant.reads small)

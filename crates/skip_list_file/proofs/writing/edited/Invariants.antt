@@ -1,6 +1,9 @@
-use Rattle.std.proofs.Common.{◌≡◌, ◌+◌, ◌-◌, ◌*◌, min}
-use Rattle.block_trees.specs.Bodies.{body}
+use Rattle.std.proofs.Common.{◌≡◌, ◌+◌, ◌-◌, ◌*◌, ◌≤◌, length, min}
+use Rattle.block_trees.specs.Bodies.{body, head_index}
+use Rattle.skip_list_file.specs.Reading.{AreBlocks}
 use Rattle.skip_list_file.specs.Writing as spec
+use Rattle.skip_list_file.specs.Writing.{IsTable}
+use Rattle.skip_list_file.proofs.Counted.{AreFew}
 use Rattle.skip_list_file.proofs.Growth.{IsBegun}
 use Rattle.skip_list_file.proofs.writing.edited.Given as goal
 
@@ -9,6 +12,10 @@ abbrev pub invariant-loop-index : goal.invariant-loop-index
 invariant-loop-index g l = record {
   begun : IsBegun l.room (g.N.Nodes.node l.fn.nodes) (g.N.Nodes.kept l.fn.nodes) l.body (spec.edited (body l.room (g.N.Nodes.node l.fn.nodes) l.body.head l.body.length) l.offset l.bytes l.size)
       (g.N.Nodes.node l.nodes) (g.N.Nodes.kept l.nodes) l.head (min (l.index * l.room) l.size);
+  table : IsTable (g.N.Nodes.node l.nodes) l.head l.index l.last l.table.blocks;
+  old : AreBlocks (g.N.Nodes.node l.nodes) l.body.head l.old.items;
+  few_blocks : length l.old.items ≤ head_index (g.N.Nodes.limit l.fn.nodes - 80) l.body.length + 1;
+  reads : AreFew l.room l.body.length (l.offset + length l.bytes) l.first l.index (g.N.Nodes.reads l.fn.nodes) (g.N.Nodes.reads l.nodes);
   writes : g.N.Nodes.writes l.nodes ≡ g.N.Nodes.writes l.fn.nodes + (l.index - l.first);
   follows : g.N.Nodes.follows l.fn.nodes l.nodes;
   sound : g.N.Nodes.is_sound l.nodes;

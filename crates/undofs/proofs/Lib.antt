@@ -8,6 +8,7 @@ pub mod Listings
 pub mod MovedEntries
 pub mod NewDirectories
 pub mod OpenCalls
+pub mod OpenChanges
 pub mod PathCalls
 pub mod Refusals
 pub mod RenameSteps

@@ -198,7 +198,7 @@ mounted_at e t h files m all machine = record {
 }
 
 -- the open files with one more
-files_after : (m : Machine) (path : Path) (flags : OpenFlags) (number : ℕ) → least_free m.descriptors ≡ Some number
+pub files_after : (m : Machine) (path : Path) (flags : OpenFlags) (number : ℕ) → least_free m.descriptors ≡ Some number
     → option_map_or (λ n. opened m.descriptors n (record { path = path; flags = flags })) (least_free m.descriptors) m.descriptors ≡ opened m.descriptors number (record { path = path; flags = flags })
 files_after m path flags number free = ap (λ o. option_map_or (λ n. opened m.descriptors n (record { path = path; flags = flags })) o m.descriptors) free
 
@@ -210,7 +210,7 @@ next_is m path flags number made fine makes free =
     ap (machine_of m (Call.Open path flags)) fine
     ∙ (λ i. record { history = option_map_or (changed m.history) (makes i) m.history; descriptors = files_after m path flags number free i })
 
-made_by : (m : Machine) (path : Path) (flags : OpenFlags) (b : Bool) → open_changes (present_tree m) path flags ≡ b → tree_after m (Call.Open path flags) ≡ cond b (Some (file_put (present_tree m) path [])) None
+pub made_by : (m : Machine) (path : Path) (flags : OpenFlags) (b : Bool) → open_changes (present_tree m) path flags ≡ b → tree_after m (Call.Open path flags) ≡ cond b (Some (file_put (present_tree m) path [])) None
 made_by m path flags b is = ap (λ c. cond c (Some (file_put (present_tree m) path [])) None) is
 
 answers_number : (space : Space) (m : Machine) (path : Path) (flags : OpenFlags) (number : ℕ) → refusal m (Call.Open path flags) ≡ None → least_free m.descriptors ≡ Some number
@@ -266,9 +266,6 @@ opened_answer d s e t path flags number files m l lawful fine same free is =
 
 -- ---- a file that is made or cut
 
-makes : (m : Machine) (path : Path) (flags : OpenFlags) → refusal m (Call.Open path flags) ≡ None → open_changes (present_tree m) path flags ≡ true → makes_version m (Call.Open path flags) ≡ true
-makes m path flags fine change = and_from (is_none (refusal m (Call.Open path flags))) _ (ap is_none fine) (ap is_some (made_by m path flags true change))
-
 -- what is found and fits is below the root, and no directory
 pub found_below : (f : Blocks) (root : ℕ) (path : Path) (flags : OpenFlags) (x : Found) → look_up f root path ≡ Ok x → found_refusal flags x ≡ None → 0 < length path
 found_below f root [] flags (found.Missing full) led fits = absurd cc
@@ -279,23 +276,6 @@ found_below f root [] flags (found.Dir block) led fits = absurd (go (creates fla
     go true e = cc
     go false e = cc
 found_below f root (n ∷ path) flags x led fits = omega arith
-
-no_directory : (room : ℕ) (f : Blocks) (flags : OpenFlags) (x : Found) → found_refusal flags x ≡ None → entry_of room f x ≢ Some Entry.Dir
-no_directory room f flags (found.Missing full) fits is = cc
-no_directory room f flags (found.File head size) fits is = cc
-no_directory room f flags (found.Dir block) fits is = go (creates flags && is_exclusive flags) fits
-  where
-    go : (b : Bool) → cond b (Some Exists) (Some IsDirectory) ≡ None → ⊥
-    go true e = cc
-    go false e = cc
-
--- what fits has room in its directory
-not_full : (flags : OpenFlags) (x : Found) → found_refusal flags x ≡ None → x ≢ found.Missing true
-not_full flags x fits is = go (creates flags) (ap (found_refusal flags) (sym is) ∙ fits)
-  where
-    go : (b : Bool) → cond (not b) (Some NoEntry) (Some DirectoryFull) ≡ None → ⊥
-    go true e = cc
-    go false e = cc
 
 room_in : (entries : Option (List Item)) (name : Name) (at : Place) (x : Found) → x ≢ found.Missing true → found_in entries name ≡ Ok x → edit_refusal entries name (Some at) ≡ None
 room_in None name at x free e = absurd cc
@@ -312,72 +292,3 @@ room_for f root (n ∷ []) at x free e = room_in (entries_of (f root)) n at x fr
 room_for f root (n ∷ m ∷ p) at x free e =
     let step = on_below (below_in (entries_of (f root)) n) (λ below. look_up f below (m ∷ p)) x e in
     ap (λ (below : Result ℕ Fault). on_way below (λ below. path_refusal f below (m ∷ p) (Some at))) step.1 ∙ room_for f step.0 (m ∷ p) at x free step.2
-
--- read-only mode, or no serial left
-pub change_answer : (d : Device) (s : State) (e : Device) (t : State) (path : Path) (flags : OpenFlags) (fault : Fault) → IsLooked d s e t → refusal (machine_on d s) (Call.Open path flags) ≡ None
-    → open_changes (present_tree (machine_on d s)) path flags ≡ true
-    → ((fault ≡ ReadOnly) × (is_read_only t.storage.bad ≡ true)) ⊎ ((fault ≡ Overflow) × (t.history.next ≡ last_serial))
-    → Refuses (seen_on d s) (machine_on d s) (Call.Open path flags) fault (seen_on e t)
-change_answer d s e t path flags fault l fine change why = change_refuses d s e t (Call.Open path flags) fault l (makes (machine_on d s) path flags fine change) why
-
--- what the writing of the path is refused with
-pub writing_answer : (d : Device) (s : State) (e : Device) (t : State) (f : Device) (u : State) (path : Path) (flags : OpenFlags) (root : ℕ) (at : Place) (x : Found) (fault : Fault) → IsLooked d s e t
-    → refusal (machine_on d s) (Call.Open path flags) ≡ None → open_changes (present_tree (machine_on d s)) path flags ≡ true → look_up (node_of e) root path ≡ Ok x → found_refusal flags x ≡ None
-    → (is_edit_fault fault ≡ true → path_refusal (node_of e) root path (Some at) ≡ Some fault) → (is_edit_fault fault ≡ false → WorkCause (seen_on e t) fault (seen_on f u)) → IsEditFault fault
-    → Refuses (seen_on d s) (machine_on d s) (Call.Open path flags) fault (seen_on f u)
-writing_answer d s e t f u path flags root at x fault l fine change led fits refused why is =
-    let other = not_refused _ fault (room_for (node_of e) root path at x (not_full flags x fits) led) refused in
-    let below = found_below (node_of e) root path flags x led fits in
-    writing_refuses d s e t f u (Call.Open path flags) fault l refl (makes (machine_on d s) path flags fine change) below (make_fault fault other is) (why other)
-
--- the new root stands, and its tree is the old one with the empty file
-new_root : (d : Device) (s : State) (e : Device) (t : State) (from to : ℕ) (path : Path) (flags : OpenFlags) (x : Found) → IsMounted d s → IsStanding d s.storage.ring from → IsWorked d s e t
-    → look_up (node_of d) from path ≡ Ok x → found_refusal flags x ≡ None → is_path path ≡ true
-    → IsRewritten (node_of d) (set.contains t.storage.ring.used) (node_of e) from to path (Some (place.File 0 0)) → HasNewTree e t to (file_put (tree_on d from) path [])
-new_root d s e t from to path flags x m stands w led fits lawful rewritten =
-    let differs : tree (room_of d) (node_of d) from path ≢ Some Entry.Dir =
-    λ is. no_directory (room_of d) (node_of d) flags x fits (sym (found_is (room_of d) (node_of d) from path x led).1 ∙ is) in
-    rewritten_root d s e t from to path (Some (place.File 0 0)) (file_put (tree_on d from) path []) m stands w rewritten (λ root names block reached. let none = names.0 in absurd (omega arith))
-    (put_file_law (room_of d) (node_of d) (node_of e) (set.contains s.storage.ring.used) (set.contains t.storage.ring.used) from to 0 0 path (worked_keeps d s e t m w) stands.held stands.rooted differs (path_within path lawful) refl rewritten)
-
--- a file that is made or cut, in the tree of the new root
-pub made_answer : (d : Device) (s : State) (e : Device) (t : State) (f : Device) (u : State) (path : Path) (flags : OpenFlags) (root to number : ℕ) (x : Found) (h : Past ℕ) (files : Descriptors)
-    → IsMounted d s → present_root s.history ≡ Some root → IsLooked d s e t → is_path path ≡ true
-    → refusal (machine_on d s) (Call.Open path flags) ≡ None → open_changes (present_tree (machine_on d s)) path flags ≡ true → least_free s.files ≡ Some number
-    → look_up (node_of e) root path ≡ Ok x → found_refusal flags x ≡ None → is_read_only t.storage.bad ≡ false → t.history.next < last_serial → IsWorked e t f u
-    → IsRewritten (node_of e) (set.contains u.storage.ring.used) (node_of f) root to path (Some (place.File 0 0))
-    → h ≡ changed u.history to → files ≡ opened u.files number (record { path = path; flags = flags })
-    → IsAnswered d s (Call.Open path flags) (Ok (Reply.Fd number)) f (record u { history = h; files = files }) false
-made_answer d s e t f u path flags root to number x h files m is l lawful fine change free led fits writable serial w rewritten pushes opens =
-    record {
-      mounted = changed_mounted d s f u to call made (Ok (Reply.Fd number)) h files pushes m all new lawful step;
-      step = step;
-      is_off = all.rest.is_off;
-      pages = worked_pages d s f u m all;
-    }
-  where
-    call : Call
-    call = Call.Open path flags
-
-    n : Machine
-    n = machine_on d s
-
-    -- the present tree with the empty file
-    made : Tree
-    made = file_put (present_tree n) path []
-
-    first : IsWorked d s e t
-    first = looked_worked d s e t l
-
-    all : IsWorked d s f u
-    all = worked_on d s e t f u first w
-
-    new : HasNewTree f u to made
-    new = subst (λ (p : Tree). HasNewTree f u to (file_put p path [])) (sym (later_tree d s e t root m is l))
-        (new_root e t f u root to path flags x (worked_mounted d s e t m first) (later_stands d s e t root m is l) w led fits lawful rewritten)
-
-    files_are : files ≡ descriptors_after n call
-    files_are = opens ∙ ap (λ (fs : Descriptors). opened fs number (record { path = path; flags = flags })) all.rest.files ∙ sym (files_after n path flags number free)
-
-    step : CallStep (seen_on d s) n false call (Ok (Reply.Fd number)) (seen_on f (record u { history = h; files = files })) (machine_on f (record u { history = h; files = files })) false
-    step = changed_step d s e t f u to call made (Reply.Fd number) h files pushes files_are m l fine (made_by n path flags true change) (ap (λ o. Reply.Fd (unwrap_or o 0)) free) writable serial w new

@@ -1,7 +1,7 @@
 -- The step of a rename: of the same path, and of what is moved.
 use Rattle.std.proofs.Common.{◌≡◌, ℕ, ◌<◌, true, false, Option, Some, None, Ok, [], ◌∷◌, refl, sym, ap, subst, ◌∙◌, inl, inr, arith}
 use Rattle.std.proofs.lemmas.Bool.{true≢false, and_parts}
-use Rattle.std.specs.Prelude.{is_some, if◌then◌else◌}
+use Rattle.std.specs.Prelude.{is_some, ◌&&◌, if◌then◌else◌}
 use Rattle.std.specs.Option.{option_map_or}
 use Rattle.std.specs.FinSet as set
 use Rattle.fs_types.specs.Names.{Path, same_path, is_path}
@@ -23,13 +23,14 @@ use Rattle.block_trees.proofs.MovedTrees as trees
 use Rattle.undofs.specs.Seen.{room_of, tree_on, seen_on, machine_on, is_read_only}
 use Rattle.undofs.specs.Steps.{last_serial, Refuses, CallStep}
 use Rattle.undofs.specs.Mounted.{IsMounted}
-use Rattle.undofs.specs.Renames.{IsMovable}
+use Rattle.undofs.specs.Opening.{IsAnswered}
 use Rattle.undofs.specs.Worked.{storage_on, IsWorked, IsLooked}
 use Rattle.undofs.specs.declared.state.State.{State}
-use Rattle.undofs.proofs.ChangeSteps.{path_within, makes, later_stands, later_tree, worked_keeps, HasNewTree, changed_step}
+use Rattle.undofs.proofs.ChangeSteps.{later_tree}
+use Rattle.undofs.proofs.ChangedCalls.{IsChangeBy}
 use Rattle.undofs.proofs.MovedEntries.{PlaceRefused, PlaceFound, MoveRefused, read_later, read_may}
 use Rattle.undofs.proofs.PathCalls.{OnlyReads, read_done}
-use Rattle.undofs.proofs.Standing.{same_room, looked_worked, worked_later, worked_machine, worked_mounted}
+use Rattle.undofs.proofs.Standing.{same_room, looked_worked, worked_later, worked_machine, worked_mounted, worked_pages}
 
 -- Refusals.
 
@@ -70,14 +71,11 @@ same_reads m old new same = record {
   no_record = refl;
 }
 
-pub same_step : (d : Device) (s : State) (e : Device) (t : State) (old new : Path) → IsMounted d s → IsLooked d s e t → refusal (machine_on d s) (Call.Rename old new) ≡ None → same_path old new ≡ true
+same_step : (d : Device) (s : State) (e : Device) (t : State) (old new : Path) → IsMounted d s → IsLooked d s e t → refusal (machine_on d s) (Call.Rename old new) ≡ None → same_path old new ≡ true
     → CallStep (seen_on d s) (machine_on d s) false (Call.Rename old new) (Ok Reply.Empty) (seen_on e t) (machine_on e t) false
 same_step d s e t old new m l fine same = read_done d s e t (Call.Rename old new) Reply.Empty m l (same_reads (machine_on d s) old new same) fine refl
 
 -- Another path.
-
-pub rename_makes : (m : Machine) (old new : Path) → refusal m (Call.Rename old new) ≡ None → same_path old new ≡ false → makes_version m (Call.Rename old new) ≡ true
-rename_makes m old new fine differ = makes m (Call.Rename old new) fine (ap (λ b. is_some (if b then None else Some (move (present_tree m) old new))) differ)
 
 pub rename_more : (room : ℕ) (m : Machine) (old new : Path) → same_path old new ≡ false → 0 < change_need room m (Call.Rename old new)
 rename_more room m [] [] differ = absurd (true≢false differ)
@@ -90,25 +88,20 @@ rename_apart d s old new m fine differ = elim (machine.rename_law (machine_on d 
   | inr apart ↦ apart
 ]
 
--- the tree where what stood at the one path stands at the other
-pub rename_root : (d : Device) (s : State) (e : Device) (t : State) (f : Device) (u : State) (root to : ℕ) (old new : Path) (place : Place) → IsMounted d s → present_root s.history ≡ Some root → IsLooked d s e t
-    → IsMovable (node_of e) root old new place → IsWorked e t f u → IsMoved (node_of e) (node_of f) (set.contains t.storage.ring.used) (set.contains u.storage.ring.used) root to old new place → HasNewTree f u to (move (tree_on e root) old new)
-rename_root d s e t f u root to old new place m is l movable w moved =
-    let mid = worked_mounted d s e t m (looked_worked d s e t l) in
-    let stands = later_stands d s e t root m is l in
-    let keeps = worked_keeps e t f u mid w in
-    let short = path_within new (and_parts (is_path old) (is_path new) movable.lawful).1 in
-    let all = trees.move_law (node_of e) (node_of f) (set.contains t.storage.ring.used) (set.contains u.storage.ring.used) root to old new place keeps stands.held movable.stands moved in
-    let law = trees.rename_law (room_of e) (node_of e) (node_of f) (set.contains t.storage.ring.used) (set.contains u.storage.ring.used) root to old new place keeps stands.held stands.rooted movable.stands short movable.shallow moved in
-    let same : room_of f ≡ room_of e = same_room (storage_on e t) (storage_on f u) w.evolved in
-    record {
-      stands = record { held = all.held; rooted = subst (λ room. IsRoot room (node_of f) to) (sym same) law.0 };
-      is = ap (λ room. root_tree room (node_of f) to) same ∙ law.1;
-    }
+pub rename_change : (d : Device) (s : State) (e : Device) (t : State) (old new : Path) → IsMounted d s → IsLooked d s e t → refusal (machine_on d s) (Call.Rename old new) ≡ None → same_path old new ≡ false → is_path old && is_path new ≡ true
+    → IsChangeBy d s (Call.Rename old new) (λ root. move (tree_on e root) old new) Reply.Empty
+rename_change d s e t old new m l fine differ lawful = record {
+  fine = fine;
+  after = λ root is. ap (λ b. if b then None else Some (move (present_tree (machine_on d s)) old new)) differ ∙ ap (λ (x : Tree). Some (move x old new)) (later_tree d s e t root m is l);
+  heavy = refl;
+  paths = lawful;
+  more = λ room. rename_more room (machine_on d s) old new differ;
+  replies = λ space. refl;
+}
 
-pub rename_step : (d : Device) (s : State) (e : Device) (t : State) (f : Device) (u : State) (root to : ℕ) (old new : Path) (h : Past ℕ) → h ≡ changed u.history to → IsMounted d s → present_root s.history ≡ Some root → IsLooked d s e t
-    → refusal (machine_on d s) (Call.Rename old new) ≡ None → same_path old new ≡ false → is_read_only t.storage.bad ≡ false → t.history.next < last_serial → IsWorked e t f u → HasNewTree f u to (move (tree_on e root) old new)
-    → CallStep (seen_on d s) (machine_on d s) false (Call.Rename old new) (Ok Reply.Empty) (seen_on f (record u { history = h })) (machine_on f (record u { history = h })) false
-rename_step d s e t f u root to old new h pushes m is l fine differ writable serial w tree =
-    changed_step d s e t f u to (Call.Rename old new) (move (tree_on e root) old new) Reply.Empty h u.files pushes (w.rest.files ∙ l.rest.files) m l fine
-    (ap (λ b. if b then None else Some (move (present_tree (machine_on d s)) old new)) differ ∙ ap (λ (x : Tree). Some (move x old new)) (later_tree d s e t root m is l)) refl writable serial w tree
+-- what is answered where both paths are the same
+pub same_answer : (d : Device) (s : State) (e : Device) (t : State) (old new : Path) → IsMounted d s → IsLooked d s e t → refusal (machine_on d s) (Call.Rename old new) ≡ None → same_path old new ≡ true
+    → IsAnswered d s (Call.Rename old new) (Ok Reply.Empty) e t false
+same_answer d s e t old new m l fine same =
+    let w = looked_worked d s e t l in
+    record { mounted = worked_mounted d s e t m w; step = same_step d s e t old new m l fine same; is_off = w.rest.is_off; pages = worked_pages d s e t m w }

@@ -10,6 +10,7 @@ use Rattle.fs_types.specs.History.{Past, present_root, changed}
 use Rattle.fs_types.specs.Machine.{Machine, refusal, found_refusal, unlink_refusal, rmdir_refusal, makes_version}
 use Rattle.fs_types.specs.Descriptors.{Descriptors, is_open}
 use Rattle.fs_types.specs.declared.calls.Call.{Call}
+use Rattle.fs_types.specs.declared.calls.Reply.{Reply}
 use Rattle.fs_types.specs.declared.faults.Fault.{Fault}
 use Rattle.fs_types.specs.declared.faults.Fault.TheVariants.{NotEmpty, Busy}
 use Rattle.flash_model.specs.Device.{Device}
@@ -33,44 +34,12 @@ use Rattle.undofs.specs.Steps.{empty, last_serial, Refuses}
 use Rattle.undofs.specs.Mounted.{IsMounted, IsCalled}
 use Rattle.undofs.specs.Worked.{IsWorked, IsLooked}
 use Rattle.undofs.specs.declared.state.State.{State}
-use Rattle.undofs.proofs.ChangeSteps.{makes, later_stands, later_tree, worked_keeps, HasNewTree, rewritten_root, changed_called}
+use Rattle.undofs.proofs.ChangeSteps.{later_tree}
+use Rattle.undofs.proofs.ChangedCalls.{IsChangeBy}
 use Rattle.undofs.proofs.PathCalls.{present_tree_is, present_stands, LooksUp, found_by}
 use Rattle.undofs.proofs.Standing.{worked_mounted, looked_worked}
 
--- The path can be edited.
-
-editable_in : (entries : Option (List Item)) (name : Name) (x : Found) → found_in entries name ≡ Ok x → edit_refusal entries name None ≡ None
-editable_in None name x e = absurd cc
-editable_in (Some items) name x e = refl
-
--- where a look up finds something, a name can be taken out
-pub found_editable : (f : Blocks) (root : ℕ) (path : Path) (x : Found) → look_up f root path ≡ Ok x → path_refusal f root path None ≡ None
-found_editable f root [] x e = refl
-found_editable f root (n ∷ []) x e = editable_in (entries_of (f root)) n x e
-found_editable f root (n ∷ m ∷ p) x e =
-    let step = on_below (below_in (entries_of (f root)) n) (λ below. look_up f below (m ∷ p)) x e in
-    ap (λ (below : Result ℕ Fault). on_way below (λ below. path_refusal f below (m ∷ p) None)) step.1 ∙ found_editable f step.0 (m ∷ p) x step.2
-
--- The tree without the entry.
-
--- the present root without what a path leads to and nothing stands below, after reads
-removed_root : (d : Device) (s : State) (e : Device) (t : State) (f : Device) (u : State) (root to : ℕ) (path : Path) (at : Place) → IsMounted d s → present_root s.history ≡ Some root → IsLooked d s e t
-    → leads (node_of e) (Dir root) path ≡ Some at → ((n : Name) → child (node_of e) at n ≡ None) → IsWorked e t f u → IsRewritten (node_of e) (set.contains u.storage.ring.used) (node_of f) root to path None → HasNewTree f u to (remove (tree_on e root) path)
-removed_root d s e t f u root to path at m is l led none w rewritten =
-    let mid = worked_mounted d s e t m (looked_worked d s e t l) in
-    let stands = later_stands d s e t root m is l in
-    rewritten_root e t f u root to path None (remove (tree_on e root) path) mid stands w rewritten tt
-    (remove_law (room_of e) (node_of e) (node_of f) (set.contains t.storage.ring.used) (set.contains u.storage.ring.used) root to path (worked_keeps e t f u mid w) stands.held stands.rooted
-    (last_at (room_of e) (node_of e) path (Dir root) at led none) (stands.rooted path at led).1 rewritten)
-
 -- An empty directory.
-
--- the tree without an empty directory
-pub rmdir_root : (d : Device) (s : State) (e : Device) (t : State) (f : Device) (u : State) (root to : ℕ) (path : Path) (block : ℕ) → IsMounted d s → present_root s.history ≡ Some root → IsLooked d s e t
-    → look_up (node_of e) root path ≡ Ok (found.Dir block) → entries_of (node_of e block) ≡ Some [] → IsWorked e t f u → IsRewritten (node_of e) (set.contains u.storage.ring.used) (node_of f) root to path None
-    → HasNewTree f u to (remove (tree_on e root) path)
-rmdir_root d s e t f u root to path block m is l led empty w rewritten =
-    removed_root d s e t f u root to path (Dir block) m is l (found_leads (node_of e) root path block led) (λ n. ap (λ (o : Option (List Item)). named (unwrap_or o []) n) empty) w rewritten
 
 pub rmdir_looks : (d : Device) (s : State) (path : Path) (root : ℕ) → IsMounted d s → present_root s.history ≡ Some root → (length path == 0) ≡ false → LooksUp d s (Call.Rmdir path) root path (rmdir_refusal (tree_on d root) path)
 rmdir_looks d s path root m is below = record {
@@ -127,26 +96,22 @@ rmdir_accepts d s e path root block count items x m is below same led called spe
     rmdir_counted d s e path root block items x m is below same led called spelled
     ∙ ap (λ (all : List Item). if nat_lt 0 (length all) then Some NotEmpty else None) (none_counted count items counts few)
 
-pub rmdir_makes : (m : Machine) (path : Path) → refusal m (Call.Rmdir path) ≡ None → makes_version m (Call.Rmdir path) ≡ true
-rmdir_makes m path fine = makes m (Call.Rmdir path) fine refl
-
-pub rmdir_called : (d : Device) (s : State) (e : Device) (t : State) (f : Device) (u : State) (root to : ℕ) (path : Path) (h : Past ℕ) → h ≡ changed u.history to → IsMounted d s → present_root s.history ≡ Some root → IsLooked d s e t
-    → refusal (machine_on d s) (Call.Rmdir path) ≡ None → is_path path ≡ true → is_read_only t.storage.bad ≡ false → t.history.next < last_serial → IsWorked e t f u → HasNewTree f u to (remove (tree_on e root) path)
-    → IsCalled (Unit {0}) d s (Call.Rmdir path) empty (Ok tt) f (record u { history = h })
-rmdir_called d s e t f u root to path h pushes m is l fine lawful writable serial w new =
-    changed_called d s e t f u to (Call.Rmdir path) (remove (tree_on e root) path) h pushes m l fine (ap (λ (x : Tree). Some (remove x path)) (later_tree d s e t root m is l)) refl refl lawful writable serial w new
+pub rmdir_change : (d : Device) (s : State) (e : Device) (t : State) (path : Path) → IsMounted d s → IsLooked d s e t → refusal (machine_on d s) (Call.Rmdir path) ≡ None → is_path path ≡ true → 0 < length path
+    → IsChangeBy d s (Call.Rmdir path) (λ root. remove (tree_on e root) path) Reply.Empty
+rmdir_change d s e t path m l fine lawful below = record {
+  fine = fine;
+  after = λ root is. ap (λ (x : Tree). Some (remove x path)) (later_tree d s e t root m is l);
+  heavy = refl;
+  paths = lawful;
+  more = λ room. below;
+  replies = λ space. refl;
+}
 
 -- A file.
 
 pub file_below : (f : Blocks) (root : ℕ) (path : Path) (head size : ℕ) → look_up f root path ≡ Ok (found.File head size) → 0 < length path
 file_below f root [] head size e = absurd cc
 file_below f root (n ∷ path) head size e = omega arith
-
--- the tree without a file
-pub unlink_root : (d : Device) (s : State) (e : Device) (t : State) (f : Device) (u : State) (root to : ℕ) (path : Path) (head size : ℕ) → IsMounted d s → present_root s.history ≡ Some root → IsLooked d s e t
-    → look_up (node_of e) root path ≡ Ok (found.File head size) → IsWorked e t f u → IsRewritten (node_of e) (set.contains u.storage.ring.used) (node_of f) root to path None → HasNewTree f u to (remove (tree_on e root) path)
-unlink_root d s e t f u root to path head size m is l led w rewritten =
-    removed_root d s e t f u root to path (File head size) m is l (found_leads_file (node_of e) root path head size led) (λ n. refl) w rewritten
 
 pub unlink_looks : (d : Device) (s : State) (path : Path) (root : ℕ) → IsMounted d s → present_root s.history ≡ Some root → LooksUp d s (Call.Unlink path) root path (unlink_refusal (machine_on d s) path)
 unlink_looks d s path root m is = record {
@@ -162,11 +127,13 @@ unlink_found d s files path root head size x busy m is same led called told =
     found_by d s (Call.Unlink path) root path (unlink_refusal (machine_on d s) path) (unlink_looks d s path root m is) x (found.File head size) led called
     ∙ ap (λ b. if b then Some Busy else None) (ap (λ (ds : Descriptors). is_open ds path) (sym same) ∙ told)
 
-pub unlink_makes : (m : Machine) (path : Path) → refusal m (Call.Unlink path) ≡ None → makes_version m (Call.Unlink path) ≡ true
-unlink_makes m path fine = makes m (Call.Unlink path) fine refl
-
-pub unlink_called : (d : Device) (s : State) (e : Device) (t : State) (f : Device) (u : State) (root to : ℕ) (path : Path) (h : Past ℕ) → h ≡ changed u.history to → IsMounted d s → present_root s.history ≡ Some root → IsLooked d s e t
-    → refusal (machine_on d s) (Call.Unlink path) ≡ None → is_path path ≡ true → is_read_only t.storage.bad ≡ false → t.history.next < last_serial → IsWorked e t f u → HasNewTree f u to (remove (tree_on e root) path)
-    → IsCalled (Unit {0}) d s (Call.Unlink path) empty (Ok tt) f (record u { history = h })
-unlink_called d s e t f u root to path h pushes m is l fine lawful writable serial w new =
-    changed_called d s e t f u to (Call.Unlink path) (remove (tree_on e root) path) h pushes m l fine (ap (λ (x : Tree). Some (remove x path)) (later_tree d s e t root m is l)) refl refl lawful writable serial w new
+pub unlink_change : (d : Device) (s : State) (e : Device) (t : State) (path : Path) → IsMounted d s → IsLooked d s e t → refusal (machine_on d s) (Call.Unlink path) ≡ None → is_path path ≡ true → 0 < length path
+    → IsChangeBy d s (Call.Unlink path) (λ root. remove (tree_on e root) path) Reply.Empty
+unlink_change d s e t path m l fine lawful below = record {
+  fine = fine;
+  after = λ root is. ap (λ (x : Tree). Some (remove x path)) (later_tree d s e t root m is l);
+  heavy = refl;
+  paths = lawful;
+  more = λ room. below;
+  replies = λ space. refl;
+}

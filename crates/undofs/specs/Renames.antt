@@ -13,7 +13,7 @@ use Rattle.node_format.specs.declared.places.Place.TheVariants.{Dir}
 use Rattle.block_trees.specs.Bodies.{Blocks}
 use Rattle.block_trees.specs.Laws.{IsShallow}
 use Rattle.block_trees.specs.Trees.{leads}
-use Rattle.directory.specs.Moves.{move_refusal}
+use Rattle.tree_edits.specs.Edits.{IsMovable}
 
 -- why an entry is not moved to a path: the path cannot be looked up, or what stands there is not replaced
 abbrev pub target_refusal : Tree → Path → Entry → Option Fault
@@ -23,16 +23,7 @@ target_refusal t path entry = option_or (lookup_refusal (get t) path) (replace_r
 abbrev pub lacks_room : Tree → Path → Bool
 lacks_room t path = is_none (get t path) && is_full t (parent_of path)
 
--- what an old path leads to can be moved to a new one: no path gets too long, and the new name has room
-pub record IsMovable (f : Blocks) (root : ℕ) (old new : Path) (place : Place) : Type 0 where
-  pub lawful : is_path old && is_path new ≡ true
-  pub differ : same_path old new ≡ false
-  pub lawful_place : is_place place ≡ true
-  pub stands : leads f (Dir root) old ≡ Some place
-  pub shallow : IsShallow f place (16 - length new)
-  pub editable : move_refusal f root old new place ≡ None
-
 -- what is to be moved: nothing where both paths are the same
 abbrev pub IsToMove : Blocks → ℕ → Path → Path → Option Place → Type 0
 IsToMove f root old new None = same_path old new ≡ true
-IsToMove f root old new (Some place) = IsMovable f root old new place
+IsToMove f root old new (Some place) = (same_path old new ≡ false) × IsMovable f root old new place

@@ -23,7 +23,7 @@ ghost use Rattle.undofs.specs.Seen.{seen_on, machine_on};
 ghost use Rattle.undofs.specs.Steps.{replied, empty, is_cut_answer, Refuses};
 ghost use Rattle.undofs.specs.Worked.{IsWorked, IsLooked, WorkCause};
 
-use crate::checks::check_change;
+use crate::changes::change;
 use crate::state::State;
 use bitflags::Flags;
 use directory::{Found, with_entry};
@@ -33,6 +33,7 @@ use node_format::Place;
 use node_store::Store;
 use open_files::{OpenFile, are_lawful};
 use std::alloc::Global;
+use tree_edits::Edit;
 
 impl State {
     /// The number is free.
@@ -80,16 +81,13 @@ impl State {
     {
         let root = self.history.root();
         let (found, number) = self.check_open(flash, root, path, flags)?;
+        let file = OpenFile::new(path.clone()?, flags);
         if !is_changed(found, flags) {
-            let file = OpenFile::new(path.clone()?, flags);
             self.files.open(number, file);
             return Ok(number);
         }
-        check_change(&self.history, &self.storage)?;
-        let file = OpenFile::new(path.clone()?, flags);
-        let place = Place::File { head: 0, length: 0 };
-        let root = self.write_entry(alloc, flash, root, path, place)?;
-        self.history.push(root);
+        let edit = Edit::PutEmptyFile { path };
+        change(alloc, flash, &mut self.history, &mut self.storage, edit)?;
         self.files.open(number, file);
         Ok(number)
     }

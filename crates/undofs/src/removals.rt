@@ -2,33 +2,27 @@
 //! order: whether an earlier one answered that the power is off; its own refusals; read-only mode;
 //! the greatest serial; and then it works.
 ghost use Rattle.std.specs.Prelude.{◌≡◌, ◌<◌, ℕ, true, false, length, None, Some, [], Ok, Err, IfOk, IfErr, OnOk};
-ghost use Rattle.std.specs.FinSet as set;
 ghost use Rattle.fs_types.specs.History.{present_root};
 ghost use Rattle.fs_types.specs.Machine.{refusal};
 ghost use Rattle.fs_types.specs.Names.{is_path};
 ghost use Rattle.fs_types.specs.declared.calls.Call.{Call};
-ghost use Rattle.node_format.specs.declared.places.Place.TheVariants.{Dir};
 ghost use Rattle.node_store.specs.NodePages.{node_of};
-ghost use Rattle.block_trees.specs.Reached.{IsHeld};
-ghost use Rattle.block_trees.specs.Rewritten.{IsRewritten};
 ghost use Rattle.block_trees.specs.Trees.{entries_of};
-ghost use Rattle.directory.specs.declared.lookups.Found.{Found};
 ghost use Rattle.directory.specs.declared.lookups.Found.TheVariants as found;
-ghost use Rattle.directory.specs.Edits.{path_refusal};
 ghost use Rattle.directory.specs.Lookups.{look_up};
-ghost use Rattle.directory.specs.Making.{IsMakeFault};
-ghost use Rattle.undofs.specs.Mounted.{IsMounted, IsCalled, StateStep, KeepsPages};
+ghost use Rattle.undofs.specs.Mounted.{IsMounted, StateStep, KeepsPages};
+ghost use Rattle.undofs.specs.Opening.{IsAnswered};
 ghost use Rattle.undofs.specs.Seen.{seen_on, machine_on};
-ghost use Rattle.undofs.specs.Steps.{replied, empty, Refuses};
-ghost use Rattle.undofs.specs.Worked.{IsWorked, IsLooked, WorkCause};
+ghost use Rattle.undofs.specs.Steps.{replied, empty, is_cut_answer, Refuses};
+ghost use Rattle.undofs.specs.Worked.{IsLooked};
 
-use crate::checks::check_change;
+use crate::changes::change;
 use crate::state::State;
-use directory::{Found, without_entry};
+use directory::Found;
 use flash_model::Flash;
 use fs_types::{Fault, Path};
-use node_store::Store;
 use std::alloc::Global;
+use tree_edits::Edit;
 
 impl State {
     /// Removes an empty directory.
@@ -56,14 +50,12 @@ impl State {
         path: &Path,
     ) -> Result<(), Fault>
         requires { IsMounted (F.device flash.old) self.old }
-        ensures { IsCalled (Unit {0}) (F.device flash.old) self.old (Call.Rmdir path.now) empty result (F.device flash.new) self.new }
+        ensures { IsAnswered (F.device flash.old) self.old (Call.Rmdir path.now) (replied empty result) (F.device flash.new) self.new (is_cut_answer result) }
     {
         let root = self.history.root();
         self.check_empty(flash, root, path)?;
-        check_change(&self.history, &self.storage)?;
-        let root = self.write_without(alloc, flash, root, path)?;
-        self.history.push(root);
-        Ok(())
+        let edit = Edit::Remove { path };
+        change(alloc, flash, &mut self.history, &mut self.storage, edit)
     }
 
     /// Refuses the root, a path where no directory stands, and that of a directory with entries.
@@ -117,14 +109,12 @@ impl State {
         path: &Path,
     ) -> Result<(), Fault>
         requires { IsMounted (F.device flash.old) self.old }
-        ensures { IsCalled (Unit {0}) (F.device flash.old) self.old (Call.Unlink path.now) empty result (F.device flash.new) self.new }
+        ensures { IsAnswered (F.device flash.old) self.old (Call.Unlink path.now) (replied empty result) (F.device flash.new) self.new (is_cut_answer result) }
     {
         let root = self.history.root();
         self.check_file(flash, root, path)?;
-        check_change(&self.history, &self.storage)?;
-        let root = self.write_without(alloc, flash, root, path)?;
-        self.history.push(root);
-        Ok(())
+        let edit = Edit::Remove { path };
+        change(alloc, flash, &mut self.history, &mut self.storage, edit)
     }
 
     /// Refuses a path where no file stands, and that of an open file.
@@ -147,27 +137,5 @@ impl State {
                 Ok(())
             }
         }
-    }
-
-    /// Writes the directories along a path anew, without its last name, and answers the block of the
-    /// new root.
-    fn write_without<F: Flash>(
-        &mut self,
-        alloc: Global,
-        flash: &mut F,
-        root: u32,
-        path: &Path,
-    ) -> Result<u32, Fault>
-        requires mounted { IsMounted (F.device flash.old) self.old }
-        requires below { 0 < length path.now }
-        requires held { IsHeld (node_of (F.device flash.old)) (set.contains self.old.storage.ring.used) (Dir root) }
-        requires editable { path_refusal (node_of (F.device flash.old)) root path.now None ≡ None }
-        ensures worked { IsWorked (F.device flash.old) self.old (F.device flash.new) self.new }
-        ensures rewritten { IfOk result (λ to. IsRewritten (node_of (F.device flash.old)) (set.contains self.new.storage.ring.used) (node_of (F.device flash.new)) root to path.now None) }
-        ensures why { IfErr result (λ fault. WorkCause (seen_on (F.device flash.old) self.old) fault (seen_on (F.device flash.new) self.new)) }
-        ensures faults { IfErr result IsMakeFault }
-    {
-        let mut store = Store::new(flash, &mut self.storage);
-        without_entry(alloc, &mut store, root, path)
     }
 }

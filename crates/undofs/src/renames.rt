@@ -2,8 +2,7 @@
 //! whether an earlier call answered that the power is off; the call's own refusals; read-only mode;
 //! the greatest serial; and then the work.
 ghost use Rattle.std.specs.Prelude.{◌≡◌, ◌⊎◌, ◌≤◌, ◌-◌, ◌&&◌, ◌||◌, ℕ, true, false, not, length, None, Some, Option, Ok, Err, IfOk, IfErr, OnOk, IfSome};
-ghost use Rattle.std.specs.FinSet as set;
-ghost use Rattle.fs_types.specs.Contents.{Apart, Entry, is_dir, begins, parent_of};
+ghost use Rattle.fs_types.specs.Contents.{Entry, is_dir, begins, parent_of};
 ghost use Rattle.fs_types.specs.Descriptors.{is_open, is_open_within};
 ghost use Rattle.fs_types.specs.History.{present_root};
 ghost use Rattle.fs_types.specs.Machine.{refusal, found_refusal, rename_refusal, present_tree};
@@ -15,28 +14,27 @@ ghost use Rattle.node_format.specs.declared.places.Place.{Place};
 ghost use Rattle.node_format.specs.declared.places.Place.TheVariants.{Dir};
 ghost use Rattle.node_store.specs.NodePages.{node_of};
 ghost use Rattle.block_trees.specs.Laws.{IsShallow};
-ghost use Rattle.block_trees.specs.Reached.{IsHeld};
-ghost use Rattle.block_trees.specs.Rewritten.{IsMoved};
 ghost use Rattle.block_trees.specs.Trees.{leads, is_dir_place};
 ghost use Rattle.directory.specs.Depths.{IsDeeper, IsDepthFault};
 ghost use Rattle.directory.specs.Edits.{path_refusal};
-ghost use Rattle.directory.specs.Making.{IsMakeFault};
-ghost use Rattle.directory.specs.Moves.{move_refusal};
+ghost use Rattle.tree_edits.specs.Edits.{IsMovable};
 ghost use Rattle.undofs.specs.Mounted.{IsMounted, StateStep, KeepsPages};
-ghost use Rattle.undofs.specs.Renames.{IsMovable, IsToMove, target_refusal, lacks_room};
+ghost use Rattle.undofs.specs.Opening.{IsAnswered};
+ghost use Rattle.undofs.specs.Renames.{IsToMove, target_refusal, lacks_room};
 ghost use Rattle.undofs.specs.Seen.{seen_on, machine_on};
-ghost use Rattle.undofs.specs.Steps.{replied, empty, is_cut_answer, Refuses, CallStep};
-ghost use Rattle.undofs.specs.Worked.{IsWorked, IsLooked, WorkCause, ReadCause};
+ghost use Rattle.undofs.specs.Steps.{replied, empty, is_cut_answer, Refuses};
+ghost use Rattle.undofs.specs.Worked.{IsLooked, WorkCause, ReadCause};
 
-use crate::checks::check_change;
+use crate::changes::change;
 use crate::state::State;
-use directory::{Found, is_deeper, moved};
+use directory::{Found, is_deeper};
 use flash_model::Flash;
 use fs_types::{Fault, Name, Path};
 use node_format::Place;
 use node_store::Store;
 use open_files::is_beginning;
 use std::alloc::Global;
+use tree_edits::Edit;
 
 impl State {
     /// Moves what stands at a path to another.
@@ -66,19 +64,14 @@ impl State {
         new: &Path,
     ) -> Result<(), Fault>
         requires { IsMounted (F.device flash.old) self.old }
-        ensures mounted { IsMounted (F.device flash.new) self.new }
-        ensures step { CallStep (seen_on (F.device flash.old) self.old) (machine_on (F.device flash.old) self.old) false (Call.Rename old.now new.now) (replied empty result) (seen_on (F.device flash.new) self.new) (machine_on (F.device flash.new) self.new) (is_cut_answer result) }
-        ensures is_off { self.new.is_off ≡ self.old.is_off }
-        ensures pages { KeepsPages (F.device flash.old) self.old.history (F.device flash.new) }
+        ensures { IsAnswered (F.device flash.old) self.old (Call.Rename old.now new.now) (replied empty result) (F.device flash.new) self.new (is_cut_answer result) }
     {
         let root = self.history.root();
         let Some(place) = self.check_rename(alloc, flash, root, old, new)? else {
             return Ok(());
         };
-        check_change(&self.history, &self.storage)?;
-        let root = self.write_moved(alloc, flash, root, old, new, place)?;
-        self.history.push(root);
-        Ok(())
+        let edit = Edit::Move { old, new, place };
+        change(alloc, flash, &mut self.history, &mut self.storage, edit)
     }
 
     /// What is to be moved, or nothing where both paths are the same.
@@ -253,30 +246,6 @@ impl State {
     {
         let mut store = Store::new(flash, &mut self.storage);
         is_deeper(alloc, &mut store, block, most)
-    }
-
-    /// Writes the directories along two paths anew, so that the new one leads to what the old one led
-    /// to, and answers the block of the new root.
-    fn write_moved<F: Flash>(
-        &mut self,
-        alloc: Global,
-        flash: &mut F,
-        root: u32,
-        old: &Path,
-        new: &Path,
-        place: Place,
-    ) -> Result<u32, Fault>
-        requires mounted { IsMounted (F.device flash.old) self.old }
-        requires held { IsHeld (node_of (F.device flash.old)) (set.contains self.old.storage.ring.used) (Dir root) }
-        requires apart { Apart old.now new.now }
-        requires movable { IsMovable (node_of (F.device flash.old)) root old.now new.now place }
-        ensures worked { IsWorked (F.device flash.old) self.old (F.device flash.new) self.new }
-        ensures moved { IfOk result (λ to. IsMoved (node_of (F.device flash.old)) (node_of (F.device flash.new)) (set.contains self.old.storage.ring.used) (set.contains self.new.storage.ring.used) root to old.now new.now place) }
-        ensures why { IfErr result (λ fault. WorkCause (seen_on (F.device flash.old) self.old) fault (seen_on (F.device flash.new) self.new)) }
-        ensures faults { IfErr result IsMakeFault }
-    {
-        let mut store = Store::new(flash, &mut self.storage);
-        moved(alloc, &mut store, root, old, new, place)
     }
 }
 

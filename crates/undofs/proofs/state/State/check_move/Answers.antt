@@ -82,7 +82,6 @@ returns-clause-accepted g c =
 pub returns-clause-movable : goal.returns-clause-movable
 returns-clause-movable g c = record {
   lawful = c.in_ok-check_beyond.ensures.lawful;
-  differ = c.requires.differ;
   lawful_place = c.requires.place;
   stands = c.requires.stands;
   shallow = shallow_before (node_of (g.F.Flash.device c.args.flash.now)) (node_of (g.F.Flash.device c.check_target.new.flash)) c.args.place _ c.check_target.ensures.nodes c.in_ok-check_depth.ensures.shallow;

@@ -4,7 +4,7 @@ use Rattle.fs_types.specs.History.{Past, present_root}
 use Rattle.fs_types.specs.declared.calls.Call.{Call}
 use Rattle.node_format.specs.declared.places.Place.TheVariants.{Dir}
 use Rattle.block_trees.specs.Trees.{leads}
-use Rattle.undofs.specs.Renames.{IsMovable}
+use Rattle.tree_edits.specs.Edits.{IsMovable}
 use Rattle.undofs.proofs.Refusals.{at_refusal}
 use Rattle.undofs.proofs.RenameSteps.{place_refuses, same_accepts, move_accepts, move_refuses}
 use Rattle.undofs.proofs.Standing.{looked_worked, looked_on, worked_mounted}
@@ -51,7 +51,7 @@ pub returns-clause-looked : goal.returns-clause-looked
 returns-clause-looked g c = looked_on _ _ _ _ _ _ c.find_place.ensures.looked c.check_move.ensures.looked
 
 pub returns-clause-movable : goal.returns-clause-movable
-returns-clause-movable g c = subst (λ f. IsMovable f c.args.root c.args.old.now c.args.new.now c.in_ok-place.place) (sym c.check_move.ensures.nodes) c.in_ok-check_move.ensures.movable
+returns-clause-movable g c = (sym c.eq.ensures ∙ c.if-eq.false, subst (λ f. IsMovable f c.args.root c.args.old.now c.args.new.now c.in_ok-place.place) (sym c.check_move.ensures.nodes) c.in_ok-check_move.ensures.movable)
 
 pub returns-clause-accepted : goal.returns-clause-accepted
 returns-clause-accepted g c =

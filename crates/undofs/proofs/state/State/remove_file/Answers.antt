@@ -1,61 +1,47 @@
-use Rattle.std.proofs.Common.{ℕ, ◌<◌, Err, refl, sym, ap, subst, ◌∙◌}
+use Rattle.std.proofs.Common.{Err, refl, ap, ◌∙◌}
 use Rattle.std.proofs.lemmas.Result.{err_from_is_err_and}
-use Rattle.fs_types.specs.History.{Past}
 use Rattle.fs_types.specs.declared.calls.Call.{Call}
+use Rattle.tree_edits.specs.declared.edits.Edit.TheVariants.{Remove}
+use Rattle.undofs.specs.Changes.{CanApply}
+use Rattle.undofs.specs.Steps.{empty}
+use Rattle.undofs.proofs.ChangedCalls.{looked_ready, looked_stands, at_present, change_answer}
+use Rattle.undofs.proofs.OpenCalls.{at_answer, refused_answer}
+use Rattle.undofs.proofs.Standing.{looked_worked}
+use Rattle.undofs.proofs.TakenOut.{file_below, unlink_change}
 use Rattle.node_store.specs.NodePages.{node_of}
 use Rattle.directory.specs.declared.lookups.Found.TheVariants as found
-use Rattle.undofs.specs.Seen.{machine_on}
-use Rattle.undofs.specs.Steps.{empty, last_serial}
-use Rattle.undofs.proofs.ChangeSteps.{change_refuses, writing_refuses, later_stands, refused_called}
-use Rattle.undofs.proofs.TakenOut.{found_editable, file_below, unlink_makes, unlink_root, unlink_called}
-use Rattle.undofs.proofs.Standing.{looked_worked, worked_on, worked_mounted}
 use Rattle.undofs.proofs.state.State.remove_file.Goals as goal
 
 pub returns-in_err-check_file : goal.returns-in_err-check_file
 returns-in_err-check_file g c =
     let p = err_from_is_err_and c.from_residual.result c.from_residual.ensures.1 in
-    refused_called empty (g.F.Flash.device c.args.flash.now) c.args.self.now (g.F.Flash.device c.check_file.new.flash) c.check_file.new.self (Call.Unlink c.args.path.now) c.in_err-check_file.field-0.0 c.from_residual.result (p.1 ∙ ap Err p.2) c.requires
-    (looked_worked _ _ _ _ c.check_file.ensures.looked) c.in_err-check_file.ensures.refused
+    let d = g.F.Flash.device c.args.flash.now in
+    let e = g.F.Flash.device c.check_file.new.flash in
+    let call = Call.Unlink c.args.path.now in
+    at_answer empty d c.args.self.now e c.check_file.new.self call c.in_err-check_file.field-0.0 c.from_residual.result (p.1 ∙ ap Err p.2)
+    (refused_answer d c.args.self.now e c.check_file.new.self call c.in_err-check_file.field-0.0 c.requires (looked_worked _ _ _ _ c.check_file.ensures.looked) c.in_err-check_file.ensures.refused)
 
-pub returns-in_err-check_change : goal.returns-in_err-check_change
-returns-in_err-check_change g c =
-    let p = err_from_is_err_and c.from_residual-in_err-check_change.result c.from_residual-in_err-check_change.ensures.1 in
-    let looked = c.check_file.ensures.looked in
-    refused_called empty (g.F.Flash.device c.args.flash.now) c.args.self.now (g.F.Flash.device c.check_file.new.flash) c.check_file.new.self (Call.Unlink c.args.path.now) c.in_err-check_change.field-0.0 c.from_residual-in_err-check_change.result (p.1 ∙ ap Err p.2) c.requires (looked_worked _ _ _ _ looked)
-    (change_refuses (g.F.Flash.device c.args.flash.now) c.args.self.now (g.F.Flash.device c.check_file.new.flash) c.check_file.new.self (Call.Unlink c.args.path.now) c.in_err-check_change.field-0.0 looked (unlink_makes (machine_on (g.F.Flash.device c.args.flash.now) c.args.self.now) c.args.path.now c.in_ok-check_file.ensures.accepted) c.in_err-check_change.ensures.err)
+pub change-requires-clause-ready : goal.change-requires-clause-ready
+change-requires-clause-ready g c = looked_ready _ _ _ _ c.requires c.check_file.ensures.looked
 
-pub write_without-requires-clause-mounted : goal.write_without-requires-clause-mounted
-write_without-requires-clause-mounted g c = worked_mounted _ _ _ _ c.requires (looked_worked _ _ _ _ c.check_file.ensures.looked)
+pub change-requires-clause-stands : goal.change-requires-clause-stands
+change-requires-clause-stands g c = looked_stands _ _ _ _ c.root-root.result c.requires c.root-root.ensures c.check_file.ensures.looked
 
-pub write_without-requires-clause-held : goal.write_without-requires-clause-held
-write_without-requires-clause-held g c =
-    (later_stands (g.F.Flash.device c.args.flash.now) c.args.self.now (g.F.Flash.device c.check_file.new.flash) c.check_file.new.self c.root-root.result c.requires c.root-root.ensures c.check_file.ensures.looked).held
-
-pub write_without-requires-clause-below : goal.write_without-requires-clause-below
-write_without-requires-clause-below g c = file_below (node_of (g.F.Flash.device c.check_file.new.flash)) c.root-root.result c.args.path.now c.in_ok-check_file.ensures.found.0 c.in_ok-check_file.ensures.found.1 c.in_ok-check_file.ensures.found.2
-
-pub write_without-requires-clause-editable : goal.write_without-requires-clause-editable
-write_without-requires-clause-editable g c =
-    let file = c.in_ok-check_file.ensures.found in
-    found_editable (node_of (g.F.Flash.device c.check_file.new.flash)) c.root-root.result c.args.path.now (found.File file.0 file.1) file.2
-
-pub returns-in_err-root : goal.returns-in_err-root
-returns-in_err-root g c =
-    let p = err_from_is_err_and c.from_residual-in_err-root.result c.from_residual-in_err-root.ensures.1 in
-    let looked = c.check_file.ensures.looked in
-    refused_called empty (g.F.Flash.device c.args.flash.now) c.args.self.now (g.F.Flash.device c.write_without.new.flash) c.write_without.new.self (Call.Unlink c.args.path.now) c.in_err-root.field-0.0 c.from_residual-in_err-root.result (p.1 ∙ ap Err p.2) c.requires
-    (worked_on _ _ _ _ _ _ (looked_worked _ _ _ _ looked) c.write_without.ensures.worked)
-    (writing_refuses (g.F.Flash.device c.args.flash.now) c.args.self.now (g.F.Flash.device c.check_file.new.flash) c.check_file.new.self (g.F.Flash.device c.write_without.new.flash) c.write_without.new.self (Call.Unlink c.args.path.now) c.in_err-root.field-0.0 looked refl (unlink_makes (machine_on (g.F.Flash.device c.args.flash.now) c.args.self.now) c.args.path.now c.in_ok-check_file.ensures.accepted)
-    (file_below (node_of (g.F.Flash.device c.check_file.new.flash)) c.root-root.result c.args.path.now c.in_ok-check_file.ensures.found.0 c.in_ok-check_file.ensures.found.1 c.in_ok-check_file.ensures.found.2) c.in_err-root.ensures.faults c.in_err-root.ensures.why)
-
-pub push-requires : goal.push-requires
-push-requires g c = subst (λ (h : Past ℕ). h.next < last_serial) (sym c.write_without.ensures.worked.rest.history) c.in_ok-check_change.ensures.serial
+pub change-requires-clause-editable : goal.change-requires-clause-editable
+change-requires-clause-editable g c =
+    let e = g.F.Flash.device c.check_file.new.flash in
+    let t = c.check_file.new.self in
+    let ok = c.in_ok-check_file.ensures in
+    at_present (λ root. CanApply e t.storage root (Remove c.args.path)) (g.F.Flash.device c.args.flash.now) c.args.self.now e t c.root-root.result c.root-root.ensures c.check_file.ensures.looked
+    (ok.lawful, file_below (node_of (g.F.Flash.device c.check_file.new.flash)) c.root-root.result c.args.path.now c.in_ok-check_file.ensures.found.0 c.in_ok-check_file.ensures.found.1 c.in_ok-check_file.ensures.found.2, found.File ok.found.0 ok.found.1, ok.found.2, tt)
 
 pub returns : goal.returns
 returns g c =
+    let d = g.F.Flash.device c.args.flash.now in
+    let s = c.args.self.now in
+    let e = g.F.Flash.device c.check_file.new.flash in
+    let t = c.check_file.new.self in
     let looked = c.check_file.ensures.looked in
-    unlink_called (g.F.Flash.device c.args.flash.now) c.args.self.now (g.F.Flash.device c.check_file.new.flash) c.check_file.new.self (g.F.Flash.device c.write_without.new.flash) c.write_without.new.self
-    c.root-root.result c.in_ok-root.root c.args.path.now _ c.push.ensures c.requires c.root-root.ensures looked c.in_ok-check_file.ensures.accepted c.in_ok-check_file.ensures.lawful
-    c.in_ok-check_change.ensures.writable c.in_ok-check_change.ensures.serial c.write_without.ensures.worked
-    (unlink_root (g.F.Flash.device c.args.flash.now) c.args.self.now _ _ _ _ c.root-root.result _ c.args.path.now c.in_ok-check_file.ensures.found.0 c.in_ok-check_file.ensures.found.1 c.requires c.root-root.ensures looked
-    c.in_ok-check_file.ensures.found.2 c.write_without.ensures.worked c.in_ok-root.ensures.rewritten)
+    change_answer d s e t (g.F.Flash.device c.change.new.flash) c.change.new.storage c.change.new.history c.root-root.result (Call.Unlink c.args.path.now) (Remove c.args.path) c.change.result c.requires c.root-root.ensures looked
+    (unlink_change d s e t c.args.path.now c.requires looked c.in_ok-check_file.ensures.accepted c.in_ok-check_file.ensures.lawful
+    (file_below (node_of (g.F.Flash.device c.check_file.new.flash)) c.root-root.result c.args.path.now c.in_ok-check_file.ensures.found.0 c.in_ok-check_file.ensures.found.1 c.in_ok-check_file.ensures.found.2)) refl c.change.ensures

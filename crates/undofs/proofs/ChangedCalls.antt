@@ -142,22 +142,22 @@ pushed_answer d s e t f st h files call edit reply most m l by written pushed op
       pages = worked_pages d s f u m all;
     }
 
-cause_refuses : (d : Device) (s : State) (e : Device) (t : State) (f : Device) (st : Storage) (root : ℕ) (call : Call) (edit : Edit) (reply : Reply) (fault : Fault) → present_root s.history ≡ Some root → IsLooked d s e t
-    → IsChangeBy d s call (edited_tree e edit) reply → ChangeCause e t.history t.storage fault f st → Refuses (seen_on d s) (machine_on d s) call fault (seen_on f (record t { storage = st }))
-cause_refuses d s e t f st root call edit reply fault is l by (inl over) =
+cause_refuses : (d : Device) (s : State) (e : Device) (t : State) (f : Device) (st : Storage) (root : ℕ) (call : Call) (made : ℕ → Tree) (reply : Reply) (fault : Fault) → present_root s.history ≡ Some root → IsLooked d s e t
+    → IsChangeBy d s call made reply → ChangeCause e t.history t.storage fault f st → Refuses (seen_on d s) (machine_on d s) call fault (seen_on f (record t { storage = st }))
+cause_refuses d s e t f st root call made reply fault is l by (inl over) =
     inr (subst (λ x. MayRefuse (seen_on d s) (machine_on d s) call x (seen_on f (record t { storage = st }))) (sym over.0)
     (makes (machine_on d s) call by.fine (ap is_some (by.after root is)), ap (λ (h : Past ℕ). h.next) (sym l.rest.history) ∙ over.1))
-cause_refuses d s e t f st root call edit reply fault is l by (inr why) =
+cause_refuses d s e t f st root call made reply fault is l by (inr why) =
     writing_refuses d s e t f (record t { storage = st }) call fault l by.heavy (makes (machine_on d s) call by.fine (ap is_some (by.after root is))) (by.more (room_of d)) why.0 why.1
 
-pub refused_change : (d : Device) (s : State) (e : Device) (t : State) (f : Device) (st : Storage) (h : Past ℕ) (root : ℕ) (call : Call) (edit : Edit) (reply : Reply) (most : ℕ) (fault : Fault) → IsMounted d s → present_root s.history ≡ Some root
-    → IsLooked d s e t → IsChangeBy d s call (edited_tree e edit) reply → HasWritten e t.storage most f st → (h ≡ t.history) × ChangeCause e t.history t.storage fault f st
+pub refused_change : (d : Device) (s : State) (e : Device) (t : State) (f : Device) (st : Storage) (h : Past ℕ) (root : ℕ) (call : Call) (made : ℕ → Tree) (reply : Reply) (most : ℕ) (fault : Fault) → IsMounted d s → present_root s.history ≡ Some root
+    → IsLooked d s e t → IsChangeBy d s call made reply → HasWritten e t.storage most f st → (h ≡ t.history) × ChangeCause e t.history t.storage fault f st
     → IsAnswered d s call (Err fault) f (record t { storage = st; history = h }) (is_cut fault)
-refused_change d s e t f st h root call edit reply most fault m is l by written ends =
+refused_change d s e t f st h root call made reply most fault m is l by written ends =
     let u : State = record t { storage = st } in
     let all = worked_on d s e t f u (looked_worked d s e t l) (written_worked e t f st most written) in
     subst (λ (i : Past ℕ). IsAnswered d s call (Err fault) f (record t { storage = st; history = i }) (is_cut fault)) (sym ends.0)
-    (refused_answer d s f u call fault m all (cause_refuses d s e t f st root call edit reply fault is l by ends.1))
+    (refused_answer d s f u call fault m all (cause_refuses d s e t f st root call made reply fault is l by ends.1))
 
 -- a change that answers nothing, and leaves the open files
 pub change_answer : (d : Device) (s : State) (e : Device) (t : State) (f : Device) (st : Storage) (h : Past ℕ) (root : ℕ) (call : Call) (edit : Edit) (result : Result (Unit {0}) Fault) → IsMounted d s → present_root s.history ≡ Some root
@@ -166,4 +166,16 @@ pub change_answer : (d : Device) (s : State) (e : Device) (t : State) (f : Devic
 change_answer d s e t f st h root call edit (Ok x) m is l by files changes =
     pushed_answer d s e t f st h t.files call edit Reply.Empty _ m l by changes.written changes.ends (l.rest.files ∙ sym files)
 change_answer d s e t f st h root call edit (Err fault) m is l by files changes =
-    refused_change d s e t f st h root call edit Reply.Empty _ fault m is l by changes.written changes.ends
+    refused_change d s e t f st h root call (edited_tree e edit) Reply.Empty _ fault m is l by changes.written changes.ends
+
+-- the same, where the edit is that of the change
+
+pub pushed_by : (d : Device) (s : State) (e : Device) (t : State) (f : Device) (st : Storage) (h : Past ℕ) (files : Descriptors) (call : Call) {edit : Edit} (reply : Reply) (most : ℕ) → IsPushed e t.history t.storage edit f h st
+    → IsChangeBy d s call (edited_tree e edit) reply → HasWritten e t.storage most f st → IsMounted d s → IsLooked d s e t → files ≡ descriptors_after (machine_on d s) call
+    → IsAnswered d s call (Ok reply) f (record t { storage = st; history = h; files = files }) false
+pushed_by d s e t f st h files call {edit} reply most pushed by written m l opens = pushed_answer d s e t f st h files call edit reply most m l by written pushed opens
+
+pub change_by : (d : Device) (s : State) (e : Device) (t : State) (f : Device) (st : Storage) (h : Past ℕ) (root : ℕ) (call : Call) {edit : Edit} (result : Result (Unit {0}) Fault) → IsChanged e t.history t.storage edit result f h st
+    → IsChangeBy d s call (edited_tree e edit) Reply.Empty → IsMounted d s → present_root s.history ≡ Some root → IsLooked d s e t → descriptors_after (machine_on d s) call ≡ s.files
+    → IsAnswered d s call (replied empty result) f (record t { storage = st; history = h }) (is_cut_answer result)
+change_by d s e t f st h root call {edit} result changes by m is l files = change_answer d s e t f st h root call edit result m is l by files changes

@@ -6,12 +6,12 @@ use Rattle.std.specs.Prelude.{unwrap_or, is_some, if◌then◌else◌, ◌==◌}
 use Rattle.std.specs.Option.{option_map, option_map_or, option_and_then}
 use Rattle.std.specs.FinMap.{get}
 use Rattle.std.specs.FinSet as set
-use Rattle.fs_types.specs.Names.{Path}
+use Rattle.fs_types.specs.Names.{Path, is_path}
 use Rattle.fs_types.specs.Contents.{Contents, Entry, overwritten, resized}
-use Rattle.fs_types.specs.Trees.{Tree}
+use Rattle.fs_types.specs.Trees.{Tree, put}
 use Rattle.fs_types.specs.History.{Past, present_root, changed}
 use Rattle.fs_types.specs.Descriptors.{Descriptor, descriptor_at}
-use Rattle.fs_types.specs.Machine.{Machine, IsFile, has_paths, present_tree, bytes_of, bytes_at, file_put, refusal, change_need, pwrite_need, ftruncate_need, reply_of, tree_after, descriptors_after, makes_version, machine_of}
+use Rattle.fs_types.specs.Machine.{Machine, Space, IsFile, has_paths, present_tree, bytes_of, bytes_at, file_put, refusal, change_need, pwrite_need, ftruncate_need, reply_of, tree_after, descriptors_after, makes_version, machine_of}
 use Rattle.fs_types.specs.declared.calls.Call.{Call}
 use Rattle.fs_types.specs.declared.calls.Reply.{Reply}
 use Rattle.fs_types.specs.declared.faults.Fault.{Fault}
@@ -49,8 +49,9 @@ use Rattle.undofs.specs.Mounted.{IsStanding, IsMounted}
 use Rattle.undofs.specs.Opening.{IsAnswered}
 use Rattle.undofs.specs.Worked.{storage_on, IsWorked, IsLooked, WorkCause}
 use Rattle.undofs.specs.declared.state.State.{State}
-use Rattle.undofs.proofs.ChangeSteps.{makes, needs, path_within, worked_keeps, HasNewTree, rewritten_root, changed_state, changed_step, changed_mounted}
-use Rattle.undofs.proofs.OpenCalls.{present_is, room_for}
+use Rattle.undofs.proofs.ChangedCalls.{IsChangeBy}
+use Rattle.undofs.proofs.ChangeSteps.{makes, later_tree}
+use Rattle.undofs.proofs.OpenCalls.{present_is}
 use Rattle.undofs.proofs.PathCalls.{OnlyReads, present_tree_is, present_stands, read_done}
 use Rattle.undofs.proofs.Refusals.{read_refuses, write_refuses, cause_later}
 use Rattle.undofs.proofs.Standing.{same_room, worked_machine, worked_later, worked_mounted, worked_pages, looked_worked, worked_on}
@@ -154,110 +155,13 @@ pub record IsFileChange (m : Machine) (call : Call) (path : Path) (bytes : List 
 pub file_makes : (m : Machine) (call : Call) (path : Path) (bytes : List ℕ) → IsFileChange m call path bytes → makes_version m call ≡ true
 file_makes m call path bytes change = makes m call change.fine (ap is_some change.after)
 
-pub body_fault : (fault : Fault) → IsWritingFault fault → IsMakeFault fault
-body_fault FlashFull is = refl
-body_fault ReadOnly is = refl
-body_fault ReadFailed is = refl
-body_fault PowerCut is = refl
-body_fault NoMemory is = refl
-body_fault _ is = absurd is
-
--- what the writing is refused with, after other work
-pub work_refuses : (d : Device) (s : State) (f : Device) (u : State) (h : Device) (v : State) (call : Call) (path : Path) (bytes : List ℕ) (fault : Fault) → IsWorked d s f u → IsFileChange (machine_on d s) call path bytes
-    → IsMakeFault fault → WorkCause (seen_on f u) fault (seen_on h v) → Refuses (seen_on d s) (machine_on d s) call fault (seen_on h v)
-work_refuses d s f u h v call path bytes fault w change is why =
-    let m = machine_on d s in
-    let version = file_makes m call path bytes change in
-    inr (write_refuses (seen_on d s) (seen_on h v) m call fault change.heavy (needs (room_of d) m call version (change.more (room_of d))) (writes-version m call version) is
-    (cause_later (seen_on d s) (seen_on f u) (seen_on h v) fault (worked_later d s f u w) why))
-
 -- the present root after work, and the file in it
 later_root : (d : Device) (s : State) (f : Device) (u : State) (root : ℕ) → present_root s.history ≡ Some root → IsWorked d s f u → present_root u.history ≡ Some root
 later_root d s f u root is w = ap (λ (h : Past ℕ). present_root h) w.rest.history ∙ is
 
-pub still_root : (d : Device) (s : State) (f : Device) (u : State) (root : ℕ) → IsMounted d s → present_root s.history ≡ Some root → IsWorked d s f u → IsStanding f u.storage.ring root
-still_root d s f u root m is w = present_stands f u root (worked_mounted d s f u m w) (later_root d s f u root is w)
-
 pub later_body : (d : Device) (s : State) (f : Device) (u : State) (root : ℕ) (path : Path) (head size : ℕ) → IsMounted d s → present_root s.history ≡ Some root → IsWorked d s f u → look_up (node_of f) root path ≡ Ok (found.File head size)
     → IsPresentBody f u path head size
 later_body d s f u root path head size m is w led = present_body f u root path head size (worked_mounted d s f u m w) (later_root d s f u root is w) led
-
-later_file : (d : Device) (s : State) (f : Device) (u : State) (path : Path) → IsMounted d s → IsWorked d s f u → IsFile (present_tree (machine_on d s)) path → IsFile (present_tree (machine_on f u)) path
-later_file d s f u path m w file = subst (λ (x : Machine). IsFile (present_tree x) path) (sym (worked_machine d s f u m w)) file
-
--- a file's entry is never refused for what the nodes hold
-entry_refuses : (d : Device) (s : State) (f : Device) (u : State) (h : Device) (v : State) (root : ℕ) (path : Path) (at : Place) (fault : Fault) → IsMounted d s → present_root s.history ≡ Some root → IsWorked d s f u
-    → IsFile (present_tree (machine_on d s)) path → (is_edit_fault fault ≡ true → path_refusal (node_of f) root path (Some at) ≡ Some fault) → is_edit_fault fault ≡ false
-entry_refuses d s f u h v root path at fault m is w file refused =
-    let there = present_file f u root path (worked_mounted d s f u m w) (later_root d s f u root is w) (later_file d s f u path m w file) in
-    not_refused _ fault (room_for (node_of f) root path at (found.File there.0 there.1) (λ e. cc) there.2) refused
-
-pub entry_refused : (d : Device) (s : State) (f : Device) (u : State) (h : Device) (v : State) (call : Call) (root : ℕ) (path : Path) (bytes : List ℕ) (at : Place) (fault : Fault) → IsMounted d s → present_root s.history ≡ Some root → IsWorked d s f u
-    → IsFile (present_tree (machine_on d s)) path → IsFileChange (machine_on d s) call path bytes
-    → (is_edit_fault fault ≡ true → path_refusal (node_of f) root path (Some at) ≡ Some fault) → (is_edit_fault fault ≡ false → WorkCause (seen_on f u) fault (seen_on h v)) → IsEditFault fault
-    → Refuses (seen_on d s) (machine_on d s) call fault (seen_on h v)
-entry_refused d s f u h v call root path bytes at fault m is w file change refused why edit =
-    let other = entry_refuses d s f u h v root path at fault m is w file refused in
-    work_refuses d s f u h v call path bytes fault w change (make_fault fault other edit) (why other)
-
--- The new root.
-
-file_shape : (room : ℕ) (f : Blocks) (head size : ℕ) → IsBody room f head size → HasTree room f (place.File head size) 0
-file_shape room f head size is [] there e = (subst (IsWhole room f) (place_is (place.File head size) there e) is, omega arith)
-file_shape room f head size is (n ∷ q) there e = absurd cc
-
--- a body stays where nothing of it changes
-record StaysBody (room : ℕ) (new : Blocks) (kept : ℕ → Bool) (head size : ℕ) (bytes : List ℕ) : Type 0 where
-  whole : IsBody room new head size
-  shown : body room new head size ≡ bytes
-  held : IsHeld new kept (place.File head size)
-
-stays_body : (room : ℕ) (old new : Blocks) (kept kept' : ℕ → Bool) (x : Body) (bytes : List ℕ) → Keeps kept old kept' new → IsWritten room old kept x bytes → StaysBody room new kept' x.head x.length bytes
-stays_body room old new kept kept' x bytes keeps written =
-    let law = frame_law old new kept kept' keeps in
-    let at = place.File x.head x.length in
-    let has = file_shape room old x.head x.length written.whole in
-    record {
-      whole = (law.shape room 0 at written.held has [] at refl).0;
-      shown = ap (λ (t : Contents). bytes_of (t [])) (law.same room 0 at written.held has) ∙ written.shown;
-      held = law.held at written.held;
-    }
-
--- the new body is written, and then the path to it: the new root stands, and its tree is the present one with the new bytes
-pub put_root : (d : Device) (s : State) (f : Device) (u : State) (h : Device) (v : State) (root to : ℕ) (path : Path) (x : Body) (bytes : List ℕ) → IsMounted d s → present_root s.history ≡ Some root → IsWorked d s f u
-    → IsFile (present_tree (machine_on d s)) path → IsWritten (room_of f) (node_of f) (set.contains u.storage.ring.used) x bytes → IsWorked f u h v
-    → IsRewritten (node_of f) (set.contains v.storage.ring.used) (node_of h) root to path (Some (place.File x.head x.length)) → HasNewTree h v to (file_put (present_tree (machine_on d s)) path bytes)
-put_root d s f u h v root to path x bytes m is w file written wrote rewritten =
-    let mid = worked_mounted d s f u m w in
-    let there = later_root d s f u root is w in
-    let stands = present_stands f u root mid there in
-    let keeps = worked_keeps f u h v mid wrote in
-    let stays = stays_body (room_of f) (node_of f) (node_of h) (set.contains u.storage.ring.used) (set.contains v.storage.ring.used) x bytes keeps written in
-    let old_tree : tree_on f root ≡ present_tree (machine_on d s) = sym (present_tree_is f u root there) ∙ ap present_tree (worked_machine d s f u m w) in
-    let entry : tree (room_of f) (node_of f) root path ≡ Some (Entry.File file.0) =
-    ap (λ (t : Contents). t path) (sym (present_is f u root mid there)) ∙ ap (λ (x : Machine). get (present_tree x) path) (worked_machine d s f u m w) ∙ file.1 in
-    let deep = path_within path ((present-file_tree (machine_on d s) m.machine).paths path (ap is_some file.1)) in
-    let law = put_file_law (room_of f) (node_of f) (node_of h) (set.contains u.storage.ring.used) (set.contains v.storage.ring.used) root to x.head x.length path keeps stands.held stands.rooted
-    (λ dir. let both = sym entry ∙ dir in absurd cc) deep stays.whole rewritten in
-    rewritten_root f u h v root to path (Some (place.File x.head x.length)) (file_put (present_tree (machine_on d s)) path bytes) mid stands wrote rewritten stays.held
-    (law.0, law.1 ∙ (λ i. file_put (old_tree i) path (stays.shown i)))
-
--- The step.
-
-pub changed_answer : (d : Device) (s : State) (e : Device) (t : State) (h : Device) (v : State) (to : ℕ) (call : Call) (path : Path) (bytes : List ℕ) (reply : Reply) (k : Past ℕ) → IsMounted d s → IsLooked d s e t
-    → IsFileChange (machine_on d s) call path bytes → is_read_only t.storage.bad ≡ false → t.history.next < last_serial → IsWorked e t h v → HasNewTree h v to (file_put (present_tree (machine_on d s)) path bytes)
-    → reply_of (seen_on h v).space (machine_on d s) call ≡ reply → k ≡ changed v.history to
-    → IsAnswered d s call (Ok reply) h (changed_state v k v.files) false
-changed_answer d s e t h v to call path bytes reply k m l change writable serial w new replies pushes =
-    let all = worked_on d s e t h v (looked_worked d s e t l) w in
-    let tree = file_put (present_tree (machine_on d s)) path bytes in
-    let step = changed_step d s e t h v to call tree reply k v.files pushes (all.rest.files ∙ sym change.files) m l change.fine change.after replies writable serial w new in
-    record {
-      mounted = changed_mounted d s h v to call tree (Ok reply) k v.files pushes m all new change.paths step;
-      step = step;
-      is_off = all.rest.is_off;
-      pages = worked_pages d s h v m all;
-    }
 
 -- a call that changes nothing
 pub same_answer : (d : Device) (s : State) (e : Device) (t : State) (call : Call) (reply : Reply) → IsMounted d s → IsLooked d s e t → OnlyReads (machine_on d s) call → refusal (machine_on d s) call ≡ None
@@ -283,22 +187,6 @@ pub below_root : (d : Device) (s : State) (path : Path) → IsMounted d s → Is
 below_root d s path m file = not-root (present_tree (machine_on d s)) path (present-file_tree (machine_on d s) m.machine) (λ dir. let both = sym dir ∙ file.1 in cc)
 
 -- Writing.
-
-pub body_length : (room : ℕ) (f : Blocks) (head size : ℕ) → IsBody room f head size → length (body room f head size) ≡ size
-body_length = long_body
-
--- a body that is overwritten within the most bytes of a file
-pub overwritten_short : (old bytes : List ℕ) (offset size n : ℕ) → n ≡ length (overwritten old offset bytes) → length old ≡ size → size ≤ 16777216 → (0 < length bytes → offset + length bytes ≤ 16777216) → 0 < length bytes → n ≤ 16777216
-overwritten_short old bytes offset size n is long short fits some =
-    let end = fits some in
-    omega (arith, length-overwritten old bytes offset)
-
--- the new body, at the room that the flash has by now
-pub written_at : (d : Device) (s : State) (e : Device) (t : State) (f : Device) (u : State) (x : Body) (bytes other : List ℕ) → IsWorked d s e t → IsWorked e t f u → bytes ≡ other
-    → IsWritten (room_of e) (node_of f) (set.contains u.storage.ring.used) x bytes → IsWritten (room_of f) (node_of f) (set.contains u.storage.ring.used) x other
-written_at d s e t f u x bytes other w wrote same written =
-    subst (λ (bs : List ℕ). IsWritten (room_of f) (node_of f) (set.contains u.storage.ring.used) x bs) same
-    (subst (λ room. IsWritten room (node_of f) (set.contains u.storage.ring.used) x bytes) (sym (same_room (storage_on e t) (storage_on f u) wrote.evolved)) written)
 
 some_more : (a b : ℕ) → 0 < b → 0 < a + b
 some_more a b some = omega arith
@@ -369,10 +257,6 @@ pub present_length : (d : Device) (s : State) (e : Device) (t : State) (path : P
 present_length d s e t path head size m w there =
     ap (λ (x : Machine). length (bytes_at (present_tree x) path)) (sym (worked_machine d s e t m w)) ∙ ap length there.shown ∙ long_body (room_of e) (node_of e) head size there.whole
 
--- a body that is resized within the most bytes of a file
-pub resized_short : (old : List ℕ) (size n : ℕ) → n ≡ length (resized old size) → size ≤ 16777216 → n ≤ 16777216
-resized_short old size n is fits = omega (arith, length-resized old size)
-
 pub same_length : (d : Device) (s : State) (e : Device) (t : State) (path : Path) (head size wide n : ℕ) → IsMounted d s → IsWorked d s e t → IsPresentBody e t path head size → wide ≡ size → wide ≡ n
     → (length (bytes_at (present_tree (machine_on d s)) path) == n) ≡ true
 same_length d s e t path head size wide n m w there is same = eq-eqb (length (bytes_at (present_tree (machine_on d s)) path)) n (present_length d s e t path head size m w there ∙ sym is ∙ same)
@@ -381,3 +265,19 @@ pub other_length : (d : Device) (s : State) (e : Device) (t : State) (path : Pat
     → (length (bytes_at (present_tree (machine_on d s)) path) == n) ≡ false
 other_length d s e t path head size wide n m w there is other =
     ne_eqb (length (bytes_at (present_tree (machine_on d s)) path)) n (λ same. other (is ∙ sym (present_length d s e t path head size m w there) ∙ same))
+
+-- the change of a file's bytes, as the flash shows it after a look
+pub file_change : (d : Device) (s : State) (e : Device) (t : State) (call : Call) (path : Path) (f : List ℕ → List ℕ) (reply : Reply) → IsMounted d s → IsLooked d s e t
+    → IsFileChange (machine_on d s) call path (f (bytes_at (present_tree (machine_on d s)) path)) → ((space : Space) → reply_of space (machine_on d s) call ≡ reply)
+    → IsChangeBy d s call (λ root. put (tree_on e root) path (Entry.File (f (bytes_at (tree_on e root) path)))) reply
+file_change d s e t call path f reply m l change replies = record {
+  fine = change.fine;
+  after = λ root is. change.after ∙ ap (λ (x : Tree). Some (put x path (Entry.File (f (bytes_at x path))))) (later_tree d s e t root m is l);
+  heavy = change.heavy;
+  paths = change.paths;
+  more = change.more;
+  replies = replies;
+}
+
+pub file_lawful : (d : Device) (s : State) (path : Path) → IsMounted d s → IsFile (present_tree (machine_on d s)) path → is_path path ≡ true
+file_lawful d s path m file = (present-file_tree (machine_on d s) m.machine).paths path (ap is_some file.1)

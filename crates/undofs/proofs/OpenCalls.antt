@@ -276,19 +276,3 @@ found_below f root [] flags (found.Dir block) led fits = absurd (go (creates fla
     go true e = cc
     go false e = cc
 found_below f root (n ∷ path) flags x led fits = omega arith
-
-room_in : (entries : Option (List Item)) (name : Name) (at : Place) (x : Found) → x ≢ found.Missing true → found_in entries name ≡ Ok x → edit_refusal entries name (Some at) ≡ None
-room_in None name at x free e = absurd cc
-room_in (Some items) name at x free e = go (named items name) (nat_le 32 (length items)) e
-  where
-    go : (there : Option Place) (full : Bool) → (let r : Result Found Fault = Ok (found_of there full) in r ≡ Ok x) → cond (is_none there && full) (Some DirectoryFull) None ≡ None
-    go None true e = absurd (free (let same : found.Missing true ≡ x = cc in sym same))
-    go None false e = refl
-    go (Some p) full e = refl
-
-pub room_for : (f : Blocks) (root : ℕ) (path : Path) (at : Place) (x : Found) → x ≢ found.Missing true → look_up f root path ≡ Ok x → path_refusal f root path (Some at) ≡ None
-room_for f root [] at x free e = refl
-room_for f root (n ∷ []) at x free e = room_in (entries_of (f root)) n at x free e
-room_for f root (n ∷ m ∷ p) at x free e =
-    let step = on_below (below_in (entries_of (f root)) n) (λ below. look_up f below (m ∷ p)) x e in
-    ap (λ (below : Result ℕ Fault). on_way below (λ below. path_refusal f below (m ∷ p) (Some at))) step.1 ∙ room_for f step.0 (m ∷ p) at x free step.2

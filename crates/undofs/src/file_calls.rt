@@ -2,7 +2,6 @@
 //! earlier call answered that the power is off; its own refusals; read-only mode; the greatest serial;
 //! and then it works.
 ghost use Rattle.std.specs.Prelude.{◌≡◌, ◌<◌, ℕ, true, false, length, Some, None, Ok, IfOk, IfErr, OnOk, unwrap_or};
-ghost use Rattle.std.specs.FinSet as set;
 ghost use Rattle.fs_types.specs.History.{present_root};
 ghost use Rattle.fs_types.specs.Names.{is_path};
 ghost use Rattle.fs_types.specs.Descriptors.{least_free};
@@ -10,27 +9,20 @@ ghost use Rattle.fs_types.specs.Machine.{refusal};
 ghost use Rattle.fs_types.specs.declared.calls.Call.{Call};
 ghost use Rattle.fs_types.specs.declared.calls.Reply.{Reply};
 ghost use Rattle.flash_model.specs.Device.{Device};
-ghost use Rattle.node_format.specs.Items.{is_place};
-ghost use Rattle.node_format.specs.declared.places.Place.TheVariants.{Dir};
 ghost use Rattle.node_store.specs.NodePages.{node_of};
-ghost use Rattle.block_trees.specs.Reached.{IsHeld};
-ghost use Rattle.block_trees.specs.Rewritten.{IsRewritten};
-ghost use Rattle.directory.specs.Edits.{path_refusal, is_edit_fault, IsEditFault};
 ghost use Rattle.directory.specs.Lookups.{look_up};
 ghost use Rattle.undofs.specs.Mounted.{IsMounted, StateStep, KeepsPages};
 ghost use Rattle.undofs.specs.Opening.{found_refusal, changes_found, IsAnswered};
 ghost use Rattle.undofs.specs.Seen.{seen_on, machine_on};
 ghost use Rattle.undofs.specs.Steps.{replied, empty, is_cut_answer, Refuses};
-ghost use Rattle.undofs.specs.Worked.{IsWorked, IsLooked, WorkCause};
+ghost use Rattle.undofs.specs.Worked.{IsLooked};
 
 use crate::changes::change;
 use crate::state::State;
 use bitflags::Flags;
-use directory::{Found, with_entry};
+use directory::Found;
 use flash_model::Flash;
 use fs_types::{Fault, OpenFlags, Path};
-use node_format::Place;
-use node_store::Store;
 use open_files::{OpenFile, are_lawful};
 use std::alloc::Global;
 use tree_edits::Edit;
@@ -122,29 +114,6 @@ impl State {
         // The names of each path are lawful, as their contract tells.
         let _names = path.names();
         Ok((found, number))
-    }
-
-    /// Puts an entry at a path, and answers the block of the new root.
-    pub(crate) fn write_entry<F: Flash>(
-        &mut self,
-        alloc: Global,
-        flash: &mut F,
-        root: u32,
-        path: &Path,
-        place: Place,
-    ) -> Result<u32, Fault>
-        requires mounted { IsMounted (F.device flash.old) self.old }
-        requires below { 0 < length path.now }
-        requires place { is_place place ≡ true }
-        requires held { IsHeld (node_of (F.device flash.old)) (set.contains self.old.storage.ring.used) (Dir root) }
-        ensures worked { IsWorked (F.device flash.old) self.old (F.device flash.new) self.new }
-        ensures rewritten { IfOk result (λ to. IsRewritten (node_of (F.device flash.old)) (set.contains self.new.storage.ring.used) (node_of (F.device flash.new)) root to path.now (Some place)) }
-        ensures refused { IfErr result (λ fault. is_edit_fault fault ≡ true → path_refusal (node_of (F.device flash.old)) root path.now (Some place) ≡ Some fault) }
-        ensures why { IfErr result (λ fault. is_edit_fault fault ≡ false → WorkCause (seen_on (F.device flash.old) self.old) fault (seen_on (F.device flash.new) self.new)) }
-        ensures faults { IfErr result IsEditFault }
-    {
-        let mut store = Store::new(flash, &mut self.storage);
-        with_entry(alloc, &mut store, root, path, place)
     }
 }
 

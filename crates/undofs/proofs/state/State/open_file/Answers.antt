@@ -83,7 +83,7 @@ returns-in_err-change g c =
     let by = open_change d s e t path flags number c.requires looked ok.accepted ok.lawful changes ok.number (found_below _ c.root-root.result path flags c.in_ok-found.found ok.found ok.fits) in
     let fault = c.in_err-change.field-0.0 in
     at_answer Reply.Fd d s f (record t { storage = c.change.new.storage; history = c.change.new.history }) call fault c.from_residual-in_err-change.result (p.1 ∙ ap Err p.2)
-    (refused_change d s e t f c.change.new.storage c.change.new.history c.root-root.result call (PutEmptyFile c.args.path) (Reply.Fd number) _ fault c.requires c.root-root.ensures looked by c.in_err-change.ensures.written c.in_err-change.ensures.ends)
+    (refused_change d s e t f c.change.new.storage c.change.new.history c.root-root.result call _ (Reply.Fd number) _ fault c.requires c.root-root.ensures looked by c.in_err-change.ensures.written c.in_err-change.ensures.ends)
 
 pub returns : goal.returns
 returns g c =

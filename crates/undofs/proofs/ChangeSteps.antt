@@ -1,5 +1,5 @@
 -- The step of a change that writes a path of the present tree anew and makes the new root the present one.
-use Rattle.std.proofs.Common.{◌≡◌, ◌⊎◌, ℕ, ◌<◌, ◌≤◌, true, false, Option, Some, None, Result, Ok, Err, length, refl, sym, ap, subst, ◌∙◌, inl, inr}
+use Rattle.std.proofs.Common.{◌≡◌, ℕ, ◌<◌, ◌≤◌, true, false, Some, None, Result, Ok, length, refl, sym, ap, subst, ◌∙◌, inr}
 use Rattle.std.proofs.lemmas.Bool.{and_parts, and_from, leb-true}
 use Rattle.std.specs.Prelude.{nat_le, is_some, is_none, if◌then◌else◌}
 use Rattle.std.specs.List.{list_all}
@@ -14,25 +14,19 @@ use Rattle.fs_types.specs.Machine.{Machine, has_paths, present_tree, refusal, ne
 use Rattle.fs_types.specs.declared.calls.Call.{Call}
 use Rattle.fs_types.specs.declared.calls.Reply.{Reply}
 use Rattle.fs_types.specs.declared.faults.Fault.{Fault}
-use Rattle.fs_types.specs.declared.faults.Fault.TheVariants.{ReadOnly, Overflow}
 use Rattle.flash_model.specs.Device.{Device}
-use Rattle.node_format.specs.declared.places.Place.{Place}
 use Rattle.node_store.specs.NodePages.{node_of}
-use Rattle.block_trees.specs.Laws.{IsHeldOrNothing}
 use Rattle.block_trees.specs.Reached.{Keeps}
-use Rattle.block_trees.specs.Rewritten.{IsRewritten}
-use Rattle.block_trees.specs.Trees.{IsRoot, root_tree}
-use Rattle.block_trees.proofs.EditedTrees.{edit_law}
 use Rattle.directory.specs.Making.{IsMakeFault}
 use Rattle.undofs.specs.Seen.{room_of, tree_on, seen_on, machine_on, is_read_only}
-use Rattle.undofs.specs.Steps.{empty, is_light, last_serial, MayRefuse, Refuses, CallStep}
-use Rattle.undofs.specs.Mounted.{IsStanding, IsMounted, IsCalled}
+use Rattle.undofs.specs.Steps.{is_light, last_serial, Refuses, CallStep}
+use Rattle.undofs.specs.Mounted.{IsStanding, IsMounted}
 use Rattle.undofs.specs.Worked.{storage_on, IsWorked, IsLooked, WorkCause}
 use Rattle.undofs.specs.declared.state.State.{State}
 use Rattle.undofs.proofs.Roots.{all_changed, kept_changed}
-use Rattle.undofs.proofs.Standing.{keeps, same_room, AllStand, all_stand, worked_trees, worked_machine, worked_later, worked_mounted, looked_worked, worked_on, worked_pages}
+use Rattle.undofs.proofs.Standing.{keeps, AllStand, all_stand, worked_trees, worked_machine, worked_later, worked_mounted, looked_worked, worked_on}
 use Rattle.undofs.proofs.PathCalls.{present_tree_is, present_stands}
-use Rattle.undofs.proofs.Refusals.{write_refuses, cause_later, refused_step, at_fault}
+use Rattle.undofs.proofs.Refusals.{write_refuses, cause_later}
 use Rattle.undofs.proofs.Steps.{writes-version, still_machine}
 
 pub path_within : (path : Path) → is_path path ≡ true → length path ≤ 16
@@ -45,17 +39,6 @@ makes m call fine tree = and_from (is_none (refusal m call)) (is_some (tree_afte
 
 pub needs : (room : ℕ) (m : Machine) (call : Call) → makes_version m call ≡ true → 0 < change_need room m call → 0 < need room m call
 needs room m call version more = subst (λ b. 0 < (if b then change_need room m call else 0)) (sym version) more
-
--- read-only mode, or no serial left
-abbrev ChangeFault : Fault → State → Type 0
-ChangeFault fault t = ((fault ≡ ReadOnly) × (is_read_only t.storage.bad ≡ true)) ⊎ ((fault ≡ Overflow) × (t.history.next ≡ last_serial))
-
-pub change_refuses : (d : Device) (s : State) (e : Device) (t : State) (call : Call) (fault : Fault) → IsLooked d s e t → makes_version (machine_on d s) call ≡ true → ChangeFault fault t
-    → Refuses (seen_on d s) (machine_on d s) call fault (seen_on e t)
-change_refuses d s e t call fault l version (inl why) =
-    inr (subst (λ x. MayRefuse (seen_on d s) (machine_on d s) call x (seen_on e t)) (sym why.0) (writes-version (machine_on d s) call version, why.1))
-change_refuses d s e t call fault l version (inr why) =
-    inr (subst (λ x. MayRefuse (seen_on d s) (machine_on d s) call x (seen_on e t)) (sym why.0) (version, ap (λ (h : Past ℕ). h.next) (sym l.rest.history) ∙ why.1))
 
 pub writing_refuses : (d : Device) (s : State) (e : Device) (t : State) (f : Device) (u : State) (call : Call) (fault : Fault) → IsLooked d s e t → is_light call ≡ false → makes_version (machine_on d s) call ≡ true
     → 0 < change_need (room_of d) (machine_on d s) call → IsMakeFault fault → WorkCause (seen_on e t) fault (seen_on f u)
@@ -86,18 +69,6 @@ worked_keeps d s e t m w = keeps (storage_on d s) (storage_on e t) m.lawful w.ev
 pub record HasNewTree (e : Device) (t : State) (to : ℕ) (tree : Tree) : Type 0 where
   pub stands : IsStanding e t.storage.ring to
   pub is : tree_on e to ≡ tree
-
--- a path below a root that stood was written anew, its new entry holds what it reaches, and the law of the edit gives the tree: so the new root stands
-pub rewritten_root : (d : Device) (s : State) (e : Device) (t : State) (from to : ℕ) (path : Path) (at : Option Place) (tree : Tree) → IsMounted d s → IsStanding d s.storage.ring from → IsWorked d s e t
-    → IsRewritten (node_of d) (set.contains t.storage.ring.used) (node_of e) from to path at → IsHeldOrNothing (node_of e) (set.contains t.storage.ring.used) at
-    → IsRoot (room_of d) (node_of e) to × (root_tree (room_of d) (node_of e) to ≡ tree) → HasNewTree e t to tree
-rewritten_root d s e t from to path at tree m stands w rewritten held law =
-    let same : room_of e ≡ room_of d = same_room (storage_on d s) (storage_on e t) w.evolved in
-    let edit = edit_law (node_of d) (node_of e) (set.contains s.storage.ring.used) (set.contains t.storage.ring.used) from to path at (worked_keeps d s e t m w) stands.held rewritten in
-    record {
-      stands = record { held = edit.held held; rooted = subst (λ room. IsRoot room (node_of e) to) (sym same) law.0 };
-      is = ap (λ room. root_tree room (node_of e) to) same ∙ law.1;
-    }
 
 -- The new root becomes the present one.
 
@@ -162,30 +133,4 @@ changed_mounted d s f u to call tree result h files pushes m w new paths step =
       versions = all.versions;
       checkpoints = all.checkpoints;
       machine = still_machine (seen_on d s) (seen_on f (changed_state u h files)) (machine_on d s) (machine_on f (changed_state u h files)) false false call result m.machine paths step;
-    }
-
--- The whole of what a call leaves.
-
--- a call that was refused after reads and writes
-pub refused_called : {T : Type 0} (reply : T → Reply) (d : Device) (s : State) (e : Device) (t : State) (call : Call) (fault : Fault) (result : Result T Fault) → result ≡ Err fault → IsMounted d s → IsWorked d s e t
-    → Refuses (seen_on d s) (machine_on d s) call fault (seen_on e t) → IsCalled T d s call reply result e t
-refused_called reply d s e t call fault result is m w refuses = record {
-  mounted = worked_mounted d s e t m w;
-  step = at_fault reply (seen_on d s) (seen_on e t) (machine_on d s) (machine_on e t) call fault result is (refused_step d s e t call fault m w refuses);
-  is_off = w.rest.is_off;
-  pages = worked_pages d s e t m w;
-}
-
--- a change that was carried out, which answers nothing and leaves the open files
-pub changed_called : (d : Device) (s : State) (e : Device) (t : State) (f : Device) (u : State) (to : ℕ) (call : Call) (tree : Tree) (h : Past ℕ) → h ≡ changed u.history to → IsMounted d s → IsLooked d s e t
-    → refusal (machine_on d s) call ≡ None → tree_after (machine_on d s) call ≡ Some tree → descriptors_after (machine_on d s) call ≡ s.files → reply_of (seen_on f u).space (machine_on d s) call ≡ Reply.Empty → has_paths call ≡ true
-    → is_read_only t.storage.bad ≡ false → t.history.next < last_serial → IsWorked e t f u → HasNewTree f u to tree → IsCalled (Unit {0}) d s call empty (Ok tt) f (record u { history = h })
-changed_called d s e t f u to call tree h pushes m l fine after opens replies paths writable serial w new =
-    let all = worked_on d s e t f u (looked_worked d s e t l) w in
-    let step = changed_step d s e t f u to call tree Reply.Empty h u.files pushes (all.rest.files ∙ sym opens) m l fine after replies writable serial w new in
-    record {
-      mounted = changed_mounted d s f u to call tree (Ok Reply.Empty) h u.files pushes m all new paths step;
-      step = step;
-      is_off = all.rest.is_off;
-      pages = worked_pages d s f u m all;
     }

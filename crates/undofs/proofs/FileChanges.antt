@@ -15,9 +15,7 @@ use Rattle.fs_types.specs.Machine.{Machine, Space, IsFile, has_paths, present_tr
 use Rattle.fs_types.specs.declared.calls.Call.{Call}
 use Rattle.fs_types.specs.declared.calls.Reply.{Reply}
 use Rattle.fs_types.specs.declared.faults.Fault.{Fault}
-use Rattle.fs_types.specs.declared.faults.Fault.TheVariants.{FlashFull, ReadOnly, ReadFailed, PowerCut, NoMemory}
 use Rattle.fs_types.proofs.Accepted.{not-root}
-use Rattle.fs_types.proofs.Files.{length-resized, length-overwritten}
 use Rattle.fs_types.proofs.Kept.{present-file_tree}
 use Rattle.flash_model.specs.Device.{Device}
 use Rattle.node_format.specs.Items.{Item, named}
@@ -26,36 +24,27 @@ use Rattle.node_format.specs.declared.places.Place.TheVariants as place
 use Rattle.node_store.specs.NodePages.{node_of}
 use Rattle.node_store.specs.StorageLaws.{Untouched_itself}
 use Rattle.block_trees.specs.Bodies.{Blocks, body, head_index, data_to, IsBody}
-use Rattle.block_trees.specs.Reached.{IsHeld, Keeps}
-use Rattle.block_trees.specs.Rewritten.{IsRewritten}
-use Rattle.block_trees.specs.Trees.{entries_of, leads, entry_at, tree, HasTree, IsWhole}
-use Rattle.block_trees.proofs.EditedMaps.{put_file_law}
+use Rattle.block_trees.specs.Reached.{IsHeld}
+use Rattle.block_trees.specs.Trees.{entries_of, leads, entry_at}
 use Rattle.block_trees.proofs.Entries.{some_place, place_is}
-use Rattle.block_trees.proofs.Frames.{frame_law}
 use Rattle.block_trees.proofs.Reaching.{held_leads}
 use Rattle.directory.specs.declared.lookups.Found.{Found}
 use Rattle.directory.specs.declared.lookups.Found.TheVariants as found
-use Rattle.directory.specs.Edits.{path_refusal, is_edit_fault, IsEditFault}
 use Rattle.directory.specs.Lookups.{◌>>=◌, look_up, found_in, found_of, below_in, directory_at, is_path_fault, IsLookupFault}
-use Rattle.directory.specs.Making.{IsMakeFault}
 use Rattle.directory.proofs.LookupLaws.{found_is, found_leads_file}
-use Rattle.directory.proofs.NewDirectories.{not_refused, make_fault}
-use Rattle.skip_list_file.specs.Writing.{IsWritten, IsWritingFault}
-use Rattle.skip_list_file.specs.declared.bodies.Body.{Body}
 use Rattle.undofs.specs.Changing.{IsPathOf, IsAlwaysRefused}
-use Rattle.undofs.specs.Seen.{room_of, tree_on, seen_on, machine_on, is_read_only}
-use Rattle.undofs.specs.Steps.{is_light, last_serial, MayRefuse, Refuses}
-use Rattle.undofs.specs.Mounted.{IsStanding, IsMounted}
+use Rattle.undofs.specs.Seen.{room_of, tree_on, seen_on, machine_on}
+use Rattle.undofs.specs.Steps.{is_light, MayRefuse}
+use Rattle.undofs.specs.Mounted.{IsMounted}
 use Rattle.undofs.specs.Opening.{IsAnswered}
 use Rattle.undofs.specs.Worked.{storage_on, IsWorked, IsLooked, WorkCause}
 use Rattle.undofs.specs.declared.state.State.{State}
 use Rattle.undofs.proofs.ChangedCalls.{IsChangeBy}
 use Rattle.undofs.proofs.ChangeSteps.{makes, later_tree}
 use Rattle.undofs.proofs.OpenCalls.{present_is}
-use Rattle.undofs.proofs.PathCalls.{OnlyReads, present_tree_is, present_stands, read_done}
-use Rattle.undofs.proofs.Refusals.{read_refuses, write_refuses, cause_later}
-use Rattle.undofs.proofs.Standing.{same_room, worked_machine, worked_later, worked_mounted, worked_pages, looked_worked, worked_on}
-use Rattle.undofs.proofs.Steps.{writes-version}
+use Rattle.undofs.proofs.PathCalls.{OnlyReads, present_stands, read_done}
+use Rattle.undofs.proofs.Refusals.{read_refuses}
+use Rattle.undofs.proofs.Standing.{worked_machine, worked_mounted, worked_pages, looked_worked}
 
 -- What a path leads to, looked up.
 

@@ -1,48 +1,40 @@
 -- The step of opening a file.
-use Rattle.std.proofs.Common.{◌≡◌, ◌≢◌, ℕ, zero, suc, ◌<◌, ◌≤◌, Bool, true, false, cond, not, ◌&&◌, ◌||◌, Option, Some, None, Result, Ok, Err, List, [], ◌∷◌, length, take, refl, sym, ap, subst, ◌∙◌, ◌⊎◌, inl, inr, arith}
-use Rattle.std.proofs.lemmas.Bool.{cases_Bool, and_from}
+use Rattle.std.proofs.Common.{◌≡◌, ℕ, zero, suc, ◌<◌, ◌≤◌, Bool, true, false, cond, not, ◌&&◌, ◌||◌, Option, Some, None, Result, Ok, Err, [], ◌∷◌, length, take, refl, sym, ap, subst, ◌∙◌, inl, inr, arith}
+use Rattle.std.proofs.lemmas.Bool.{cases_Bool}
 use Rattle.std.proofs.lemmas.List.{length-take}
-use Rattle.std.specs.Prelude.{nat_lt, nat_le, unwrap_or}
+use Rattle.std.specs.Prelude.{nat_lt, unwrap_or}
 use Rattle.std.specs.Option.{option_or, option_map_or, is_none, is_some}
 use Rattle.std.specs.FinMap.{get}
-use Rattle.std.specs.FinSet as set
-use Rattle.fs_types.specs.Names.{Name, Path, is_path}
+use Rattle.fs_types.specs.Names.{Path, is_path}
 use Rattle.fs_types.specs.Contents.{Contents, Entry, parent_of, lookup_refusal}
 use Rattle.fs_types.specs.Trees.{Tree, is_full}
 use Rattle.fs_types.specs.Descriptors.{Descriptors, least_free, opened, creates, is_exclusive, truncates, are_lawful}
 use Rattle.fs_types.specs.History.{Past, present_root, changed}
-use Rattle.fs_types.specs.Machine.{Machine, IsMachine, Space, present_tree, bytes_of, number_refusal, open_refusal, open_changes, file_put, refusal, tree_after, descriptors_after, makes_version, answer_of, machine_of}
+use Rattle.fs_types.specs.Machine.{Machine, IsMachine, Space, present_tree, bytes_of, number_refusal, open_refusal, open_changes, file_put, refusal, tree_after, answer_of, machine_of}
 use Rattle.fs_types.specs.declared.calls.Call.{Call}
 use Rattle.fs_types.specs.declared.calls.Reply.{Reply}
 use Rattle.fs_types.specs.declared.faults.Fault.{Fault}
-use Rattle.fs_types.specs.declared.faults.Fault.TheVariants.{NoEntry, IsDirectory, Exists, Invalid, DirectoryFull, TooManyOpen, ReadOnly, Overflow}
+use Rattle.fs_types.specs.declared.faults.Fault.TheVariants.{NoEntry, IsDirectory, Exists, Invalid, DirectoryFull, TooManyOpen}
 use Rattle.fs_types.specs.declared.flags.OpenFlags.{OpenFlags}
 use Rattle.flash_model.specs.Device.{Device}
-use Rattle.node_format.specs.Items.{Item, named}
-use Rattle.node_format.specs.declared.places.Place.{Place}
 use Rattle.node_format.specs.declared.places.Place.TheVariants as place
 use Rattle.node_store.specs.NodePages.{node_of}
 use Rattle.block_trees.specs.Bodies.{Blocks, body, head_index, data_to, IsBody}
-use Rattle.block_trees.specs.Rewritten.{IsRewritten}
-use Rattle.block_trees.specs.Trees.{entries_of, tree}
-use Rattle.block_trees.proofs.EditedMaps.{put_file_law}
+use Rattle.block_trees.specs.Trees.{tree}
 use Rattle.block_trees.proofs.RootMaps.{map_law, full_directory}
 use Rattle.directory.specs.declared.lookups.Found.{Found}
 use Rattle.directory.specs.declared.lookups.Found.TheVariants as found
-use Rattle.directory.specs.Lookups.{look_up, entry_of, found_in, found_of, below_in, is_path_fault, IsLookupFault}
-use Rattle.directory.specs.Edits.{edit_refusal, path_refusal, on_way, is_edit_fault, IsEditFault}
+use Rattle.directory.specs.Lookups.{look_up, entry_of, is_path_fault, IsLookupFault}
 use Rattle.directory.proofs.LookupLaws.{found_is, found_leads_file, missing_parent, refused_is}
-use Rattle.directory.proofs.NewDirectories.{on_below, not_refused, make_fault}
-use Rattle.undofs.specs.Seen.{room_of, tree_on, seen_on, machine_on, is_read_only}
-use Rattle.undofs.specs.Steps.{replied, is_cut, is_cut_answer, last_serial, Refuses, CallStep}
-use Rattle.undofs.specs.Mounted.{IsStanding, IsMounted}
+use Rattle.undofs.specs.Seen.{room_of, seen_on, machine_on}
+use Rattle.undofs.specs.Steps.{replied, is_cut, is_cut_answer, Refuses, CallStep}
+use Rattle.undofs.specs.Mounted.{IsMounted}
 use Rattle.undofs.specs.Opening.{found_refusal, changes_found, IsAnswered}
 use Rattle.undofs.specs.Worked.{IsWorked, IsLooked, WorkCause}
 use Rattle.undofs.specs.declared.state.State.{State}
-use Rattle.undofs.proofs.ChangeSteps.{path_within, later_stands, later_tree, worked_keeps, HasNewTree, rewritten_root, change_refuses, writing_refuses, changed_step, changed_mounted}
 use Rattle.undofs.proofs.PathCalls.{present_tree_is, present_stands}
 use Rattle.undofs.proofs.Refusals.{read_refuses, refused_step, never}
-use Rattle.undofs.proofs.Standing.{all_stand, AllStand, worked_machine, worked_later, worked_mounted, worked_pages, looked_worked, worked_on}
+use Rattle.undofs.proofs.Standing.{all_stand, AllStand, worked_machine, worked_later, worked_mounted, worked_pages, looked_worked}
 use Rattle.undofs.proofs.Steps.{still_machine}
 
 -- ---- refusals

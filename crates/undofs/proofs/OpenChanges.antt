@@ -1,5 +1,5 @@
 -- The change of an open that makes or cuts a file.
-use Rattle.std.proofs.Common.{◌≡◌, ℕ, ◌<◌, Bool, true, false, cond, Option, Some, None, [], length, refl, sym, ap, ◌∙◌}
+use Rattle.std.proofs.Common.{◌≡◌, ℕ, ◌<◌, Bool, true, false, cond, Some, None, [], length, refl, sym, ap, ◌∙◌}
 use Rattle.std.specs.Prelude.{not, ◌&&◌, unwrap_or}
 use Rattle.fs_types.specs.Names.{Path, is_path}
 use Rattle.fs_types.specs.Contents.{Entry}
@@ -8,7 +8,6 @@ use Rattle.fs_types.specs.Descriptors.{Descriptors, least_free, opened, creates,
 use Rattle.fs_types.specs.Machine.{present_tree, file_put, open_changes, refusal, descriptors_after}
 use Rattle.fs_types.specs.declared.calls.Call.{Call}
 use Rattle.fs_types.specs.declared.calls.Reply.{Reply}
-use Rattle.fs_types.specs.declared.faults.Fault.{Fault}
 use Rattle.fs_types.specs.declared.faults.Fault.TheVariants.{NoEntry, IsDirectory, Exists, DirectoryFull}
 use Rattle.fs_types.specs.declared.flags.OpenFlags.{OpenFlags}
 use Rattle.flash_model.specs.Device.{Device}

@@ -1,14 +1,13 @@
 -- The step of a rename: of the same path, and of what is moved.
-use Rattle.std.proofs.Common.{◌≡◌, ℕ, ◌<◌, true, false, Option, Some, None, Ok, [], ◌∷◌, refl, sym, ap, subst, ◌∙◌, inl, inr, arith}
-use Rattle.std.proofs.lemmas.Bool.{true≢false, and_parts}
-use Rattle.std.specs.Prelude.{is_some, ◌&&◌, if◌then◌else◌}
+use Rattle.std.proofs.Common.{◌≡◌, ℕ, ◌<◌, true, false, Option, Some, None, Ok, [], ◌∷◌, refl, sym, ap, ◌∙◌, inl, inr, arith}
+use Rattle.std.proofs.lemmas.Bool.{true≢false}
+use Rattle.std.specs.Prelude.{◌&&◌, if◌then◌else◌}
 use Rattle.std.specs.Option.{option_map_or}
-use Rattle.std.specs.FinSet as set
 use Rattle.fs_types.specs.Names.{Path, same_path, is_path}
 use Rattle.fs_types.specs.Contents.{Entry, Apart, is_dir}
 use Rattle.fs_types.specs.Trees.{Tree, move}
-use Rattle.fs_types.specs.History.{Past, present_root, changed}
-use Rattle.fs_types.specs.Machine.{Machine, present_tree, refusal, rename_refusal, makes_version, change_need, tree_after}
+use Rattle.fs_types.specs.History.{changed}
+use Rattle.fs_types.specs.Machine.{Machine, present_tree, refusal, rename_refusal, change_need, tree_after}
 use Rattle.fs_types.specs.declared.calls.Call.{Call}
 use Rattle.fs_types.specs.declared.calls.Reply.{Reply}
 use Rattle.fs_types.specs.declared.faults.Fault.{Fault}
@@ -16,21 +15,18 @@ use Rattle.fs_types.proofs.Kept as machine
 use Rattle.fs_types.proofs.Orders.{same_path-own}
 use Rattle.flash_model.specs.Device.{Device}
 use Rattle.node_format.specs.declared.places.Place.{Place}
-use Rattle.node_store.specs.NodePages.{node_of}
-use Rattle.block_trees.specs.Rewritten.{IsMoved}
-use Rattle.block_trees.specs.Trees.{IsRoot, root_tree, is_dir_place}
-use Rattle.block_trees.proofs.MovedTrees as trees
-use Rattle.undofs.specs.Seen.{room_of, tree_on, seen_on, machine_on, is_read_only}
-use Rattle.undofs.specs.Steps.{last_serial, Refuses, CallStep}
+use Rattle.block_trees.specs.Trees.{is_dir_place}
+use Rattle.undofs.specs.Seen.{tree_on, seen_on, machine_on}
+use Rattle.undofs.specs.Steps.{Refuses, CallStep}
 use Rattle.undofs.specs.Mounted.{IsMounted}
 use Rattle.undofs.specs.Opening.{IsAnswered}
-use Rattle.undofs.specs.Worked.{storage_on, IsWorked, IsLooked}
+use Rattle.undofs.specs.Worked.{IsLooked}
 use Rattle.undofs.specs.declared.state.State.{State}
 use Rattle.undofs.proofs.ChangeSteps.{later_tree}
 use Rattle.undofs.proofs.ChangedCalls.{IsChangeBy}
 use Rattle.undofs.proofs.MovedEntries.{PlaceRefused, PlaceFound, MoveRefused, read_later, read_may}
 use Rattle.undofs.proofs.PathCalls.{OnlyReads, read_done}
-use Rattle.undofs.proofs.Standing.{same_room, looked_worked, worked_later, worked_machine, worked_mounted, worked_pages}
+use Rattle.undofs.proofs.Standing.{looked_worked, worked_later, worked_machine, worked_mounted, worked_pages}
 
 -- Refusals.
 

@@ -1,43 +1,34 @@
 -- The steps of an entry taken out of the present tree: an empty directory, and a file.
-use Rattle.std.proofs.Common.{◌≡◌, ℕ, ◌<◌, ◌≤◌, Bool, true, false, Option, Some, None, Result, Ok, List, [], ◌∷◌, length, refl, sym, ap, subst, ◌∙◌, inl, arith}
+use Rattle.std.proofs.Common.{◌≡◌, ℕ, ◌<◌, ◌≤◌, Bool, true, false, Option, Some, None, Ok, List, [], ◌∷◌, length, refl, sym, ap, subst, ◌∙◌, inl, arith}
 use Rattle.std.proofs.lemmas.Bool.{lt-ltb}
 use Rattle.std.proofs.lemmas.List.{length-map}
 use Rattle.std.specs.Prelude.{nat_lt, unwrap_or, if◌then◌else◌, ◌==◌}
-use Rattle.std.specs.FinSet as set
-use Rattle.fs_types.specs.Names.{Name, Path, is_path}
+use Rattle.fs_types.specs.Names.{Path, is_path}
 use Rattle.fs_types.specs.Trees.{Tree, remove, entry_count}
-use Rattle.fs_types.specs.History.{Past, present_root, changed}
-use Rattle.fs_types.specs.Machine.{Machine, refusal, found_refusal, unlink_refusal, rmdir_refusal, makes_version}
+use Rattle.fs_types.specs.History.{present_root}
+use Rattle.fs_types.specs.Machine.{refusal, found_refusal, unlink_refusal, rmdir_refusal}
 use Rattle.fs_types.specs.Descriptors.{Descriptors, is_open}
 use Rattle.fs_types.specs.declared.calls.Call.{Call}
 use Rattle.fs_types.specs.declared.calls.Reply.{Reply}
-use Rattle.fs_types.specs.declared.faults.Fault.{Fault}
 use Rattle.fs_types.specs.declared.faults.Fault.TheVariants.{NotEmpty, Busy}
 use Rattle.flash_model.specs.Device.{Device}
-use Rattle.node_format.specs.Items.{Item, named}
-use Rattle.node_format.specs.declared.places.Place.{Place}
-use Rattle.node_format.specs.declared.places.Place.TheVariants.{Dir, File}
+use Rattle.node_format.specs.Items.{Item}
 use Rattle.node_store.specs.NodePages.{node_of}
 use Rattle.block_trees.specs.Bodies.{Blocks}
-use Rattle.block_trees.specs.Rewritten.{IsRewritten}
-use Rattle.block_trees.specs.Trees.{entries_of, is_dir_place, child, leads}
-use Rattle.block_trees.proofs.EditedMaps.{last_at, remove_law}
+use Rattle.block_trees.specs.Trees.{entries_of, is_dir_place}
 use Rattle.block_trees.proofs.RootMaps.{map_law}
 use Rattle.directory.specs.declared.lookups.Found.{Found}
 use Rattle.directory.specs.declared.lookups.Found.TheVariants as found
-use Rattle.directory.specs.Edits.{edit_refusal, path_refusal, on_way}
-use Rattle.directory.specs.Lookups.{below_in, found_in, look_up}
-use Rattle.directory.proofs.LookupLaws.{found_leads, found_leads_file}
-use Rattle.directory.proofs.NewDirectories.{on_below}
-use Rattle.undofs.specs.Seen.{room_of, tree_on, seen_on, machine_on, is_read_only}
-use Rattle.undofs.specs.Steps.{empty, last_serial, Refuses}
-use Rattle.undofs.specs.Mounted.{IsMounted, IsCalled}
-use Rattle.undofs.specs.Worked.{IsWorked, IsLooked}
+use Rattle.directory.specs.Lookups.{look_up}
+use Rattle.directory.proofs.LookupLaws.{found_leads}
+use Rattle.undofs.specs.Seen.{room_of, tree_on, seen_on, machine_on}
+use Rattle.undofs.specs.Steps.{Refuses}
+use Rattle.undofs.specs.Mounted.{IsMounted}
+use Rattle.undofs.specs.Worked.{IsLooked}
 use Rattle.undofs.specs.declared.state.State.{State}
 use Rattle.undofs.proofs.ChangeSteps.{later_tree}
 use Rattle.undofs.proofs.ChangedCalls.{IsChangeBy}
 use Rattle.undofs.proofs.PathCalls.{present_tree_is, present_stands, LooksUp, found_by}
-use Rattle.undofs.proofs.Standing.{worked_mounted, looked_worked}
 
 -- An empty directory.
 

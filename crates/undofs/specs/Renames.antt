@@ -1,18 +1,14 @@
 -- What a rename moves, and what it looks at before.
-use Rattle.std.specs.Prelude.{◌≡◌, ◌-◌, ◌&&◌, ℕ, Bool, true, false, Option, Some, None, is_none, length}
+use Rattle.std.specs.Prelude.{◌≡◌, ◌&&◌, ℕ, Bool, true, false, Option, Some, None, is_none}
 use Rattle.std.specs.Option.{option_or}
 use Rattle.std.specs.FinMap.{get}
-use Rattle.fs_types.specs.Names.{Path, same_path, is_path}
+use Rattle.fs_types.specs.Names.{Path, same_path}
 use Rattle.fs_types.specs.Contents.{Entry, parent_of, lookup_refusal}
 use Rattle.fs_types.specs.Trees.{Tree, is_full}
 use Rattle.fs_types.specs.Machine.{replace_refusal}
 use Rattle.fs_types.specs.declared.faults.Fault.{Fault}
-use Rattle.node_format.specs.Items.{is_place}
 use Rattle.node_format.specs.declared.places.Place.{Place}
-use Rattle.node_format.specs.declared.places.Place.TheVariants.{Dir}
 use Rattle.block_trees.specs.Bodies.{Blocks}
-use Rattle.block_trees.specs.Laws.{IsShallow}
-use Rattle.block_trees.specs.Trees.{leads}
 use Rattle.tree_edits.specs.Edits.{IsMovable}
 
 -- why an entry is not moved to a path: the path cannot be looked up, or what stands there is not replaced

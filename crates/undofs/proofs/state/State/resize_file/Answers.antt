@@ -1,4 +1,4 @@
-use Rattle.std.proofs.Common.{◌≡◌, ℕ, Ok, Err, length, refl, sym, ap, subst, ◌∙◌}
+use Rattle.std.proofs.Common.{◌≡◌, ℕ, Ok, Err, refl, ap, subst, ◌∙◌}
 use Rattle.std.proofs.lemmas.Result.{err_from_is_err_and}
 use Rattle.fs_types.specs.Contents.{resized}
 use Rattle.fs_types.specs.declared.calls.Call.{Call}
@@ -8,7 +8,7 @@ use Rattle.directory.specs.declared.lookups.Found.TheVariants as found
 use Rattle.directory.specs.Lookups.{look_up}
 use Rattle.undofs.specs.Seen.{machine_on}
 use Rattle.undofs.specs.Steps.{empty}
-use Rattle.undofs.proofs.ChangedCalls.{looked_ready, looked_stands, same_root, refused_change, pushed_by, change_by}
+use Rattle.undofs.proofs.ChangedCalls.{looked_ready, looked_stands, same_root, change_by}
 use Rattle.undofs.proofs.FileChanges as changes
 use Rattle.undofs.proofs.OpenCalls.{at_answer, refused_answer}
 use Rattle.undofs.proofs.Standing.{looked_worked}

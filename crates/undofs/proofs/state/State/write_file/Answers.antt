@@ -7,8 +7,7 @@ use Rattle.node_store.specs.NodePages.{node_of}
 use Rattle.directory.specs.declared.lookups.Found.TheVariants as found
 use Rattle.directory.specs.Lookups.{look_up}
 use Rattle.undofs.specs.Seen.{machine_on}
-use Rattle.undofs.specs.Steps.{empty}
-use Rattle.undofs.proofs.ChangedCalls.{looked_ready, looked_stands, same_root, refused_change, pushed_by, change_by}
+use Rattle.undofs.proofs.ChangedCalls.{looked_ready, looked_stands, same_root, refused_change, pushed_by}
 use Rattle.undofs.proofs.FileChanges as changes
 use Rattle.undofs.proofs.OpenCalls.{at_answer, refused_answer}
 use Rattle.undofs.proofs.Standing.{looked_worked}

@@ -2,3 +2,4 @@ pub mod Committed
 pub mod NewestLaws
 pub mod Places
 pub mod ReadParts
+pub mod WritingLaws

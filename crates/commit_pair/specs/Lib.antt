@@ -2,3 +2,4 @@ pub mod Parts
 pub mod Reading
 pub mod Laws
 pub mod Newest
+pub mod Writing

@@ -1,5 +1,6 @@
 //! The laws of the newest record, as the contract of a function that does nothing.
 ghost use Rattle.commit_pair.specs.Laws.{FoundIsNewest, NewestIsFound, OnlyAnchorsMatter};
+ghost use Rattle.commit_pair.specs.Writing.{HalfChangesNothing};
 
 /// At most one valid record is the newest: every other one is older. Pages of other blocks than
 /// the anchors do not matter.
@@ -7,4 +8,9 @@ pub fn newest_laws()
     ensures newest { FoundIsNewest }
     ensures found { NewestIsFound }
     ensures anchors { OnlyAnchorsMatter }
+{}
+
+/// A record of which pages are missing changes nothing: the newest one is what it was.
+pub fn writing_laws()
+    ensures { HalfChangesNothing }
 {}

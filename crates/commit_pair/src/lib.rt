@@ -8,4 +8,4 @@ mod parts;
 mod scan;
 
 pub use anchors::Anchors;
-pub use laws::newest_laws;
+pub use laws::{newest_laws, writing_laws};

@@ -4,6 +4,8 @@
 #![tactic(auto)]
 
 mod error;
+#[cfg(test)]
+mod records;
 mod row;
 mod runs;
 #[cfg(test)]

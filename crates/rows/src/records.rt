@@ -1,0 +1,109 @@
+//! Records on the anchors, byte for byte.
+use commit_pair::Anchors;
+use flash_model::{Flash, Geometry, PageView, SimFlash};
+use fs_types::Fault;
+use record_format::{PageHead, Record, read_payload, write_page, write_payload};
+use std::alloc::Global;
+use std::test::Fail;
+
+const SIZES: Geometry = Geometry {
+    page: 256,
+    pages: 16,
+    blocks: 32,
+};
+
+/// What the first page of a fresh flash begins with: a header, and a payload of 52 bytes. 0 follows.
+const FRESH: [u8; 72] =
+    *b"UFCR\x01\0\0\0\0\0\0\0\0\0\x01\0\x34\0\0\0\x01\0\0\0\0\x01\0\0\x10\0\0\0\x20\0\0\0\x08\0\0\0\0\x01\0\0\0\0\0\0\x02\0\0\0\0\0\0\0\x08\0\0\0\x01\0\0\0\0\0\0\0\x08\0\0\0";
+
+/// The newest record of a flash whose page 0 begins with these bytes.
+fn newest_of(alloc: Global, begin: &[u8]) -> Result<Option<Record>, Fault> {
+    let mut page = Vec::from_slice(alloc, begin)?;
+    page.resize(256, 0)?;
+    let mut flash = SimFlash::new(alloc, SIZES, &[])?;
+    let sizes = flash.geometry();
+    if !sizes.is_lawful() || sizes.page as usize != page.len() || sizes.page_count() == 0 {
+        return Err(Fault::BadGeometry);
+    }
+    match flash.page(0) {
+        PageView::Erased => {}
+        _ => return Err(Fault::Invalid),
+    }
+    let _ = flash.program(0, &page);
+    Anchors::new().newest(alloc, &mut flash)
+}
+
+/// The bytes of a record of one page.
+fn page_of(alloc: Global, record: &Record) -> Result<Vec<u8>, Fault> {
+    if !record.is_lawful() {
+        return Err(Fault::Invalid);
+    }
+    let payload = write_payload(record, record.bad.as_slice());
+    let mut page = Vec::with_capacity(alloc, 256)?;
+    if payload.len() > 236 {
+        return Err(Fault::Invalid);
+    }
+    let head = PageHead {
+        sequence: record.sequence,
+        index: 0,
+        count: 1,
+        used: payload.len() as u16,
+    };
+    write_page(&mut page, 256, head, payload.as_slice());
+    Ok(page)
+}
+
+#[test]
+fn the_record_of_a_fresh_flash_is_read(rt: HostRuntime) -> Result<(), Fail> {
+    let record = newest_of(rt.alloc(), &FRESH)?.ok_or("a record")?;
+    assert_eq!(rt; record.sequence, 1);
+    assert_eq!(rt; record.geometry, SIZES);
+    assert_eq!(rt; record.limit, 8);
+    assert_eq!(rt; record.cursor, 0);
+    assert!(rt; !record.dropped);
+    assert_eq!(rt; record.versions.as_slice().len(), 1);
+    assert_eq!(rt; record.versions.as_slice()[0].serial, 1);
+    assert_eq!(rt; record.versions.as_slice()[0].root, 8);
+    assert_eq!(rt; record.checkpoints.as_slice().len(), 0);
+    assert_eq!(rt; record.bad.as_slice().len(), 0);
+    assert_eq!(rt; record.next, 2);
+    assert_eq!(rt; record.last, 8);
+    Ok(())
+}
+
+#[test]
+fn the_record_of_a_fresh_flash_is_written(rt: HostRuntime) -> Result<(), Fail> {
+    let record = newest_of(rt.alloc(), &FRESH)?.ok_or("a record")?;
+    let page = page_of(rt.alloc(), &record)?;
+    let mut wanted = FRESH.to_vec(rt.alloc())?;
+    wanted.resize(256, 0)?;
+    assert_eq!(rt; page.as_slice(), wanted.as_slice());
+    Ok(())
+}
+
+#[test]
+fn other_payloads_are_refused(rt: HostRuntime) -> Result<(), Fail> {
+    let mut format = FRESH;
+    format[20] = 3;
+    assert!(rt; matches!(newest_of(rt.alloc(), &format), Err(Fault::Damaged)));
+    let mut sizes = FRESH;
+    sizes[25] = 2;
+    assert!(rt; matches!(newest_of(rt.alloc(), &sizes), Err(Fault::BadGeometry)));
+    let mut limit = FRESH;
+    limit[36] = 1;
+    assert!(rt; matches!(newest_of(rt.alloc(), &limit), Err(Fault::Damaged)));
+    let mut cursor = FRESH;
+    cursor[38] = 1;
+    assert!(rt; matches!(newest_of(rt.alloc(), &cursor), Err(Fault::Damaged)));
+    let mut unread = FRESH;
+    unread[43] = 9;
+    assert!(rt; matches!(newest_of(rt.alloc(), &unread), Ok(Some(_))));
+    assert!(rt; matches!(newest_of(rt.alloc(), &[]), Ok(None)));
+    assert!(rt;
+        matches!(
+            read_payload(rt.alloc(), SIZES, 1, &FRESH[20..35]),
+            Err(Fault::Damaged)
+        )
+    );
+    Ok(())
+}

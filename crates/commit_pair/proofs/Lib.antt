@@ -3,3 +3,4 @@ pub mod NewestLaws
 pub mod Places
 pub mod ReadParts
 pub mod WritingLaws
+pub mod WholeLaws

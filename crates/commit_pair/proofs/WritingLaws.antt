@@ -21,19 +21,19 @@ false_by true h = absurd (h refl)
 false_by false h = refl
 
 -- a page that is the n-th of a record says so
-part_index : (g : Geometry) (first : PageHead) (n : ℕ) (head : PageHead) → is_part g first n (Some head) ≡ true → head.index ≡ n
+pub part_index : (g : Geometry) (first : PageHead) (n : ℕ) (head : PageHead) → is_part g first n (Some head) ≡ true → head.index ≡ n
 part_index g first n head e =
     let counted = (both_true (eqb head.sequence first.sequence) _ e).1 in
     let placed = (both_true (eqb head.count first.count) _ counted).1 in
     eqb-true _ _ (both_true (eqb head.index n) _ placed).0
 
-part_not_none : (g : Geometry) (first : PageHead) (n : ℕ) (o : Option PageHead) → o ≡ None → is_part g first n o ≡ false
+pub part_not_none : (g : Geometry) (first : PageHead) (n : ℕ) (o : Option PageHead) → o ≡ None → is_part g first n o ≡ false
 part_not_none g first n o none = ap (is_part g first n) none
 
-part_misplaced : (g : Geometry) (first : PageHead) (n : ℕ) (o : Option PageHead) (head : PageHead) → o ≡ Some head → head.index ≢ n → is_part g first n o ≡ false
+pub part_misplaced : (g : Geometry) (first : PageHead) (n : ℕ) (o : Option PageHead) (head : PageHead) → o ≡ Some head → head.index ≢ n → is_part g first n o ≡ false
 part_misplaced g first n o head is apart = ap (is_part g first n) is ∙ false_by (is_part g first n (Some head)) (λ e. apart (part_index g first n head e))
 
-are_parts_same : (g : Geometry) (now was : ℕ → Option Part) (p : ℕ) (first : PageHead) (n k : ℕ)
+pub are_parts_same : (g : Geometry) (now was : ℕ → Option Part) (p : ℕ) (first : PageHead) (n k : ℕ)
     → ((m : ℕ) → is_part g first m (head_at now (p + m)) ≡ is_part g first m (head_at was (p + m))) → are_parts g now p first n k ≡ are_parts g was p first n k
 unfolding are_parts
 are_parts_same g now was p first n zero same = refl
@@ -49,13 +49,13 @@ are_parts_at g parts p first n (suc k) e m from below =
       | inr later ↦ are_parts_at g parts p first (n + 1) k both.1 m (omega arith) (omega arith)
     ]
 
-record_parts : (g : Geometry) (parts : ℕ → Option Part) (p : ℕ) (first : PageHead) → is_record g parts p first ≡ true → (0 < first.count) × ((m : ℕ) → m < first.count → is_part g first m (head_at parts (p + m)) ≡ true)
+pub record_parts : (g : Geometry) (parts : ℕ → Option Part) (p : ℕ) (first : PageHead) → is_record g parts p first ≡ true → (0 < first.count) × ((m : ℕ) → m < first.count → is_part g first m (head_at parts (p + m)) ≡ true)
 record_parts g parts p first e =
     let some = both_true (ltb 0 first.count) _ e in
     let fit = both_true (leb (p % g.pages + first.count) g.pages) _ some.1 in
     (ltb-true _ _ some.0, λ m below. are_parts_at g parts p first 0 first.count fit.1 m (omega arith) (omega arith))
 
-no_record : (g : Geometry) (parts : ℕ → Option Part) (p : ℕ) (o : Option PageHead) → head_at parts p ≡ o → ((first : PageHead) → o ≡ Some first → is_record g parts p first ≡ true → ⊥) → record_head g parts p ≡ None
+pub no_record : (g : Geometry) (parts : ℕ → Option Part) (p : ℕ) (o : Option PageHead) → head_at parts p ≡ o → ((first : PageHead) → o ≡ Some first → is_record g parts p first ≡ true → ⊥) → record_head g parts p ≡ None
 no_record g parts p None is none = ap (option_and_then (λ first. cond (is_record g parts p first) (Some first) None)) is
 no_record g parts p (Some first) is none =
     ap (option_and_then (λ first. cond (is_record g parts p first) (Some first) None)) is
@@ -74,7 +74,7 @@ bytes_same g now was p n (suc k) same = λ i. part_bytes (same n (omega arith) (
 head_some : (parts : ℕ → Option Part) (p : ℕ) (part : Part) → parts p ≡ Some part → head_at parts p ≡ Some part.head
 head_some parts p part e = ap (option_map (λ (x : Part). x.head)) e
 
-head_none : (parts : ℕ → Option Part) (p : ℕ) → parts p ≡ None → head_at parts p ≡ None
+pub head_none : (parts : ℕ → Option Part) (p : ℕ) → parts p ≡ None → head_at parts p ≡ None
 head_none parts p e = ap (option_map (λ (x : Part). x.head)) e
 
 -- the record at a place

@@ -1,6 +1,6 @@
 //! The laws of the newest record, as the contract of a function that does nothing.
 ghost use Rattle.commit_pair.specs.Laws.{FoundIsNewest, NewestIsFound, OnlyAnchorsMatter};
-ghost use Rattle.commit_pair.specs.Writing.{HalfChangesNothing};
+ghost use Rattle.commit_pair.specs.Writing.{HalfChangesNothing, WholeIsNewest};
 
 /// At most one valid record is the newest: every other one is older. Pages of other blocks than
 /// the anchors do not matter.
@@ -10,7 +10,9 @@ pub fn newest_laws()
     ensures anchors { OnlyAnchorsMatter }
 {}
 
-/// A record of which pages are missing changes nothing: the newest one is what it was.
+/// A record of which pages are missing changes nothing: the newest one is what it was. One whose
+/// pages all stand is the newest, where all others were older.
 pub fn writing_laws()
-    ensures { HalfChangesNothing }
+    ensures half { HalfChangesNothing }
+    ensures whole { WholeIsNewest }
 {}

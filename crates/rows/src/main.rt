@@ -4,8 +4,6 @@
 #![tactic(auto)]
 
 mod error;
-#[cfg(test)]
-mod records;
 mod row;
 mod runs;
 #[cfg(test)]

@@ -7,6 +7,7 @@ mod nodes;
 mod passes;
 mod paths;
 mod planned_faults;
+mod records;
 mod rings;
 mod scripts;
 mod stores;

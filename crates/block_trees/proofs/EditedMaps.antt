@@ -3,11 +3,11 @@ use Rattle.std.proofs.Common.{◌≡◌, ◌≢◌, ℕ, ◌-◌, Option, Some, 
 use Rattle.std.specs.Option.{option_map, option_and_then}
 use Rattle.std.specs.FinMap.{get}
 use Rattle.fs_types.specs.Names.{Name, Path}
-use Rattle.fs_types.specs.Contents as plain
-use Rattle.fs_types.specs.Contents.{Contents, Entry, nothing, leaf, graft, IsLast}
-use Rattle.fs_types.specs.Trees.{put, remove}
-use Rattle.fs_types.proofs.Edits.{same_tree}
-use Rattle.fs_types.proofs.Grafts.{graft_law, contents_law}
+use Rattle.plain_trees.specs.Contents as plain
+use Rattle.plain_trees.specs.Contents.{Contents, Entry, nothing, leaf, graft, IsLast}
+use Rattle.plain_trees.specs.Trees.{put, remove}
+use Rattle.plain_trees.proofs.Edits.{same_tree}
+use Rattle.plain_trees.proofs.Grafts.{graft_law, contents_law}
 use Rattle.node_format.specs.declared.places.Place.{Place}
 use Rattle.node_format.specs.declared.places.Place.TheVariants.{Dir, File}
 use Rattle.block_trees.specs.Bodies.{Blocks, body, IsBody}

@@ -3,12 +3,12 @@ use Rattle.std.proofs.Common.{◌≡◌, ℕ, ◌-◌, ◌≤◌, ◌⊎◌, inl
 use Rattle.std.specs.Option.{option_map, option_and_then}
 use Rattle.std.specs.FinMap.{get}
 use Rattle.fs_types.specs.Names.{Name, Path, same_name}
-use Rattle.fs_types.specs.Contents as plain
-use Rattle.fs_types.specs.Contents.{Contents, Entry, nothing, leaf, beneath, graft, grafted_at, IsLast}
-use Rattle.fs_types.specs.Trees.{put}
+use Rattle.plain_trees.specs.Contents as plain
+use Rattle.plain_trees.specs.Contents.{Contents, Entry, nothing, leaf, beneath, graft, grafted_at, IsLast}
+use Rattle.plain_trees.specs.Trees.{put}
 use Rattle.fs_types.proofs.Orders.{same_name-is, same_name-own}
-use Rattle.fs_types.proofs.Edits.{same_tree}
-use Rattle.fs_types.proofs.Grafts.{graft_law, contents_law}
+use Rattle.plain_trees.proofs.Edits.{same_tree}
+use Rattle.plain_trees.proofs.Grafts.{graft_law, contents_law}
 use Rattle.node_format.specs.Items.{Item, named}
 use Rattle.node_format.specs.declared.places.Place.{Place}
 use Rattle.node_format.specs.declared.places.Place.TheVariants.{Dir}

@@ -7,7 +7,7 @@ use Rattle.std.specs.FinMap.Entries.{same_entries}
 use Rattle.std.proofs.lemmas.Bool.{ltb-false}
 use Rattle.std.proofs.lemmas.List.{length-map}
 use Rattle.fs_types.specs.Names.{Name, same_name, name_cmp}
-use Rattle.fs_types.specs.Contents.{is_dir}
+use Rattle.plain_trees.specs.Contents.{is_dir}
 use Rattle.fs_types.proofs.Orders.{names_total, names_exact, same_name-is}
 use Rattle.node_format.specs.Headers.{field, directory_magic}
 use Rattle.node_format.specs.Items.{Item, is_before, are_ascending, named}

@@ -4,13 +4,13 @@ use Rattle.std.specs.Prelude.{unwrap_or}
 use Rattle.std.specs.Option.{is_some, option_map, option_and_then}
 use Rattle.std.specs.FinMap.{get}
 use Rattle.fs_types.specs.Names.{Name, Path, same_name}
-use Rattle.fs_types.specs.Contents as plain
-use Rattle.fs_types.specs.Contents.{Contents, Entry, nothing, under, beneath, graft, grafted_at}
-use Rattle.fs_types.specs.Trees.{move}
+use Rattle.plain_trees.specs.Contents as plain
+use Rattle.plain_trees.specs.Contents.{Contents, Entry, nothing, under, beneath, graft, grafted_at}
+use Rattle.plain_trees.specs.Trees.{move}
 use Rattle.fs_types.proofs.Orders.{same_name-is}
-use Rattle.fs_types.proofs.Beneath.{None≢Some}
-use Rattle.fs_types.proofs.Edits.{same_tree}
-use Rattle.fs_types.proofs.Grafts.{graft_law, contents_law}
+use Rattle.plain_trees.proofs.Beneath.{None≢Some}
+use Rattle.plain_trees.proofs.Edits.{same_tree}
+use Rattle.plain_trees.proofs.Grafts.{graft_law, contents_law}
 use Rattle.node_format.specs.Items.{Item, named}
 use Rattle.node_format.specs.declared.places.Place.{Place}
 use Rattle.node_format.specs.declared.places.Place.TheVariants.{Dir, File}

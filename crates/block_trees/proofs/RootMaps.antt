@@ -8,12 +8,12 @@ use Rattle.std.specs.Ordering.{eq_by_cmp}
 use Rattle.std.specs.FinMap.{get, find, is_sorted, get-entries, get-from_entries}
 use Rattle.std.specs.FinMap.Entries.{below_all, same_entries}
 use Rattle.fs_types.specs.Names.{Name, Path, same_name, name_cmp, path_cmp}
-use Rattle.fs_types.specs.Contents.{Entry, is_dir, leaf}
-use Rattle.fs_types.specs.Trees.{bare, children, is_full}
+use Rattle.plain_trees.specs.Contents.{Entry, is_dir, leaf}
+use Rattle.plain_trees.specs.Trees.{bare, children, is_full}
 use Rattle.fs_types.proofs.Orders.{names_total, names_exact, paths_total, name_ties, path_ties, same_name-is, same_name-own}
-use Rattle.fs_types.proofs.Beneath.{None≢Some, same_Some}
-use Rattle.fs_types.proofs.Listings.{directory, get-directory, entries-directory, children-sorted}
-use Rattle.fs_types.proofs.Edits.{get-bare, same_tree}
+use Rattle.plain_trees.proofs.Beneath.{None≢Some, same_Some}
+use Rattle.plain_trees.proofs.Listings.{directory, get-directory, entries-directory, children-sorted}
+use Rattle.plain_trees.proofs.Edits.{get-bare, same_tree}
 use Rattle.node_format.specs.Items.{Item, is_before, are_ascending, named}
 use Rattle.node_format.specs.Directories.{directory_at}
 use Rattle.node_format.specs.EntryLaws.{directory_at-ascending, after-differs}

@@ -7,11 +7,11 @@ use Rattle.std.specs.Ordering.{eq_by_cmp}
 use Rattle.std.specs.FinMap.{get, keys, contains_key-keys}
 use Rattle.std.proofs.lemmas.Bool.{le-ltb}
 use Rattle.fs_types.specs.Names.{Path, path_cmp}
-use Rattle.fs_types.specs.Contents.{Entry, beneath}
-use Rattle.fs_types.specs.Machine.{is_too_deep}
+use Rattle.plain_trees.specs.Contents.{Entry, beneath}
+use Rattle.plain_trees.specs.Trees.{is_too_deep}
 use Rattle.fs_types.proofs.Orders.{path_ties, same_path-own}
-use Rattle.fs_types.proofs.Beneath.{by_beneath}
-use Rattle.fs_types.proofs.FileTrees.{not-deep}
+use Rattle.plain_trees.proofs.Beneath.{by_beneath}
+use Rattle.plain_trees.proofs.FileTrees.{not-deep}
 use Rattle.node_format.specs.declared.places.Place.{Place}
 use Rattle.node_format.specs.declared.places.Place.TheVariants.{Dir}
 use Rattle.block_trees.specs.Bodies.{Blocks}

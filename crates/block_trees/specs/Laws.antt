@@ -2,10 +2,9 @@
 use Rattle.std.specs.Prelude.{◌≡◌, ◌≢◌, ◌⊎◌, ◌↔◌, ℕ, ◌-◌, ◌≤◌, Bool, false, Option, Some, None, IsSome, [], ◌∷◌, length}
 use Rattle.std.specs.FinMap.{get}
 use Rattle.fs_types.specs.Names.{Path}
-use Rattle.fs_types.specs.Contents.{Contents, Entry, nothing, graft, IsLast}
-use Rattle.fs_types.specs.Contents as plain
-use Rattle.fs_types.specs.Trees.{put, remove, move, children}
-use Rattle.fs_types.specs.Machine.{is_too_deep}
+use Rattle.plain_trees.specs.Contents.{Contents, Entry, nothing, graft, IsLast}
+use Rattle.plain_trees.specs.Contents as plain
+use Rattle.plain_trees.specs.Trees.{put, remove, move, children, is_too_deep}
 use Rattle.node_format.specs.declared.places.Place.{Place}
 use Rattle.node_format.specs.declared.places.Place.TheVariants.{Dir, File}
 use Rattle.block_trees.specs.Bodies.{Blocks, body, IsBody}

@@ -4,8 +4,8 @@ use Rattle.std.specs.Option.{option_map, option_and_then}
 use Rattle.std.specs.List.{flat_map}
 use Rattle.std.specs.FinMap.{from_entries}
 use Rattle.fs_types.specs.Names.{Name, Path}
-use Rattle.fs_types.specs.Contents.{Contents, Entry}
-use Rattle.fs_types.specs.Trees.{Tree}
+use Rattle.plain_trees.specs.Contents.{Contents, Entry}
+use Rattle.plain_trees.specs.Trees.{Tree}
 use Rattle.node_format.specs.Items.{Item, named}
 use Rattle.node_format.specs.Directories.{directory_at}
 use Rattle.node_format.specs.declared.places.Place.{Place}

@@ -5,7 +5,7 @@ use Rattle.std.specs.Option.{is_none, is_some}
 use Rattle.std.proofs.lemmas.Bool.{true≢false, lt-leb}
 use Rattle.std.proofs.Math.Seq.{drop-cons}
 use Rattle.fs_types.specs.Names.{Name, Path, same_name, same_path}
-use Rattle.fs_types.specs.Contents.{Apart, parent_of}
+use Rattle.plain_trees.specs.Contents.{Apart, parent_of}
 use Rattle.fs_types.proofs.Orders.{same_name-is, same_name-own}
 use Rattle.node_format.specs.Items.{Item, are_ascending, named}
 use Rattle.node_format.specs.Edits.{IsEdited}

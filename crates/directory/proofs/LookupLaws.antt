@@ -3,7 +3,7 @@ use Rattle.std.proofs.Common.{◌≡◌, ℕ, suc, ◌-◌, Bool, Option, Some, 
 use Rattle.std.specs.Prelude.{nat_le, unwrap_or}
 use Rattle.std.specs.Option.{option_map, option_and_then, option_or}
 use Rattle.fs_types.specs.Names.{Name, Path}
-use Rattle.fs_types.specs.Contents.{Contents, parent_of, under, way_refusal, lookup_refusal}
+use Rattle.plain_trees.specs.Contents.{Contents, parent_of, under, way_refusal, lookup_refusal}
 use Rattle.fs_types.specs.declared.faults.Fault.{Fault}
 use Rattle.fs_types.specs.declared.faults.Fault.TheVariants.{NoEntry, NotDirectory}
 use Rattle.node_format.specs.Items.{Item, named}

@@ -4,7 +4,7 @@ use Rattle.std.specs.Prelude.{nat_le, unwrap_or, IsSome, IfOk, IfErr}
 use Rattle.std.specs.Option.{is_none, is_some, option_and_then}
 use Rattle.std.proofs.lemmas.Bool.{true≢false, lt-leb}
 use Rattle.fs_types.specs.Names.{Name, Path, same_name, same_path}
-use Rattle.fs_types.specs.Contents.{Apart, beneath, parent_of}
+use Rattle.plain_trees.specs.Contents.{Apart, beneath, parent_of}
 use Rattle.fs_types.specs.declared.faults.Fault.{Fault}
 use Rattle.fs_types.specs.declared.faults.Fault.TheVariants.{DirectoryFull}
 use Rattle.fs_types.proofs.Orders.{same_name-is, same_name-own}

@@ -1,7 +1,7 @@
 -- Looking up a path: what it leads to, or why it is refused (POSIX.1-2017, pathname resolution).
 use Rattle.std.specs.Prelude.{ℕ, nat_le, Bool, true, false, IsTrue, Option, Some, None, Result, Ok, Err, List, [], ◌∷◌, length}
 use Rattle.fs_types.specs.Names.{Name, Path}
-use Rattle.fs_types.specs.Contents.{Entry}
+use Rattle.plain_trees.specs.Contents.{Entry}
 use Rattle.fs_types.specs.declared.faults.Fault.{Fault}
 use Rattle.fs_types.specs.declared.faults.Fault.TheVariants.{NoEntry, NotDirectory, Damaged}
 use Rattle.node_store.specs.Faults.{is_read_fault}

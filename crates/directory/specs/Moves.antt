@@ -1,7 +1,7 @@
 -- What stands at a path of directories moved to another.
 use Rattle.std.specs.Prelude.{◌≡◌, ℕ, suc, ◌+◌, ◌-◌, ◌<◌, Bool, false, Option, Some, None, IsSome, List, [], ◌∷◌, length, slice_index, slice_index_or, if◌then◌else◌}
 use Rattle.fs_types.specs.Names.{Name, Path, same_name, same_path}
-use Rattle.fs_types.specs.Contents.{parent_of}
+use Rattle.plain_trees.specs.Contents.{parent_of}
 use Rattle.fs_types.specs.declared.faults.Fault.{Fault}
 use Rattle.node_format.specs.Items.{Item, named}
 use Rattle.node_format.specs.Directories.{directory_at}

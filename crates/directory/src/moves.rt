@@ -1,7 +1,7 @@
 //! What stands at one path moved to another.
 ghost use Rattle.std.specs.Prelude.{◌≡◌, ℕ, ◌+◌, ◌*◌, ◌≤◌, true, false, length, ◌∷◌, Some, None, IsSome, Ok, Err, IfOk, IfErr, IfSome};
 ghost use Rattle.fs_types.specs.Names.{same_name};
-ghost use Rattle.fs_types.specs.Contents.{Apart};
+ghost use Rattle.plain_trees.specs.Contents.{Apart};
 ghost use Rattle.node_format.specs.Items.{is_place, named};
 ghost use Rattle.node_format.specs.Headers.{IsNode};
 ghost use Rattle.node_format.specs.declared.places.Place.TheVariants.{Dir};

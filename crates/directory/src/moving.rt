@@ -1,7 +1,7 @@
 //! What stands at one path moved to another, by the directories that a look up of each went through.
 ghost use Rattle.std.specs.Prelude.{◌≡◌, ℕ, ◌+◌, ◌*◌, ◌≤◌, ◌<◌, true, false, length, drop, slice_index, slice_index_or, [], Some, None, IsSome, IfOk, IfErr, IfSome};
 ghost use Rattle.fs_types.specs.Names.{same_name, same_path};
-ghost use Rattle.fs_types.specs.Contents.{Apart, parent_of};
+ghost use Rattle.plain_trees.specs.Contents.{Apart, parent_of};
 ghost use Rattle.node_format.specs.Items.{is_place, named};
 ghost use Rattle.node_format.specs.Headers.{IsNode};
 ghost use Rattle.node_format.specs.declared.places.Place.TheVariants.{Dir};

@@ -1,9 +1,2 @@
-pub mod Contents
-pub mod Descriptors
 pub mod Faults
-pub mod History
-pub mod HistoryMaps
-pub mod Laws
-pub mod Machine
 pub mod Names
-pub mod Trees

@@ -4,7 +4,7 @@ use Rattle.std.specs.Prelude.{All, AllPairs}
 use Rattle.std.proofs.lemmas.List.{get_or-take, get_or-drop, length-take, length-drop, length-append}
 use Rattle.std.proofs.lemmas.List.Elements.{All-take, All-drop, All-push}
 use Rattle.std.proofs.lemmas.List.Quantifiers.{all_pairs_push}
-use Rattle.fs_types.specs.History.{Past}
+use Rattle.history_machine.specs.History.{Past}
 use Rattle.history.specs.Kept.{IsKept}
 use Rattle.fs_types.specs.declared.calls.Version.{Version}
 

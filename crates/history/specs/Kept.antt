@@ -1,6 +1,6 @@
 -- What is true of a history that is held in memory.
 use Rattle.std.specs.Prelude.{◌<◌, ◌≤◌, All}
-use Rattle.fs_types.specs.History.{Past, IsLawful}
+use Rattle.history_machine.specs.History.{Past, IsLawful}
 
 -- the history is lawful, its serials begin at 1, and at most 64 versions are kept
 pub record IsKept {R : Type 0} (p : Past R) : Type 0 where

@@ -1,7 +1,7 @@
 //! A bounded list of versions with a cursor, and checkpoints by name.
 ghost use Rattle.std.specs.Prelude.{◌≡◌, ◌<◌, ◌≤◌, ◌==◌, Some, None, length, drop, position, vec_len, vec_capacity, unwrap_or, IfOk, IfErr, OnOk, OnErr, MatchResult};
 ghost use Rattle.std.specs.Bool.{OnFalse};
-ghost use Rattle.fs_types.specs.History.{fresh, changed, undo_refusal, undone, redo_refusal, redone, place_of, serial_refusal, gone_to, forget_refusal, forgotten, checkpoint_root, checkpoint_refusal, with_checkpoint, name_refusal, without_checkpoint, view_refusal, view_root};
+ghost use Rattle.history_machine.specs.History.{fresh, changed, undo_refusal, undone, redo_refusal, redone, place_of, serial_refusal, gone_to, forget_refusal, forgotten, checkpoint_root, checkpoint_refusal, with_checkpoint, name_refusal, without_checkpoint, view_refusal, view_root};
 ghost use Rattle.history.specs.Answers.{answer};
 ghost use Rattle.history.specs.Kept.{IsKept};
 
@@ -31,7 +31,7 @@ pub struct History<R> {
 
 impl<R> Model for History<R> {
     ghost use Rattle.std.specs.Prelude.{◌<◌, vec_capacity};
-    ghost use Rattle.fs_types.specs.History.{Past};
+    ghost use Rattle.history_machine.specs.History.{Past};
     ghost use Rattle.history.specs.Kept.{IsKept};
 
     ghost Value = { Past R };

@@ -2,7 +2,7 @@
 use Rattle.std.specs.Prelude.{ℕ, refl}
 use Rattle.std.specs.Coded.{Coded, code_by, coded×, coded_ℕ, coded_list, coded_option}
 use Rattle.fs_types.specs.Names.{Path}
-use Rattle.fs_types.specs.Descriptors.{Descriptor, Descriptors}
+use Rattle.history_machine.specs.Descriptors.{Descriptor, Descriptors}
 
 -- a path is the list of its names
 abbrev pub path_code : Coded Path

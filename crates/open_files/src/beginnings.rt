@@ -1,7 +1,7 @@
 //! What is left of a path after a beginning of it.
 ghost use Rattle.std.specs.Prelude.{◌≡◌};
 ghost use Rattle.std.specs.Option.{option_map};
-ghost use Rattle.fs_types.specs.Contents.{beneath, begins};
+ghost use Rattle.plain_trees.specs.Contents.{beneath, begins};
 
 use fs_types::Name;
 

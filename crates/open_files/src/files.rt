@@ -2,8 +2,8 @@
 ghost use Rattle.std.specs.Prelude.{◌≡◌, ℕ, ◌<◌, Bool, List, Some, None, is_none, false, slice_set};
 ghost use Rattle.std.specs.Option.{option_copied, option_map, option_map_or};
 ghost use Rattle.fs_types.specs.Names.{same_path};
-ghost use Rattle.fs_types.specs.Contents.{begins};
-ghost use Rattle.fs_types.specs.Descriptors as descriptors;
+ghost use Rattle.plain_trees.specs.Contents.{begins};
+ghost use Rattle.history_machine.specs.Descriptors as descriptors;
 
 use crate::beginnings::is_beginning;
 use fs_types::{OpenFlags, Path};
@@ -17,7 +17,7 @@ pub struct OpenFile {
 }
 
 impl Model for OpenFile {
-    ghost use Rattle.fs_types.specs.Descriptors.{Descriptor};
+    ghost use Rattle.history_machine.specs.Descriptors.{Descriptor};
     ghost use Rattle.open_files.specs.Codes.{descriptor_code};
 
     ghost Value = { Descriptor };
@@ -54,7 +54,7 @@ pub struct OpenFiles {
 }
 
 impl Model for OpenFiles {
-    ghost use Rattle.fs_types.specs.Descriptors.{Descriptors};
+    ghost use Rattle.history_machine.specs.Descriptors.{Descriptors};
     ghost use Rattle.open_files.specs.Codes.{descriptors_code};
 
     ghost Value = { Descriptors };

@@ -1,6 +1,6 @@
 //! Which flags `open` takes.
 ghost use Rattle.std.specs.Prelude.{◌≡◌};
-ghost use Rattle.fs_types.specs.Descriptors as descriptors;
+ghost use Rattle.history_machine.specs.Descriptors as descriptors;
 
 use bitflags::Flags;
 use fs_types::OpenFlags;

@@ -5,7 +5,7 @@ use Rattle.std.specs.Option.{option_map_or}
 use Rattle.std.specs.List.{list_all}
 use Rattle.std.proofs.lemmas.Bool.{le-leb, ltb-false}
 use Rattle.fs_types.specs.Names.{Name, Path, same_name, is_name, is_path}
-use Rattle.fs_types.specs.Contents.{beneath}
+use Rattle.plain_trees.specs.Contents.{beneath}
 use Rattle.plain_machine.specs.Plain.{is_deep}
 
 both : (a b : Bool) → a && b ≡ true → (a ≡ true) × (b ≡ true)

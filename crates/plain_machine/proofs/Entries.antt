@@ -15,9 +15,8 @@ use Rattle.std.specs.declared.cmp.Ordering.TheVariants.{Less}
 use Rattle.std.proofs.lemmas.Cmp.{lists_total, nat_list_cmp_total}
 use Rattle.std.proofs.lemmas.Map.Keys.{sorted_head, sorted_tail}
 use Rattle.fs_types.specs.Names.{Name, Path, path_cmp}
-use Rattle.fs_types.specs.Contents.{Entry, is_dir, beneath}
-use Rattle.fs_types.specs.Trees.{Tree, child_of, children, named, move, moved_entry}
-use Rattle.fs_types.specs.Machine.{is_too_deep}
+use Rattle.plain_trees.specs.Contents.{Entry, is_dir, beneath}
+use Rattle.plain_trees.specs.Trees.{Tree, child_of, children, named, move, moved_entry, is_too_deep}
 use Rattle.plain_machine.specs.Plain.{is_child, is_deep, only_name, insert_all}
 
 pub paths_total : IsTotalOrder path_cmp

@@ -4,7 +4,7 @@ use Rattle.std.specs.Prelude.{Option, Some, None}
 use Rattle.std.specs.Option.{option_or}
 use Rattle.std.proofs.lemmas.List.{drop_more, take_more, drop_all, length-drop}
 use Rattle.fs_types.specs.Names.{Name, Path}
-use Rattle.fs_types.specs.Contents.{Contents, lookup_refusal, way_refusal, under}
+use Rattle.plain_trees.specs.Contents.{Contents, lookup_refusal, way_refusal, under}
 use Rattle.fs_types.specs.declared.faults.Fault.{Fault}
 
 -- below a path, and below that

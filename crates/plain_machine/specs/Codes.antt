@@ -3,12 +3,12 @@ use Rattle.std.specs.Prelude.{ℕ, Bool, Option, Some, None, List, refl}
 use Rattle.std.specs.Coded.{Coded, code_by, coded×, coded_ℕ, coded_bool, coded_list, coded_option}
 use Rattle.std.specs.FinMap as finmap
 use Rattle.fs_types.specs.Names.{path_cmp}
-use Rattle.fs_types.specs.Contents.{Entry}
-use Rattle.fs_types.specs.Contents.Entry.{Dir, File}
-use Rattle.fs_types.specs.Trees.{Tree}
-use Rattle.fs_types.specs.History.{Past}
-use Rattle.fs_types.specs.Descriptors.{Descriptors}
-use Rattle.fs_types.specs.Machine.{Machine}
+use Rattle.plain_trees.specs.Contents.{Entry}
+use Rattle.plain_trees.specs.Contents.Entry.{Dir, File}
+use Rattle.plain_trees.specs.Trees.{Tree}
+use Rattle.history_machine.specs.History.{Past}
+use Rattle.history_machine.specs.Descriptors.{Descriptors}
+use Rattle.history_machine.specs.Machine.{Machine}
 use Rattle.fs_types.specs.declared.calls.Version.{Version}
 use Rattle.open_files.specs.Codes.{path_code, descriptors_code}
 use Rattle.plain_machine.specs.Plain.{entry_of, bytes_in, entry_of-bytes_in}

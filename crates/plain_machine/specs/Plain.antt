@@ -5,12 +5,12 @@ use Rattle.std.specs.List.Sorted.{IsStrictlySortedBy}
 use Rattle.std.specs.Map.{keys_of}
 use Rattle.std.specs.Option.{option_map_or}
 use Rattle.fs_types.specs.Names.{Name, Path, path_cmp}
-use Rattle.fs_types.specs.Contents.{Entry, beneath}
-use Rattle.fs_types.specs.Contents.Entry.{Dir, File}
-use Rattle.fs_types.specs.Trees.{Tree, entry_count}
-use Rattle.fs_types.specs.History.{Past, fresh, redo_refusal, forget_refusal}
-use Rattle.fs_types.specs.Descriptors.{Descriptor, Descriptors}
-use Rattle.fs_types.specs.Machine.{Machine, Space, Stepped, step, is_accepted, makes_version, tree_after, bytes_at}
+use Rattle.plain_trees.specs.Contents.{Entry, beneath}
+use Rattle.plain_trees.specs.Contents.Entry.{Dir, File}
+use Rattle.plain_trees.specs.Trees.{Tree, entry_count, bytes_at}
+use Rattle.history_machine.specs.History.{Past, fresh, redo_refusal, forget_refusal}
+use Rattle.history_machine.specs.Descriptors.{Descriptor, Descriptors}
+use Rattle.history_machine.specs.Machine.{Machine, Space, Stepped, step, is_accepted, makes_version, tree_after}
 use Rattle.fs_types.specs.declared.calls.Call.{Call}
 use Rattle.fs_types.specs.declared.calls.Reply.{Reply}
 use Rattle.fs_types.specs.declared.faults.Fault.{Fault}

@@ -1,5 +1,5 @@
 -- The numbers of a flash that a caller gives.
-use Rattle.fs_types.specs.Machine as machine
+use Rattle.history_machine.specs.Machine as machine
 use Rattle.plain_machine.specs.declared.spaces.Space.{Space}
 
 abbrev pub space_of : Space → machine.Space

@@ -1,10 +1,10 @@
 //! What calls leave that change something. Memory is taken first, so that nothing is changed without it.
 ghost use Rattle.std.specs.Prelude.{◌≡◌, Bool, not, ◌==◌, ◌&&◌, length, [], Some, None, is_some, IfOk, OnOk, OnErr};
-ghost use Rattle.fs_types.specs.Contents.{Entry, overwritten, resized};
-ghost use Rattle.fs_types.specs.Trees.{bare, put, remove};
-ghost use Rattle.fs_types.specs.Descriptors.{none_open, descriptor_at};
-ghost use Rattle.fs_types.specs.History.{checkpoint_root};
-ghost use Rattle.fs_types.specs.Machine as machine;
+ghost use Rattle.plain_trees.specs.Contents.{Entry, overwritten, resized};
+ghost use Rattle.plain_trees.specs.Trees.{bare, put, remove};
+ghost use Rattle.history_machine.specs.Descriptors.{none_open, descriptor_at};
+ghost use Rattle.history_machine.specs.History.{checkpoint_root};
+ghost use Rattle.history_machine.specs.Machine as machine;
 ghost use Rattle.fs_types.specs.declared.calls.Call.{Call};
 ghost use Rattle.plain_machine.specs.Plain.{machine_with, machine_at, ftruncates, file_of, moving_refusal};
 

@@ -1,8 +1,8 @@
 //! A history of trees, with a cursor and checkpoints.
 ghost use Rattle.std.specs.Prelude.{◌≡◌, ℕ, ◌+◌, ◌-◌, ◌<◌, ◌≤◌, ◌^◌, Bool, true, false, List, [], ◌∷◌, ◌++◌, ◌==◌, map, length, take, drop, position, Some, None, unwrap_or, IfSome, IfOk, IfErr, OnOk, OnErr};
 ghost use Rattle.std.specs.Option.{option_copied, option_map};
-ghost use Rattle.fs_types.specs.History as history;
-ghost use Rattle.fs_types.specs.Trees.{bare};
+ghost use Rattle.history_machine.specs.History as history;
+ghost use Rattle.plain_trees.specs.Trees.{bare};
 
 use crate::trees::Tree;
 use fs_types::{CpName, Fault, Sequence, Version, View};
@@ -23,8 +23,8 @@ pub struct History {
 
 impl Model for History {
     ghost use Rattle.std.specs.Prelude.{◌<◌, length};
-    ghost use Rattle.fs_types.specs.History.{Past};
-    ghost use Rattle.fs_types.specs.Trees.{Tree};
+    ghost use Rattle.history_machine.specs.History.{Past};
+    ghost use Rattle.plain_trees.specs.Trees.{Tree};
     ghost use Rattle.plain_machine.specs.Codes.{history_code};
 
     ghost Value = { Past Tree };

@@ -1,8 +1,8 @@
 //! The machine, and its step.
 ghost use Rattle.std.specs.Prelude.{◌≡◌, ◌≤◌, Some, None, IfOk, IfErr, OnOk, OnErr};
-ghost use Rattle.fs_types.specs.Trees.{bare};
-ghost use Rattle.fs_types.specs.History.{fresh};
-ghost use Rattle.fs_types.specs.Machine as machine;
+ghost use Rattle.plain_trees.specs.Trees.{bare};
+ghost use Rattle.history_machine.specs.History.{fresh};
+ghost use Rattle.history_machine.specs.Machine as machine;
 ghost use Rattle.fs_types.specs.declared.faults.Fault.{Fault};
 ghost use Rattle.plain_machine.specs.Plain.{machine_with, HasSerial, IsPlainStep};
 ghost use Rattle.plain_machine.specs.Spaces.{space_of};
@@ -25,7 +25,7 @@ pub struct PlainMachine {
 }
 
 impl Model for PlainMachine {
-    ghost use Rattle.fs_types.specs.Machine.{Machine};
+    ghost use Rattle.history_machine.specs.Machine.{Machine};
     ghost use Rattle.plain_machine.specs.Codes.{machine_code};
 
     ghost Value = { Machine };

@@ -6,7 +6,7 @@ ghost use Rattle.std.specs.List.Sorted.{IsStrictlySortedBy};
 ghost use Rattle.std.specs.Map.{lookup, keys_of};
 ghost use Rattle.std.specs.BTreeMap.{is_at};
 ghost use Rattle.fs_types.specs.Names.{path_cmp, is_path};
-ghost use Rattle.fs_types.specs.Trees.{child_of, moved_entry, put, remove};
+ghost use Rattle.plain_trees.specs.Trees.{child_of, moved_entry, put, remove};
 ghost use Rattle.plain_machine.specs.Plain.{is_deep, is_child, tree_of, IsTreeOf};
 
 use crate::names;

@@ -2,7 +2,7 @@
 ghost use Rattle.std.specs.Prelude.{◌≡◌, ◌+◌, ◌-◌, ◌++◌, true, false, length, is_some, IfOk, OnOk};
 ghost use Rattle.std.specs.Option.{option_copied};
 ghost use Rattle.fs_types.specs.Names.{is_path};
-ghost use Rattle.fs_types.specs.Contents.{beneath, parent_of};
+ghost use Rattle.plain_trees.specs.Contents.{beneath, parent_of};
 ghost use Rattle.plain_machine.specs.Plain.{is_deep, only_name, path_moved};
 
 use fs_types::{Name, Path};

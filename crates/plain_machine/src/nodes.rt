@@ -1,7 +1,7 @@
 //! What stands at a path of a tree.
 ghost use Rattle.std.specs.Prelude.{◌≡◌, Bool, Some, None, IfOk, MatchOption};
-ghost use Rattle.fs_types.specs.Contents.{is_dir};
-ghost use Rattle.fs_types.specs.Machine.{bytes_of};
+ghost use Rattle.plain_trees.specs.Contents.{is_dir};
+ghost use Rattle.plain_trees.specs.Trees.{bytes_of};
 ghost use Rattle.fs_types.specs.declared.calls.Stat.{Stat};
 
 use std::alloc::{AllocError, Global};
@@ -16,7 +16,7 @@ pub struct Node {
 
 impl Model for Node {
     ghost use Rattle.std.specs.Option.{option_map};
-    ghost use Rattle.fs_types.specs.Contents.{Entry};
+    ghost use Rattle.plain_trees.specs.Contents.{Entry};
     ghost use Rattle.plain_machine.specs.Plain.{entry_of};
 
     ghost Value = { Entry };
@@ -26,8 +26,8 @@ impl Model for Node {
 
 impl Node {
     ghost use Rattle.std.specs.Prelude.{◌≡◌, IfOk, MatchOption};
-    ghost use Rattle.fs_types.specs.Contents.{Entry, is_dir};
-    ghost use Rattle.fs_types.specs.Machine.{bytes_of};
+    ghost use Rattle.plain_trees.specs.Contents.{Entry, is_dir};
+    ghost use Rattle.plain_trees.specs.Trees.{bytes_of};
 
     /// A directory.
     pub fn dir() -> Self

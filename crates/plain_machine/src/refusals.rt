@@ -1,10 +1,10 @@
 //! Why a call is refused. Each function makes its checks in their order.
 ghost use Rattle.std.specs.Prelude.{◌≡◌, [], Option, Some, None, IfOk, IfErr};
 ghost use Rattle.std.specs.FinMap as finmap;
-ghost use Rattle.fs_types.specs.Contents.{Entry};
-ghost use Rattle.fs_types.specs.Trees.{bare};
-ghost use Rattle.fs_types.specs.Descriptors as descriptors;
-ghost use Rattle.fs_types.specs.Machine as machine;
+ghost use Rattle.plain_trees.specs.Contents.{Entry};
+ghost use Rattle.plain_trees.specs.Trees.{bare};
+ghost use Rattle.history_machine.specs.Descriptors as descriptors;
+ghost use Rattle.history_machine.specs.Machine as machine;
 ghost use Rattle.fs_types.specs.declared.calls.Call.{Call};
 ghost use Rattle.fs_types.specs.declared.faults.Fault.{Fault};
 ghost use Rattle.plain_machine.specs.Plain.{machine_with, machine_at, size_refusal, emptiness_refusal};

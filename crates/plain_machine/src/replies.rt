@@ -1,9 +1,11 @@
 //! What calls answer that change nothing.
 ghost use Rattle.std.specs.Prelude.{◌≡◌, [], Some, None, IfOk};
 ghost use Rattle.std.specs.FinMap.{get};
-ghost use Rattle.fs_types.specs.Trees.{children};
-ghost use Rattle.fs_types.specs.Descriptors.{none_open};
-ghost use Rattle.fs_types.specs.Machine as machine;
+ghost use Rattle.plain_trees.specs.Trees.{children};
+ghost use Rattle.history_machine.specs.Descriptors.{none_open};
+ghost use Rattle.history_machine.specs.Machine as machine;
+ghost use Rattle.plain_trees.specs.Contents as contents;
+ghost use Rattle.plain_trees.specs.Trees as plain;
 ghost use Rattle.fs_types.specs.declared.calls.Call.{Call};
 ghost use Rattle.fs_types.specs.declared.calls.Reply.{Reply};
 ghost use Rattle.plain_machine.specs.Plain.{machine_with, machine_at, no_space};
@@ -18,7 +20,7 @@ use std::alloc::{AllocError, Global};
 
 /// The bytes of the file at a path; none where no file is.
 pub fn bytes_at<'a>(tree: &'a Tree, path: &Path) -> &'a [u8]
-    ensures { result.now ≡ machine.bytes_at tree.now path.now }
+    ensures { result.now ≡ plain.bytes_at tree.now path.now }
 {
     match tree.get(path.names()) {
         Some(node) => node.bytes(),
@@ -28,7 +30,7 @@ pub fn bytes_at<'a>(tree: &'a Tree, path: &Path) -> &'a [u8]
 
 /// At most `count` bytes from `offset` on.
 fn read_from(bytes: &[u8], offset: u64, count: u64) -> &[u8]
-    ensures { result.now ≡ machine.read_from bytes.now offset count }
+    ensures { result.now ≡ contents.read_from bytes.now offset count }
 {
     if offset >= bytes.len() as u64 {
         return &[];

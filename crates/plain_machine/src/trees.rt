@@ -3,9 +3,9 @@ ghost use Rattle.std.specs.Prelude.{◌≡◌, true, false, IfOk, OnOk, OnErr};
 ghost use Rattle.std.specs.Option.{option_copied};
 ghost use Rattle.std.specs.FinMap as finmap;
 ghost use Rattle.fs_types.specs.Names.{is_path};
-ghost use Rattle.fs_types.specs.Contents.{way_refusal, lookup_refusal};
-ghost use Rattle.fs_types.specs.Trees as tree;
-ghost use Rattle.fs_types.specs.Machine.{is_too_deep};
+ghost use Rattle.plain_trees.specs.Contents.{way_refusal, lookup_refusal};
+ghost use Rattle.plain_trees.specs.Trees as tree;
+ghost use Rattle.plain_trees.specs.Trees.{is_too_deep};
 
 use crate::maps;
 use crate::nodes::Node;
@@ -25,7 +25,7 @@ impl Model for Tree {
     ghost use Rattle.std.specs.Map.{keys_of};
     ghost use Rattle.std.specs.List.Sorted.{IsStrictlySortedBy};
     ghost use Rattle.fs_types.specs.Names.{path_cmp};
-    ghost use Rattle.fs_types.specs.Trees as tree;
+    ghost use Rattle.plain_trees.specs.Trees as tree;
     ghost use Rattle.plain_machine.specs.Codes.{tree_code};
 
     ghost Value = { tree.Tree };

@@ -2,9 +2,9 @@
 use Rattle.std.proofs.Common.{◌≡◌, ◌≢◌, ◌⊎◌, ℕ, zero, suc, Bool, false, List, [], ◌∷◌, ◌++◌, take, Option, Some, None, Result, Ok, Err, inl, inr, refl, sym, ap, ◌∙◌, subst, append-nil, append_assoc, arith}
 use Rattle.std.proofs.KnownBytes.{Appends-nil, Appends-trans, Consumes-nil}
 use Rattle.std.specs.Io.KnownBytes.{Appends}
-use Rattle.fs_types.specs.History.{fresh}
-use Rattle.fs_types.specs.Trees.{bare}
-use Rattle.fs_types.specs.Machine.{Machine, mounted}
+use Rattle.history_machine.specs.History.{fresh}
+use Rattle.plain_trees.specs.Trees.{bare}
+use Rattle.history_machine.specs.Machine.{Machine, mounted}
 use Rattle.fs_types.specs.declared.calls.Reply.{Reply}
 use Rattle.fs_types.specs.declared.faults.Fault.{Fault}
 use Rattle.flash_model.specs.Device.{Device}

@@ -2,9 +2,9 @@
 use Rattle.std.specs.Prelude.{◌≡◌, ℕ, suc, Option, Some, None, is_some, Result, Ok, Err, IfSome, List, [], ◌∷◌, ◌++◌, take, map, ◌⊎◌, if◌then◌else◌}
 use Rattle.std.specs.List.{flat_map}
 use Rattle.std.specs.Io.KnownBytes.{Consumes, IsAtEnd, Appends}
-use Rattle.fs_types.specs.History.{fresh}
-use Rattle.fs_types.specs.Trees.{bare}
-use Rattle.fs_types.specs.Machine.{Machine}
+use Rattle.history_machine.specs.History.{fresh}
+use Rattle.plain_trees.specs.Trees.{bare}
+use Rattle.history_machine.specs.Machine.{Machine}
 use Rattle.fs_types.specs.declared.calls.Reply.{Reply}
 use Rattle.fs_types.specs.declared.faults.Fault.{Fault}
 use Rattle.flash_model.specs.Device.{Device}

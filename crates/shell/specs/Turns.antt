@@ -1,7 +1,7 @@
 -- One turn of a script: a line is taken, carried out on the system, and its answer written.
 use Rattle.std.specs.Prelude.{◌≡◌, ℕ, Bool, Option, Some, None, Result, Ok, Err, List, [], ◌∷◌, take}
 use Rattle.std.specs.Io.KnownBytes.{Consumes, IsAtEnd, Appends}
-use Rattle.fs_types.specs.Machine.{Machine}
+use Rattle.history_machine.specs.Machine.{Machine}
 use Rattle.fs_types.specs.declared.calls.Call.{Call}
 use Rattle.script.specs.Lines.{line_of}
 use Rattle.script.specs.Streams.{TakesLine, TakesPart}

@@ -4,7 +4,7 @@ use Rattle.std.proofs.lemmas.List.{length-take, length-take-le, length-replicate
 use Rattle.std.proofs.lemmas.Bool.{cases_lt}
 use Rattle.std.specs.Prelude.{nat_le, nat_lt}
 use Rattle.std.proofs.lemmas.Bool.Decides.{nat_tests}
-use Rattle.fs_types.specs.Contents.{resized, overwritten}
+use Rattle.plain_trees.specs.Contents.{resized, overwritten}
 use Rattle.skip_list_file.specs.Writing.{edited}
 
 -- ---- bytes cut or filled up with zeros

@@ -5,7 +5,7 @@ use Rattle.std.proofs.lemmas.List.{take_all, take-take, length-take-le, length-d
 use Rattle.std.proofs.lemmas.Nat.{mul-le, le-div, div-add-mod', mod_below}
 use Rattle.std.proofs.Math.Seq.{take-add}
 use Rattle.fs_types.specs.Names.{Path}
-use Rattle.fs_types.specs.Contents.{Entry, resized}
+use Rattle.plain_trees.specs.Contents.{Entry, resized}
 use Rattle.node_format.specs.Headers.{field, body_front, body_magic, IsNode}
 use Rattle.node_format.specs.BodyNodes.{IsBodySpelling}
 use Rattle.node_format.specs.declared.places.Place.TheVariants.{Dir, File}

@@ -4,7 +4,7 @@ use Rattle.std.specs.Prelude.{min, max}
 use Rattle.std.proofs.lemmas.Bool.Decides.{nat_tests}
 use Rattle.std.proofs.lemmas.Bool.{cases_lt}
 use Rattle.std.proofs.lemmas.List.{get_or_append_left, get_or-append_right, get_or-take, get_or-drop, get_or_past, get_or-replicate, length-take-le, drop_at, ext_get_or}
-use Rattle.fs_types.specs.Machine.{read_from}
+use Rattle.plain_trees.specs.Contents.{read_from}
 use Rattle.block_trees.specs.Bodies.{Blocks, pointer_of, data_of, back, data_to, head_index, body, IsChain, IsBody}
 use Rattle.skip_list_file.specs.Reading.{AreBlocks}
 use Rattle.skip_list_file.specs.Writing.{edited, byte_after}

@@ -2,7 +2,7 @@
 use Rattle.std.specs.Prelude.{◌≡◌, ◌⊎◌, ℕ, zero, suc, ◌+◌, ◌-◌, ◌*◌, ◌%◌, ◌^◌, ◌<◌, ◌≤◌, min, Bool, false, ◌&&◌, nat_le, nat_lt, if◌then◌else◌, slice_index, List, [], ◌∷◌, ◌++◌, length, take}
 use Rattle.fs_types.specs.declared.faults.Fault.{Fault}
 use Rattle.fs_types.specs.declared.faults.Fault.TheVariants.{FlashFull, ReadOnly, ReadFailed, PowerCut, NoMemory}
-use Rattle.fs_types.specs.Contents.{resized, overwritten}
+use Rattle.plain_trees.specs.Contents.{resized, overwritten}
 use Rattle.node_format.specs.declared.places.Place.TheVariants.{File}
 use Rattle.block_trees.specs.Bodies as bodies
 use Rattle.block_trees.specs.Bodies.{Blocks, index_of, back, Divides, IsChain, IsLinked, IsBody}

@@ -1,6 +1,6 @@
 //! Reading the bytes of a file.
 ghost use Rattle.std.specs.Prelude.{◌≡◌, ℕ, ◌+◌, ◌-◌, ◌*◌, ◌/◌, ◌^◌, ◌<◌, ◌≤◌, length, take, drop, Some, OnOk, IfOk, IfErr};
-ghost use Rattle.fs_types.specs.Machine.{read_from};
+ghost use Rattle.plain_trees.specs.Contents.{read_from};
 ghost use Rattle.node_format.specs.Headers.{body_front};
 ghost use Rattle.node_format.specs.BodyNodes.{HasPlace};
 ghost use Rattle.block_trees.specs.Bodies.{index_of, pointer_of, data_of, back, data_to, head_index, IsChain, IsLinked, IsBody};

@@ -3,8 +3,7 @@
 ghost use Rattle.std.specs.Prelude.{◌≡◌, ℕ, ◌+◌, ◌-◌, ◌*◌, ◌^◌, ◌<◌, ◌≤◌, min, length, replicate, slice_index, OnOk, IfOk, IfErr};
 ghost use Rattle.node_format.specs.Headers.{body_front};
 ghost use Rattle.node_format.specs.declared.places.Place.TheVariants.{File};
-ghost use Rattle.fs_types.specs.Machine.{read_from, nodes_from, pwrite_need, ftruncate_need};
-ghost use Rattle.fs_types.specs.Contents.{resized, overwritten};
+ghost use Rattle.plain_trees.specs.Contents.{read_from, nodes_from, pwrite_need, ftruncate_need, resized, overwritten};
 ghost use Rattle.block_trees.specs.Bodies as bodies;
 ghost use Rattle.block_trees.specs.Bodies.{head_index, Divides, IsBody};
 ghost use Rattle.block_trees.specs.Reached.{IsHeld, Keeps};

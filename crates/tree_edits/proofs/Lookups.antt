@@ -4,7 +4,7 @@ use Rattle.std.proofs.lemmas.Bool.{and_parts, leb-true}
 use Rattle.std.specs.Prelude.{nat_le, is_none, IfErr}
 use Rattle.std.specs.List.{list_all}
 use Rattle.fs_types.specs.Names.{Name, Path, is_name, is_path}
-use Rattle.fs_types.specs.Contents.{Entry}
+use Rattle.plain_trees.specs.Contents.{Entry}
 use Rattle.fs_types.specs.declared.faults.Fault.{Fault}
 use Rattle.fs_types.specs.declared.faults.Fault.TheVariants.{DirectoryFull}
 use Rattle.node_format.specs.Items.{Item, named}

@@ -4,10 +4,9 @@ use Rattle.std.proofs.lemmas.Bool.{cases_Bool}
 use Rattle.std.specs.Prelude.{zero, Err, IfOk}
 use Rattle.std.specs.Option.{option_and_then}
 use Rattle.fs_types.specs.Names.{Path, is_path}
-use Rattle.fs_types.specs.Contents.{Contents, Entry, overwritten, resized}
-use Rattle.fs_types.specs.Trees.{put}
-use Rattle.fs_types.specs.Machine.{bytes_of, bytes_at}
-use Rattle.fs_types.proofs.Files.{length-resized, length-overwritten}
+use Rattle.plain_trees.specs.Contents.{Contents, Entry, overwritten, resized}
+use Rattle.plain_trees.specs.Trees.{put, bytes_of, bytes_at}
+use Rattle.plain_trees.proofs.Files.{length-resized, length-overwritten}
 use Rattle.fs_types.specs.declared.faults.Fault.{Fault}
 use Rattle.fs_types.specs.declared.faults.Fault.TheVariants.{FlashFull, ReadOnly, ReadFailed, PowerCut, NoMemory}
 use Rattle.node_format.specs.declared.places.Place.{Place}

@@ -4,8 +4,8 @@ use Rattle.std.proofs.lemmas.Bool.{and_parts}
 use Rattle.std.specs.Prelude.{unwrap_or, Err, IfOk}
 use Rattle.fs_types.specs.declared.faults.Fault.{Fault}
 use Rattle.fs_types.specs.Names.{Path, is_path}
-use Rattle.fs_types.specs.Contents.{Entry, IsLast}
-use Rattle.fs_types.specs.Trees.{put, remove, move}
+use Rattle.plain_trees.specs.Contents.{Entry, IsLast}
+use Rattle.plain_trees.specs.Trees.{put, remove, move}
 use Rattle.node_format.specs.Items.{Item, named}
 use Rattle.node_format.specs.declared.places.Place.{Place}
 use Rattle.node_format.specs.declared.places.Place.TheVariants.{Dir, File}

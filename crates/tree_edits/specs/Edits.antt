@@ -1,9 +1,8 @@
 -- Edits of trees: when one can be applied, the tree that it makes, and how many nodes it writes.
 use Rattle.std.specs.Prelude.{◌≡◌, ℕ, ◌+◌, ◌-◌, ◌<◌, ◌≤◌, ◌&&◌, Bool, true, false, Some, None, Ok, [], length}
 use Rattle.fs_types.specs.Names.{Path, is_path}
-use Rattle.fs_types.specs.Contents.{Entry, Apart, overwritten, resized}
-use Rattle.fs_types.specs.Trees.{Tree, put, remove, move}
-use Rattle.fs_types.specs.Machine.{bytes_at, pwrite_need, ftruncate_need}
+use Rattle.plain_trees.specs.Contents.{Entry, Apart, overwritten, resized, pwrite_need, ftruncate_need}
+use Rattle.plain_trees.specs.Trees.{Tree, put, remove, move, bytes_at}
 use Rattle.node_format.specs.Items.{is_place}
 use Rattle.node_format.specs.declared.places.Place.{Place}
 use Rattle.node_format.specs.declared.places.Place.TheVariants.{Dir}

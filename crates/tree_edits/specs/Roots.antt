@@ -1,6 +1,6 @@
 -- New roots.
 use Rattle.std.specs.Prelude.{◌≡◌, ◌⊎◌, ℕ, Bool, false, [], ◌∷◌}
-use Rattle.fs_types.specs.Trees.{Tree}
+use Rattle.plain_trees.specs.Trees.{Tree}
 use Rattle.node_format.specs.declared.places.Place.TheVariants.{Dir}
 use Rattle.block_trees.specs.Bodies.{Blocks}
 use Rattle.block_trees.specs.Reached.{Reached, IsHeld}

@@ -1,8 +1,8 @@
 //! Directories made, and entries taken out and moved.
 ghost use Rattle.std.specs.Prelude.{◌≡◌, ℕ, ◌+◌, ◌-◌, ◌≤◌, ◌<◌, true, false, length, Ok, IfOk, IfErr};
-ghost use Rattle.fs_types.specs.Contents.{Apart, Entry};
+ghost use Rattle.plain_trees.specs.Contents.{Apart, Entry};
 ghost use Rattle.fs_types.specs.Names.{is_path};
-ghost use Rattle.fs_types.specs.Trees.{put, remove, move};
+ghost use Rattle.plain_trees.specs.Trees.{put, remove, move};
 ghost use Rattle.node_format.specs.Headers.{body_front};
 ghost use Rattle.node_format.specs.declared.places.Place.TheVariants.{Dir};
 ghost use Rattle.block_trees.specs.Reached.{IsHeld};

@@ -1,9 +1,8 @@
 //! Files with other bytes.
 ghost use Rattle.std.specs.Prelude.{◌≡◌, ℕ, ◌+◌, ◌-◌, ◌≤◌, ◌<◌, true, length, Some, Ok, [], IfOk, IfErr};
-ghost use Rattle.fs_types.specs.Contents.{Entry, overwritten, resized};
-ghost use Rattle.fs_types.specs.Machine.{bytes_at, pwrite_need, ftruncate_need};
+ghost use Rattle.plain_trees.specs.Contents.{Entry, overwritten, resized, pwrite_need, ftruncate_need};
+ghost use Rattle.plain_trees.specs.Trees.{bytes_at, put};
 ghost use Rattle.fs_types.specs.Names.{is_path};
-ghost use Rattle.fs_types.specs.Trees.{put};
 ghost use Rattle.node_format.specs.Headers.{body_front};
 ghost use Rattle.node_format.specs.declared.places.Place.TheVariants.{Dir, File};
 ghost use Rattle.block_trees.specs.Reached.{IsHeld, Keeps};

@@ -6,11 +6,11 @@ use Rattle.std.specs.List.{list_all}
 use Rattle.std.specs.Option.{option_map_or}
 use Rattle.std.specs.FinSet as set
 use Rattle.fs_types.specs.Names.{Path, is_name, is_path}
-use Rattle.fs_types.specs.Trees.{Tree}
-use Rattle.fs_types.specs.History.{Past, present_root, changed, map_roots}
-use Rattle.fs_types.specs.HistoryMaps.{changed-map}
-use Rattle.fs_types.specs.Descriptors.{Descriptors}
-use Rattle.fs_types.specs.Machine.{Machine, has_paths, present_tree, refusal, need, change_need, answer_of, machine_of, reply_of, tree_after, history_after, history_moved, descriptors_after, makes_version}
+use Rattle.plain_trees.specs.Trees.{Tree}
+use Rattle.history_machine.specs.History.{Past, present_root, changed, map_roots}
+use Rattle.history_machine.specs.HistoryMaps.{changed-map}
+use Rattle.history_machine.specs.Descriptors.{Descriptors}
+use Rattle.history_machine.specs.Machine.{Machine, has_paths, present_tree, refusal, need, change_need, answer_of, machine_of, reply_of, tree_after, history_after, history_moved, descriptors_after, makes_version}
 use Rattle.fs_types.specs.declared.calls.Call.{Call}
 use Rattle.fs_types.specs.declared.calls.Reply.{Reply}
 use Rattle.fs_types.specs.declared.faults.Fault.{Fault}

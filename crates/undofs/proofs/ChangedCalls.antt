@@ -2,10 +2,10 @@
 use Rattle.std.proofs.Common.{◌≡◌, ℕ, ◌+◌, ◌<◌, ◌≤◌, true, false, Some, None, Result, Ok, Err, refl, sym, ap, subst, ◌∙◌, inl, inr, arith}
 use Rattle.std.specs.Prelude.{is_some, nat_le, ◌||◌, IfOk, IfErr}
 use Rattle.std.specs.FinSet as set
-use Rattle.fs_types.specs.History.{Past, present_root}
-use Rattle.fs_types.specs.Trees.{Tree}
-use Rattle.fs_types.specs.Descriptors.{Descriptors}
-use Rattle.fs_types.specs.Machine.{Space, refusal, change_need, reply_of, tree_after, descriptors_after, has_paths}
+use Rattle.history_machine.specs.History.{Past, present_root}
+use Rattle.plain_trees.specs.Trees.{Tree}
+use Rattle.history_machine.specs.Descriptors.{Descriptors}
+use Rattle.history_machine.specs.Machine.{Space, refusal, change_need, reply_of, tree_after, descriptors_after, has_paths}
 use Rattle.fs_types.specs.declared.calls.Call.{Call}
 use Rattle.fs_types.specs.declared.calls.Reply.{Reply}
 use Rattle.fs_types.specs.declared.faults.Fault.{Fault}

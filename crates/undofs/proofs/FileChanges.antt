@@ -7,16 +7,16 @@ use Rattle.std.specs.Option.{option_map, option_map_or, option_and_then}
 use Rattle.std.specs.FinMap.{get}
 use Rattle.std.specs.FinSet as set
 use Rattle.fs_types.specs.Names.{Path, is_path}
-use Rattle.fs_types.specs.Contents.{Contents, Entry, overwritten, resized}
-use Rattle.fs_types.specs.Trees.{Tree, put}
-use Rattle.fs_types.specs.History.{Past, present_root, changed}
-use Rattle.fs_types.specs.Descriptors.{Descriptor, descriptor_at}
-use Rattle.fs_types.specs.Machine.{Machine, Space, IsFile, has_paths, present_tree, bytes_of, bytes_at, file_put, refusal, change_need, pwrite_need, ftruncate_need, reply_of, tree_after, descriptors_after, makes_version, machine_of}
+use Rattle.plain_trees.specs.Contents.{Contents, Entry, overwritten, resized, pwrite_need, ftruncate_need}
+use Rattle.plain_trees.specs.Trees.{Tree, put, IsFile, bytes_of, bytes_at}
+use Rattle.history_machine.specs.History.{Past, present_root, changed}
+use Rattle.history_machine.specs.Descriptors.{Descriptor, descriptor_at}
+use Rattle.history_machine.specs.Machine.{Machine, Space, has_paths, present_tree, file_put, refusal, change_need, reply_of, tree_after, descriptors_after, makes_version, machine_of}
 use Rattle.fs_types.specs.declared.calls.Call.{Call}
 use Rattle.fs_types.specs.declared.calls.Reply.{Reply}
 use Rattle.fs_types.specs.declared.faults.Fault.{Fault}
-use Rattle.fs_types.proofs.Accepted.{not-root}
-use Rattle.fs_types.proofs.Kept.{present-file_tree}
+use Rattle.history_machine.proofs.Accepted.{not-root}
+use Rattle.history_machine.proofs.Kept.{present-file_tree}
 use Rattle.flash_model.specs.Device.{Device}
 use Rattle.node_format.specs.Items.{Item, named}
 use Rattle.node_format.specs.declared.places.Place.{Place}

@@ -5,18 +5,18 @@ use Rattle.std.specs.Prelude.{IsTrue, IsSome, IfOk, IfErr, if◌then◌else◌}
 use Rattle.std.specs.FinMap.{get}
 use Rattle.std.specs.Option.{option_or, option_map_or}
 use Rattle.fs_types.specs.Names.{Path}
-use Rattle.fs_types.specs.Contents.{Contents, Entry, IsTree, under, way_refusal, lookup_refusal}
-use Rattle.fs_types.specs.Trees.{Tree, IsFileTree}
-use Rattle.fs_types.specs.History.{present_root}
-use Rattle.fs_types.specs.Descriptors.{Descriptor, Descriptors, descriptor_at, can_read}
-use Rattle.fs_types.specs.Machine.{Machine, Space, IsFile, present_tree, refusal, reply_of, bytes_of, bytes_at, read_from}
+use Rattle.plain_trees.specs.Contents.{Contents, Entry, IsTree, under, way_refusal, lookup_refusal, read_from}
+use Rattle.plain_trees.specs.Trees.{Tree, IsFileTree, IsFile, bytes_of, bytes_at}
+use Rattle.history_machine.specs.History.{present_root}
+use Rattle.history_machine.specs.Descriptors.{Descriptor, Descriptors, descriptor_at, can_read}
+use Rattle.history_machine.specs.Machine.{Machine, Space, present_tree, refusal, reply_of}
 use Rattle.fs_types.specs.declared.calls.Call.{Call}
 use Rattle.fs_types.specs.declared.calls.Reply.{Reply}
 use Rattle.fs_types.specs.declared.calls.View.{View}
 use Rattle.fs_types.specs.declared.faults.Fault.{Fault}
 use Rattle.fs_types.specs.declared.faults.Fault.TheVariants.{NoEntry, NotDirectory, BadDescriptor, Damaged, ReadFailed, PowerCut, NoMemory}
-use Rattle.fs_types.proofs.Kept.{present-file_tree}
-use Rattle.fs_types.proofs.Lookups.{some-is, above, under-tree}
+use Rattle.history_machine.proofs.Kept.{present-file_tree}
+use Rattle.plain_trees.proofs.Lookups.{some-is, above, under-tree}
 use Rattle.flash_model.specs.Device.{Device}
 use Rattle.node_format.specs.declared.places.Place.TheVariants.{File}
 use Rattle.block_trees.specs.Bodies.{Blocks, body, IsBody}

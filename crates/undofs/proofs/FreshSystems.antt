@@ -3,12 +3,12 @@ use Rattle.std.proofs.Common.{◌≡◌, ℕ, ◌≤◌, true, Some, [], sym, ap
 use Rattle.std.proofs.lemmas.List.Elements.{All-push}
 use Rattle.std.specs.Prelude.{vec_len, vec_capacity}
 use Rattle.std.specs.FinSet as set
-use Rattle.fs_types.specs.History.{Past, fresh, map_roots}
-use Rattle.fs_types.specs.Descriptors.{Descriptors, none_open}
-use Rattle.fs_types.specs.Machine.{IsMachine, mounted}
-use Rattle.fs_types.specs.Trees.{Tree, bare}
+use Rattle.history_machine.specs.History.{Past, fresh, map_roots}
+use Rattle.history_machine.specs.Descriptors.{Descriptors, none_open}
+use Rattle.history_machine.specs.Machine.{IsMachine, mounted}
+use Rattle.plain_trees.specs.Trees.{Tree, bare}
 use Rattle.fs_types.specs.declared.calls.Version.{Version}
-use Rattle.fs_types.proofs.Kept.{machine_law}
+use Rattle.history_machine.proofs.Kept.{machine_law}
 use Rattle.flash_model.specs.Device.{Device}
 use Rattle.flash_model.specs.Geometry.{IsGeometry, block_bytes}
 use Rattle.node_store.specs.NodePages.{node_of}

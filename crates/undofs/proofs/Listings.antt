@@ -2,9 +2,9 @@
 use Rattle.std.proofs.Common.{◌≡◌, ℕ, Bool, false, Option, Some, None, Result, Ok, Err, List, [], refl, sym, ap, subst, ◌∙◌}
 use Rattle.std.specs.Prelude.{IfOk, IfErr, unwrap_or, if◌then◌else◌}
 use Rattle.fs_types.specs.Names.{Name, Path}
-use Rattle.fs_types.specs.Contents.{Entry, is_dir}
-use Rattle.fs_types.specs.Trees.{children}
-use Rattle.fs_types.specs.Machine.{Space, reply_of}
+use Rattle.plain_trees.specs.Contents.{Entry, is_dir}
+use Rattle.plain_trees.specs.Trees.{children}
+use Rattle.history_machine.specs.Machine.{Space, reply_of}
 use Rattle.fs_types.specs.declared.calls.Call.{Call}
 use Rattle.fs_types.specs.declared.calls.Reply.{Reply}
 use Rattle.fs_types.specs.declared.calls.View.{View}

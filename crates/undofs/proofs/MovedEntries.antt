@@ -5,16 +5,16 @@ use Rattle.std.specs.Prelude.{nat_lt, nat_le, is_none, if◌then◌else◌, IfEr
 use Rattle.std.specs.Option.{option_or, option_map_or}
 use Rattle.std.specs.FinMap.{get}
 use Rattle.fs_types.specs.Names.{Name, Path, same_path}
-use Rattle.fs_types.specs.Contents.{Contents, Entry, is_dir, begins, parent_of, lookup_refusal}
-use Rattle.fs_types.specs.Trees.{Tree, entry_count, is_full}
-use Rattle.fs_types.specs.History.{present_root}
-use Rattle.fs_types.specs.Descriptors.{is_open, is_open_within}
-use Rattle.fs_types.specs.Machine.{Machine, present_tree, found_refusal, replace_refusal, rename_refusal, move_refusal, is_too_deep}
+use Rattle.plain_trees.specs.Contents.{Contents, Entry, is_dir, begins, parent_of, lookup_refusal}
+use Rattle.plain_trees.specs.Trees.{Tree, entry_count, is_full, is_too_deep}
+use Rattle.history_machine.specs.History.{present_root}
+use Rattle.history_machine.specs.Descriptors.{is_open, is_open_within}
+use Rattle.history_machine.specs.Machine.{Machine, present_tree, found_refusal, replace_refusal, rename_refusal, move_refusal}
 use Rattle.fs_types.specs.declared.calls.Call.{Call}
 use Rattle.fs_types.specs.declared.faults.Fault.{Fault}
 use Rattle.fs_types.specs.declared.faults.Fault.TheVariants.{NoEntry, NotDirectory, IsDirectory, NotEmpty, Invalid, NameTooLong, Busy, DirectoryFull, ReadFailed, PowerCut, NoMemory, Damaged}
-use Rattle.fs_types.proofs.Beneath.{None≢Some}
-use Rattle.fs_types.proofs.Kept.{present-file_tree}
+use Rattle.plain_trees.proofs.Beneath.{None≢Some}
+use Rattle.history_machine.proofs.Kept.{present-file_tree}
 use Rattle.flash_model.specs.Device.{Device}
 use Rattle.node_format.specs.Items.{Item, named}
 use Rattle.node_format.specs.declared.places.Place.{Place}

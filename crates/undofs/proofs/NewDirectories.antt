@@ -5,10 +5,10 @@ use Rattle.std.specs.Prelude.{if◌then◌else◌, ◌==◌}
 use Rattle.std.specs.Option.{option_or, is_some}
 use Rattle.std.specs.FinMap.{get}
 use Rattle.fs_types.specs.Names.{Name, Path, is_path}
-use Rattle.fs_types.specs.Contents.{Contents, Entry, parent_of, lookup_refusal}
-use Rattle.fs_types.specs.Trees.{Tree, put, is_full}
-use Rattle.fs_types.specs.History.{present_root}
-use Rattle.fs_types.specs.Machine.{refusal}
+use Rattle.plain_trees.specs.Contents.{Contents, Entry, parent_of, lookup_refusal}
+use Rattle.plain_trees.specs.Trees.{Tree, put, is_full}
+use Rattle.history_machine.specs.History.{present_root}
+use Rattle.history_machine.specs.Machine.{refusal}
 use Rattle.fs_types.specs.declared.calls.Call.{Call}
 use Rattle.fs_types.specs.declared.calls.Reply.{Reply}
 use Rattle.fs_types.specs.declared.faults.Fault.{Fault}

@@ -6,11 +6,11 @@ use Rattle.std.specs.Prelude.{nat_lt, unwrap_or}
 use Rattle.std.specs.Option.{option_or, option_map_or, is_none, is_some}
 use Rattle.std.specs.FinMap.{get}
 use Rattle.fs_types.specs.Names.{Path, is_path}
-use Rattle.fs_types.specs.Contents.{Contents, Entry, parent_of, lookup_refusal}
-use Rattle.fs_types.specs.Trees.{Tree, is_full}
-use Rattle.fs_types.specs.Descriptors.{Descriptors, least_free, opened, creates, is_exclusive, truncates, are_lawful}
-use Rattle.fs_types.specs.History.{Past, present_root, changed}
-use Rattle.fs_types.specs.Machine.{Machine, IsMachine, Space, present_tree, bytes_of, number_refusal, open_refusal, open_changes, file_put, refusal, tree_after, answer_of, machine_of}
+use Rattle.plain_trees.specs.Contents.{Contents, Entry, parent_of, lookup_refusal}
+use Rattle.plain_trees.specs.Trees.{Tree, is_full, bytes_of}
+use Rattle.history_machine.specs.Descriptors.{Descriptors, least_free, opened, creates, is_exclusive, truncates, are_lawful}
+use Rattle.history_machine.specs.History.{Past, present_root, changed}
+use Rattle.history_machine.specs.Machine.{Machine, IsMachine, Space, present_tree, number_refusal, open_refusal, open_changes, file_put, refusal, tree_after, answer_of, machine_of}
 use Rattle.fs_types.specs.declared.calls.Call.{Call}
 use Rattle.fs_types.specs.declared.calls.Reply.{Reply}
 use Rattle.fs_types.specs.declared.faults.Fault.{Fault}

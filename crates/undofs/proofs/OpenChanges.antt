@@ -2,10 +2,10 @@
 use Rattle.std.proofs.Common.{◌≡◌, ℕ, ◌<◌, Bool, true, false, cond, Some, None, [], length, refl, sym, ap, ◌∙◌}
 use Rattle.std.specs.Prelude.{not, ◌&&◌, unwrap_or}
 use Rattle.fs_types.specs.Names.{Path, is_path}
-use Rattle.fs_types.specs.Contents.{Entry}
-use Rattle.fs_types.specs.Trees.{Tree, put}
-use Rattle.fs_types.specs.Descriptors.{Descriptors, least_free, opened, creates, is_exclusive}
-use Rattle.fs_types.specs.Machine.{present_tree, file_put, open_changes, refusal, descriptors_after}
+use Rattle.plain_trees.specs.Contents.{Entry}
+use Rattle.plain_trees.specs.Trees.{Tree, put}
+use Rattle.history_machine.specs.Descriptors.{Descriptors, least_free, opened, creates, is_exclusive}
+use Rattle.history_machine.specs.Machine.{present_tree, file_put, open_changes, refusal, descriptors_after}
 use Rattle.fs_types.specs.declared.calls.Call.{Call}
 use Rattle.fs_types.specs.declared.calls.Reply.{Reply}
 use Rattle.fs_types.specs.declared.faults.Fault.TheVariants.{NoEntry, IsDirectory, Exists, DirectoryFull}

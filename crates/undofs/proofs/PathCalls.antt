@@ -5,17 +5,17 @@ use Rattle.std.specs.Prelude.{unwrap_or, is_some, IsSome}
 use Rattle.std.specs.Option.{option_or, option_map, option_map_or}
 use Rattle.std.specs.FinMap.{get}
 use Rattle.fs_types.specs.Names.{Path, is_path}
-use Rattle.fs_types.specs.Contents.{Contents, Entry, lookup_refusal}
-use Rattle.fs_types.specs.Trees.{bare}
-use Rattle.fs_types.specs.History.{present_root}
-use Rattle.fs_types.specs.HistoryMaps.{present_root-map}
-use Rattle.fs_types.specs.Machine.{Machine, present_tree, refusal, found_refusal, answer_of, machine_of, reply_of, tree_after, is_accepted}
+use Rattle.plain_trees.specs.Contents.{Contents, Entry, lookup_refusal}
+use Rattle.plain_trees.specs.Trees.{bare}
+use Rattle.history_machine.specs.History.{present_root}
+use Rattle.history_machine.specs.HistoryMaps.{present_root-map}
+use Rattle.history_machine.specs.Machine.{Machine, present_tree, refusal, found_refusal, answer_of, machine_of, reply_of, tree_after, is_accepted}
 use Rattle.fs_types.specs.declared.calls.Call.{Call}
 use Rattle.fs_types.specs.declared.calls.Reply.{Reply}
 use Rattle.fs_types.specs.declared.faults.Fault.{Fault}
 use Rattle.fs_types.specs.declared.faults.Fault.TheVariants.{NoEntry, NotDirectory, Damaged}
-use Rattle.fs_types.proofs.Beneath.{None≢Some}
-use Rattle.fs_types.proofs.Kept.{present-file_tree}
+use Rattle.plain_trees.proofs.Beneath.{None≢Some}
+use Rattle.history_machine.proofs.Kept.{present-file_tree}
 use Rattle.flash_model.specs.Device.{Device}
 use Rattle.node_format.specs.declared.places.Place.TheVariants.{Dir}
 use Rattle.node_store.specs.Faults.{IsReadFault}

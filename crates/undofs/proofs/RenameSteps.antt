@@ -4,14 +4,14 @@ use Rattle.std.proofs.lemmas.Bool.{true≢false}
 use Rattle.std.specs.Prelude.{◌&&◌, if◌then◌else◌}
 use Rattle.std.specs.Option.{option_map_or}
 use Rattle.fs_types.specs.Names.{Path, same_path, is_path}
-use Rattle.fs_types.specs.Contents.{Entry, Apart, is_dir}
-use Rattle.fs_types.specs.Trees.{Tree, move}
-use Rattle.fs_types.specs.History.{changed}
-use Rattle.fs_types.specs.Machine.{Machine, present_tree, refusal, rename_refusal, change_need, tree_after}
+use Rattle.plain_trees.specs.Contents.{Entry, Apart, is_dir}
+use Rattle.plain_trees.specs.Trees.{Tree, move}
+use Rattle.history_machine.specs.History.{changed}
+use Rattle.history_machine.specs.Machine.{Machine, present_tree, refusal, rename_refusal, change_need, tree_after}
 use Rattle.fs_types.specs.declared.calls.Call.{Call}
 use Rattle.fs_types.specs.declared.calls.Reply.{Reply}
 use Rattle.fs_types.specs.declared.faults.Fault.{Fault}
-use Rattle.fs_types.proofs.Kept as machine
+use Rattle.history_machine.proofs.Kept as machine
 use Rattle.fs_types.proofs.Orders.{same_path-own}
 use Rattle.flash_model.specs.Device.{Device}
 use Rattle.node_format.specs.declared.places.Place.{Place}

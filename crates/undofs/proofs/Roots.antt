@@ -8,10 +8,10 @@ use Rattle.std.specs.BTreeMap.{insert_entry, is_at}
 use Rattle.std.specs.Map.{lookup}
 use Rattle.fs_types.specs.Names.{Name, name_cmp}
 use Rattle.fs_types.specs.declared.calls.Version.{Version}
-use Rattle.fs_types.specs.History.{Past, present_root, checkpoint_root, changed, forgotten, with_checkpoint, without_checkpoint}
-use Rattle.fs_types.proofs.Beneath.{None≢Some, same_Some}
-use Rattle.fs_types.proofs.Checkpoints.{all-inserted, all-removed}
-use Rattle.fs_types.proofs.Versions.{by_change, checkpoints-changed, grown, version}
+use Rattle.history_machine.specs.History.{Past, present_root, checkpoint_root, changed, forgotten, with_checkpoint, without_checkpoint}
+use Rattle.plain_trees.proofs.Beneath.{None≢Some, same_Some}
+use Rattle.history_machine.proofs.Checkpoints.{all-inserted, all-removed}
+use Rattle.history_machine.proofs.Versions.{by_change, checkpoints-changed, grown, version}
 
 -- a history with this root, if any, under a name
 abbrev with_root : {R : Type 0} → Past R → Name → Option R → Past R

@@ -2,9 +2,9 @@
 use Rattle.std.proofs.Common.{◌≡◌, ℕ, ◌-◌, ◌≤◌, refl, sym, ap, subst, ◌∙◌, inl, inr, arith}
 use Rattle.std.proofs.lemmas.List.Elements.{All-weaker, All-contains, All-map}
 use Rattle.std.specs.Prelude.{All, map, vec_capacity}
-use Rattle.fs_types.specs.History.{Past, map_roots}
-use Rattle.fs_types.specs.HistoryMaps.{same-map_roots}
-use Rattle.fs_types.specs.Machine.{IsMachine}
+use Rattle.history_machine.specs.History.{Past, map_roots}
+use Rattle.history_machine.specs.HistoryMaps.{same-map_roots}
+use Rattle.history_machine.specs.Machine.{IsMachine}
 use Rattle.fs_types.specs.Names.{Name}
 use Rattle.fs_types.specs.declared.calls.Version.{Version}
 use Rattle.flash_model.specs.declared.sizes.Geometry.{Geometry}

@@ -3,10 +3,10 @@ use Rattle.std.proofs.Common.{◌≡◌, ℕ, zero, suc, false, Option, Some, No
 use Rattle.std.proofs.lemmas.List.{length-map, length-take-le}
 use Rattle.std.specs.Prelude.{unwrap_or}
 use Rattle.fs_types.specs.Names.{Path}
-use Rattle.fs_types.specs.Contents.{Contents, Entry}
-use Rattle.fs_types.specs.Trees.{Tree}
+use Rattle.plain_trees.specs.Contents.{Contents, Entry}
+use Rattle.plain_trees.specs.Trees.{Tree}
 use Rattle.std.specs.FinMap.{get}
-use Rattle.fs_types.specs.Machine.{Space, stat_of, reply_of}
+use Rattle.history_machine.specs.Machine.{Space, stat_of, reply_of}
 use Rattle.fs_types.specs.declared.calls.Call.{Call}
 use Rattle.fs_types.specs.declared.calls.Reply.{Reply}
 use Rattle.fs_types.specs.declared.calls.Stat.{Stat}

@@ -4,12 +4,12 @@ use Rattle.std.proofs.lemmas.Bool.{true≢false, and_parts, and_from, le-leb, lt
 use Rattle.std.specs.Prelude.{◌==◌, ◌||◌, nat_lt, nat_le, unwrap_or}
 use Rattle.std.specs.Option.{option_map, option_map_or, is_some, is_none}
 use Rattle.fs_types.specs.Names.{Name}
-use Rattle.fs_types.specs.Trees.{Tree}
-use Rattle.fs_types.specs.History.{Past, map_roots, changed, checkpoint_root, first_serial, place_of, undo_refusal, redo_refusal, serial_refusal, forget_refusal, name_refusal, checkpoint_refusal, with_checkpoint}
-use Rattle.fs_types.specs.HistoryMaps.{checkpoint_root-map, changed-map, checkpoint_refusal-map, with_checkpoint-map}
-use Rattle.fs_types.specs.Descriptors.{any_open}
-use Rattle.fs_types.specs.Machine.{Machine, IsMachine, has_paths, travel_refusal, log_of, refusal, answer_of, machine_of, reply_of, is_accepted, makes_version, tree_after}
-use Rattle.fs_types.proofs.Kept.{machine_law}
+use Rattle.plain_trees.specs.Trees.{Tree}
+use Rattle.history_machine.specs.History.{Past, map_roots, changed, checkpoint_root, first_serial, place_of, undo_refusal, redo_refusal, serial_refusal, forget_refusal, name_refusal, checkpoint_refusal, with_checkpoint}
+use Rattle.history_machine.specs.HistoryMaps.{checkpoint_root-map, changed-map, checkpoint_refusal-map, with_checkpoint-map}
+use Rattle.history_machine.specs.Descriptors.{any_open}
+use Rattle.history_machine.specs.Machine.{Machine, IsMachine, has_paths, travel_refusal, log_of, refusal, answer_of, machine_of, reply_of, is_accepted, makes_version, tree_after}
+use Rattle.history_machine.proofs.Kept.{machine_law}
 use Rattle.fs_types.specs.declared.calls.Call.{Call}
 use Rattle.fs_types.specs.declared.calls.Reply.{Reply}
 use Rattle.fs_types.specs.declared.calls.Version.{Version}

@@ -4,10 +4,10 @@ use Rattle.std.proofs.lemmas.Bool.{lt-ltb}
 use Rattle.std.proofs.lemmas.List.{length-map}
 use Rattle.std.specs.Prelude.{nat_lt, unwrap_or, if◌then◌else◌, ◌==◌}
 use Rattle.fs_types.specs.Names.{Path, is_path}
-use Rattle.fs_types.specs.Trees.{Tree, remove, entry_count}
-use Rattle.fs_types.specs.History.{present_root}
-use Rattle.fs_types.specs.Machine.{refusal, found_refusal, unlink_refusal, rmdir_refusal}
-use Rattle.fs_types.specs.Descriptors.{Descriptors, is_open}
+use Rattle.plain_trees.specs.Trees.{Tree, remove, entry_count}
+use Rattle.history_machine.specs.History.{present_root}
+use Rattle.history_machine.specs.Machine.{refusal, found_refusal, unlink_refusal, rmdir_refusal}
+use Rattle.history_machine.specs.Descriptors.{Descriptors, is_open}
 use Rattle.fs_types.specs.declared.calls.Call.{Call}
 use Rattle.fs_types.specs.declared.calls.Reply.{Reply}
 use Rattle.fs_types.specs.declared.faults.Fault.TheVariants.{NotEmpty, Busy}

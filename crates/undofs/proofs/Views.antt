@@ -4,17 +4,17 @@ use Rattle.std.proofs.lemmas.Option.{get_or_from_slice_get, slice_get_within}
 use Rattle.std.specs.Prelude.{slice_get, unwrap_or}
 use Rattle.std.specs.Option.{option_or, option_map, option_and_then}
 use Rattle.fs_types.specs.Names.{Path}
-use Rattle.fs_types.specs.Contents.{Entry}
-use Rattle.fs_types.specs.Trees.{bare}
-use Rattle.fs_types.specs.History.{Past, place_of, view_refusal, view_root}
-use Rattle.fs_types.specs.HistoryMaps.{view_refusal-map, view_root-map}
-use Rattle.fs_types.specs.Machine.{refusal, found_refusal, view_path_refusal, view_tree}
+use Rattle.plain_trees.specs.Contents.{Entry}
+use Rattle.plain_trees.specs.Trees.{bare}
+use Rattle.history_machine.specs.History.{Past, place_of, view_refusal, view_root}
+use Rattle.history_machine.specs.HistoryMaps.{view_refusal-map, view_root-map}
+use Rattle.history_machine.specs.Machine.{refusal, found_refusal, view_path_refusal, view_tree}
 use Rattle.fs_types.specs.declared.calls.Call.{Call}
 use Rattle.fs_types.specs.declared.calls.Version.{Version}
 use Rattle.fs_types.specs.declared.calls.View.{View}
 use Rattle.fs_types.specs.declared.calls.View.TheVariants.{Present, Serial, Checkpoint}
 use Rattle.fs_types.specs.declared.faults.Fault.{Fault}
-use Rattle.fs_types.proofs.Beneath.{None≢Some, same_Some}
+use Rattle.plain_trees.proofs.Beneath.{None≢Some, same_Some}
 use Rattle.flash_model.specs.Device.{Device}
 use Rattle.undofs.specs.Seen.{tree_on, seen_on, machine_on}
 use Rattle.undofs.specs.Steps.{is_light, Refuses}

@@ -1,8 +1,8 @@
 -- Changes: an edit of the present tree is written, and its root becomes the present version.
 use Rattle.std.specs.Prelude.{◌≡◌, ◌⊎◌, ℕ, ◌+◌, ◌<◌, ◌≤◌, false, Some, Result, Ok, Err, IfOk, IfErr, vec_len, vec_capacity}
 use Rattle.std.specs.FinSet as set
-use Rattle.fs_types.specs.History.{Past, present_root, changed}
-use Rattle.fs_types.specs.Trees.{Tree}
+use Rattle.history_machine.specs.History.{Past, present_root, changed}
+use Rattle.plain_trees.specs.Trees.{Tree}
 use Rattle.fs_types.specs.declared.faults.Fault.{Fault}
 use Rattle.fs_types.specs.declared.faults.Fault.TheVariants.{Overflow}
 use Rattle.flash_model.specs.Device.{Device}

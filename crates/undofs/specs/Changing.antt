@@ -1,7 +1,7 @@
 -- Changes of the bytes of open files.
 use Rattle.std.specs.Prelude.{◌≡◌, ℕ, false, Some}
-use Rattle.fs_types.specs.Descriptors.{Descriptors, descriptor_at}
-use Rattle.fs_types.specs.Machine.{Machine}
+use Rattle.history_machine.specs.Descriptors.{Descriptors, descriptor_at}
+use Rattle.history_machine.specs.Machine.{Machine}
 use Rattle.fs_types.specs.Names.{Path}
 use Rattle.fs_types.specs.declared.calls.Call.{Call}
 use Rattle.fs_types.specs.declared.faults.Fault.{Fault}

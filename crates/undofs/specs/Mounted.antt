@@ -1,8 +1,8 @@
 -- What holds of a flash and the working state on it between calls.
 use Rattle.std.specs.Prelude.{◌≡◌, ◌⊎◌, ◌≤◌, ℕ, false, Result, vec_len, vec_capacity, All, Contains, map, [], ◌∷◌}
 use Rattle.std.specs.FinSet as set
-use Rattle.fs_types.specs.History.{Past}
-use Rattle.fs_types.specs.Machine.{IsMachine}
+use Rattle.history_machine.specs.History.{Past}
+use Rattle.history_machine.specs.Machine.{IsMachine}
 use Rattle.fs_types.specs.declared.calls.Call.{Call}
 use Rattle.fs_types.specs.declared.calls.Reply.{Reply}
 use Rattle.fs_types.specs.declared.faults.Fault.{Fault}

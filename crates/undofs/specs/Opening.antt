@@ -1,6 +1,6 @@
 -- Opening a file, by what a look up of its path finds.
 use Rattle.std.specs.Prelude.{◌≡◌, Bool, true, false, not, ◌&&◌, nat_lt, Option, Some, None, Result, if◌then◌else◌}
-use Rattle.fs_types.specs.Descriptors.{creates, is_exclusive, truncates}
+use Rattle.history_machine.specs.Descriptors.{creates, is_exclusive, truncates}
 use Rattle.fs_types.specs.declared.calls.Call.{Call}
 use Rattle.fs_types.specs.declared.calls.Reply.{Reply}
 use Rattle.fs_types.specs.declared.faults.Fault.{Fault}

@@ -5,9 +5,9 @@ use Rattle.std.proofs.Props.{props}
 use Rattle.std.specs.List.Sorted.{IsStrictlySortedBy-prop}
 use Rattle.std.specs.FinMap.{get}
 use Rattle.fs_types.specs.Names.{Path}
-use Rattle.fs_types.specs.Contents.{Entry}
-use Rattle.fs_types.specs.Trees.{Tree}
-use Rattle.fs_types.specs.Machine.{Machine, IsMachine, IsFile, bytes_of}
+use Rattle.plain_trees.specs.Contents.{Entry}
+use Rattle.plain_trees.specs.Trees.{Tree, IsFile, bytes_of}
+use Rattle.history_machine.specs.Machine.{Machine, IsMachine}
 use Rattle.flash_model.specs.Device.{Device}
 use Rattle.node_format.specs.Items.{Item}
 use Rattle.node_format.specs.declared.places.Place.{Place}

@@ -3,9 +3,9 @@ use Rattle.std.specs.Prelude.{◌≡◌, ◌&&◌, ℕ, Bool, true, false, Optio
 use Rattle.std.specs.Option.{option_or}
 use Rattle.std.specs.FinMap.{get}
 use Rattle.fs_types.specs.Names.{Path, same_path}
-use Rattle.fs_types.specs.Contents.{Entry, parent_of, lookup_refusal}
-use Rattle.fs_types.specs.Trees.{Tree, is_full}
-use Rattle.fs_types.specs.Machine.{replace_refusal}
+use Rattle.plain_trees.specs.Contents.{Entry, parent_of, lookup_refusal}
+use Rattle.plain_trees.specs.Trees.{Tree, is_full}
+use Rattle.history_machine.specs.Machine.{replace_refusal}
 use Rattle.fs_types.specs.declared.faults.Fault.{Fault}
 use Rattle.node_format.specs.declared.places.Place.{Place}
 use Rattle.block_trees.specs.Bodies.{Blocks}

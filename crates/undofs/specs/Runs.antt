@@ -1,8 +1,8 @@
 -- Runs of calls, reclaiming steps and restarts: what each event answers, and the world that it leaves.
 use Rattle.std.specs.Prelude.{◌≡◌, ℕ, ◌<◌, ◌≤◌, Bool, true, false, Option, Some, None, Result, Ok, Err, List, [], ◌∷◌, ◌++◌, length, take, Contains, ⊤, if◌then◌else◌}
-use Rattle.fs_types.specs.History.{Past, map_roots}
-use Rattle.fs_types.specs.Trees.{Tree}
-use Rattle.fs_types.specs.Machine.{Machine, mounted, after}
+use Rattle.history_machine.specs.History.{Past, map_roots}
+use Rattle.plain_trees.specs.Trees.{Tree}
+use Rattle.history_machine.specs.Machine.{Machine, mounted, after}
 use Rattle.fs_types.specs.declared.calls.Call.{Call}
 use Rattle.fs_types.specs.declared.calls.Reply.{Reply}
 use Rattle.fs_types.specs.declared.faults.Fault.{Fault}

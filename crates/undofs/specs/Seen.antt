@@ -3,9 +3,9 @@ use Rattle.std.specs.Prelude.{◌≡◌, ◌≤◌, ℕ, ◌-◌, Bool, true, �
 use Rattle.std.specs.List.{range_with_len}
 use Rattle.std.specs.FinSet as set
 use Rattle.std.specs.Ordering.{nat_cmp}
-use Rattle.fs_types.specs.History.{map_roots}
-use Rattle.fs_types.specs.Trees.{Tree}
-use Rattle.fs_types.specs.Machine.{Machine, Space}
+use Rattle.history_machine.specs.History.{map_roots}
+use Rattle.plain_trees.specs.Trees.{Tree}
+use Rattle.history_machine.specs.Machine.{Machine, Space}
 use Rattle.flash_model.specs.Device.{Device}
 use Rattle.flash_model.specs.Geometry.{block_bytes}
 use Rattle.allocator.specs.Ring.{data_blocks, free_count}

@@ -1,6 +1,6 @@
 -- What a call on a mounted system answers and leaves: the step of the machine, or a further refusal with its cause.
 use Rattle.std.specs.Prelude.{◌≡◌, ◌⊎◌, ℕ, ◌-◌, ◌^◌, ◌<◌, ◌≤◌, Bool, true, false, ◌&&◌, ◌||◌, is_some, Some, Result, Ok, Err}
-use Rattle.fs_types.specs.Machine.{Machine, refusal, answer, next, is_accepted, makes_version, need, tree_after}
+use Rattle.history_machine.specs.Machine.{Machine, refusal, answer, next, is_accepted, makes_version, need, tree_after}
 use Rattle.fs_types.specs.declared.calls.Call.{Call}
 use Rattle.fs_types.specs.declared.calls.Reply.{Reply}
 use Rattle.fs_types.specs.declared.faults.Fault.{Fault}

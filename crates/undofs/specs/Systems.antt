@@ -1,7 +1,7 @@
 -- What contracts see of a mounted system: what its flash and its working state show.
 use Rattle.std.specs.Prelude.{Bool}
 use Rattle.std.specs.Borrow.{GName}
-use Rattle.fs_types.specs.Machine.{Machine}
+use Rattle.history_machine.specs.Machine.{Machine}
 use Rattle.flash_model.specs.declared.device.Flash.{Ghosts}
 use Rattle.undofs.specs.Seen.{Seen, seen_on, machine_on}
 use Rattle.undofs.specs.Mounted.{KeepsPages}

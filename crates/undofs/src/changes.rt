@@ -1,7 +1,7 @@
 //! Changes: the one way to a new version. Checked in order: read-only mode, and the greatest serial;
 //! then the nodes of the edit are written, and their root becomes the present version.
 ghost use Rattle.std.specs.Prelude.{◌≡◌, ℕ, Some};
-ghost use Rattle.fs_types.specs.History.{present_root};
+ghost use Rattle.history_machine.specs.History.{present_root};
 ghost use Rattle.node_store.specs.Stores.{IsSound, Follows};
 ghost use Rattle.undofs.specs.Changes.{IsReady, CanApply, IsTried, IsChanged};
 ghost use Rattle.undofs.specs.Mounted.{IsStanding};

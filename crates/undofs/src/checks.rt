@@ -1,6 +1,6 @@
 //! What calls check before they work, and what they remember after it.
 ghost use Rattle.std.specs.Prelude.{◌≡◌, ◌<◌, ◌⊎◌, ◌||◌, true, false, IfErr, OnOk};
-ghost use Rattle.fs_types.specs.Descriptors.{any_open};
+ghost use Rattle.history_machine.specs.Descriptors.{any_open};
 ghost use Rattle.fs_types.specs.declared.faults.Fault.{Fault};
 ghost use Rattle.undofs.specs.Seen.{is_read_only, bad_anchors};
 ghost use Rattle.undofs.specs.Steps.{last_serial, is_cut_answer};

@@ -2,10 +2,10 @@
 //! earlier call answered that the power is off; its own refusals; read-only mode; the greatest serial;
 //! and then it works.
 ghost use Rattle.std.specs.Prelude.{◌≡◌, ◌<◌, ℕ, true, false, length, Some, None, Ok, IfOk, IfErr, OnOk, unwrap_or};
-ghost use Rattle.fs_types.specs.History.{present_root};
+ghost use Rattle.history_machine.specs.History.{present_root};
 ghost use Rattle.fs_types.specs.Names.{is_path};
-ghost use Rattle.fs_types.specs.Descriptors.{least_free};
-ghost use Rattle.fs_types.specs.Machine.{refusal};
+ghost use Rattle.history_machine.specs.Descriptors.{least_free};
+ghost use Rattle.history_machine.specs.Machine.{refusal};
 ghost use Rattle.fs_types.specs.declared.calls.Call.{Call};
 ghost use Rattle.fs_types.specs.declared.calls.Reply.{Reply};
 ghost use Rattle.flash_model.specs.Device.{Device};

@@ -3,9 +3,10 @@
 //! greatest serial; and then it works.
 ghost use Rattle.std.specs.Prelude.{◌≡◌, ◌⊎◌, ◌<◌, ◌≤◌, ◌+◌, true, false, length, Some, None, Ok, IfOk, IfErr, OnOk};
 ghost use Rattle.std.specs.Option.{option_map_or};
-ghost use Rattle.fs_types.specs.Descriptors.{descriptor_at};
-ghost use Rattle.fs_types.specs.History.{present_root};
-ghost use Rattle.fs_types.specs.Machine.{IsFile, present_tree, pwrite_refusal, ftruncate_refusal};
+ghost use Rattle.history_machine.specs.Descriptors.{descriptor_at};
+ghost use Rattle.history_machine.specs.History.{present_root};
+ghost use Rattle.plain_trees.specs.Trees.{IsFile};
+ghost use Rattle.history_machine.specs.Machine.{present_tree, pwrite_refusal, ftruncate_refusal};
 ghost use Rattle.fs_types.specs.declared.calls.Call.{Call};
 ghost use Rattle.fs_types.specs.declared.calls.Reply.{Reply};
 ghost use Rattle.fs_types.specs.declared.faults.Fault.TheVariants.{BadDescriptor, NoMemory};

@@ -1,5 +1,5 @@
 //! The laws of a mounted system. The function does nothing: its contract is the laws.
-ghost use Rattle.fs_types.specs.Laws.{UndoLaw, RedoLaw, RollbackLaw};
+ghost use Rattle.history_machine.specs.Laws.{UndoLaw, RedoLaw, RollbackLaw};
 ghost use Rattle.undofs.specs.Runs.{CommitLaw, PrefixLaw};
 
 /// What undo, redo and rollback give back, whatever the calls before them, and what a restart finds:

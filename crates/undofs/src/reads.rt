@@ -2,7 +2,7 @@
 //! answered that the power is off, and the call's own refusals.
 ghost use Rattle.std.specs.Prelude.{◌≡◌, ℕ, ◌-◌, true, false, Some, None, IfOk, IfErr};
 ghost use Rattle.std.specs.Option.{option_map_or};
-ghost use Rattle.fs_types.specs.Descriptors.{Descriptor, descriptor_at, can_read};
+ghost use Rattle.history_machine.specs.Descriptors.{Descriptor, descriptor_at, can_read};
 ghost use Rattle.fs_types.specs.declared.calls.Call.{Call};
 ghost use Rattle.fs_types.specs.declared.calls.Reply.{Reply};
 ghost use Rattle.fs_types.specs.declared.faults.Fault.TheVariants.{BadDescriptor};

@@ -2,8 +2,8 @@
 //! order: whether an earlier one answered that the power is off; its own refusals; read-only mode;
 //! the greatest serial; and then it works.
 ghost use Rattle.std.specs.Prelude.{◌≡◌, ◌<◌, ℕ, true, false, length, None, Some, [], Ok, Err, IfOk, IfErr, OnOk};
-ghost use Rattle.fs_types.specs.History.{present_root};
-ghost use Rattle.fs_types.specs.Machine.{refusal};
+ghost use Rattle.history_machine.specs.History.{present_root};
+ghost use Rattle.history_machine.specs.Machine.{refusal};
 ghost use Rattle.fs_types.specs.Names.{is_path};
 ghost use Rattle.fs_types.specs.declared.calls.Call.{Call};
 ghost use Rattle.node_store.specs.NodePages.{node_of};

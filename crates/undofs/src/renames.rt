@@ -2,10 +2,10 @@
 //! whether an earlier call answered that the power is off; the call's own refusals; read-only mode;
 //! the greatest serial; and then the work.
 ghost use Rattle.std.specs.Prelude.{◌≡◌, ◌⊎◌, ◌≤◌, ◌-◌, ◌&&◌, ◌||◌, ℕ, true, false, not, length, None, Some, Option, Ok, Err, IfOk, IfErr, OnOk, IfSome};
-ghost use Rattle.fs_types.specs.Contents.{Entry, is_dir, begins, parent_of};
-ghost use Rattle.fs_types.specs.Descriptors.{is_open, is_open_within};
-ghost use Rattle.fs_types.specs.History.{present_root};
-ghost use Rattle.fs_types.specs.Machine.{refusal, found_refusal, rename_refusal, present_tree};
+ghost use Rattle.plain_trees.specs.Contents.{Entry, is_dir, begins, parent_of};
+ghost use Rattle.history_machine.specs.Descriptors.{is_open, is_open_within};
+ghost use Rattle.history_machine.specs.History.{present_root};
+ghost use Rattle.history_machine.specs.Machine.{refusal, found_refusal, rename_refusal, present_tree};
 ghost use Rattle.fs_types.specs.Names.{is_path, same_path};
 ghost use Rattle.fs_types.specs.declared.calls.Call.{Call};
 ghost use Rattle.fs_types.specs.declared.faults.Fault.TheVariants as faults;

@@ -1,9 +1,9 @@
 //! The working state: all that a mounted system keeps in memory, apart from the flash.
 ghost use Rattle.std.specs.Prelude.{◌≡◌, ◌≢◌, ◌<◌, ◌≤◌, ◌↔◌, ◌⊎◌, true, false, Some, Err, [], IfOk, IfErr, vec_len, vec_capacity};
 ghost use Rattle.std.specs.FinSet as set;
-ghost use Rattle.fs_types.specs.History.{fresh};
-ghost use Rattle.fs_types.specs.Machine.{mounted};
-ghost use Rattle.fs_types.specs.Trees.{bare};
+ghost use Rattle.history_machine.specs.History.{fresh};
+ghost use Rattle.history_machine.specs.Machine.{mounted};
+ghost use Rattle.plain_trees.specs.Trees.{bare};
 ghost use Rattle.fs_types.specs.declared.faults.Fault.{Fault};
 ghost use Rattle.flash_model.specs.Geometry.{IsGeometry, block_bytes};
 ghost use Rattle.node_store.specs.NodePages.{node_of};

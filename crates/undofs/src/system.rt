@@ -55,9 +55,9 @@ pub fn is_built(call: &Call) -> bool
 
 impl<'f, F: Flash> Fs<'f, F> {
     ghost use Rattle.std.specs.Prelude.{◌↔◌, ◌<◌, ◌⊎◌, ℕ, false, Err, IfOk};
-    ghost use Rattle.fs_types.specs.History.{fresh};
-    ghost use Rattle.fs_types.specs.Trees.{bare};
-    ghost use Rattle.fs_types.specs.Machine.{mounted};
+    ghost use Rattle.history_machine.specs.History.{fresh};
+    ghost use Rattle.plain_trees.specs.Trees.{bare};
+    ghost use Rattle.history_machine.specs.Machine.{mounted};
     ghost use Rattle.fs_types.specs.declared.calls.Call.{Call};
     ghost use Rattle.fs_types.specs.declared.calls.Reply.{Reply};
     ghost use Rattle.flash_model.specs.Geometry.{IsGeometry};

@@ -2,9 +2,9 @@
 //! call answered that the power is off; its own refusals; read-only mode; the greatest serial; and
 //! then it works.
 ghost use Rattle.std.specs.Prelude.{◌≡◌, ℕ, true, false, None, Some, List, Ok, Err, IfOk, IfErr, OnOk, IsErrOf};
-ghost use Rattle.fs_types.specs.History.{present_root};
+ghost use Rattle.history_machine.specs.History.{present_root};
 ghost use Rattle.fs_types.specs.Names.{is_path};
-ghost use Rattle.fs_types.specs.Machine.{refusal};
+ghost use Rattle.history_machine.specs.Machine.{refusal};
 ghost use Rattle.fs_types.specs.declared.calls.Call.{Call};
 ghost use Rattle.fs_types.specs.declared.calls.Reply.{Reply};
 ghost use Rattle.fs_types.specs.declared.faults.Fault.TheVariants.{Damaged};

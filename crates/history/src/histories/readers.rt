@@ -1,6 +1,6 @@
 //! What a history tells of itself.
 ghost use Rattle.std.specs.Prelude.{◌≡◌, Some};
-ghost use Rattle.fs_types.specs.History.{present_root};
+ghost use Rattle.history_machine.specs.History.{present_root};
 ghost use Rattle.history.specs.Kept.{IsKept};
 
 use crate::histories::History;

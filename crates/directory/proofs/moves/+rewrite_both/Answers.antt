@@ -1,6 +1,6 @@
 use Rattle.std.proofs.Common.{◌≡◌, ◌∷◌, ℕ, ◌<◌, ◌+◌, Bool, true, false, length, ap, subst, sym, refl, ◌∙◌, arith, rules, Some, Option, List}
 use Rattle.fs_types.specs.Names.{same_name, Path}
-use Rattle.fs_types.specs.Contents.{Apart}
+use Rattle.plain_trees.specs.Contents.{Apart}
 use Rattle.std.proofs.lemmas.Result.{err_from_is_err_and}
 use Rattle.node_format.specs.declared.places.Place.TheVariants.{Dir}
 use Rattle.block_trees.specs.Bodies.{Blocks}

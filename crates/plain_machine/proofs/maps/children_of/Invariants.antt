@@ -1,6 +1,6 @@
 use Rattle.std.proofs.Common.{◌≡◌, ◌++◌}
 use Rattle.std.specs.List.{filter_map}
-use Rattle.fs_types.specs.Trees.{child_of}
+use Rattle.plain_trees.specs.Trees.{child_of}
 use Rattle.plain_machine.proofs.maps.children_of.Given as goal
 
 abbrev pub invariant-loop-path : goal.invariant-loop-path

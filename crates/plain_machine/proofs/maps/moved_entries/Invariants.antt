@@ -1,7 +1,7 @@
 use Rattle.std.proofs.Common.{◌≡◌, ◌++◌, length, false}
 use Rattle.std.specs.List.{filter_map, list_any}
 use Rattle.std.specs.Map.{keys_of}
-use Rattle.fs_types.specs.Trees.{moved_entry}
+use Rattle.plain_trees.specs.Trees.{moved_entry}
 use Rattle.plain_machine.specs.Plain.{is_deep}
 use Rattle.plain_machine.proofs.maps.moved_entries.Given as goal
 

@@ -1,5 +1,5 @@
 use Rattle.std.proofs.Common.{◌≡◌, ◌∙◌, sym, ap}
-use Rattle.fs_types.specs.Contents.{beneath}
+use Rattle.plain_trees.specs.Contents.{beneath}
 use Rattle.plain_machine.proofs.Beneath.{joined_path}
 use Rattle.plain_machine.proofs.names.moved_path.Goals as goal
 

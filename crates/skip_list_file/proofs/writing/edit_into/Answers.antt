@@ -1,5 +1,5 @@
 use Rattle.std.proofs.Common.{◌≡◌, ℕ, ◌*◌, List, length, ap, ◌∙◌, arith}
-use Rattle.fs_types.specs.Machine.{read_from}
+use Rattle.plain_trees.specs.Contents.{read_from}
 use Rattle.block_trees.specs.Bodies.{body}
 use Rattle.skip_list_file.specs.Writing.{edited}
 use Rattle.skip_list_file.proofs.Kept.{overlaid_edit}

@@ -3,7 +3,7 @@ use Rattle.std.proofs.lemmas.Result.{err_from_is_err_and}
 use Rattle.std.proofs.Math.Nat.{div-mul-le_self}
 use Rattle.block_trees.specs.Bodies.{Blocks, body, IsBody}
 use Rattle.block_trees.specs.Reached.{Keeps}
-use Rattle.fs_types.specs.Machine.{nodes_from}
+use Rattle.plain_trees.specs.Contents.{nodes_from}
 use Rattle.skip_list_file.specs.declared.bodies.Body.{Body}
 use Rattle.skip_list_file.specs.Reading.{AreBlocks}
 use Rattle.skip_list_file.specs.Writing as spec

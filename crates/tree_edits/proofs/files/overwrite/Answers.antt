@@ -1,6 +1,6 @@
 use Rattle.std.proofs.Common.{◌-◌, List, ℕ, subst}
-use Rattle.fs_types.specs.Contents.{overwritten}
-use Rattle.fs_types.specs.Machine.{bytes_at}
+use Rattle.plain_trees.specs.Contents.{overwritten}
+use Rattle.plain_trees.specs.Trees.{bytes_at}
 use Rattle.node_format.specs.Headers.{body_front}
 use Rattle.block_trees.specs.Trees.{root_tree}
 use Rattle.directory.specs.declared.lookups.Found.TheVariants as found

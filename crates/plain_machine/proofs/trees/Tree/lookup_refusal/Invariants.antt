@@ -1,6 +1,6 @@
 use Rattle.std.proofs.Common.{◌≡◌, ◌-◌, take, drop}
 use Rattle.std.specs.FinMap.{get}
-use Rattle.fs_types.specs.Contents.{lookup_refusal, under}
+use Rattle.plain_trees.specs.Contents.{lookup_refusal, under}
 use Rattle.plain_machine.proofs.trees.Tree.lookup_refusal.Given as goal
 
 abbrev pub invariant-loop-i : goal.invariant-loop-i

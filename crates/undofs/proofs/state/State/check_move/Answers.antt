@@ -2,7 +2,7 @@ use Rattle.std.proofs.Common.{true, false, Some, None, Err, sym, ap, ◌∙◌, 
 use Rattle.std.proofs.lemmas.Bool.{and_parts}
 use Rattle.std.proofs.lemmas.Result.{err_from_is_err_and}
 use Rattle.fs_types.specs.Names.{is_path}
-use Rattle.fs_types.specs.Machine.{present_tree}
+use Rattle.history_machine.specs.Machine.{present_tree}
 use Rattle.node_store.specs.NodePages.{node_of}
 use Rattle.undofs.specs.Seen.{seen_on, machine_on}
 use Rattle.undofs.proofs.ChangeSteps.{path_within}

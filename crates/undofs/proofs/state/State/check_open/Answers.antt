@@ -1,6 +1,6 @@
 use Rattle.std.proofs.Common.{Err, sym, ap, ◌∙◌}
 use Rattle.std.proofs.lemmas.Result.{err_from_is_err_and}
-use Rattle.fs_types.specs.Descriptors.{Descriptors, least_free}
+use Rattle.history_machine.specs.Descriptors.{Descriptors, least_free}
 use Rattle.fs_types.specs.declared.calls.Call.{Call}
 use Rattle.undofs.proofs.Refusals.{at_refusal}
 use Rattle.undofs.proofs.OpenCalls.{open_fault, found_refuses, number_refuses, open_accepted}

@@ -1,6 +1,6 @@
 use Rattle.std.proofs.Common.{◌≡◌, ℕ, Some, Err, sym, ap, subst, ◌∙◌}
 use Rattle.std.proofs.lemmas.Result.{err_from_is_err_and}
-use Rattle.fs_types.specs.History.{Past, present_root}
+use Rattle.history_machine.specs.History.{Past, present_root}
 use Rattle.fs_types.specs.declared.calls.Call.{Call}
 use Rattle.node_format.specs.declared.places.Place.TheVariants.{Dir}
 use Rattle.block_trees.specs.Trees.{leads}

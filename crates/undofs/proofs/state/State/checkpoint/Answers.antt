@@ -6,8 +6,8 @@ use Rattle.std.specs.Option.{is_some}
 use Rattle.std.specs.BTreeMap.{is_at}
 use Rattle.std.specs.Map.{lookup}
 use Rattle.fs_types.specs.Names.{Name, name_cmp}
-use Rattle.fs_types.specs.History.{checkpoint_root, checkpoint_refusal, with_checkpoint}
-use Rattle.fs_types.specs.HistoryMaps.{checkpoint_refusal-map}
+use Rattle.history_machine.specs.History.{checkpoint_root, checkpoint_refusal, with_checkpoint}
+use Rattle.history_machine.specs.HistoryMaps.{checkpoint_refusal-map}
 use Rattle.fs_types.specs.declared.calls.Call.{Call}
 use Rattle.fs_types.specs.declared.faults.Fault.{Fault}
 use Rattle.undofs.specs.Mounted.{IsStanding}

@@ -1,8 +1,8 @@
 -- Versions are dropped, and the machine answers as the history does.
 use Rattle.std.proofs.Common.{ap, refl, inl}
-use Rattle.fs_types.specs.History.{Past, forget_refusal, forgotten}
-use Rattle.fs_types.specs.HistoryMaps.{forgotten-map}
-use Rattle.fs_types.specs.Trees.{Tree}
+use Rattle.history_machine.specs.History.{Past, forget_refusal, forgotten}
+use Rattle.history_machine.specs.HistoryMaps.{forgotten-map}
+use Rattle.plain_trees.specs.Trees.{Tree}
 use Rattle.fs_types.specs.declared.calls.Call.{Call}
 use Rattle.fs_types.specs.declared.calls.Reply.{Reply}
 use Rattle.undofs.specs.Mounted.{IsStanding}

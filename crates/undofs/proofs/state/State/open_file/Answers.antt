@@ -1,7 +1,7 @@
 use Rattle.std.proofs.Common.{◌≡◌, false, true, Ok, Err, refl, inr, sym, ap, subst, ◌∙◌}
 use Rattle.std.proofs.lemmas.Result.{err_from_is_err_and}
-use Rattle.fs_types.specs.Descriptors.{Descriptor, opened}
-use Rattle.fs_types.specs.Machine.{present_tree, open_changes}
+use Rattle.history_machine.specs.Descriptors.{Descriptor, opened}
+use Rattle.history_machine.specs.Machine.{present_tree, open_changes}
 use Rattle.fs_types.specs.declared.calls.Call.{Call}
 use Rattle.fs_types.specs.declared.calls.Reply.{Reply}
 use Rattle.fs_types.specs.declared.faults.Fault.TheVariants.{NoMemory}

@@ -1,9 +1,9 @@
 -- The versions and the checkpoints stay, and the machine answers as the history does.
 use Rattle.std.proofs.Common.{ap, ◌∙◌, refl, inl}
 use Rattle.std.proofs.lemmas.Result.{err_from_is_err_and}
-use Rattle.fs_types.specs.History.{Past, redo_refusal, redone}
-use Rattle.fs_types.specs.HistoryMaps.{redo_refusal-map, redone-map}
-use Rattle.fs_types.specs.Trees.{Tree}
+use Rattle.history_machine.specs.History.{Past, redo_refusal, redone}
+use Rattle.history_machine.specs.HistoryMaps.{redo_refusal-map, redone-map}
+use Rattle.plain_trees.specs.Trees.{Tree}
 use Rattle.fs_types.specs.declared.calls.Call.{Call}
 use Rattle.fs_types.specs.declared.calls.Reply.{Reply}
 use Rattle.undofs.specs.Seen.{tree_on, machine_on}

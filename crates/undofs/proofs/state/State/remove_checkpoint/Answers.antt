@@ -2,9 +2,9 @@
 use Rattle.std.proofs.Common.{ℕ, Some, None, Option, cond, ap, ◌∙◌, refl, inl}
 use Rattle.std.proofs.lemmas.Result.{err_from_is_err_and}
 use Rattle.std.specs.Option.{is_none}
-use Rattle.fs_types.specs.History.{Past, name_refusal, without_checkpoint}
-use Rattle.fs_types.specs.HistoryMaps.{name_refusal-map, without_checkpoint-map}
-use Rattle.fs_types.specs.Trees.{Tree}
+use Rattle.history_machine.specs.History.{Past, name_refusal, without_checkpoint}
+use Rattle.history_machine.specs.HistoryMaps.{name_refusal-map, without_checkpoint-map}
+use Rattle.plain_trees.specs.Trees.{Tree}
 use Rattle.fs_types.specs.declared.calls.Call.{Call}
 use Rattle.fs_types.specs.declared.calls.Reply.{Reply}
 use Rattle.fs_types.specs.declared.faults.Fault.{Fault}

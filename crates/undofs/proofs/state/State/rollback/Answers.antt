@@ -1,8 +1,8 @@
 -- A name that is not there is refused as the machine refuses it; a change to its root is the machine's change to its tree.
 use Rattle.std.proofs.Common.{Ok, ◌∙◌, refl, inl}
 use Rattle.std.proofs.lemmas.Result.{err_from_is_err_and}
-use Rattle.fs_types.specs.History.{changed, name_refusal}
-use Rattle.fs_types.specs.HistoryMaps.{name_refusal-map}
+use Rattle.history_machine.specs.History.{changed, name_refusal}
+use Rattle.history_machine.specs.HistoryMaps.{name_refusal-map}
 use Rattle.fs_types.specs.declared.calls.Call.{Call}
 use Rattle.fs_types.specs.declared.calls.Reply.{Reply}
 use Rattle.undofs.specs.Mounted.{IsStanding}

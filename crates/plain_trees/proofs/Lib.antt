@@ -1,0 +1,9 @@
+pub mod Beneath
+pub mod Counts
+pub mod Edits
+pub mod FileTrees
+pub mod Files
+pub mod Grafts
+pub mod Listings
+pub mod Lookups
+pub mod Shapes

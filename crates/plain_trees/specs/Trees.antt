@@ -1,0 +1,82 @@
+-- Trees as finite maps from paths, the plain edits of them, and listings.
+use Rattle.std.specs.Prelude.{◌≡◌, ℕ, ◌+◌, ◌≤◌, Bool, true, Option, Some, None, IsSome, List, [], ◌∷◌, ◌++◌, length, false, filter_map, nat_le, nat_lt}
+use Rattle.std.specs.Option.{option_map_or}
+use Rattle.std.specs.List.{list_any}
+use Rattle.std.specs.FinMap as map
+use Rattle.fs_types.specs.Names.{Name, Path, path_cmp, is_path}
+use Rattle.plain_trees.specs.Contents.{Entry, is_dir, beneath, IsTree}
+
+-- a finite map from paths to what stands there
+abbrev pub Tree : Type 0
+Tree = map.FinMap path_cmp Entry
+
+-- the root alone
+abbrev pub bare : Tree
+bare = map.insert map.empty [] Entry.Dir
+
+-- this entry stands at the path, and all else stays
+abbrev pub put : Tree → Path → Entry → Tree
+put t p x = map.insert t p x
+
+-- nothing stands at the path, and all else stays
+abbrev pub remove : Tree → Path → Tree
+remove t p = map.remove t p
+
+-- where an entry stands after a move, or None where another takes its place
+abbrev pub moved_to : Path → Option Path → Option Path → Path × Entry → Option (Path × Entry)
+moved_to new (Some rest) _ e = Some (new ++ rest, e.1)
+moved_to new None (Some rest) e = None
+moved_to new None None e = Some e
+
+abbrev pub moved_entry : Path → Path → Path × Entry → Option (Path × Entry)
+moved_entry old new e = moved_to new (beneath old e.0) (beneath new e.0) e
+
+-- what stood at `old` and below stands at `new` and below, nothing else does, and all else stays (POSIX.1-2017 rename)
+abbrev pub move : Tree → Path → Path → Tree
+move t old new = map.from_entries (filter_map (moved_entry old new) (map.entries t))
+
+-- the name of an entry right in a directory, with whether it is a directory itself
+abbrev pub named : Option Path → Entry → Option (Name × Bool)
+named None x = None
+named (Some []) x = None
+named (Some (n ∷ [])) x = Some (n, is_dir x)
+named (Some (n ∷ m ∷ rest)) x = None
+
+abbrev pub child_of : Path → Path × Entry → Option (Name × Bool)
+child_of p e = named (beneath p e.0) e.1
+
+-- the names in a directory, in byte order, each with whether it is a directory
+abbrev pub children : Tree → Path → List (Name × Bool)
+children t p = filter_map (child_of p) (map.entries t)
+
+abbrev pub entry_count : Tree → Path → ℕ
+entry_count t p = length (children t p)
+
+-- a directory has at most 32 entries
+abbrev pub is_full : Tree → Path → Bool
+is_full t p = nat_le 32 (entry_count t p)
+
+-- the bytes of the file at a path
+abbrev pub bytes_of : Option Entry → List ℕ
+bytes_of None = []
+bytes_of (Some Entry.Dir) = []
+bytes_of (Some (Entry.File bytes)) = bytes
+
+abbrev pub bytes_at : Tree → Path → List ℕ
+bytes_at t path = bytes_of (map.get t path)
+
+-- a file stands at the path
+abbrev pub IsFile : Tree → Path → Type 0
+IsFile t path = (bytes : List ℕ) × (map.get t path ≡ Some (Entry.File bytes))
+
+-- a path at `old` or below would have more than 16 names at `new`
+abbrev pub is_too_deep : Tree → Path → Path → Bool
+is_too_deep t old new = list_any (λ p. option_map_or (λ rest. nat_lt 16 (length new + length rest)) (beneath old p) false) (map.keys t)
+
+-- a tree of directories and files within this project's limits: paths of at most 16 names of at most 64
+-- bytes, at most 32 entries in a directory, and at most 16,777,216 bytes in a file
+pub record IsFileTree (t : Tree) : Type 0 where
+  pub shape : IsTree (map.get t)
+  pub paths : (p : Path) → IsSome (map.get t p) → is_path p ≡ true
+  pub entries : (p : Path) → entry_count t p ≤ 32
+  pub lengths : (p : Path) (bytes : List ℕ) → map.get t p ≡ Some (Entry.File bytes) → length bytes ≤ 16777216

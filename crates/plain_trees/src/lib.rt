@@ -1,0 +1,7 @@
+//! Trees of directories and files as functions and as finite maps: the plain edits of them, what a
+//! look-up refuses, files' bytes written and cut, and the laws of these.
+#![tactic(auto)]
+
+mod laws;
+
+pub use laws::{edit_laws, file_laws, graft_laws, lookup_laws};

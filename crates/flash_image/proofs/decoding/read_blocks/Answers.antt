@@ -1,4 +1,4 @@
-use Rattle.std.proofs.Common.{◌≡◌, ◌<◌, ◌++◌, List, ℕ, ap, sym, refl, ◌∙◌, arith}
+use Rattle.std.proofs.Common.{◌≡◌, ◌<◌, ◌++◌, List, ℕ, ap, sym, subst, refl, ◌∙◌}
 use Rattle.std.proofs.lemmas.Result.{err_from_is_err_and}
 use Rattle.flash_model.specs.declared.sizes.Geometry.{Geometry}
 use Rattle.flash_model.specs.Device.{Device}
@@ -32,6 +32,5 @@ returns-in_err-rest-clause-err c =
     let d = device_of c.loop-block.flash in
     let e = device_of c.read_block.new.flash in
     let kept : e.geometry ≡ old.geometry = ap (λ (x : Device). x.geometry) c.read_block.ensures.fills.others ∙ ap (λ (x : Device). x.geometry) c.loop-block.invariant.fills.others in
-    let blocks : c.geometry-block-end.result.blocks ≡ e.geometry.blocks = ap (λ (g : Geometry). g.blocks) (c.geometry-block-end.ensures ∙ sym kept) in
-    let inside : c.loop-block.block < e.geometry.blocks = omega arith in
+    let inside : c.loop-block.block < e.geometry.blocks = subst (λ (g : Geometry). c.loop-block.block < g.blocks) (c.geometry-block-end.ensures ∙ sym kept) c.loop-block-test.true in
     rw (p.1, p.2) (block-stops d e c.loop-block.block c.in_err-rest.field-0.0 c.args.bytes.now c.loop-block.rest.now inside c.read_block.ensures.fills c.loop-block.invariant.spelled c.in_err-rest.ensures.err)

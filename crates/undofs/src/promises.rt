@@ -13,5 +13,5 @@ pub fn laws()
     ensures commits { CommitLaw }
     ensures prefix { PrefixLaw }
 {
-    fs_types::history_laws();
+    history_machine::history_laws();
 }

@@ -145,7 +145,7 @@ impl State {
         let moves_directory = is_directory(place);
         check_beyond(old, new, moves_directory)?;
         let lacks_room = self.check_target(flash, root, new, moves_directory)?;
-        self.check_depth(alloc, flash, new, place)?;
+        self.check_depth(alloc, flash, root, old, new, place)?;
         self.check_closed(old, new)?;
         check_room(old, new, lacks_room)?;
         Ok(())
@@ -189,24 +189,35 @@ impl State {
         }
     }
 
-    /// Refuses to move a directory to where a path below it would have more than 16 names.
+    /// Refuses to move a directory to where a path below it would have more than 16 names. This is
+    /// asked only where the new path has more names than the old one: what stands in a tree is not too
+    /// deep at a path of no more names.
     fn check_depth<F: Flash>(
         &mut self,
         alloc: Global,
         flash: &mut F,
+        root: u32,
+        old: &Path,
         new: &Path,
         place: Place,
     ) -> Result<(), Fault>
-        requires { IsMounted (F.device flash.old) self.old }
+        requires mounted { IsMounted (F.device flash.old) self.old }
+        requires present { present_root self.old.history ≡ Some root }
+        requires stands { leads (node_of (F.device flash.old)) (Dir root) old.now ≡ Some place }
         ensures looked { IsLooked (F.device flash.old) self.old (F.device flash.new) self.new }
         ensures nodes { node_of (F.device flash.new) ≡ node_of (F.device flash.old) }
         ensures shallow { OnOk result (IsShallow (node_of (F.device flash.old)) place (16 - length new.now)) }
         ensures refused { IfErr result (λ fault. ((fault ≡ faults.NameTooLong) × IsDeeper (node_of (F.device flash.old)) place (16 - length new.now)) ⊎ ReadCause (seen_on (F.device flash.old) self.old) fault (seen_on (F.device flash.new) self.new)) }
     {
+        let before = old.names().len();
+        let after = new.names().len();
+        if after <= before {
+            return Ok(());
+        }
         let Place::Dir { block } = place else {
             return Ok(());
         };
-        let most = 16 - new.names().len();
+        let most = 16 - after;
         if self.is_deeper(alloc, flash, block, most)? {
             return Err(Fault::NameTooLong);
         }

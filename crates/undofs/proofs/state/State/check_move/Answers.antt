@@ -2,8 +2,12 @@ use Rattle.std.proofs.Common.{true, false, Some, None, Err, sym, ap, ◌∙◌, 
 use Rattle.std.proofs.lemmas.Bool.{and_parts}
 use Rattle.std.proofs.lemmas.Result.{err_from_is_err_and}
 use Rattle.fs_types.specs.Names.{is_path}
+use Rattle.history_machine.specs.History.{present_root}
 use Rattle.history_machine.specs.Machine.{present_tree}
+use Rattle.node_format.specs.declared.places.Place.TheVariants.{Dir}
 use Rattle.node_store.specs.NodePages.{node_of}
+use Rattle.block_trees.specs.Bodies.{Blocks}
+use Rattle.block_trees.specs.Trees.{leads}
 use Rattle.undofs.specs.Seen.{seen_on, machine_on}
 use Rattle.undofs.proofs.ChangeSteps.{path_within}
 use Rattle.undofs.proofs.MovedEntries.{of_fault, MoveRefused, move_below, move_target, move_then, is_deep, is_shallow, deeper_before, shallow_before, busy_before, deep_refuses, busy_refuses, moves_by, move_editable, room_is, read_later}
@@ -23,8 +27,14 @@ returns-in_err-lacks_room-clause-refused g c =
     (move_target (g.F.Flash.device c.args.flash.now) c.args.self.now c.args.old.now c.args.new.now c.args.place _ c.requires.differ c.is_directory-moves_directory.ensures (g.F.Flash.device c.check_target.new.flash) c.check_target.new.self c.in_err-lacks_room.field-0.0
     c.in_ok-check_beyond.ensures.ok c.in_err-lacks_room.ensures.refused)
 
-pub check_depth-requires : goal.check_depth-requires
-check_depth-requires g c = worked_mounted _ _ _ _ c.requires.mounted (looked_worked _ _ _ _ c.check_target.ensures.looked)
+pub check_depth-requires-clause-mounted : goal.check_depth-requires-clause-mounted
+check_depth-requires-clause-mounted g c = worked_mounted _ _ _ _ c.requires.mounted (looked_worked _ _ _ _ c.check_target.ensures.looked)
+
+pub check_depth-requires-clause-present : goal.check_depth-requires-clause-present
+check_depth-requires-clause-present g c = ap present_root c.check_target.ensures.looked.rest.history ∙ c.requires.present
+
+pub check_depth-requires-clause-stands : goal.check_depth-requires-clause-stands
+check_depth-requires-clause-stands g c = ap (λ (f : Blocks). leads f (Dir c.args.root) c.args.old.now) c.check_target.ensures.nodes ∙ c.requires.stands
 
 pub returns-in_err-check_depth-clause-refused : goal.returns-in_err-check_depth-clause-refused
 returns-in_err-check_depth-clause-refused g c =

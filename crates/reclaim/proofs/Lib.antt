@@ -1,4 +1,6 @@
 pub mod NamedLaws
 pub mod Marking
 pub mod Chains
+pub mod Looking
 pub mod Soundness
+pub mod Verifying

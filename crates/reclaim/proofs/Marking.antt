@@ -1,5 +1,5 @@
 -- What marking names does to the list of marked blocks.
-use Rattle.std.proofs.Common.{◌≡◌, ◌↔◌, ◌⊎◌, inl, inr, ℕ, suc, ◌+◌, ◌<◌, ◌≤◌, Bool, true, false, ◌||◌, Option, Some, None, List, [], ◌∷◌, ◌++◌, length, get_or, refl, sym, ap, subst, ◌∙◌, arith}
+use Rattle.std.proofs.Common.{◌≡◌, ◌↔◌, ◌⊎◌, inl, inr, ℕ, suc, ◌+◌, ◌<◌, ◌≤◌, Result, Ok, Bool, true, false, ◌||◌, Option, Some, None, List, [], ◌∷◌, ◌++◌, length, get_or, refl, sym, ap, subst, ◌∙◌, arith}
 use Rattle.std.specs.Prelude.{slice_index, Contains, nat_eq}
 use Rattle.std.specs.FinMap.{nat_cmp-IsAntisymmetric}
 use Rattle.std.specs.FinSet as set
@@ -297,3 +297,10 @@ no_node f p held names blocks fault pass below is named low high (inr (same, (b,
     none (inl before) other = low b before
     none (inr after) (inr past) = high b past
     none (inr after) (inl inside) = absurd (outside (after, inside))
+
+-- a step that may read more than can be marked ends the pass
+pub all_read : (before after : Pass) (most : ℕ) (answer : Result Bool Fault) (done : Bool) → answer ≡ Ok done
+    → (answer ≡ Ok false → (after.next ≡ before.next + most) × (after.next < length after.order)) → (answer ≡ Ok true → (after.next ≤ before.next + most) × IsFinished after)
+    → length after.order ≤ most → IsFinished after
+all_read before after most answer true is more end few = (end is).1
+all_read before after most answer false is more end few = let left = more is in absurd (omega (arith, left.0, left.1, few))

@@ -1,21 +1,20 @@
 -- Trees hang from roots exactly where all that they reach is sound.
-use Rattle.std.proofs.Common.{◌≡◌, ◌≢◌, ◌⊎◌, inl, inr, ℕ, zero, suc, ◌+◌, ◌-◌, ◌*◌, ◌^◌, ◌<◌, ◌≤◌, Option, Some, None, List, [], ◌∷◌, ◌++◌, length, refl, sym, ap, subst, ◌∙◌, arith}
+use Rattle.std.proofs.Common.{◌≡◌, ◌≢◌, ◌⊎◌, inl, inr, ℕ, zero, suc, ◌-◌, ◌^◌, ◌<◌, ◌≤◌, Option, Some, None, List, [], ◌∷◌, refl, sym, ap, subst, ◌∙◌, arith}
 use Rattle.std.specs.Prelude.{Contains, IsSome, unwrap_or}
 use Rattle.std.specs.Option.{option_and_then}
 use Rattle.std.proofs.lemmas.Nat.{pow_pos}
 use Rattle.fs_types.specs.Names.{Name, Path}
-use Rattle.node_format.specs.Items.{Item, named}
+use Rattle.node_format.specs.Items.{Item}
 use Rattle.node_format.specs.EntryLaws.{named-contained}
 use Rattle.node_format.specs.declared.places.Place.{Place}
 use Rattle.node_format.specs.declared.places.Place.TheVariants.{Dir, File}
-use Rattle.block_trees.specs.Bodies.{Blocks, index_of, pointer_of, data_of, data_to, back, head_index, Divides, IsChain, IsLinked, IsBody}
+use Rattle.block_trees.specs.Bodies.{Blocks, index_of, pointer_of, back, head_index, Divides, IsChain, IsLinked, IsBody}
 use Rattle.block_trees.specs.Trees.{items_of, entries_of, child, leads, IsWhole, HasTree, IsRoot}
 use Rattle.block_trees.specs.Reached.{PlaceNames, BodyNames, Names, Reached, IsFirst, IsNamed}
-use Rattle.block_trees.specs.Laws.{IsShallow}
 use Rattle.block_trees.proofs.Entries.{entry_named, directory_no_index, place_is}
 use Rattle.block_trees.proofs.Reaching.{before_named}
-use Rattle.reclaim.specs.Sound.{IsDirectoryAt, IsHead, IsSoundPlace, HoldsPlace, AreStepped, IsSoundBody, IsSoundNode, AreSound, SoundHasTrees, TreesAreSound, TreesHoldNodes}
-use Rattle.reclaim.proofs.Chains.{back_back, chain_node, chain_back, linked_back, data_length, power_double, half_divides, divides_least, fewer_divides, some_before, back_twice}
+use Rattle.reclaim.specs.Sound.{IsDirectoryAt, IsHead, IsSoundPlace, HoldsPlace, AreStepped, IsSoundBody, IsSoundNode, SoundHasTrees, TreesAreSound, TreesHoldNodes}
+use Rattle.reclaim.proofs.Chains.{chain_node, chain_back, linked_back, data_length, half_divides, divides_least, fewer_divides, some_before, back_twice}
 
 -- ---- sound nodes make chains
 

@@ -1,3 +1,5 @@
+pub mod Looks
 pub mod Naming
 pub mod Passes
 pub mod Sound
+pub mod Verified

@@ -3,8 +3,11 @@
 
 mod fields;
 mod laws;
+mod looks;
 mod naming;
 mod passes;
+mod verification;
 
 pub use laws::{frame_law, pass_laws, sound_laws};
 pub use passes::Pass;
+pub use verification::verify;

@@ -15,7 +15,7 @@ use std::alloc::Global;
 use std::marker::Model;
 
 /// The first data block. The blocks before it are anchors.
-const FIRST: u32 = 8;
+pub const FIRST: u32 = 8;
 
 /// A marking of the blocks that roots reach. The marked blocks are kept in the order of marking, and
 /// are read in that order: what a block names is marked when it is read.
@@ -104,6 +104,37 @@ impl Pass {
             self.read_next(nodes)?;
         }
         Ok(self.is_finished())
+    }
+
+    /// Reads all blocks that remain.
+    pub(crate) fn read_all<N: Nodes>(&mut self, nodes: &mut N) -> Result<(), Fault>
+        requires sound { N.is_sound nodes.old }
+        requires blocks { self.old.blocks ≡ N.blocks nodes.old }
+        requires pass { IsPass (N.node nodes.old) self.old }
+        ensures pass { OnOk result (IsPass (N.node nodes.new) self.new) }
+        ensures finished { OnOk result (IsFinished self.new) }
+        ensures same { (self.new.blocks ≡ self.old.blocks) × (self.new.roots ≡ self.old.roots) }
+        ensures damaged { IsErrOf result Fault.Damaged → (b : ℕ) × Reached (N.node nodes.old) self.old.roots b × (N.node nodes.old b ≡ None) }
+        ensures why { IfErr result (λ fault. fault ≢ Fault.Damaged → N.causes nodes.old nodes.new fault) }
+        ensures faults { IfErr result IsReadFault }
+        ensures same_nodes { N.node nodes.new ≡ N.node nodes.old }
+        ensures same_kept { N.kept nodes.new ≡ N.kept nodes.old }
+        ensures writes { N.writes nodes.new ≡ N.writes nodes.old }
+        ensures follows { N.follows nodes.old nodes.new }
+        ensures sound { N.is_sound nodes.new }
+        ensures limit { N.limit nodes.new ≡ N.limit nodes.old }
+        ensures block_count { N.blocks nodes.new ≡ N.blocks nodes.old }
+    {
+        let _is_finished = self.step(nodes, u64::MAX)?;
+        let _ = &self.order;
+        Ok(())
+    }
+
+    /// The marked blocks, in order of marking.
+    pub(crate) fn marked(&self) -> &[u32]
+        ensures { result.now ≡ self.now.order }
+    {
+        &self.order
     }
 
     /// The marked blocks: exactly those that the roots reach. No marked block is left to be read.

@@ -1,0 +1,203 @@
+-- What one look at a block shows.
+use Rattle.std.proofs.Common.{◌≡◌, ◌≢◌, ◌↔◌, ℕ, zero, suc, ◌-◌, ◌/◌, ◌%◌, ◌^◌, ◌<◌, Bool, true, false, ◌&&◌, Option, Some, None, List, [], ◌∷◌, length, drop, length-drop, refl, sym, ap, subst, ◌∙◌, arith}
+use Rattle.std.specs.Prelude.{Contains, not, IsTrue, All, is_some, nat_eq, nat_lt, unwrap_or, map}
+use Rattle.std.specs.Option.{option_map, option_eq}
+use Rattle.std.proofs.Math.Nat.{div-add-mod'}
+use Rattle.std.proofs.lemmas.Bool.{true≢false, and_parts, and_from, ltb-true, lt-ltb, eqb-true, eq-eqb}
+use Rattle.std.proofs.lemmas.List.Elements.{All-nil, All-cons, All-head, All-tail, All-map, All-contains, All-contains_itself, All-weaker}
+use Rattle.node_format.specs.Items.{Item}
+use Rattle.node_format.specs.Directories.{directory_at}
+use Rattle.node_format.specs.declared.places.Place.{Place}
+use Rattle.block_trees.specs.Bodies.{Blocks, index_of, pointer_of, data_of, head_index}
+use Rattle.block_trees.specs.Trees.{entries_of, items_of}
+use Rattle.reclaim.specs.Naming.{has_place}
+use Rattle.reclaim.specs.Sound.{IsDirectoryAt, IsHead, IsSoundPlace, HoldsPlace, IsSoundBody, IsSoundNode}
+use Rattle.reclaim.specs.Looks.{body_of, AreSteppedTo}
+use Rattle.reclaim.proofs.NamedLaws.{has_place-divides, divides-has_place, divides-below}
+
+pub never : IsTrue false → ⊥
+never is = true≢false (sym is)
+
+-- ---- bodies
+
+pub body_shown : (node : Option (List ℕ)) (bytes : List ℕ) (index held : ℕ) → node ≡ Some bytes → index_of (Some bytes) ≡ Some index → held ≡ length bytes - 80
+    → Some (index, held) ≡ body_of node
+body_shown own bytes index held is has size =
+    let count : length (drop 80 bytes) ≡ held = length-drop 80 bytes ∙ sym size in
+    sym (ap body_of is ∙ ap (option_map {U = ℕ × ℕ} (λ (i : ℕ). (i, length (drop 80 bytes)))) has ∙ ap (λ (n : ℕ). Some (index, n)) count)
+
+-- the parts of a body
+pub body_parts : (node : Option (List ℕ)) (index held : ℕ) → body_of node ≡ Some (index, held) → (index_of node ≡ Some index) × (length (data_of node) ≡ held)
+body_parts node index held is = on (index_of node) is
+  where
+    on : (o : Option ℕ) → option_map {U = ℕ × ℕ} (λ (i : ℕ). (i, length (data_of node))) o ≡ Some (index, held) → (o ≡ Some index) × (length (data_of node) ≡ held)
+    on None is = absurd cc
+    on (Some i) is =
+        let pair : (i, length (data_of node)) ≡ (index, held) = ap (λ (o : Option (ℕ × ℕ)). unwrap_or o (i, length (data_of node))) is in
+        (ap (λ (p : ℕ × ℕ). Some p.0) pair, ap (λ (p : ℕ × ℕ). p.1) pair)
+
+-- no body, no index
+no_index : (node : Option (List ℕ)) (index : ℕ) → body_of node ≡ None → index_of node ≡ Some index → ⊥
+no_index node index none is =
+    let some : body_of node ≡ Some (index, length (data_of node)) = ap (option_map {U = ℕ × ℕ} (λ (i : ℕ). (i, length (data_of node)))) is in
+    true≢false (ap is_some (sym some ∙ none))
+
+-- a test of pairs that says no difference
+pub same_pair : (o : Option (ℕ × ℕ)) (index held : ℕ) (differs : Bool) → differs ≡ not (option_eq (λ x y. nat_eq x.0 y.0 && nat_eq x.1 y.1) o (Some (index, held)))
+    → differs ≡ false → o ≡ Some (index, held)
+same_pair None index held differs is equal = absurd (true≢false (sym is ∙ equal))
+same_pair (Some (i, n)) index held differs is equal =
+    let both = and_parts (nat_eq i index) (nat_eq n held) (not_false (nat_eq i index && nat_eq n held) (sym is ∙ equal)) in
+    ap (λ (k : ℕ). Some (k, n)) (eqb-true i index both.0) ∙ ap (λ (k : ℕ). Some (index, k)) (eqb-true n held both.1)
+  where
+    not_false : (t : Bool) → not t ≡ false → t ≡ true
+    not_false true e = refl
+    not_false false e = absurd (true≢false e)
+
+some_is : (a b : ℕ) → Some a ≡ Some b → a ≡ b
+some_is a b is = ap (λ (o : Option ℕ). unwrap_or o a) is
+
+pub head_none : (room : ℕ) (f : Blocks) (head size : ℕ) → size ≢ 0 → body_of (f head) ≡ None → IsTrue false ↔ IsHead room f head size
+head_none room f head zero some none = absurd (some refl)
+head_none room f head (suc n) some none = (λ t. absurd (never t), λ is. absurd (no_index (f head) (head_index room (suc n)) none is.0))
+
+pub head_some : (room : ℕ) (f : Blocks) (head size index held : ℕ) (good : Bool) → size ≢ 0 → body_of (f head) ≡ Some (index, held)
+    → good ≡ (nat_eq index ((size - 1) / room) && nat_lt ((size - 1) % room) held) → IsTrue good ↔ IsHead room f head size
+head_some room f head zero index held good some is same = absurd (some refl)
+head_some room f head (suc n) index held good some is same = (
+  λ t.
+      let both = and_parts (nat_eq index ((suc n - 1) / room)) (nat_lt ((suc n - 1) % room) held) (sym same ∙ t) in
+      let at = eqb-true index ((suc n - 1) / room) both.0 in
+      let less = ltb-true ((suc n - 1) % room) held both.1 in
+      (parts.0 ∙ ap (λ (i : ℕ). Some i) at, omega (arith, less, parts.1, div-add-mod' (suc n - 1) room)),
+  λ h.
+      let at = some_is index ((suc n - 1) / room) (sym parts.0 ∙ h.0) in
+      let less : (suc n - 1) % room < held = omega (arith, h.1, parts.1, div-add-mod' (suc n - 1) room) in
+      same ∙ and_from (nat_eq index ((suc n - 1) / room)) (nat_lt ((suc n - 1) % room) held) (eq-eqb index ((suc n - 1) / room) at) (lt-ltb ((suc n - 1) % room) held less),
+)
+  where
+    parts : (index_of (f head) ≡ Some index) × (length (data_of (f head)) ≡ held)
+    parts = body_parts (f head) index held is
+
+-- ---- directories
+
+pub directory_shown : (f : Blocks) (block : ℕ) (bytes : List ℕ) (o : Option (List Item)) (found : Bool) → f block ≡ Some bytes → o ≡ directory_at bytes → found ≡ is_some o
+    → IsTrue found ↔ IsDirectoryAt f block
+directory_shown f block bytes None found is same some = (
+  λ t. absurd (true≢false (sym t ∙ some)),
+  λ h. absurd (true≢false (ap is_some (sym h.1 ∙ ap entries_of is ∙ sym same))),
+)
+directory_shown f block bytes (Some items) found is same some = (λ t. (items, ap entries_of is ∙ sym same), λ h. some)
+
+-- ---- pointers
+
+pub stepped_not : (f : Blocks) (p : ℕ → ℕ) (index x : ℕ) (holds : Bool) → x < 31 → has_place index (suc x) ≡ true → holds ≡ false
+    → (IsTrue holds ↔ HoldsPlace (f (p x)) x (p (suc x))) → IsTrue false ↔ AreSteppedTo f p index 31
+stepped_not f p index x holds below has fails exact = (λ t. absurd (never t), λ all. sym fails ∙ exact.1 (all x below has))
+
+pub body_good : (room : ℕ) (f : Blocks) (p : ℕ → ℕ) (index : ℕ) (stepped : Bool) → index < 2 ^ 32 → index ≢ 0 → body_of (f (p 0)) ≡ Some (index - 1, room)
+    → (IsTrue stepped ↔ AreSteppedTo f p index 31) → IsTrue stepped ↔ IsSoundBody room f p index
+body_good room f p zero stepped fits some is exact = absurd (some refl)
+body_good room f p (suc i) stepped fits some is exact = (
+  λ t. let all = exact.0 t in (
+    parts.0 ∙ ap (λ (n : ℕ). Some n) less,
+    parts.1,
+    λ x divides.
+        let below : suc x < 32 = divides-below (suc i) (suc x) (omega arith) fits divides in
+        all x (omega arith) (divides-has_place (suc i) (suc x) (omega arith) divides),
+  ),
+  λ h. exact.1 (λ x below has. h.2 x (has_place-divides (suc i) (suc x) has).1),
+)
+  where
+    less : suc i - 1 ≡ i
+    less = omega arith
+
+    parts : (index_of (f (p 0)) ≡ Some (suc i - 1)) × (length (data_of (f (p 0))) ≡ room)
+    parts = body_parts (f (p 0)) (suc i - 1) room is
+
+-- the node before is another
+pub body_bad : (room : ℕ) (f : Blocks) (p : ℕ → ℕ) (index : ℕ) → index ≢ 0 → body_of (f (p 0)) ≢ Some (index - 1, room)
+    → IsTrue false ↔ IsSoundBody room f p index
+body_bad room f p zero some other = absurd (some refl)
+body_bad room f p (suc i) some other = (
+  λ t. absurd (never t),
+  λ h.
+      let less : i ≡ suc i - 1 = omega arith in
+      absurd (other (ap (option_map {U = ℕ × ℕ} (λ (n : ℕ). (n, length (data_of (f (p 0)))))) h.0 ∙ ap (λ (n : ℕ). Some (i, n)) h.1 ∙ ap (λ (n : ℕ). Some (n, room)) less)),
+)
+
+-- pointers that are the same at the first 32 places
+pub body_same : (room : ℕ) (f : Blocks) (p q : ℕ → ℕ) (index : ℕ) → index < 2 ^ 32 → ((x : ℕ) → x < 32 → p x ≡ q x) → IsSoundBody room f p index → IsSoundBody room f q index
+body_same room f p q zero fits same h = tt
+body_same room f p q (suc i) fits same h = (
+  subst (λ (b : ℕ). index_of (f b) ≡ Some i) first h.0,
+  subst (λ (b : ℕ). length (data_of (f b)) ≡ room) first h.1,
+  λ x divides.
+      let below : suc x < 32 = divides-below (suc i) (suc x) (omega arith) fits divides in
+      let before : x < 32 = omega (arith, below) in
+      subst (λ (b : ℕ). HoldsPlace (f b) x (q (suc x))) (same x before) (subst (HoldsPlace (f (p x)) x) (same (suc x) below) (h.2 x divides)),
+)
+  where
+    first : p 0 ≡ q 0
+    first = same 0 (omega arith)
+
+-- ---- entries
+
+-- the entries of a node are sound
+abbrev pub AreSoundEntries : ℕ → Blocks → Option (List ℕ) → Type 0
+AreSoundEntries room f node = (items : List Item) → entries_of node ≡ Some items → (item : Item) → Contains items item → IsSoundPlace room f item.place
+
+places_back : (P : Place → Type 0) (items : List Item) → All P (map (λ (item : Item). item.place) items) → All (λ (item : Item). P item.place) items
+places_back P [] all = All-nil (λ (item : Item). P item.place)
+places_back P (item ∷ items) all =
+    let rest = map (λ (item : Item). item.place) items in
+    All-cons (λ (item : Item). P item.place) item items (All-head P item.place rest all) (places_back P items (All-tail P item.place rest all))
+
+pub entries_all : (room : ℕ) (f : Blocks) (node : Option (List ℕ)) (places : List Place) → places ≡ map (λ (item : Item). item.place) (items_of node)
+    → All (IsSoundPlace room f) places → AreSoundEntries room f node
+entries_all room f node places is all items some item within =
+    let own : items_of node ≡ items = ap (λ (o : Option (List Item)). unwrap_or o []) some in
+    let here : All (IsSoundPlace room f) (map (λ (item : Item). item.place) items) =
+    subst (λ (l : List Item). All (IsSoundPlace room f) (map (λ (item : Item). item.place) l)) own (subst (All (IsSoundPlace room f)) is all) in
+    All-contains (λ (item : Item). IsSoundPlace room f item.place) items item (places_back (IsSoundPlace room f) items here) within
+
+pub all_entries : (room : ℕ) (f : Blocks) (node : Option (List ℕ)) (places : List Place) → places ≡ map (λ (item : Item). item.place) (items_of node)
+    → AreSoundEntries room f node → All (IsSoundPlace room f) places
+all_entries room f node places is sound = subst (All (IsSoundPlace room f)) (sym is) (on (entries_of node) sound)
+  where
+    on : (o : Option (List Item)) → ((items : List Item) → o ≡ Some items → (item : Item) → Contains items item → IsSoundPlace room f item.place)
+        → All (IsSoundPlace room f) (map (λ (item : Item). item.place) (unwrap_or o []))
+    on None sound = All-nil (IsSoundPlace room f)
+    on (Some items) sound =
+        All-map (IsSoundPlace room f) (λ (item : Item). item.place) items
+        (All-weaker (Contains items) (λ (item : Item). IsSoundPlace room f item.place) (sound items refl) items (All-contains_itself items))
+
+-- ---- nodes
+
+pub node_bad : (room : ℕ) (f : Blocks) (node : Option (List ℕ)) (places : List Place) (good : Bool) → places ≡ map (λ (item : Item). item.place) (items_of node)
+    → (IsTrue good ↔ All (IsSoundPlace room f) places) → good ≡ false → IsTrue false ↔ IsSoundNode room f node
+node_bad room f node places good is exact bad = (λ t. absurd (never t), λ h. sym bad ∙ exact.1 (all_entries room f node places is h.entries))
+
+pub node_plain : (room : ℕ) (f : Blocks) (node : Option (List ℕ)) (places : List Place) (good : Bool) → places ≡ map (λ (item : Item). item.place) (items_of node)
+    → (IsTrue good ↔ All (IsSoundPlace room f) places) → good ≡ true → index_of node ≡ None → IsTrue true ↔ IsSoundNode room f node
+node_plain room f node places good is exact well none = (
+  λ t. record {
+    entries = entries_all room f node places is (exact.0 well);
+    pointers = λ index some. absurd (true≢false (ap is_some (sym some ∙ none)));
+  },
+  λ h. refl,
+)
+
+pub node_body : (room : ℕ) (f : Blocks) (node : Option (List ℕ)) (places : List Place) (good : Bool) → places ≡ map (λ (item : Item). item.place) (items_of node)
+    → (IsTrue good ↔ All (IsSoundPlace room f) places) → good ≡ true
+    → (index : ℕ) (pointers : ℕ → ℕ) (sound : Bool) → index_of node ≡ Some index → index < 2 ^ 32 → ((x : ℕ) → x < 32 → pointers x ≡ pointer_of node x)
+    → (IsTrue sound ↔ IsSoundBody room f pointers index) → IsTrue sound ↔ IsSoundNode room f node
+node_body room f node places good is exact well index pointers sound has fits same body = (
+  λ t. record {
+    entries = entries_all room f node places is (exact.0 well);
+    pointers = λ i some.
+        let own : index ≡ i = some_is index i (sym has ∙ some) in
+        subst (IsSoundBody room f (pointer_of node)) own (body_same room f pointers (pointer_of node) index fits same (body.0 t));
+  },
+  λ h. body.1 (body_same room f (pointer_of node) pointers index fits (λ x below. sym (same x below)) (h.pointers index has)),
+)

@@ -1,0 +1,86 @@
+-- Lists of blocks that all pass a test, and what the tests say of roots.
+use Rattle.std.proofs.Common.{◌≡◌, ◌↔◌, ◌⊎◌, inl, inr, ℕ, ◌+◌, ◌-◌, ◌<◌, ◌≤◌, Bool, true, false, None, List, length, take, refl, sym, subst, ◌∙◌, arith}
+use Rattle.std.specs.Prelude.{Contains, not, IsTrue, All, slice_index}
+use Rattle.std.proofs.lemmas.Bool.{cases_lt}
+use Rattle.std.proofs.lemmas.List.{take_all}
+use Rattle.std.proofs.lemmas.List.Elements.{All-more, All-get_or, All-contains, All-contains_itself, All-weaker}
+use Rattle.node_format.specs.declared.places.Place.TheVariants.{Dir}
+use Rattle.allocator.specs.Ring.{IsDataBlock}
+use Rattle.block_trees.specs.Bodies.{Blocks}
+use Rattle.block_trees.specs.Laws.{IsShallow}
+use Rattle.block_trees.specs.Reached.{Reached, IsFirst}
+use Rattle.directory.specs.Depths.{IsDeeper}
+use Rattle.reclaim.specs.Sound.{IsDirectoryAt, IsSoundNode}
+use Rattle.reclaim.specs.Passes.{Pass, IsPass, IsFinished}
+use Rattle.reclaim.specs.Verified.{AreRoots}
+use Rattle.reclaim.proofs.Looking.{never}
+use Rattle.reclaim.proofs.Marking.{pass_marks}
+use Rattle.reclaim.proofs.Soundness.{sound_has_trees, trees_are_sound, trees_hold_nodes}
+
+-- ---- a test of each element
+
+pub all_more : (P : ℕ → Type 0) (xs : List ℕ) (i : ℕ) (good : Bool) → i < length xs → All P (take i xs) → (IsTrue good ↔ P (slice_index xs i)) → good ≡ true → All P (take (i + 1) xs)
+all_more P xs i good below so_far exact is = All-more P xs i 0 below so_far (exact.0 is)
+
+pub all_not : (P : ℕ → Type 0) (xs : List ℕ) (i : ℕ) (good : Bool) → i < length xs → (IsTrue good ↔ P (slice_index xs i)) → good ≡ false → IsTrue false ↔ All P xs
+all_not P xs i good below exact is = (λ t. absurd (never t), λ all. sym is ∙ exact.1 (All-get_or P xs i 0 below all))
+
+pub all_end : (P : ℕ → Type 0) (xs : List ℕ) (i : ℕ) → length xs ≤ i → All P (take i xs) → IsTrue true ↔ All P xs
+all_end P xs i past all = (λ t. subst (All P) (take_all i xs past) all, λ h. refl)
+
+-- what is not too deep is shallow enough
+pub shallow_exact : (f : Blocks) (root : ℕ) (deep : Bool) → (deep ≡ true → IsDeeper f (Dir root) 16) → (deep ≡ false → IsShallow f (Dir root) 16)
+    → IsTrue (not deep) ↔ IsShallow f (Dir root) 16
+shallow_exact f root true deeper shallow = (λ t. absurd (never t), λ h. let found = deeper refl in absurd (omega (arith, h found.0 found.1, found.2)))
+shallow_exact f root false deeper shallow = (λ t. shallow refl, λ h. refl)
+
+-- ---- roots
+
+-- all that the marked blocks and the roots are asked
+pub record AreAsked (room : ℕ) (f : Blocks) (roots marked : List ℕ) : Type 0 where
+  pub nodes : All (λ b. IsSoundNode room f (f b)) marked
+  pub directories : All (IsDirectoryAt f) roots
+  pub shallow : All (λ root. IsShallow f (Dir root) 16) roots
+
+all_of : (P : ℕ → Type 0) (xs : List ℕ) → ((b : ℕ) → Contains xs b → P b) → All P xs
+all_of P xs each = All-weaker (Contains xs) P each xs (All-contains_itself xs)
+
+pub roots_asked : (limit : ℕ) (f : Blocks) (roots marked : List ℕ) → ((b : ℕ) → Contains marked b ↔ Reached f roots b) → AreRoots limit f roots → AreAsked (limit - 80) f roots marked
+roots_asked limit f roots marked all trees =
+    let sound = trees_are_sound (limit - 80) f roots trees in
+    record {
+      nodes = all_of (λ b. IsSoundNode (limit - 80) f (f b)) marked (λ b within. sound.nodes b ((all b).0 within));
+      directories = all_of (IsDirectoryAt f) roots sound.directories;
+      shallow = all_of (λ root. IsShallow f (Dir root) 16) roots sound.shallow;
+    }
+
+pub asked_roots : (limit : ℕ) (f : Blocks) (roots marked : List ℕ) → ((b : ℕ) → Contains marked b ↔ Reached f roots b) → AreAsked (limit - 80) f roots marked → AreRoots limit f roots
+asked_roots limit f roots marked all asked =
+    sound_has_trees (limit - 80) f roots (record {
+      nodes = λ b reached. All-contains (λ b. IsSoundNode (limit - 80) f (f b)) marked b asked.nodes ((all b).1 reached);
+      directories = λ root within. All-contains (IsDirectoryAt f) roots root asked.directories within;
+      shallow = λ root within. All-contains (λ root. IsShallow f (Dir root) 16) roots root asked.shallow within;
+    })
+
+-- roots with trees are data blocks
+pub roots_are_data : (limit blocks : ℕ) (f : Blocks) (roots : List ℕ) → ((b : ℕ) → b < 8 → f b ≡ None) → ((b : ℕ) → blocks ≤ b → f b ≡ None) → AreRoots limit f roots
+    → All (IsDataBlock blocks) roots
+roots_are_data limit blocks f roots low high trees = all_of (IsDataBlock blocks) roots (λ b within. at b within (cases_lt b 8) (cases_lt b blocks))
+  where
+    held : (b : ℕ) → Contains roots b → f b ≡ None → ⊥
+    held b within none = trees_hold_nodes (limit - 80) f roots trees b (IsFirst within) none
+
+    at : (b : ℕ) → Contains roots b → (b < 8) ⊎ (8 ≤ b) → (b < blocks) ⊎ (blocks ≤ b) → IsDataBlock blocks b
+    at b within (inl before) other = absurd (held b within (low b before))
+    at b within (inr after) (inl inside) = (after, inside)
+    at b within (inr after) (inr past) = absurd (held b within (high b past))
+
+-- a reached block without a node
+pub none_reached : (limit : ℕ) (f : Blocks) (own roots : List ℕ) → own ≡ roots → ((b : ℕ) × Reached f own b × (f b ≡ None)) → AreRoots limit f roots → ⊥
+none_reached limit f own roots same (b, reached, none) trees =
+    trees_hold_nodes (limit - 80) f roots trees b (subst (λ (l : List ℕ). Reached f l b) same reached) none
+
+-- the marked blocks of a finished pass
+pub marked_exact : (f : Blocks) (p : Pass) (marked roots : List ℕ) → IsPass f p → IsFinished p → marked ≡ p.order → p.roots ≡ roots → (b : ℕ) → Contains marked b ↔ Reached f roots b
+marked_exact f p marked roots pass end list same b =
+    subst (λ (l : List ℕ). Contains marked b ↔ Reached f l b) same (subst (λ (l : List ℕ). Contains l b ↔ Reached f p.roots b) (sym list) (pass_marks f p pass end b))

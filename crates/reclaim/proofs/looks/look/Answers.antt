@@ -1,0 +1,46 @@
+use Rattle.std.proofs.Common.{◌≡◌, ◌↔◌, ℕ, List, Option, Some, ap, sym, subst, ◌∙◌}
+use Rattle.std.specs.Prelude.{IsTrue, All, map, slice_index}
+use Rattle.node_format.specs.Items.{Item}
+use Rattle.block_trees.specs.Bodies.{Blocks, index_of, pointer_of}
+use Rattle.block_trees.specs.Trees.{items_of}
+use Rattle.reclaim.specs.Sound.{IsSoundPlace, IsSoundBody}
+use Rattle.reclaim.proofs.Looking.{node_bad, node_plain, node_body}
+use Rattle.reclaim.proofs.looks.look.Goals as goal
+
+pub returns-then-not-good-clause-exact : goal.returns-then-not-good-clause-exact
+returns-then-not-good-clause-exact g c =
+    let f = g.N.Nodes.node c.args.nodes.now in
+    let at : f c.args.block ≡ Some (g.N.Nodes.shown c.brings.new.nodes) = c.in_ok-brought.ensures.shown c.if-not-brought.false in
+    node_bad c.args.room f (f c.args.block) c.deref.result.now c.in_ok-good.good
+    (c.deref.ensures.value ∙ c.in_ok-places.ensures
+    ∙ ap (λ (node : Option (List ℕ)). map (λ (item : Item). item.place) (items_of node)) (ap (λ (b : List ℕ). Some b) c.lent.ensures ∙ sym at))
+    (subst (λ (f : Blocks). IsTrue c.in_ok-good.good ↔ All (IsSoundPlace c.args.room f) c.deref.result.now) c.brings.ensures.same_nodes c.in_ok-good.ensures.exact)
+    c.if-not-good.true
+
+pub returns-in_default-clause-exact : goal.returns-in_default-clause-exact
+returns-in_default-clause-exact g c =
+    let f = g.N.Nodes.node c.args.nodes.now in
+    let at : f c.args.block ≡ Some (g.N.Nodes.shown c.brings.new.nodes) = c.in_ok-brought.ensures.shown c.if-not-brought.false in
+    node_plain c.args.room f (f c.args.block) c.deref.result.now c.in_ok-good.good
+    (c.deref.ensures.value ∙ c.in_ok-places.ensures
+    ∙ ap (λ (node : Option (List ℕ)). map (λ (item : Item). item.place) (items_of node)) (ap (λ (b : List ℕ). Some b) c.lent.ensures ∙ sym at))
+    (subst (λ (f : Blocks). IsTrue c.in_ok-good.good ↔ All (IsSoundPlace c.args.room f) c.deref.result.now) c.brings.ensures.same_nodes c.in_ok-good.ensures.exact)
+    c.if-not-good.false
+    (ap index_of at ∙ ap (λ (b : List ℕ). index_of (Some b)) (sym c.lent-3.ensures) ∙ sym c.in_default.ensures.value)
+
+pub returns-clause-exact : goal.returns-clause-exact
+returns-clause-exact g c =
+    let f = g.N.Nodes.node c.args.nodes.now in
+    let at : f c.args.block ≡ Some (g.N.Nodes.shown c.brings.new.nodes) = c.in_ok-brought.ensures.shown c.if-not-brought.false in
+    node_body c.args.room f (f c.args.block) c.deref.result.now c.in_ok-good.good
+    (c.deref.ensures.value ∙ c.in_ok-places.ensures
+    ∙ ap (λ (node : Option (List ℕ)). map (λ (item : Item). item.place) (items_of node)) (ap (λ (b : List ℕ). Some b) c.lent.ensures ∙ sym at))
+    (subst (λ (f : Blocks). IsTrue c.in_ok-good.good ↔ All (IsSoundPlace c.args.room f) c.deref.result.now) c.brings.ensures.same_nodes c.in_ok-good.ensures.exact)
+    c.if-not-good.false
+    c.in-Some.index (slice_index c.deref-2.result.now) c.in_ok-sound.sound
+    (ap index_of at ∙ ap (λ (b : List ℕ). index_of (Some b)) (sym c.lent-3.ensures) ∙ sym c.in-Some.ensures.value)
+    c.in-Some.ensures.fits
+    (λ x below. ap (λ (l : List ℕ). slice_index l x) c.deref-2.ensures.value ∙ c.in_ok-pointers.ensures.each x below
+    ∙ ap (λ (node : Option (List ℕ)). pointer_of node x) (ap (λ (b : List ℕ). Some b) c.lent-2.ensures ∙ sym at))
+    (subst (λ (f : Blocks). IsTrue c.in_ok-sound.sound ↔ IsSoundBody c.args.room f (slice_index c.deref-2.result.now) c.in-Some.index)
+    (c.are_sound_places.ensures.same_nodes ∙ c.brings.ensures.same_nodes) c.in_ok-sound.ensures.exact)

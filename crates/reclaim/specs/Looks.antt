@@ -1,0 +1,25 @@
+-- What a look at a block brings.
+use Rattle.std.specs.Prelude.{◌≡◌, ℕ, suc, ◌<◌, Bool, true, false, IsTrue, Option, List, length}
+use Rattle.std.specs.Option.{option_map}
+use Rattle.fs_types.specs.declared.faults.Fault.{Fault}
+use Rattle.fs_types.specs.declared.faults.Fault.TheVariants.{Damaged}
+use Rattle.node_store.specs.Faults.{is_read_fault}
+use Rattle.block_trees.specs.Bodies.{Blocks, index_of, data_of}
+use Rattle.reclaim.specs.Naming.{has_place}
+use Rattle.reclaim.specs.Sound.{HoldsPlace}
+
+-- the index of a body node, and how many data bytes it has
+abbrev pub body_of : Option (List ℕ) → Option (ℕ × ℕ)
+body_of node = option_map (λ index. (index, length (data_of node))) (index_of node)
+
+-- the refusals of a look: those of reads, but that nothing is damaged
+abbrev pub is_look_fault : Fault → Bool
+is_look_fault Damaged = false
+is_look_fault fault = is_read_fault fault
+
+abbrev pub IsLookFault : Fault → Type 0
+IsLookFault fault = IsTrue (is_look_fault fault)
+
+-- the pointers of an index are stepped at the places below n
+abbrev pub AreSteppedTo : Blocks → (ℕ → ℕ) → ℕ → ℕ → Type 0
+AreSteppedTo f pointer index n = (x : ℕ) → x < n → has_place index (suc x) ≡ true → HoldsPlace (f (pointer x)) x (pointer (suc x))

@@ -1,0 +1,306 @@
+//! One look at a block, and at the blocks that it names.
+ghost use Rattle.std.specs.Prelude.{◌≡◌, ◌≢◌, ℕ, ◌+◌, ◌-◌, ◌≤◌, ◌<◌, ◌↔◌, ◌++◌, ◌/◌, ◌%◌, ◌&&◌, nat_eq, nat_lt, All, true, false, IsTrue, map, length, Some, None, OnOk, IfOk, IfErr, IsErrOf, slice_index};
+ghost use Rattle.fs_types.specs.declared.faults.Fault.TheVariants.{Damaged};
+ghost use Rattle.node_format.specs.declared.places.Place.TheVariants.{Dir, File};
+ghost use Rattle.block_trees.specs.Bodies.{index_of, pointer_of, data_of};
+ghost use Rattle.block_trees.specs.Trees.{entries_of, items_of};
+ghost use Rattle.reclaim.specs.Sound.{IsDirectoryAt, IsHead, IsSoundPlace, HoldsPlace, IsSoundBody, IsSoundNode, AreStepped};
+ghost use Rattle.reclaim.specs.Looks as spec;
+
+use crate::fields::{PLACES, has_pointer, index_in, pointer_in};
+use fs_types::Fault;
+use node_format::{Entries, Place};
+use node_store::Nodes;
+use std::alloc::{AllocError, Global};
+
+/// Brings the node in a block, for `lent` to lend; whether there is one.
+fn brings<N: Nodes>(nodes: &mut N, block: u32) -> Result<bool, Fault>
+    requires { N.is_sound nodes.old }
+    ensures shown { IfOk result (λ brought. brought ≡ true → N.node nodes.old block ≡ Some (N.shown nodes.new)) }
+    ensures lends { IfOk result (λ brought. brought ≡ true → N.lends nodes.new) }
+    ensures none { IfOk result (λ brought. brought ≡ false → N.node nodes.old block ≡ None) }
+    ensures why { IfErr result (λ fault. N.causes nodes.old nodes.new fault) }
+    ensures faults { IfErr result spec.IsLookFault }
+    ensures same_nodes { N.node nodes.new ≡ N.node nodes.old }
+    ensures same_kept { N.kept nodes.new ≡ N.kept nodes.old }
+    ensures writes { N.writes nodes.new ≡ N.writes nodes.old }
+    ensures follows { N.follows nodes.old nodes.new }
+    ensures sound { N.is_sound nodes.new }
+    ensures limit { N.limit nodes.new ≡ N.limit nodes.old }
+    ensures blocks { N.blocks nodes.new ≡ N.blocks nodes.old }
+{
+    match nodes.read(block) {
+        Ok(()) => Ok(true),
+        Err(Fault::Damaged) => Ok(false),
+        Err(fault) => Err(fault),
+    }
+}
+
+/// Whether a block holds a directory node.
+pub fn is_directory<N: Nodes>(nodes: &mut N, block: u32) -> Result<bool, Fault>
+    requires { N.is_sound nodes.old }
+    ensures exact { IfOk result (λ found. IsTrue found ↔ IsDirectoryAt (N.node nodes.old) block) }
+    ensures why { IfErr result (λ fault. N.causes nodes.old nodes.new fault) }
+    ensures faults { IfErr result spec.IsLookFault }
+    ensures same_nodes { N.node nodes.new ≡ N.node nodes.old }
+    ensures same_kept { N.kept nodes.new ≡ N.kept nodes.old }
+    ensures writes { N.writes nodes.new ≡ N.writes nodes.old }
+    ensures follows { N.follows nodes.old nodes.new }
+    ensures sound { N.is_sound nodes.new }
+    ensures limit { N.limit nodes.new ≡ N.limit nodes.old }
+    ensures blocks { N.blocks nodes.new ≡ N.blocks nodes.old }
+{
+    let brought = brings(nodes, block)?;
+    if !brought {
+        return Ok(false);
+    }
+    Ok(Entries::of(nodes.lent()).is_some())
+}
+
+/// The index of the body node in a block, and how many data bytes it has. None where it holds none.
+fn body_at<N: Nodes>(nodes: &mut N, block: u32) -> Result<Option<(u32, usize)>, Fault>
+    requires { N.is_sound nodes.old }
+    ensures exact { IfOk result (λ found. found ≡ spec.body_of (N.node nodes.old block)) }
+    ensures why { IfErr result (λ fault. N.causes nodes.old nodes.new fault) }
+    ensures faults { IfErr result spec.IsLookFault }
+    ensures same_nodes { N.node nodes.new ≡ N.node nodes.old }
+    ensures same_kept { N.kept nodes.new ≡ N.kept nodes.old }
+    ensures writes { N.writes nodes.new ≡ N.writes nodes.old }
+    ensures follows { N.follows nodes.old nodes.new }
+    ensures sound { N.is_sound nodes.new }
+    ensures limit { N.limit nodes.new ≡ N.limit nodes.old }
+    ensures blocks { N.blocks nodes.new ≡ N.blocks nodes.old }
+{
+    let brought = brings(nodes, block)?;
+    if !brought {
+        return Ok(None);
+    }
+    let bytes = nodes.lent();
+    let Some(index) = index_in(bytes) else {
+        return Ok(None);
+    };
+    Ok(Some((index, bytes.len().saturating_sub(80))))
+}
+
+/// Whether the last node of a file, whose length is not 0, has the index and bytes enough.
+fn ends_file(room: u32, index: u32, held: usize, length: u32) -> bool
+    requires room { 0 < room }
+    requires some { 0 < length }
+    ensures { result ≡ (nat_eq index ((length - 1) / room) && nat_lt ((length - 1) % room) held) }
+{
+    index == (length - 1) / room && (((length - 1) % room) as usize) < held
+}
+
+/// Whether a block holds the last node of a file of a length; an empty file has head 0.
+fn is_head<N: Nodes>(nodes: &mut N, room: u32, head: u32, length: u32) -> Result<bool, Fault>
+    requires sound { N.is_sound nodes.old }
+    requires room { 0 < room }
+    ensures exact { IfOk result (λ good. IsTrue good ↔ IsHead room (N.node nodes.old) head length) }
+    ensures why { IfErr result (λ fault. N.causes nodes.old nodes.new fault) }
+    ensures faults { IfErr result spec.IsLookFault }
+    ensures same_nodes { N.node nodes.new ≡ N.node nodes.old }
+    ensures same_kept { N.kept nodes.new ≡ N.kept nodes.old }
+    ensures writes { N.writes nodes.new ≡ N.writes nodes.old }
+    ensures follows { N.follows nodes.old nodes.new }
+    ensures sound { N.is_sound nodes.new }
+    ensures limit { N.limit nodes.new ≡ N.limit nodes.old }
+    ensures blocks { N.blocks nodes.new ≡ N.blocks nodes.old }
+{
+    if length == 0 {
+        return Ok(head == 0);
+    }
+    let found = body_at(nodes, head)?;
+    let Some((index, held)) = found else {
+        return Ok(false);
+    };
+    Ok(ends_file(room, index, held, length))
+}
+
+/// Whether a place leads to a directory node, or to the head of its file.
+fn is_sound_place<N: Nodes>(nodes: &mut N, room: u32, place: Place) -> Result<bool, Fault>
+    requires sound { N.is_sound nodes.old }
+    requires room { 0 < room }
+    ensures exact { IfOk result (λ good. IsTrue good ↔ IsSoundPlace room (N.node nodes.old) place) }
+    ensures why { IfErr result (λ fault. N.causes nodes.old nodes.new fault) }
+    ensures faults { IfErr result spec.IsLookFault }
+    ensures same_nodes { N.node nodes.new ≡ N.node nodes.old }
+    ensures same_kept { N.kept nodes.new ≡ N.kept nodes.old }
+    ensures writes { N.writes nodes.new ≡ N.writes nodes.old }
+    ensures follows { N.follows nodes.old nodes.new }
+    ensures sound { N.is_sound nodes.new }
+    ensures limit { N.limit nodes.new ≡ N.limit nodes.old }
+    ensures blocks { N.blocks nodes.new ≡ N.blocks nodes.old }
+{
+    match place {
+        Place::Dir { block } => is_directory(nodes, block),
+        Place::File { head, length } => is_head(nodes, room, head, length),
+    }
+}
+
+/// The places of the entries of a directory; none where the bytes are of none.
+fn places_in(alloc: Global, bytes: &[u8]) -> Result<Vec<Place>, AllocError>
+    ensures { IfOk result (λ v. v.items ≡ map (λ item. item.place) (items_of (Some bytes.now))) }
+{
+    let mut out = Vec::new(alloc);
+    if let Some(entries) = Entries::of(bytes) {
+        push_places_of(&mut out, entries)?;
+    }
+    Ok(out)
+}
+
+fn push_places_of(out: &mut Vec<Place>, entries: Entries<'_>) -> Result<(), AllocError>
+    ensures { OnOk result (out.new.items ≡ out.old.items ++ map (λ item. item.place) entries.entry) }
+{
+    for entry in entries {
+        out.push(entry.place())?;
+    }
+    Ok(())
+}
+
+/// Whether all places are sound.
+fn are_sound_places<N: Nodes>(nodes: &mut N, room: u32, places: &[Place]) -> Result<bool, Fault>
+    requires sound { N.is_sound nodes.old }
+    requires room { 0 < room }
+    ensures exact { IfOk result (λ good. IsTrue good ↔ All (IsSoundPlace room (N.node nodes.old)) places.now) }
+    ensures why { IfErr result (λ fault. N.causes nodes.old nodes.new fault) }
+    ensures faults { IfErr result spec.IsLookFault }
+    ensures same_nodes { N.node nodes.new ≡ N.node nodes.old }
+    ensures same_kept { N.kept nodes.new ≡ N.kept nodes.old }
+    ensures writes { N.writes nodes.new ≡ N.writes nodes.old }
+    ensures follows { N.follows nodes.old nodes.new }
+    ensures sound { N.is_sound nodes.new }
+    ensures limit { N.limit nodes.new ≡ N.limit nodes.old }
+    ensures blocks { N.blocks nodes.new ≡ N.blocks nodes.old }
+{
+    for place in places {
+        let good = is_sound_place(nodes, room, *place)?;
+        if !good {
+            return Ok(false);
+        }
+    }
+    Ok(true)
+}
+
+/// What stands in the pointer places of a node, those that are not in use too.
+fn pointers_in(alloc: Global, bytes: &[u8]) -> Result<Vec<u32>, AllocError>
+    ensures count { IfOk result (λ v. length v.items ≡ 32) }
+    ensures each { IfOk result (λ v. (x : ℕ) → x < 32 → slice_index v.items x ≡ pointer_of (Some bytes.now) x) }
+{
+    let mut out = Vec::new(alloc);
+    for place in 0..PLACES {
+        out.push(pointer_in(bytes, place))?;
+    }
+    Ok(out)
+}
+
+/// Whether a pointer place of the node in a block names a block.
+fn holds_place<N: Nodes>(nodes: &mut N, block: u32, place: usize, next: u32) -> Result<bool, Fault>
+    requires sound { N.is_sound nodes.old }
+    requires place { place < 32 }
+    ensures exact { IfOk result (λ holds. IsTrue holds ↔ HoldsPlace (N.node nodes.old block) place next) }
+    ensures why { IfErr result (λ fault. N.causes nodes.old nodes.new fault) }
+    ensures faults { IfErr result spec.IsLookFault }
+    ensures same_nodes { N.node nodes.new ≡ N.node nodes.old }
+    ensures same_kept { N.kept nodes.new ≡ N.kept nodes.old }
+    ensures writes { N.writes nodes.new ≡ N.writes nodes.old }
+    ensures follows { N.follows nodes.old nodes.new }
+    ensures sound { N.is_sound nodes.new }
+    ensures limit { N.limit nodes.new ≡ N.limit nodes.old }
+    ensures blocks { N.blocks nodes.new ≡ N.blocks nodes.old }
+{
+    let brought = brings(nodes, block)?;
+    if !brought {
+        return Ok(false);
+    }
+    Ok(pointer_in(nodes.lent(), place) == next)
+}
+
+/// Whether each pointer of an index is the one before it of the node that the one before it names.
+fn are_stepped<N: Nodes>(nodes: &mut N, pointers: &[u32], index: u32) -> Result<bool, Fault>
+    requires sound { N.is_sound nodes.old }
+    requires count { length pointers.now ≡ 32 }
+    ensures exact { IfOk result (λ good. IsTrue good ↔ spec.AreSteppedTo (N.node nodes.old) (slice_index pointers.now) index 31) }
+    ensures why { IfErr result (λ fault. N.causes nodes.old nodes.new fault) }
+    ensures faults { IfErr result spec.IsLookFault }
+    ensures same_nodes { N.node nodes.new ≡ N.node nodes.old }
+    ensures same_kept { N.kept nodes.new ≡ N.kept nodes.old }
+    ensures writes { N.writes nodes.new ≡ N.writes nodes.old }
+    ensures follows { N.follows nodes.old nodes.new }
+    ensures sound { N.is_sound nodes.new }
+    ensures limit { N.limit nodes.new ≡ N.limit nodes.old }
+    ensures blocks { N.blocks nodes.new ≡ N.blocks nodes.old }
+{
+    for place in 0..31 {
+        if has_pointer(index, place + 1) {
+            let holds = holds_place(nodes, pointers[place], place, pointers[place + 1])?;
+            if !holds {
+                return Ok(false);
+            }
+        }
+    }
+    Ok(true)
+}
+
+/// Whether the node before is full and has the index before, and the pointers are stepped.
+fn is_sound_body<N: Nodes>(
+    nodes: &mut N,
+    room: u32,
+    pointers: &[u32],
+    index: u32,
+) -> Result<bool, Fault>
+    requires sound { N.is_sound nodes.old }
+    requires count { length pointers.now ≡ 32 }
+    ensures exact { IfOk result (λ good. IsTrue good ↔ IsSoundBody room (N.node nodes.old) (slice_index pointers.now) index) }
+    ensures why { IfErr result (λ fault. N.causes nodes.old nodes.new fault) }
+    ensures faults { IfErr result spec.IsLookFault }
+    ensures same_nodes { N.node nodes.new ≡ N.node nodes.old }
+    ensures same_kept { N.kept nodes.new ≡ N.kept nodes.old }
+    ensures writes { N.writes nodes.new ≡ N.writes nodes.old }
+    ensures follows { N.follows nodes.old nodes.new }
+    ensures sound { N.is_sound nodes.new }
+    ensures limit { N.limit nodes.new ≡ N.limit nodes.old }
+    ensures blocks { N.blocks nodes.new ≡ N.blocks nodes.old }
+{
+    if index == 0 {
+        return Ok(true);
+    }
+    let found = body_at(nodes, pointers[0])?;
+    if found != Some((index - 1, room as usize)) {
+        return Ok(false);
+    }
+    let stepped = are_stepped(nodes, pointers, index)?;
+    Ok(stepped)
+}
+
+/// Whether a directory's entries are sound, or a body node's pointers.
+pub fn look<N: Nodes>(alloc: Global, nodes: &mut N, room: u32, block: u32) -> Result<bool, Fault>
+    requires sound { N.is_sound nodes.old }
+    requires room { 0 < room }
+    ensures exact { IfOk result (λ good. IsTrue good ↔ IsSoundNode room (N.node nodes.old) (N.node nodes.old block)) }
+    ensures why { IfErr result (λ fault. N.causes nodes.old nodes.new fault) }
+    ensures faults { IfErr result spec.IsLookFault }
+    ensures same_nodes { N.node nodes.new ≡ N.node nodes.old }
+    ensures same_kept { N.kept nodes.new ≡ N.kept nodes.old }
+    ensures writes { N.writes nodes.new ≡ N.writes nodes.old }
+    ensures follows { N.follows nodes.old nodes.new }
+    ensures sound { N.is_sound nodes.new }
+    ensures limit { N.limit nodes.new ≡ N.limit nodes.old }
+    ensures blocks { N.blocks nodes.new ≡ N.blocks nodes.old }
+{
+    let brought = brings(nodes, block)?;
+    if !brought {
+        return Ok(true);
+    }
+    let places = places_in(alloc, nodes.lent())?;
+    let pointers = pointers_in(alloc, nodes.lent())?;
+    let index = index_in(nodes.lent());
+    let good = are_sound_places(nodes, room, &places)?;
+    if !good {
+        return Ok(false);
+    }
+    let Some(index) = index else {
+        return Ok(true);
+    };
+    let sound = is_sound_body(nodes, room, &pointers, index)?;
+    Ok(sound)
+}

@@ -1,0 +1,202 @@
+//! Whether roots have trees: one look at each block that they reach, and at the depth below each root.
+ghost use Rattle.std.specs.Prelude.{◌≡◌, ◌≢◌, ◌↔◌, ℕ, ◌<◌, All, Contains, IsTrue, IfOk, IfErr, IsErrOf};
+ghost use Rattle.allocator.specs.Ring.{IsDataBlock};
+ghost use Rattle.node_format.specs.declared.places.Place.TheVariants.{Dir};
+ghost use Rattle.block_trees.specs.Laws.{IsShallow};
+ghost use Rattle.block_trees.specs.Reached.{Reached};
+ghost use Rattle.node_store.specs.Faults.{IsReadFault};
+ghost use Rattle.reclaim.specs.Looks.{IsLookFault};
+ghost use Rattle.reclaim.specs.Passes.{IsPass, IsFinished};
+ghost use Rattle.reclaim.specs.Sound.{IsDirectoryAt, IsSoundNode};
+ghost use Rattle.reclaim.specs.Verified.{AreRoots};
+
+use crate::looks::{is_directory, look};
+use crate::passes::{FIRST, Pass};
+use directory::is_deeper;
+use fs_types::Fault;
+use node_store::Nodes;
+use std::alloc::Global;
+
+/// The bytes of a body node before its data.
+const FRONT: u32 = 80;
+
+/// The most names that a path has.
+const DEPTH: usize = 16;
+
+// Whether a block is a data block.
+fn is_data_block(blocks: u32, block: u32) -> bool
+    ensures { IsTrue result ↔ IsDataBlock blocks block }
+{
+    FIRST <= block && block < blocks
+}
+
+// Whether all blocks of a list are data blocks.
+fn are_data_blocks(blocks: u32, list: &[u32]) -> bool
+    ensures { IsTrue result ↔ All (IsDataBlock blocks) list.now }
+{
+    for block in list {
+        if !is_data_block(blocks, *block) {
+            return false;
+        }
+    }
+    true
+}
+
+// Whether a look at each block of a list finds it sound.
+fn are_sound<N: Nodes>(alloc: Global, nodes: &mut N, room: u32, list: &[u32]) -> Result<bool, Fault>
+    requires sound { N.is_sound nodes.old }
+    requires room { 0 < room }
+    ensures exact { IfOk result (λ good. IsTrue good ↔ All (λ b. IsSoundNode room (N.node nodes.old) (N.node nodes.old b)) list.now) }
+    ensures why { IfErr result (λ fault. N.causes nodes.old nodes.new fault) }
+    ensures faults { IfErr result IsLookFault }
+    ensures same_nodes { N.node nodes.new ≡ N.node nodes.old }
+    ensures same_kept { N.kept nodes.new ≡ N.kept nodes.old }
+    ensures writes { N.writes nodes.new ≡ N.writes nodes.old }
+    ensures follows { N.follows nodes.old nodes.new }
+    ensures sound { N.is_sound nodes.new }
+    ensures limit { N.limit nodes.new ≡ N.limit nodes.old }
+    ensures blocks { N.blocks nodes.new ≡ N.blocks nodes.old }
+{
+    for block in list {
+        let good = look(alloc, nodes, room, *block)?;
+        if !good {
+            return Ok(false);
+        }
+    }
+    Ok(true)
+}
+
+// Whether each block of a list holds a directory node.
+fn are_directories<N: Nodes>(nodes: &mut N, list: &[u32]) -> Result<bool, Fault>
+    requires { N.is_sound nodes.old }
+    ensures exact { IfOk result (λ good. IsTrue good ↔ All (IsDirectoryAt (N.node nodes.old)) list.now) }
+    ensures why { IfErr result (λ fault. N.causes nodes.old nodes.new fault) }
+    ensures faults { IfErr result IsLookFault }
+    ensures same_nodes { N.node nodes.new ≡ N.node nodes.old }
+    ensures same_kept { N.kept nodes.new ≡ N.kept nodes.old }
+    ensures writes { N.writes nodes.new ≡ N.writes nodes.old }
+    ensures follows { N.follows nodes.old nodes.new }
+    ensures sound { N.is_sound nodes.new }
+    ensures limit { N.limit nodes.new ≡ N.limit nodes.old }
+    ensures blocks { N.blocks nodes.new ≡ N.blocks nodes.old }
+{
+    for block in list {
+        let good = is_directory(nodes, *block)?;
+        if !good {
+            return Ok(false);
+        }
+    }
+    Ok(true)
+}
+
+// Whether no path below a root has too many names.
+fn is_shallow<N: Nodes>(alloc: Global, nodes: &mut N, root: u32) -> Result<bool, Fault>
+    requires { N.is_sound nodes.old }
+    ensures exact { IfOk result (λ good. IsTrue good ↔ IsShallow (N.node nodes.old) (Dir root) 16) }
+    ensures why { IfErr result (λ fault. N.causes nodes.old nodes.new fault) }
+    ensures faults { IfErr result IsLookFault }
+    ensures same_nodes { N.node nodes.new ≡ N.node nodes.old }
+    ensures same_kept { N.kept nodes.new ≡ N.kept nodes.old }
+    ensures writes { N.writes nodes.new ≡ N.writes nodes.old }
+    ensures follows { N.follows nodes.old nodes.new }
+    ensures sound { N.is_sound nodes.new }
+    ensures limit { N.limit nodes.new ≡ N.limit nodes.old }
+    ensures blocks { N.blocks nodes.new ≡ N.blocks nodes.old }
+{
+    let deep = is_deeper(alloc, nodes, root, DEPTH)?;
+    Ok(!deep)
+}
+
+// Whether no path below any root has too many names.
+fn are_shallow<N: Nodes>(alloc: Global, nodes: &mut N, roots: &[u32]) -> Result<bool, Fault>
+    requires { N.is_sound nodes.old }
+    ensures exact { IfOk result (λ good. IsTrue good ↔ All (λ root. IsShallow (N.node nodes.old) (Dir root) 16) roots.now) }
+    ensures why { IfErr result (λ fault. N.causes nodes.old nodes.new fault) }
+    ensures faults { IfErr result IsLookFault }
+    ensures same_nodes { N.node nodes.new ≡ N.node nodes.old }
+    ensures same_kept { N.kept nodes.new ≡ N.kept nodes.old }
+    ensures writes { N.writes nodes.new ≡ N.writes nodes.old }
+    ensures follows { N.follows nodes.old nodes.new }
+    ensures sound { N.is_sound nodes.new }
+    ensures limit { N.limit nodes.new ≡ N.limit nodes.old }
+    ensures blocks { N.blocks nodes.new ≡ N.blocks nodes.old }
+{
+    for root in roots {
+        let good = is_shallow(alloc, nodes, *root)?;
+        if !good {
+            return Ok(false);
+        }
+    }
+    Ok(true)
+}
+
+// Whether each root has a tree, by the list of all that they reach.
+fn have_trees<N: Nodes>(
+    alloc: Global,
+    nodes: &mut N,
+    roots: &[u32],
+    marked: &[u32],
+) -> Result<bool, Fault>
+    requires sound { N.is_sound nodes.old }
+    requires marked { (b : ℕ) → Contains marked.now b ↔ Reached (N.node nodes.old) roots.now b }
+    ensures exact { IfOk result (λ good. IsTrue good ↔ AreRoots (N.limit nodes.old) (N.node nodes.old) roots.now) }
+    ensures why { IfErr result (λ fault. N.causes nodes.old nodes.new fault) }
+    ensures faults { IfErr result IsLookFault }
+    ensures same_nodes { N.node nodes.new ≡ N.node nodes.old }
+    ensures same_kept { N.kept nodes.new ≡ N.kept nodes.old }
+    ensures writes { N.writes nodes.new ≡ N.writes nodes.old }
+    ensures follows { N.follows nodes.old nodes.new }
+    ensures sound { N.is_sound nodes.new }
+    ensures limit { N.limit nodes.new ≡ N.limit nodes.old }
+    ensures blocks { N.blocks nodes.new ≡ N.blocks nodes.old }
+{
+    let room = nodes.block_bytes() - FRONT;
+    let are_sound = are_sound(alloc, nodes, room, marked)?;
+    if !are_sound {
+        return Ok(false);
+    }
+    let are_directories = are_directories(nodes, roots)?;
+    if !are_directories {
+        return Ok(false);
+    }
+    let are_shallow = are_shallow(alloc, nodes, roots)?;
+    Ok(are_shallow)
+}
+
+/// A finished pass of roots that each have a tree with linked bodies, on a flash of `blocks` blocks.
+///
+/// `Damaged` where a root has none, and only there: a root that is no data block has none. Nothing
+/// is written.
+pub fn verify<N: Nodes>(
+    alloc: Global,
+    blocks: u32,
+    nodes: &mut N,
+    roots: &[u32],
+) -> Result<Pass, Fault>
+    requires sound { N.is_sound nodes.old }
+    requires blocks { blocks ≡ N.blocks nodes.old }
+    ensures trees { IfOk result (λ _. AreRoots (N.limit nodes.old) (N.node nodes.old) roots.now) }
+    ensures pass { IfOk result (λ p. IsPass (N.node nodes.new) p × IsFinished p) }
+    ensures of { IfOk result (λ p. (p.blocks ≡ blocks) × (p.roots ≡ roots.now)) }
+    ensures damaged { IsErrOf result Fault.Damaged → AreRoots (N.limit nodes.old) (N.node nodes.old) roots.now → ⊥ }
+    ensures why { IfErr result (λ fault. fault ≢ Fault.Damaged → N.causes nodes.old nodes.new fault) }
+    ensures faults { IfErr result IsReadFault }
+    ensures same_nodes { N.node nodes.new ≡ N.node nodes.old }
+    ensures same_kept { N.kept nodes.new ≡ N.kept nodes.old }
+    ensures writes { N.writes nodes.new ≡ N.writes nodes.old }
+    ensures follows { N.follows nodes.old nodes.new }
+    ensures sound { N.is_sound nodes.new }
+    ensures limit { N.limit nodes.new ≡ N.limit nodes.old }
+    ensures block_count { N.blocks nodes.new ≡ N.blocks nodes.old }
+{
+    if !are_data_blocks(blocks, roots) {
+        return Err(Fault::Damaged);
+    }
+    let mut pass = Pass::start(alloc, blocks, roots)?;
+    pass.read_all(nodes)?;
+    let have_trees = have_trees(alloc, nodes, roots, pass.marked())?;
+    if !have_trees {
+        return Err(Fault::Damaged);
+    }
+    Ok(pass)
+}

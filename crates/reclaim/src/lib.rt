@@ -1,4 +1,4 @@
-//! Which blocks roots reach: marked in steps of so many reads.
+//! Which blocks roots reach, marked in steps of so many reads, and whether roots have trees.
 #![tactic(auto)]
 
 mod fields;

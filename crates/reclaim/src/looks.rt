@@ -7,7 +7,7 @@ ghost use Rattle.block_trees.specs.Trees.{entries_of, items_of};
 ghost use Rattle.reclaim.specs.Sound.{IsDirectoryAt, IsHead, IsSoundPlace, HoldsPlace, IsSoundBody, IsSoundNode, AreStepped};
 ghost use Rattle.reclaim.specs.Looks as spec;
 
-use crate::fields::{PLACES, has_pointer, index_in, pointer_in};
+use crate::fields::{FRONT, PLACES, has_pointer, index_in, pointer_in};
 use fs_types::Fault;
 use node_format::{Entries, Place};
 use node_store::Nodes;
@@ -79,7 +79,7 @@ fn body_at<N: Nodes>(nodes: &mut N, block: u32) -> Result<Option<(u32, usize)>, 
     let Some(index) = index_in(bytes) else {
         return Ok(None);
     };
-    Ok(Some((index, bytes.len().saturating_sub(80))))
+    Ok(Some((index, bytes.len().saturating_sub(FRONT as usize))))
 }
 
 /// Whether the last node of a file, whose length is not 0, has the index and bytes enough.

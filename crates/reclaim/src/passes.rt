@@ -126,6 +126,7 @@ impl Pass {
         ensures block_count { N.blocks nodes.new ≡ N.blocks nodes.old }
     {
         let _is_finished = self.step(nodes, u64::MAX)?;
+        // The list fits in memory, so a step of so many reads has ended the pass.
         let _ = &self.order;
         Ok(())
     }

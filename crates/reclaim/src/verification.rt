@@ -10,15 +10,13 @@ ghost use Rattle.reclaim.specs.Passes.{IsPass, IsFinished};
 ghost use Rattle.reclaim.specs.Sound.{IsDirectoryAt, IsSoundNode};
 ghost use Rattle.reclaim.specs.Verified.{AreRoots};
 
+use crate::fields::FRONT;
 use crate::looks::{is_directory, look};
 use crate::passes::{FIRST, Pass};
 use directory::is_deeper;
 use fs_types::Fault;
 use node_store::Nodes;
 use std::alloc::Global;
-
-/// The bytes of a body node before its data.
-const FRONT: u32 = 80;
 
 /// The most names that a path has.
 const DEPTH: usize = 16;

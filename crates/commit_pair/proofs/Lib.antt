@@ -4,3 +4,4 @@ pub mod Places
 pub mod ReadParts
 pub mod WritingLaws
 pub mod WholeLaws
+pub mod Anchoring

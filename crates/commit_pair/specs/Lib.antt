@@ -3,3 +3,4 @@ pub mod Reading
 pub mod Laws
 pub mod Newest
 pub mod Writing
+pub mod Anchored

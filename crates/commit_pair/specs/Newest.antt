@@ -1,5 +1,5 @@
 -- The newest record of a flash, and why it may not be told.
-use Rattle.std.specs.Prelude.{◌≡◌, ◌⊎◌, ◌<◌, false, Option, Some, None, Result, Ok, Err}
+use Rattle.std.specs.Prelude.{◌≡◌, ◌⊎◌, ◌<◌, true, false, Option, Some, None, Result, Ok, Err}
 use Rattle.std.specs.Option.{option_map}
 use Rattle.fs_types.specs.declared.faults.Fault.{Fault}
 use Rattle.fs_types.specs.declared.faults.Fault.TheVariants.{ReadFailed, PowerCut, NoMemory, Damaged, BadGeometry}
@@ -14,6 +14,10 @@ use Rattle.commit_pair.specs.Laws.{HasNone, HasTie}
 -- the place that is remembered
 abbrev pub remembered : Anchors → Option Found
 remembered anchors = anchors.newest
+
+-- the anchors were cleared, and no record was committed since
+abbrev pub IsCleared : Anchors → Type 0
+IsCleared anchors = anchors.cleared ≡ true
 
 -- what the payload of the newest record means, where there is a newest record
 abbrev pub committed_on : Device → Option (Result Record Fault)

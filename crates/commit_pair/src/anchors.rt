@@ -1,12 +1,16 @@
 //! The newest record on the anchors.
-ghost use Rattle.std.specs.Prelude.{◌≡◌, ◌*◌, ◌<◌, ◌≤◌, length, None, IfOk, OnOk, OnErr, IfErr};
+ghost use Rattle.std.specs.Prelude.{◌≡◌, ℕ, ◌+◌, ◌*◌, ◌<◌, ◌≤◌, false, length, None, IfOk, OnOk, OnErr, IfErr};
+ghost use Rattle.std.specs.FinSet as set;
 ghost use Rattle.flash_model.specs.Geometry.{IsGeometry};
 ghost use Rattle.commit_pair.specs.Parts as spec;
 ghost use Rattle.commit_pair.specs.Reading.{OnlyReads};
-ghost use Rattle.commit_pair.specs.Newest.{remembered, IsNewestRecord, NewestCause};
+ghost use Rattle.commit_pair.specs.Anchored.{OnlyAnchors, Fades, AreErased};
+ghost use Rattle.commit_pair.specs.Newest.{remembered, IsCleared, IsNewestRecord, NewestCause};
 
 use crate::best::{Best, Found};
+use crate::clearing::erase_anchors;
 use crate::scan::{find_best, find_payload};
+use bad_blocks::BadBlocks;
 use flash_model::{Flash, Geometry};
 use fs_types::Fault;
 use record_format::{Record, read_payload};
@@ -16,6 +20,7 @@ use std::alloc::Global;
 #[derive(Debug, Drop)]
 pub struct Anchors {
     newest: Option<Found>,
+    cleared: bool,
 }
 
 impl Anchors {
@@ -23,7 +28,10 @@ impl Anchors {
     pub fn new() -> Anchors
         ensures { remembered result ≡ None }
     {
-        Anchors { newest: None }
+        Anchors {
+            newest: None,
+            cleared: false,
+        }
     }
 
     /// Reads all pages of the eight anchors, and answers the newest record, or None where no record
@@ -44,13 +52,38 @@ impl Anchors {
         ensures only_reads { OnlyReads (F.device flash.old) (F.device flash.new) }
         ensures why { IfErr result (NewestCause (F.device flash.old) (F.device flash.new)) }
     {
-        self.newest = None;
+        *self = Anchors::new();
         let geometry = flash.geometry();
         let mut page = vec![in alloc; 0u8; geometry.page as usize]?;
         let best = find_best(flash, geometry, &mut page)?;
         let newest = read_best(alloc, flash, geometry, best, &mut page)?;
         self.newest = best.found;
         Ok(newest)
+    }
+
+    /// Erases the eight anchors, whatever they hold. Those of which the erase failed are put into
+    /// the list of bad blocks. No place is remembered then.
+    ///
+    /// No anchor is in the list before, and it has room for eight blocks. `PowerCut` where power is
+    /// off: each anchor may be erased then, or in part, and those that failed are in the list.
+    pub fn clear<F: Flash>(&mut self, flash: &mut F, bad: &mut BadBlocks) -> Result<(), Fault>
+        requires lawful { IsGeometry (F.device flash.old).geometry }
+        requires good { (b : ℕ) → b < spec.first_data → set.contains bad.old b ≡ false }
+        requires room { set.len bad.old + spec.first_data ≤ 256 }
+        ensures cleared { OnOk result (IsCleared self.new) }
+        ensures erased { OnOk result (AreErased (F.device flash.new) bad.new spec.first_data) }
+
+        // Whatever is answered, no page has bytes that it had not, and no data block changes.
+        ensures fades { Fades (F.device flash.old).pages (F.device flash.new).pages }
+        ensures only_anchors { OnlyAnchors (F.device flash.old) bad.old (F.device flash.new) bad.new }
+        ensures reads { (F.device flash.new).failed_reads ≡ (F.device flash.old).failed_reads }
+        ensures forgets { remembered self.new ≡ None }
+        ensures why { IfErr result (λ fault. (fault ≡ Fault.PowerCut) × ((F.device flash.new).powered ≡ false)) }
+    {
+        *self = Anchors::new();
+        erase_anchors(flash, bad)?;
+        self.cleared = true;
+        Ok(())
     }
 }
 

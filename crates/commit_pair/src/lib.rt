@@ -3,6 +3,7 @@
 
 mod anchors;
 mod best;
+mod clearing;
 mod laws;
 mod parts;
 mod scan;

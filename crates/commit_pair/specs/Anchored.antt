@@ -1,0 +1,36 @@
+-- What erases and programs of anchors lead to, with the list of bad blocks.
+use Rattle.std.specs.Prelude.{◌≡◌, ◌≢◌, ◌⊎◌, ℕ, ◌+◌, ◌<◌, ◌≤◌, true, false, Result}
+use Rattle.std.specs.FinSet as set
+use Rattle.std.specs.Ordering.{nat_cmp}
+use Rattle.flash_model.specs.declared.device.DevFault.{DevFault}
+use Rattle.flash_model.specs.Device.{Device, Page, erased, unreadable, block_of, failed, Operates, Wears}
+use Rattle.commit_pair.specs.Parts.{first_data}
+
+-- no page of a data block changes, and the list grows by exactly the failures, by anchors that are worn
+pub record OnlyAnchors (old : Device) (was : set.FinSet nat_cmp) (new : Device) (now : set.FinSet nat_cmp) : Type 0 where
+  pub geometry : new.geometry ≡ old.geometry
+  pub data_pages : (p : ℕ) → first_data ≤ block_of old p → new.pages p ≡ old.pages p
+  pub stays_bad : (b : ℕ) → set.contains was b ≡ true → set.contains now b ≡ true
+  pub bad_anchor : (b : ℕ) → set.contains now b ≡ true → set.contains was b ≡ false → b < first_data
+  pub bad_worn : (b : ℕ) → set.contains now b ≡ true → set.contains was b ≡ false → new.worn b ≡ true
+  pub worn : (b : ℕ) → old.worn b ≡ true → new.worn b ≡ true
+  pub failures : new.failures + set.len was ≡ old.failures + set.len now
+  pub failed_reads : old.failed_reads ≤ new.failed_reads
+  pub cuts : old.cuts ≤ new.cuts
+  pub was_on : new.powered ≡ true → old.powered ≡ true
+  pub stays_off : old.powered ≡ false → new ≡ old
+  pub list_off : old.powered ≡ false → now ≡ was
+
+-- an erase or a program in one block
+pub record Touches (old : Device) (b : ℕ) (new : Device) (result : Result (Unit {0}) DevFault) : Type 0 where
+  pub operates : Operates old new result 0 (failed result)
+  pub others : (p : ℕ) → block_of old p ≢ b → new.pages p ≡ old.pages p
+  pub worn : Wears old new b result
+
+-- each page is as it was, erased or unreadable
+abbrev pub Fades : (ℕ → Page) → (ℕ → Page) → Type 0
+Fades was now = (p : ℕ) → (now p ≡ was p) ⊎ ((now p ≡ erased) ⊎ (now p ≡ unreadable))
+
+-- the anchors below n that are not in the list are erased
+abbrev pub AreErased : Device → set.FinSet nat_cmp → ℕ → Type 0
+AreErased d bad n = (p : ℕ) → block_of d p < n → set.contains bad (block_of d p) ≡ false → d.pages p ≡ erased

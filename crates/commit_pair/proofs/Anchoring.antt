@@ -1,5 +1,5 @@
 -- How operations on anchors lead on.
-use Rattle.std.proofs.Common.{◌≡◌, ◌≢◌, ◌⊎◌, ℕ, ◌+◌, ◌/◌, ◌<◌, ◌≤◌, Bool, true, false, cond, eqb, Result, Ok, Err, refl, sym, ap, subst, ◌∙◌, inl, inr, arith}
+use Rattle.std.proofs.Common.{◌≡◌, ◌≢◌, ◌⊎◌, ℕ, ◌+◌, ◌/◌, ◌<◌, ◌≤◌, List, Bool, true, false, cond, eqb, Result, Ok, Err, refl, sym, ap, subst, ◌∙◌, inl, inr, arith}
 use Rattle.std.specs.Prelude.{◌||◌}
 use Rattle.std.specs.FinSet as set
 use Rattle.std.specs.Ordering.{nat_cmp}
@@ -9,9 +9,9 @@ use Rattle.std.proofs.lemmas.Cmp.{nat_cmp_total}
 use Rattle.flash_model.specs.declared.sizes.Geometry.{Geometry}
 use Rattle.flash_model.specs.declared.device.DevFault.{DevFault}
 use Rattle.flash_model.specs.declared.device.DevFault.TheVariants.{Failed, PowerCut}
-use Rattle.flash_model.specs.Device.{Device, Page, erased, unreadable, block_of, failed, Wears, AfterErase, Erases}
+use Rattle.flash_model.specs.Device.{Device, Page, erased, unreadable, block_of, failed, Wears, AfterErase, Erases, Programs, power_after}
 use Rattle.commit_pair.specs.Parts.{first_data}
-use Rattle.commit_pair.specs.Anchored.{OnlyAnchors, Touches, Fades, AreErased}
+use Rattle.commit_pair.specs.Anchored.{OnlyAnchors, PowerLeft, Touches, Fades, AreErased}
 
 pub OnlyAnchors_itself : (d : Device) (bad : set.FinSet nat_cmp) → OnlyAnchors d bad d bad
 OnlyAnchors_itself d bad = record {
@@ -78,39 +78,98 @@ wears_on old new b (Err PowerCut) wears c was = wears c ∙ was
 -- an operation that did not fail
 pub touched : (old new : Device) (bad : set.FinSet nat_cmp) (b : ℕ) (result : Result (Unit {0}) DevFault) → b < first_data → Touches old b new result → failed result ≡ 0 → OnlyAnchors old bad new bad
 touched old new bad b result lt t none = record {
-  geometry = t.operates.geometry;
+  geometry = t.geometry;
   data_pages = λ p from. t.others p (λ same. absurd (omega arith));
   stays_bad = λ c is. is;
   bad_anchor = λ c is good. absurd (both_ways (set.contains bad c) good is);
   bad_worn = λ c is good. absurd (both_ways (set.contains bad c) good is);
   worn = wears_on old new b result t.worn;
-  failures = let h = t.operates.failures in omega arith;
-  failed_reads = let h = t.operates.failed_reads in omega arith;
-  cuts = let h = t.operates.cuts in omega arith;
-  was_on = λ on. t.operates.was_on (sym t.operates.power ∙ on);
-  stays_off = t.operates.off;
+  failures = let h = t.failures in omega arith;
+  failed_reads = let h = t.failed_reads in omega arith;
+  cuts = t.cuts;
+  was_on = t.was_on;
+  stays_off = t.stays_off;
   list_off = λ off. refl;
 }
 
 -- an operation that failed, and its block in the list
 pub touched_bad : (old new : Device) (bad : set.FinSet nat_cmp) (b : ℕ) → b < first_data → set.contains bad b ≡ false → Touches old b new (Err Failed) → OnlyAnchors old bad new (set.insert bad b)
 touched_bad old new bad b lt good t = record {
-  geometry = t.operates.geometry;
+  geometry = t.geometry;
   data_pages = λ p from. t.others p (λ same. absurd (omega arith));
   stays_bad = λ c is. listed bad b c ∙ or_right (eqb c b) (set.contains bad c) is;
   bad_anchor = λ c is was. let same = new_listed bad b c is was in omega arith;
   bad_worn = λ c is was. ap new.worn (new_listed bad b c is was) ∙ t.worn.0;
   worn = wears_on old new b (Err Failed) t.worn;
-  failures = let h = t.operates.failures in let k = len_listed bad b good in omega arith;
-  failed_reads = let h = t.operates.failed_reads in omega arith;
-  cuts = let h = t.operates.cuts in omega arith;
-  was_on = λ on. t.operates.was_on (sym t.operates.power ∙ on);
-  stays_off = t.operates.off;
-  list_off = λ off. absurd (both_ways old.powered off (t.operates.was_on refl));
+  failures = let h = t.failures in let k = len_listed bad b good in omega arith;
+  failed_reads = let h = t.failed_reads in omega arith;
+  cuts = t.cuts;
+  was_on = t.was_on;
+  stays_off = t.stays_off;
+  list_off = λ off. absurd (both_ways old.powered off (t.was_on t.power));
 }
 
+power_left : (old new : Device) (result : Result (Unit {0}) DevFault) → new.powered ≡ power_after result → PowerLeft new result
+power_left old new (Ok u) is = tt
+power_left old new (Err Failed) is = is
+power_left old new (Err PowerCut) is = is
+
 pub erase_touches : (old new : Device) (b : ℕ) (result : Result (Unit {0}) DevFault) → Erases old b new result → Touches old b new result
-erase_touches old new b result e = record { operates = e.operates; others = e.others; worn = e.worn }
+erase_touches old new b result e = record {
+  geometry = e.operates.geometry;
+  others = e.others;
+  worn = e.worn;
+  failures = e.operates.failures;
+  failed_reads = let h = e.operates.failed_reads in omega arith;
+  cuts = let h = e.operates.cuts in omega arith;
+  was_on = λ on. e.operates.was_on (sym e.operates.power ∙ on);
+  stays_off = e.operates.off;
+  power = power_left old new result e.operates.power;
+}
+
+pub program_touches : (old new : Device) (b p : ℕ) (bytes : List ℕ) (result : Result (Unit {0}) DevFault) → block_of old p ≡ b → Programs old p bytes new result → Touches old b new result
+program_touches old new b p bytes result block e = record {
+  geometry = e.operates.geometry;
+  others = λ q apart. e.others q (λ same. apart (ap (block_of old) same ∙ block));
+  worn = subst (λ c. Wears old new c result) block e.worn;
+  failures = e.operates.failures;
+  failed_reads = let h = e.operates.failed_reads in omega arith;
+  cuts = let h = e.operates.cuts in omega arith;
+  was_on = λ on. e.operates.was_on (sym e.operates.power ∙ on);
+  stays_off = e.operates.off;
+  power = power_left old new result e.operates.power;
+}
+
+pub Touches_itself : (d : Device) (b : ℕ) (u : Unit {0}) → Touches d b d (Ok u)
+Touches_itself d b u = record {
+  geometry = refl;
+  others = λ p apart. refl;
+  worn = λ c. refl;
+  failures = omega arith;
+  failed_reads = refl;
+  cuts = omega arith;
+  was_on = λ on. on;
+  stays_off = λ off. refl;
+  power = tt;
+}
+
+wears_after : (d e f : Device) (b : ℕ) (result : Result (Unit {0}) DevFault) → ((c : ℕ) → e.worn c ≡ d.worn c) → Wears e f b result → Wears d f b result
+wears_after d e f b (Ok u) same wears = λ c. wears c ∙ same c
+wears_after d e f b (Err Failed) same wears = (wears.0, λ c apart. wears.1 c apart ∙ same c)
+wears_after d e f b (Err PowerCut) same wears = λ c. wears c ∙ same c
+
+pub Touches_on : (d e f : Device) (b : ℕ) (u : Unit {0}) (result : Result (Unit {0}) DevFault) → Touches d b e (Ok u) → Touches e b f result → Touches d b f result
+Touches_on d e f b u result first next = record {
+  geometry = next.geometry ∙ first.geometry;
+  others = λ p apart. next.others p (λ same. apart (sym (ap (λ (g : Geometry). p / g.pages) first.geometry) ∙ same)) ∙ first.others p apart;
+  worn = wears_after d e f b result first.worn next.worn;
+  failures = let h = first.failures in let k = next.failures in omega arith;
+  failed_reads = next.failed_reads ∙ first.failed_reads;
+  cuts = let h = first.cuts in let k = next.cuts in omega arith;
+  was_on = λ on. first.was_on (next.was_on on);
+  stays_off = λ off. next.stays_off (ap (λ (x : Device). x.powered) (first.stays_off off) ∙ off) ∙ first.stays_off off;
+  power = next.power;
+}
 
 fades_here : (was now : Page) (result : Result (Unit {0}) DevFault) → AfterErase was now result → (now ≡ was) ⊎ ((now ≡ erased) ⊎ (now ≡ unreadable))
 fades_here was now (Ok u) after = inr (inl after)

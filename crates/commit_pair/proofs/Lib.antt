@@ -5,3 +5,7 @@ pub mod ReadParts
 pub mod WritingLaws
 pub mod WholeLaws
 pub mod Anchoring
+pub mod Programmed
+pub mod Placing
+pub mod Sparing
+pub mod Ascending

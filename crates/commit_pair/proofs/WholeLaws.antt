@@ -11,7 +11,7 @@ use Rattle.commit_pair.specs.Writing.{IsWritten, WholeIsNewest}
 use Rattle.commit_pair.proofs.NewestLaws.{newest_is_found}
 use Rattle.commit_pair.proofs.WritingLaws.{part_index, part_not_none, part_misplaced, are_parts_same, record_parts, no_record, head_none}
 
-are_parts_from : (g : Geometry) (parts : ℕ → Option Part) (p : ℕ) (first : PageHead) (n k : ℕ) → ((m : ℕ) → m < n + k → is_part g first m (head_at parts (p + m)) ≡ true) → are_parts g parts p first n k ≡ true
+pub are_parts_from : (g : Geometry) (parts : ℕ → Option Part) (p : ℕ) (first : PageHead) (n k : ℕ) → ((m : ℕ) → m < n + k → is_part g first m (head_at parts (p + m)) ≡ true) → are_parts g parts p first n k ≡ true
 unfolding are_parts
 are_parts_from g parts p first n zero each = refl
 are_parts_from g parts p first n (suc k) each = rw (each n (omega arith)) (are_parts_from g parts p first (n + 1) k (λ m below. each m (omega arith)))

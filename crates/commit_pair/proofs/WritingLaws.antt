@@ -12,7 +12,7 @@ use Rattle.commit_pair.specs.Parts.{Part, head_at, is_part, are_parts, is_record
 use Rattle.commit_pair.specs.Writing.{IsHalfWritten, HalfChangesNothing}
 use Rattle.commit_pair.proofs.NewestLaws.{found_is_newest}
 
-both_true : (a b : Bool) → (a && b) ≡ true → (a ≡ true) × (b ≡ true)
+pub both_true : (a b : Bool) → (a && b) ≡ true → (a ≡ true) × (b ≡ true)
 both_true true b e = (refl, e)
 both_true false b e = absurd cc
 
@@ -66,7 +66,7 @@ unfolding best_below
 best_same g now was same zero = refl
 best_same g now was same (suc n) = λ i. considered (best_same g now was same n i) n (same n i)
 
-bytes_same : (g : Geometry) (now was : ℕ → Option Part) (p n k : ℕ) → ((m : ℕ) → n ≤ m → m < n + k → now (p + m) ≡ was (p + m)) → bytes_from g now p n k ≡ bytes_from g was p n k
+pub bytes_same : (g : Geometry) (now was : ℕ → Option Part) (p n k : ℕ) → ((m : ℕ) → n ≤ m → m < n + k → now (p + m) ≡ was (p + m)) → bytes_from g now p n k ≡ bytes_from g was p n k
 unfolding bytes_from
 bytes_same g now was p n zero same = refl
 bytes_same g now was p n (suc k) same = λ i. part_bytes (same n (omega arith) (omega arith) i) ++ bytes_same g now was p (n + 1) k (λ m from below. same m (omega arith) (omega arith)) i
@@ -185,3 +185,10 @@ module _ (g : Geometry) (was now : ℕ → Option Part) (p count n : ℕ) (half 
 
 pub half_changes_nothing : HalfChangesNothing
 half_changes_nothing g was now p count n half = half_stays g was now p count n half
+
+-- the records are those that were there, and the newest is at its place
+pub half_keeps_heads : (g : Geometry) (was now : ℕ → Option Part) (p count n : ℕ) → IsHalfWritten was now p count n → (q : ℕ) → record_head g now q ≡ record_head g was q
+half_keeps_heads g was now p count n half q = same_head g was now p count n half q
+
+pub half_keeps_place : (g : Geometry) (was now : ℕ → Option Part) (p count n : ℕ) → IsHalfWritten was now p count n → newest_at g now ≡ newest_at g was
+half_keeps_place g was now p count n half = ap (λ (b : Best). cond b.twice None b.found) (best_same g now was (same_head g was now p count n half) (first_data * g.pages))

@@ -1,9 +1,10 @@
 -- What erases and programs of anchors lead to, with the list of bad blocks.
-use Rattle.std.specs.Prelude.{◌≡◌, ◌≢◌, ◌⊎◌, ℕ, ◌+◌, ◌<◌, ◌≤◌, true, false, Result}
+use Rattle.std.specs.Prelude.{◌≡◌, ◌≢◌, ◌⊎◌, ℕ, ◌+◌, ◌<◌, ◌≤◌, true, false, Result, Ok, Err}
 use Rattle.std.specs.FinSet as set
 use Rattle.std.specs.Ordering.{nat_cmp}
 use Rattle.flash_model.specs.declared.device.DevFault.{DevFault}
-use Rattle.flash_model.specs.Device.{Device, Page, erased, unreadable, block_of, failed, Operates, Wears}
+use Rattle.flash_model.specs.declared.device.DevFault.TheVariants.{Failed, PowerCut}
+use Rattle.flash_model.specs.Device.{Device, Page, erased, unreadable, block_of, failed, Wears}
 use Rattle.commit_pair.specs.Parts.{first_data}
 
 -- no page of a data block changes, and the list grows by exactly the failures, by anchors that are worn
@@ -21,11 +22,23 @@ pub record OnlyAnchors (old : Device) (was : set.FinSet nat_cmp) (new : Device) 
   pub stays_off : old.powered ≡ false → new ≡ old
   pub list_off : old.powered ≡ false → now ≡ was
 
--- an erase or a program in one block
+-- the power after an answer
+abbrev pub PowerLeft : Device → Result (Unit {0}) DevFault → Type 0
+PowerLeft new (Ok _) = Unit {0}
+PowerLeft new (Err Failed) = new.powered ≡ true
+PowerLeft new (Err PowerCut) = new.powered ≡ false
+
+-- erases and programs in one block, of which only the last may not have been done
 pub record Touches (old : Device) (b : ℕ) (new : Device) (result : Result (Unit {0}) DevFault) : Type 0 where
-  pub operates : Operates old new result 0 (failed result)
+  pub geometry : new.geometry ≡ old.geometry
   pub others : (p : ℕ) → block_of old p ≢ b → new.pages p ≡ old.pages p
   pub worn : Wears old new b result
+  pub failures : new.failures ≡ old.failures + failed result
+  pub failed_reads : new.failed_reads ≡ old.failed_reads
+  pub cuts : old.cuts ≤ new.cuts
+  pub was_on : new.powered ≡ true → old.powered ≡ true
+  pub stays_off : old.powered ≡ false → new ≡ old
+  pub power : PowerLeft new result
 
 -- each page is as it was, erased or unreadable
 abbrev pub Fades : (ℕ → Page) → (ℕ → Page) → Type 0

@@ -4,3 +4,6 @@ pub mod Laws
 pub mod Newest
 pub mod Writing
 pub mod Anchored
+pub mod Programming
+pub mod Keeping
+pub mod Payloads

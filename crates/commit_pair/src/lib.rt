@@ -6,6 +6,8 @@ mod best;
 mod clearing;
 mod laws;
 mod parts;
+mod payloads;
+mod programming;
 mod scan;
 
 pub use anchors::Anchors;

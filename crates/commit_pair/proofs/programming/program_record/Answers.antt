@@ -1,0 +1,76 @@
+use Rattle.std.proofs.Common.{◌≡◌, ℕ, ◌+◌, ◌*◌, ◌<◌, List, length, Ok, Err, sym, ap, subst, ◌∙◌, arith}
+use Rattle.std.proofs.lemmas.Result.{err_from_is_err_and}
+use Rattle.flash_model.specs.declared.sizes.Geometry.{Geometry}
+use Rattle.flash_model.specs.Device.{block_of, AfterProgram, bytes_of}
+use Rattle.flash_model.specs.Blocks.{block_of-at}
+use Rattle.record_format.specs.Pages.{page_bytes}
+use Rattle.commit_pair.specs.Programming.{bytes_for}
+use Rattle.commit_pair.proofs.Anchoring.{program_touches, Touches_on}
+use Rattle.commit_pair.proofs.Programmed.{pages_next, pages_end}
+use Rattle.commit_pair.proofs.programming.program_record.Goals as goal
+use Rattle.commit_pair.proofs.programming.program_record.Goals.{After-program}
+use Rattle.commit_pair.proofs.programming.program_record.Given.{Over}
+
+pub program-requires-clause-blank : goal.program-requires-clause-blank
+program-requires-clause-blank g c =
+    let at : c.page_number.result ≡ c.args.anchor * c.args.geometry.pages + c.args.place + c.loop-n.n = let e = c.page_number.ensures.value in omega arith in
+    ap (g.F.Flash.device c.loop-n.flash).pages at ∙ c.loop-n.invariant.blank c.loop-n.n (omega arith) c.loop-n-test.true
+
+module _ (g : Over) (c : After-program g) where
+  first : ℕ
+  first = c.args.anchor * c.args.geometry.pages + c.args.place
+
+  at : c.page_number.result ≡ c.args.anchor * c.args.geometry.pages + c.args.place + c.loop-n.n
+  at = let e = c.page_number.ensures.value in omega arith
+
+  block : block_of (g.F.Flash.device c.loop-n.flash) c.page_number.result ≡ c.args.anchor
+  block =
+      let mid = g.F.Flash.device c.loop-n.flash in
+      let same : mid.geometry ≡ c.args.geometry = c.loop-n.invariant.touches.geometry ∙ c.requires.same in
+      let inside : c.args.place + c.loop-n.n < c.args.geometry.pages = let h = c.requires.in_block in let k = c.loop-n-test.true in omega arith in
+      let lt : c.args.place + c.loop-n.n < mid.geometry.pages = subst (λ (h : Geometry). c.args.place + c.loop-n.n < h.pages) (sym same) inside in
+      ap (block_of mid) (c.page_number.ensures.value ∙ ap (λ (h : Geometry). c.args.anchor * h.pages + (c.args.place + c.loop-n.n)) (sym same)) ∙ block_of-at mid c.args.anchor (c.args.place + c.loop-n.n) lt
+
+  page : c.deref.result.now ≡ bytes_for c.args.geometry c.args.sequence c.args.payload.now c.args.count c.loop-n.n
+  page =
+      c.deref.ensures.value ∙ c.write_page.ensures.page
+      ∙ ap (λ (bytes : List ℕ). page_bytes c.args.geometry.page (record { sequence = c.args.sequence; index = c.loop-n.n; count = c.args.count; used = length bytes }) bytes) c.piece_of-piece.ensures
+
+pub returns-in_err-program-clause-touches : goal.returns-in_err-program-clause-touches
+returns-in_err-program-clause-touches g c =
+    let t = (goal.at.returns-in_err-program-clause-touches g c).After-program in
+    let p = err_from_is_err_and c.from_residual.result c.from_residual.ensures.1 in
+    let old = g.F.Flash.device c.args.flash.now in
+    let mid = g.F.Flash.device c.loop-n.flash in
+    let new = g.F.Flash.device c.program.new.self in
+    rw (p.1, p.2) (Touches_on old mid new c.args.anchor tt _ c.loop-n.invariant.touches (program_touches mid new c.args.anchor c.page_number.result c.deref.result.now _ (block g t) c.in_err-program.ensures))
+
+pub returns-in_err-program-clause-programmed : goal.returns-in_err-program-clause-programmed
+returns-in_err-program-clause-programmed g c =
+    let t = (goal.at.returns-in_err-program-clause-programmed g c).After-program in
+    let p = err_from_is_err_and c.from_residual.result c.from_residual.ensures.1 in
+    let old = g.F.Flash.device c.args.flash.now in
+    let mid = g.F.Flash.device c.loop-n.flash in
+    let new = g.F.Flash.device c.program.new.self in
+    let n = c.loop-n.n in
+    let is = at g t in
+    rw (p.1, p.2) (pages_end c.args.geometry old.pages mid.pages new.pages (c.args.anchor * c.args.geometry.pages + c.args.place) c.args.sequence c.args.payload.now c.args.count n c.loop-n.invariant.pages c.loop-n-test.true
+    (λ q apart. c.in_err-program.ensures.others q (λ same. apart (same ∙ is))) c.in_err-program.field-0.0 (c.loop-n.invariant.blank n (omega arith) c.loop-n-test.true)
+    (subst (λ q. AfterProgram (mid.pages q) (bytes_for c.args.geometry c.args.sequence c.args.payload.now c.args.count n) (new.pages q) (Err c.in_err-program.field-0.0)) is (subst (λ (bytes : List ℕ). AfterProgram (mid.pages c.page_number.result) bytes (new.pages c.page_number.result) (Err c.in_err-program.field-0.0)) (page g t) c.in_err-program.ensures.page)))
+
+pub loop-n-preserved : goal.loop-n-preserved
+loop-n-preserved g c =
+    let t = (goal.at.loop-n-preserved g c).After-program in
+    let old = g.F.Flash.device c.args.flash.now in
+    let mid = g.F.Flash.device c.loop-n.flash in
+    let new = g.F.Flash.device c.program.new.self in
+    let n = c.loop-n.n in
+    let is = at g t in
+    let done = c.in_ok-program.ensures in
+    record {
+      touches = Touches_on old mid new c.args.anchor tt (Ok tt) c.loop-n.invariant.touches (program_touches mid new c.args.anchor c.page_number.result c.deref.result.now (Ok tt) (block g t) done);
+      pages = pages_next c.args.geometry old.pages mid.pages new.pages (c.args.anchor * c.args.geometry.pages + c.args.place) c.args.sequence c.args.payload.now c.args.count n c.loop-n.invariant.pages c.loop-n-test.true
+          (λ q apart. done.others q (λ same. apart (same ∙ is))) (ap new.pages (sym is) ∙ done.page ∙ ap bytes_of (page g t));
+      blank = λ m from below. done.others _ (λ same. absurd (let e = is in omega arith)) ∙ c.loop-n.invariant.blank m (omega arith) below;
+      room = let a = c.loop-n.invariant.room in let b = c.write_page.ensures.capacity in omega arith;
+    }

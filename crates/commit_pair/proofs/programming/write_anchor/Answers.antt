@@ -1,0 +1,40 @@
+use Rattle.std.proofs.Common.{◌≡◌, ◌+◌, ◌*◌, ◌/◌, ◌<◌, sym, ap, ◌∙◌, inl, arith}
+use Rattle.std.proofs.lemmas.Result.{err_from_is_err_and}
+use Rattle.std.proofs.lemmas.Nat.{div-mul-add}
+use Rattle.flash_model.specs.declared.sizes.Geometry.{Geometry}
+use Rattle.commit_pair.specs.Keeping.{Keeps}
+use Rattle.commit_pair.proofs.Sparing.{erase_keeps, Placed_on}
+use Rattle.commit_pair.proofs.programming.write_anchor.Goals as goal
+use Rattle.commit_pair.proofs.programming.write_anchor.Goals.{After-erase_anchor}
+use Rattle.commit_pair.proofs.programming.write_anchor.Given.{Over}
+
+module _ (g : Over) (c : After-erase_anchor g) where
+  keeps : Keeps c.args.geometry (g.F.Flash.device c.args.flash.now).pages (g.F.Flash.device c.erase_anchor.new.flash).pages
+  keeps =
+      let old = g.F.Flash.device c.args.flash.now in
+      erase_keeps c.args.geometry old.pages (g.F.Flash.device c.erase_anchor.new.flash).pages c.args.anchor
+      (λ p apart. c.erase_anchor.ensures.others p (λ here. apart (sym (ap (λ (h : Geometry). p / h.pages) c.requires.same) ∙ here))) c.erase_anchor.ensures.fades c.requires.spares
+
+pub returns-in_err-erase_anchor-clause-placed : goal.returns-in_err-erase_anchor-clause-placed
+returns-in_err-erase_anchor-clause-placed g c =
+    let p = err_from_is_err_and c.from_residual.result c.from_residual.ensures.1 in
+    rw (p.1, p.2, c.in_err-erase_anchor.ensures.why.0) (inl (keeps g (goal.at.returns-in_err-erase_anchor-clause-placed g c).After-erase_anchor))
+
+pub returns-then-not-branch-clause-placed : goal.returns-then-not-branch-clause-placed
+returns-then-not-branch-clause-placed g c = keeps g (goal.at.returns-then-not-branch-clause-placed g c).After-erase_anchor
+
+pub place_record-requires-clause-blank : goal.place_record-requires-clause-blank
+place_record-requires-clause-blank g c = λ m below.
+    let old = g.F.Flash.device c.args.flash.now in
+    let fits : m < c.args.geometry.pages = let h = c.requires.in_block in omega arith in
+    let at : c.args.anchor * c.args.geometry.pages + 0 + m ≡ c.args.anchor * c.args.geometry.pages + m = omega arith in
+    c.in_ok-erase_anchor.ensures.erased c.if-not-branch.false (c.args.anchor * c.args.geometry.pages + 0 + m)
+    (ap (λ (h : Geometry). (c.args.anchor * c.args.geometry.pages + 0 + m) / h.pages) c.requires.same ∙ ap (λ q. q / c.args.geometry.pages) at ∙ div-mul-add c.args.anchor c.args.geometry.pages m fits)
+
+pub place_record-requires-clause-older : goal.place_record-requires-clause-older
+place_record-requires-clause-older g c = λ q head lt valid. c.requires.older q head lt ((keeps g (goal.at.place_record-requires-clause-older g c).After-erase_anchor).heads q head valid)
+
+pub returns-clause-placed : goal.returns-clause-placed
+returns-clause-placed g c =
+    Placed_on c.args.geometry (g.F.Flash.device c.args.flash.now).pages (g.F.Flash.device c.erase_anchor.new.flash).pages (g.F.Flash.device c.place_record.new.flash).pages _ _ c.place_record.result
+    (keeps g (goal.at.returns-clause-placed g c).After-erase_anchor) c.place_record.ensures.placed

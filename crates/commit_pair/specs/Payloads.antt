@@ -1,0 +1,14 @@
+-- The payload of a record that is written.
+use Rattle.std.specs.Prelude.{◌≡◌, ℕ, List, Ok}
+use Rattle.std.specs.FinSet as set
+use Rattle.std.specs.Ordering.{nat_cmp}
+use Rattle.std.specs.List.Sorted.{IsStrictlyIncreasing}
+use Rattle.record_format.specs.declared.records.Record.{Record}
+use Rattle.record_format.specs.Payloads.{payload_at}
+
+-- the bytes mean this record on a flash of its sizes, with a sequence, and with the list of bad blocks in ascending order
+pub record Means (r : Record) (sequence : ℕ) (bad : set.FinSet nat_cmp) (bytes : List ℕ) : Type 0 where
+  pub list : List ℕ
+  pub ascends : IsStrictlyIncreasing list
+  pub listed : set.from_list list ≡ bad
+  pub means : payload_at r.geometry sequence bytes ≡ Ok (record r { sequence = sequence; bad = list })

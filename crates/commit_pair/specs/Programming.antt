@@ -1,0 +1,37 @@
+-- The pages of a record, as they are programmed on an anchor.
+use Rattle.std.specs.Prelude.{◌≡◌, ◌⊎◌, ℕ, ◌+◌, ◌*◌, ◌<◌, ◌≤◌, None, List, length, take, drop, Result, Ok, Err}
+use Rattle.flash_model.specs.declared.sizes.Geometry.{Geometry}
+use Rattle.flash_model.specs.declared.device.DevFault.{DevFault}
+use Rattle.flash_model.specs.declared.device.DevFault.TheVariants.{Failed, PowerCut}
+use Rattle.flash_model.specs.Device.{Page, bytes_of}
+use Rattle.record_format.specs.Pages.{page_bytes}
+use Rattle.record_format.specs.declared.pages.PageHead.{PageHead}
+use Rattle.commit_pair.specs.Parts.{room, part_of}
+
+-- the piece of a payload that the n-th page holds, and the header of that page
+abbrev pub piece : Geometry → List ℕ → ℕ → List ℕ
+piece g payload n = take (room g) (drop (n * room g) payload)
+
+abbrev pub head_for : Geometry → ℕ → List ℕ → ℕ → ℕ → PageHead
+head_for g sequence payload count n = record { sequence = sequence; index = n; count = count; used = length (piece g payload n) }
+
+abbrev pub bytes_for : Geometry → ℕ → List ℕ → ℕ → ℕ → List ℕ
+bytes_for g sequence payload count n = page_bytes g.page (head_for g sequence payload count n) (piece g payload n)
+
+-- a payload fills so many pages: each but the last whole, and at least one byte of the last
+pub record Fills (g : Geometry) (payload : List ℕ) (count : ℕ) : Type 0 where
+  pub some : 0 < count
+  pub low : count * room g < length payload + room g
+  pub high : length payload ≤ count * room g
+
+-- of the `count` pages of a record, from page p on, those before the n-th are programmed; the others hold no part
+pub record HasPages (g : Geometry) (old new : ℕ → Page) (p sequence : ℕ) (payload : List ℕ) (count n : ℕ) : Type 0 where
+  pub others : (q : ℕ) → (q < p) ⊎ (p + count ≤ q) → new q ≡ old q
+  pub done : (m : ℕ) → m < n → new (p + m) ≡ bytes_of (bytes_for g sequence payload count m)
+  pub rest : (m : ℕ) → n ≤ m → m < count → part_of (new (p + m)) ≡ None
+
+-- how many pages are programmed, by the answer
+abbrev pub EndsAt : ℕ → ℕ → Result (Unit {0}) DevFault → Type 0
+EndsAt count n (Ok _) = n ≡ count
+EndsAt count n (Err Failed) = n < count
+EndsAt count n (Err PowerCut) = n ≤ count

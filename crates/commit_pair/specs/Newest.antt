@@ -1,5 +1,5 @@
 -- The newest record of a flash, and why it may not be told.
-use Rattle.std.specs.Prelude.{◌≡◌, ◌⊎◌, ◌<◌, true, false, Option, Some, None, Result, Ok, Err}
+use Rattle.std.specs.Prelude.{◌≡◌, ◌⊎◌, ◌/◌, ◌<◌, true, false, Option, Some, None, Result, Ok, Err}
 use Rattle.std.specs.Option.{option_map}
 use Rattle.fs_types.specs.declared.faults.Fault.{Fault}
 use Rattle.fs_types.specs.declared.faults.Fault.TheVariants.{ReadFailed, PowerCut, NoMemory, Damaged, BadGeometry}
@@ -9,6 +9,7 @@ use Rattle.record_format.specs.Payloads.{payload_at}
 use Rattle.commit_pair.specs.declared.best.Found.{Found}
 use Rattle.commit_pair.specs.declared.anchors.Anchors.{Anchors}
 use Rattle.commit_pair.specs.Parts.{parts_on, newest_on}
+use Rattle.commit_pair.specs.Reading.{IsEnd}
 use Rattle.commit_pair.specs.Laws.{HasNone, HasTie}
 
 -- the place that is remembered
@@ -18,6 +19,10 @@ remembered anchors = anchors.newest
 -- the anchors were cleared, and no record was committed since
 abbrev pub IsCleared : Anchors → Type 0
 IsCleared anchors = anchors.cleared ≡ true
+
+-- on the anchor of the newest record the place is known that all pages from it on are erased, and the one before it is not
+abbrev pub KnowsEnd : Device → Anchors → Type 0
+KnowsEnd d anchors = (found : Found) → anchors.newest ≡ Some found → IsEnd d.geometry d.pages (found.page / d.geometry.pages) d.geometry.pages anchors.end
 
 -- what the payload of the newest record means, where there is a newest record
 abbrev pub committed_on : Device → Option (Result Record Fault)

@@ -1,10 +1,11 @@
 -- What reads of pages leave, and why they are refused.
-use Rattle.std.specs.Prelude.{◌≡◌, ℕ, ◌<◌, ◌≤◌, true, false, List, Result}
+use Rattle.std.specs.Prelude.{◌≡◌, ◌≢◌, ℕ, ◌+◌, ◌*◌, ◌<◌, ◌≤◌, true, false, List, Result}
 use Rattle.fs_types.specs.declared.faults.Fault.{Fault}
 use Rattle.fs_types.specs.declared.faults.Fault.TheVariants.{ReadFailed, PowerCut}
 use Rattle.flash_model.specs.declared.device.DevFault.{DevFault}
 use Rattle.flash_model.specs.declared.device.PageState.{PageState}
-use Rattle.flash_model.specs.Device.{Device, Reads}
+use Rattle.flash_model.specs.declared.sizes.Geometry.{Geometry}
+use Rattle.flash_model.specs.Device.{Device, Page, erased, Reads}
 use Rattle.std.proofs.Common.{refl, sym, ◌∙◌, ap, arith}
 
 -- between two states of a flash came reads alone
@@ -49,6 +50,12 @@ OnlyReads_from old p was new now result reads = record {
   was_on = λ on. reads.operates.was_on (sym reads.operates.power ∙ on);
   stays_off = reads.operates.off;
 }
+
+-- of the first `count` pages of an anchor those from a place on are erased, and the one before it is not
+pub record IsEnd (g : Geometry) (pages : ℕ → Page) (anchor count place : ℕ) : Type 0 where
+  pub within : place ≤ count
+  pub blank : (m : ℕ) → place ≤ m → m < count → pages (anchor * g.pages + m) ≡ erased
+  pub last : (m : ℕ) → place ≡ m + 1 → pages (anchor * g.pages + m) ≢ erased
 
 -- a read is refused only because it failed, or because power is off
 abbrev pub ReadCause : Device → Device → Fault → Type 0

@@ -5,11 +5,11 @@ ghost use Rattle.flash_model.specs.Geometry.{IsGeometry};
 ghost use Rattle.commit_pair.specs.Parts as spec;
 ghost use Rattle.commit_pair.specs.Reading.{OnlyReads};
 ghost use Rattle.commit_pair.specs.Anchored.{OnlyAnchors, Fades, AreErased};
-ghost use Rattle.commit_pair.specs.Newest.{remembered, IsCleared, IsNewestRecord, NewestCause};
+ghost use Rattle.commit_pair.specs.Newest.{remembered, IsCleared, KnowsEnd, IsNewestRecord, NewestCause};
 
 use crate::best::{Best, Found};
 use crate::clearing::erase_anchors;
-use crate::scan::{find_best, find_payload};
+use crate::scan::{find_best, find_end, find_payload};
 use bad_blocks::BadBlocks;
 use flash_model::{Flash, Geometry};
 use fs_types::Fault;
@@ -20,6 +20,8 @@ use std::alloc::Global;
 #[derive(Debug, Drop)]
 pub struct Anchors {
     newest: Option<Found>,
+    // the place after the last page that is not erased, on the anchor of the newest record
+    end: u32,
     cleared: bool,
 }
 
@@ -30,6 +32,7 @@ impl Anchors {
     {
         Anchors {
             newest: None,
+            end: 0,
             cleared: false,
         }
     }
@@ -48,6 +51,7 @@ impl Anchors {
         requires { IsGeometry (F.device flash.old).geometry }
         ensures newest { IfOk result (IsNewestRecord (F.device flash.old)) }
         ensures remembers { OnOk result (remembered self.new ≡ spec.newest_at (F.device flash.old).geometry (spec.parts_on (F.device flash.old).geometry (F.device flash.old).pages)) }
+        ensures end { OnOk result (KnowsEnd (F.device flash.old) self.new) }
         ensures forgets { OnErr result (remembered self.new ≡ None) }
         ensures only_reads { OnlyReads (F.device flash.old) (F.device flash.new) }
         ensures why { IfErr result (NewestCause (F.device flash.old) (F.device flash.new)) }
@@ -57,6 +61,9 @@ impl Anchors {
         let mut page = vec![in alloc; 0u8; geometry.page as usize]?;
         let best = find_best(flash, geometry, &mut page)?;
         let newest = read_best(alloc, flash, geometry, best, &mut page)?;
+        if let Some(found) = best.found {
+            self.end = find_end(flash, geometry, found.page / geometry.pages, &mut page)?;
+        }
         self.newest = best.found;
         Ok(newest)
     }

@@ -1,13 +1,15 @@
 //! All pages of all anchors, gone over once.
-ghost use Rattle.std.specs.Prelude.{◌≡◌, ℕ, ◌+◌, ◌*◌, ◌%◌, ◌≤◌, ◌<◌, length, IfOk, IfErr, MatchOption};
+ghost use Rattle.std.specs.Prelude.{◌≡◌, ◌≢◌, ℕ, ◌+◌, ◌*◌, ◌%◌, ◌≤◌, ◌<◌, length, IfOk, IfErr, MatchOption};
+ghost use Rattle.std.specs.Bool.{OnTrue, OnFalse};
+ghost use Rattle.flash_model.specs.Device.{erased};
 ghost use Rattle.flash_model.specs.Geometry.{IsGeometry};
 ghost use Rattle.commit_pair.specs.Parts as spec;
-ghost use Rattle.commit_pair.specs.Reading.{OnlyReads, ReadCause};
+ghost use Rattle.commit_pair.specs.Reading.{IsEnd, OnlyReads, ReadCause};
 
 use crate::best::{Best, Found};
 use crate::parts::{FIRST_DATA, read_head, read_record_head};
 use arrayvec::ArrayVec;
-use flash_model::{Flash, Geometry};
+use flash_model::{DevFault, Flash, Geometry, PageState};
 use fs_types::Fault;
 use record_format::{HEAD_SIZE, LONGEST_PAYLOAD, PageHead, Payload};
 
@@ -76,4 +78,54 @@ pub(crate) fn find_payload<F: Flash>(
         payload.try_extend_from_slice(bytes).unwrap();
     }
     Ok(Some(payload))
+}
+
+/// Whether a page of an anchor is erased.
+fn is_blank<F: Flash>(
+    flash: &mut F,
+    geometry: Geometry,
+    page: u32,
+    buffer: &mut [u8],
+) -> Result<bool, Fault>
+    requires same { (F.device flash.old).geometry ≡ geometry }
+    requires lawful { IsGeometry geometry }
+    requires in_range { page < spec.first_data * geometry.pages }
+    requires whole { length buffer.old ≡ geometry.page }
+    ensures blank { IfOk result (λ is. OnTrue is ((F.device flash.old).pages page ≡ erased)) }
+    ensures other { IfOk result (λ is. OnFalse is ((F.device flash.old).pages page ≢ erased)) }
+    ensures only_reads { OnlyReads (F.device flash.old) (F.device flash.new) }
+    ensures why { IfErr result (ReadCause (F.device flash.old) (F.device flash.new)) }
+{
+    match flash.read(page, buffer) {
+        Ok(PageState::Erased) => Ok(true),
+        Ok(PageState::Data) => Ok(false),
+        Ok(PageState::Unreadable) => Ok(false),
+        Err(DevFault::Failed) => Err(Fault::ReadFailed),
+        Err(DevFault::PowerCut) => Err(Fault::PowerCut),
+    }
+}
+
+/// The place after the last page of an anchor that is not erased.
+pub(crate) fn find_end<F: Flash>(
+    flash: &mut F,
+    geometry: Geometry,
+    anchor: u32,
+    buffer: &mut [u8],
+) -> Result<u32, Fault>
+    requires same { (F.device flash.old).geometry ≡ geometry }
+    requires lawful { IsGeometry geometry }
+    requires anchor { anchor < spec.first_data }
+    requires whole { length buffer.old ≡ geometry.page }
+    ensures end { IfOk result (IsEnd geometry (F.device flash.old).pages anchor geometry.pages) }
+    ensures only_reads { OnlyReads (F.device flash.old) (F.device flash.new) }
+    ensures why { IfErr result (ReadCause (F.device flash.old) (F.device flash.new)) }
+{
+    let mut end = 0;
+    for place in 0..geometry.pages {
+        let page = geometry.page_number(anchor, place);
+        if !is_blank(flash, geometry, page, buffer)? {
+            end = place + 1;
+        }
+    }
+    Ok(end)
 }

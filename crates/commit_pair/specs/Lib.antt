@@ -7,3 +7,4 @@ pub mod Anchored
 pub mod Programming
 pub mod Keeping
 pub mod Payloads
+pub mod Committing

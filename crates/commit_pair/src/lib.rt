@@ -4,6 +4,7 @@
 mod anchors;
 mod best;
 mod clearing;
+mod committing;
 mod laws;
 mod parts;
 mod payloads;

@@ -1,4 +1,6 @@
 pub mod Faults
+pub mod Frames
+pub mod FrameLaws
 pub mod NodePages
 pub mod Reading
 pub mod ReadingLaws

@@ -4,6 +4,7 @@ ghost use Rattle.fs_types.specs.declared.faults.Fault.{Fault};
 ghost use Rattle.fs_types.specs.declared.faults.Fault.TheVariants.{NoMemory, Damaged};
 ghost use Rattle.node_format.specs.Headers.{IsNode};
 ghost use Rattle.node_store.specs.Faults.{IsReadFault, IsWriteFault};
+ghost use Rattle.node_store.specs.Frames.{OnlyLooks, Works};
 
 use fs_types::Fault;
 
@@ -67,6 +68,7 @@ pub trait Nodes {
         ensures faults { IfErr result IsReadFault }
 
         // Whatever is answered, no block changes.
+        ensures looks { OnlyLooks node kept writes follows is_sound limit blocks self.old self.new }
         ensures same_nodes { node self.new ≡ node self.old }
         ensures same_kept { kept self.new ≡ kept self.old }
         ensures reads { reads self.new ≡ reads self.old + 1 }
@@ -93,6 +95,7 @@ pub trait Nodes {
         ensures faults { IfErr result IsWriteFault }
 
         // Whatever is answered, each block that was kept stays so, with its node: the laws of `follows` say so.
+        ensures works { Works follows is_sound limit blocks self.old self.new }
         ensures reads { reads self.new ≡ reads self.old }
         ensures writes { writes self.new ≡ writes self.old + 1 }
         ensures follows { follows self.old self.new }
@@ -103,6 +106,13 @@ pub trait Nodes {
     ghost follows_itself: { (s : Self) → follows s s };
 
     ghost follows_on: { (s t u : Self) → follows s t → follows t u → follows s u };
+
+    // calls one after the other; a call that only reads is one that may write
+    ghost looks_on: { (s t u : Self) → OnlyLooks node kept writes follows is_sound limit blocks s t → OnlyLooks node kept writes follows is_sound limit blocks t u → OnlyLooks node kept writes follows is_sound limit blocks s u };
+
+    ghost works_on: { (s t u : Self) → Works follows is_sound limit blocks s t → Works follows is_sound limit blocks t u → Works follows is_sound limit blocks s u };
+
+    ghost looks_works: { (s t : Self) → OnlyLooks node kept writes follows is_sound limit blocks s t → Works follows is_sound limit blocks s t };
 
     ghost causes_on: { (s t u : Self) (fault : Fault) → follows s t → causes t u fault → causes s u fault };
 

@@ -51,6 +51,7 @@ impl<F: Flash> Nodes for Store<'_, F> {
     ghost use Rattle.node_store.specs.NodeLaws.{node_of-whole, node_of-anchor, node_of-beyond};
     ghost use Rattle.node_store.specs.StorageLaws.{Evolved_fresh};
     ghost use Rattle.node_store.specs.Stores.{parts, IsSound, Follows, Causes};
+    ghost use Rattle.node_store.specs.FrameLaws.{Looks_on, Works_on, Looks_works};
     ghost use Rattle.node_store.specs.StoreLaws.{Evolved_node, Follows_itself, Follows_on, Causes_on, Sound_on};
 
     ghost node = { λ s. node_of (F.device s.flash.now) };
@@ -107,6 +108,12 @@ impl<F: Flash> Nodes for Store<'_, F> {
     ghost follows_itself = { Follows_itself F.device };
 
     ghost follows_on = { Follows_on F.device };
+
+    ghost looks_on = { Looks_on (Follows_on F.device) };
+
+    ghost works_on = { Works_on (Follows_on F.device) };
+
+    ghost looks_works = { Looks_works };
 
     ghost causes_on = { Causes_on F.device };
 

@@ -1,5 +1,17 @@
+use Rattle.std.proofs.Common.{rules}
 use Rattle.node_store.specs.ReadingLaws.{OnlyReads_nodes}
 use Rattle.node_store.proofs.stores.StoreNodes.read.Goals as goal
+
+pub returns-clause-looks : goal.returns-clause-looks
+returns-clause-looks g c = record {
+  same_nodes = OnlyReads_nodes _ _ c.requires.lawful c.read_node.ensures.only_reads;
+  same_kept = search rules;
+  same_writes = search rules;
+  came = search rules;
+  sound = search rules;
+  same_limit = search rules;
+  same_blocks = search rules;
+}
 
 pub returns-clause-same_nodes : goal.returns-clause-same_nodes
 returns-clause-same_nodes g c = OnlyReads_nodes _ _ c.requires.lawful c.read_node.ensures.only_reads

@@ -6,6 +6,7 @@ ghost use Rattle.block_trees.specs.Bodies.{back, head_index, IsChain, IsLinked, 
 ghost use Rattle.skip_list_file.specs.Reading as spec;
 ghost use Rattle.skip_list_file.specs.Reading.{nodes_between};
 ghost use Rattle.skip_list_file.specs.Writing.{KeepsNone, IsWritingFault};
+ghost use Rattle.node_store.specs.Frames.{OnlyLooks};
 
 use crate::bodies::Body;
 use crate::reading::{copy_data, find, pointer_at};
@@ -31,13 +32,7 @@ pub(crate) fn list_blocks<N: Nodes>(
     ensures reads { N.reads nodes.new ≤ N.reads nodes.old + nodes_between room from body.length }
     ensures why { IfErr result (λ fault. N.causes nodes.old nodes.new fault) }
     ensures faults { IfErr result IsWritingFault }
-    ensures same_nodes { N.node nodes.new ≡ N.node nodes.old }
-    ensures same_kept { N.kept nodes.new ≡ N.kept nodes.old }
-    ensures writes { N.writes nodes.new ≡ N.writes nodes.old }
-    ensures follows { N.follows nodes.old nodes.new }
-    ensures sound { N.is_sound nodes.new }
-    ensures limit { N.limit nodes.new ≡ N.limit nodes.old }
-    ensures blocks { N.blocks nodes.new ≡ N.blocks nodes.old }
+    ensures looks { OnlyLooks N.node N.kept N.writes N.follows N.is_sound N.limit N.blocks nodes.old nodes.new }
 {
     if from >= body.length {
         return Ok(Vec::new(alloc));
@@ -71,13 +66,7 @@ fn find_listed<N: Nodes>(
     ensures reads { (digits : ℕ) → head_index < 2 ^ digits → N.reads nodes.new ≤ N.reads nodes.old + 2 * digits }
     ensures why { IfErr result (λ fault. N.causes nodes.old nodes.new fault) }
     ensures faults { IfErr result spec.IsBodyFault }
-    ensures same_nodes { N.node nodes.new ≡ N.node nodes.old }
-    ensures same_kept { N.kept nodes.new ≡ N.kept nodes.old }
-    ensures writes { N.writes nodes.new ≡ N.writes nodes.old }
-    ensures follows { N.follows nodes.old nodes.new }
-    ensures sound { N.is_sound nodes.new }
-    ensures limit { N.limit nodes.new ≡ N.limit nodes.old }
-    ensures blocks { N.blocks nodes.new ≡ N.blocks nodes.old }
+    ensures looks { OnlyLooks N.node N.kept N.writes N.follows N.is_sound N.limit N.blocks nodes.old nodes.new }
 {
     match blocks.get((head_index - index) as usize) {
         Some(block) => Ok(*block),
@@ -111,13 +100,7 @@ pub(crate) fn read_kept<N: Nodes>(
     ensures reads { (digits : ℕ) → head_index room body.length < 2 ^ digits → N.reads nodes.new ≤ N.reads nodes.old + (1 + 2 * digits) }
     ensures why { IfErr result (λ fault. N.causes nodes.old nodes.new fault) }
     ensures faults { IfErr result spec.IsBodyFault }
-    ensures same_nodes { N.node nodes.new ≡ N.node nodes.old }
-    ensures same_kept { N.kept nodes.new ≡ N.kept nodes.old }
-    ensures writes { N.writes nodes.new ≡ N.writes nodes.old }
-    ensures follows { N.follows nodes.old nodes.new }
-    ensures sound { N.is_sound nodes.new }
-    ensures limit { N.limit nodes.new ≡ N.limit nodes.old }
-    ensures blocks { N.blocks nodes.new ≡ N.blocks nodes.old }
+    ensures looks { OnlyLooks N.node N.kept N.writes N.follows N.is_sound N.limit N.blocks nodes.old nodes.new }
 {
     let start = index * room;
     let kept = body.length.saturating_sub(start).min(out.len() as u32);

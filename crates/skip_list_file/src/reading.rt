@@ -6,6 +6,7 @@ ghost use Rattle.node_format.specs.BodyNodes.{HasPlace};
 ghost use Rattle.block_trees.specs.Bodies.{index_of, pointer_of, data_of, back, data_to, head_index, IsChain, IsLinked, IsBody};
 ghost use Rattle.block_trees.specs.Bodies as trees;
 ghost use Rattle.skip_list_file.specs.Reading as spec;
+ghost use Rattle.node_store.specs.Frames.{OnlyLooks};
 
 use crate::bodies::Body;
 use fs_types::{Bytes, Fault};
@@ -31,14 +32,8 @@ pub(crate) fn pointer_at<N: Nodes>(nodes: &mut N, block: u32, place: u32) -> Res
     ensures found { IfOk result (λ next. next ≡ pointer_of (N.node nodes.old block) place) }
     ensures why { IfErr result (λ fault. N.causes nodes.old nodes.new fault) }
     ensures faults { IfErr result spec.IsBodyFault }
-    ensures same_nodes { N.node nodes.new ≡ N.node nodes.old }
-    ensures same_kept { N.kept nodes.new ≡ N.kept nodes.old }
+    ensures looks { OnlyLooks N.node N.kept N.writes N.follows N.is_sound N.limit N.blocks nodes.old nodes.new }
     ensures reads { N.reads nodes.new ≡ N.reads nodes.old + 1 }
-    ensures writes { N.writes nodes.new ≡ N.writes nodes.old }
-    ensures follows { N.follows nodes.old nodes.new }
-    ensures sound { N.is_sound nodes.new }
-    ensures limit { N.limit nodes.new ≡ N.limit nodes.old }
-    ensures blocks { N.blocks nodes.new ≡ N.blocks nodes.old }
 {
     nodes.read(block)?;
     let Some(node) = BodyNode::of(nodes.lent()) else {
@@ -68,13 +63,7 @@ pub(crate) fn find<N: Nodes>(
     ensures reads { (digits : ℕ) → head_index < 2 ^ digits → N.reads nodes.new ≤ N.reads nodes.old + 2 * digits }
     ensures why { IfErr result (λ fault. N.causes nodes.old nodes.new fault) }
     ensures faults { IfErr result spec.IsBodyFault }
-    ensures same_nodes { N.node nodes.new ≡ N.node nodes.old }
-    ensures same_kept { N.kept nodes.new ≡ N.kept nodes.old }
-    ensures writes { N.writes nodes.new ≡ N.writes nodes.old }
-    ensures follows { N.follows nodes.old nodes.new }
-    ensures sound { N.is_sound nodes.new }
-    ensures limit { N.limit nodes.new ≡ N.limit nodes.old }
-    ensures blocks { N.blocks nodes.new ≡ N.blocks nodes.old }
+    ensures looks { OnlyLooks N.node N.kept N.writes N.follows N.is_sound N.limit N.blocks nodes.old nodes.new }
 {
     let mut block = head;
     let mut at = head_index;
@@ -101,14 +90,8 @@ pub(crate) fn copy_data<N: Nodes>(
     ensures before { IfOk result (λ before. (index : ℕ) → index_of (N.node nodes.old block) ≡ Some index → 0 < index → before ≡ pointer_of (N.node nodes.old block) 0) }
     ensures why { IfErr result (λ fault. N.causes nodes.old nodes.new fault) }
     ensures faults { IfErr result spec.IsBodyFault }
-    ensures same_nodes { N.node nodes.new ≡ N.node nodes.old }
-    ensures same_kept { N.kept nodes.new ≡ N.kept nodes.old }
+    ensures looks { OnlyLooks N.node N.kept N.writes N.follows N.is_sound N.limit N.blocks nodes.old nodes.new }
     ensures reads { N.reads nodes.new ≡ N.reads nodes.old + 1 }
-    ensures writes { N.writes nodes.new ≡ N.writes nodes.old }
-    ensures follows { N.follows nodes.old nodes.new }
-    ensures sound { N.is_sound nodes.new }
-    ensures limit { N.limit nodes.new ≡ N.limit nodes.old }
-    ensures blocks { N.blocks nodes.new ≡ N.blocks nodes.old }
 {
     nodes.read(block)?;
     let Some(node) = BodyNode::of(nodes.lent()) else {
@@ -139,13 +122,7 @@ fn fill<N: Nodes>(
     ensures reads { N.reads nodes.new ≤ N.reads nodes.old + spec.nodes_between room start end }
     ensures why { IfErr result (λ fault. N.causes nodes.old nodes.new fault) }
     ensures faults { IfErr result spec.IsBodyFault }
-    ensures same_nodes { N.node nodes.new ≡ N.node nodes.old }
-    ensures same_kept { N.kept nodes.new ≡ N.kept nodes.old }
-    ensures writes { N.writes nodes.new ≡ N.writes nodes.old }
-    ensures follows { N.follows nodes.old nodes.new }
-    ensures sound { N.is_sound nodes.new }
-    ensures limit { N.limit nodes.new ≡ N.limit nodes.old }
-    ensures blocks { N.blocks nodes.new ≡ N.blocks nodes.old }
+    ensures looks { OnlyLooks N.node N.kept N.writes N.follows N.is_sound N.limit N.blocks nodes.old nodes.new }
 {
     let mut block = block;
     let mut end = end;
@@ -187,13 +164,7 @@ pub fn read_range<N: Nodes>(
     ensures unread { spec.nodes_of_range (N.limit nodes.old - body_front) body.length offset count ≡ 0 → N.reads nodes.new ≡ N.reads nodes.old }
     ensures why { IfErr result (λ fault. N.causes nodes.old nodes.new fault) }
     ensures faults { IfErr result spec.IsBodyFault }
-    ensures same_nodes { N.node nodes.new ≡ N.node nodes.old }
-    ensures same_kept { N.kept nodes.new ≡ N.kept nodes.old }
-    ensures writes { N.writes nodes.new ≡ N.writes nodes.old }
-    ensures follows { N.follows nodes.old nodes.new }
-    ensures sound { N.is_sound nodes.new }
-    ensures limit { N.limit nodes.new ≡ N.limit nodes.old }
-    ensures blocks { N.blocks nodes.new ≡ N.blocks nodes.old }
+    ensures looks { OnlyLooks N.node N.kept N.writes N.follows N.is_sound N.limit N.blocks nodes.old nodes.new }
 {
     let end = offset.saturating_add(count).min(u64::from(body.length));
     if offset >= end {

@@ -3,6 +3,7 @@ ghost use Rattle.std.specs.Prelude.{◌≡◌, ℕ, ◌+◌, ◌-◌, ◌*◌, �
 ghost use Rattle.block_trees.specs.Bodies.{back, IsChain, IsLinked};
 ghost use Rattle.skip_list_file.specs.Reading.{IsBodyFault};
 ghost use Rattle.skip_list_file.specs.Writing as spec;
+ghost use Rattle.node_store.specs.Frames.{OnlyLooks};
 
 use crate::reading::pointer_at;
 use fs_types::Fault;
@@ -30,13 +31,7 @@ fn step_back<N: Nodes>(nodes: &mut N, block: u32, most: u32, place: u32) -> Resu
     ensures unread { most < 2 ^ place → N.reads nodes.new ≡ N.reads nodes.old }
     ensures why { IfErr result (λ fault. N.causes nodes.old nodes.new fault) }
     ensures faults { IfErr result IsBodyFault }
-    ensures same_nodes { N.node nodes.new ≡ N.node nodes.old }
-    ensures same_kept { N.kept nodes.new ≡ N.kept nodes.old }
-    ensures writes { N.writes nodes.new ≡ N.writes nodes.old }
-    ensures follows { N.follows nodes.old nodes.new }
-    ensures sound { N.is_sound nodes.new }
-    ensures limit { N.limit nodes.new ≡ N.limit nodes.old }
-    ensures blocks { N.blocks nodes.new ≡ N.blocks nodes.old }
+    ensures looks { OnlyLooks N.node N.kept N.writes N.follows N.is_sound N.limit N.blocks nodes.old nodes.new }
 {
     let power = 2u32.pow(place);
     if most / power % 2 == 0 {
@@ -61,13 +56,7 @@ pub(crate) fn start_table<N: Nodes>(
     ensures reads { (digits : ℕ) → index ≤ 2 ^ digits → N.reads nodes.new ≤ N.reads nodes.old + digits }
     ensures why { IfErr result (λ fault. N.causes nodes.old nodes.new fault) }
     ensures faults { IfErr result IsBodyFault }
-    ensures same_nodes { N.node nodes.new ≡ N.node nodes.old }
-    ensures same_kept { N.kept nodes.new ≡ N.kept nodes.old }
-    ensures writes { N.writes nodes.new ≡ N.writes nodes.old }
-    ensures follows { N.follows nodes.old nodes.new }
-    ensures sound { N.is_sound nodes.new }
-    ensures limit { N.limit nodes.new ≡ N.limit nodes.old }
-    ensures blocks { N.blocks nodes.new ≡ N.blocks nodes.old }
+    ensures looks { OnlyLooks N.node N.kept N.writes N.follows N.is_sound N.limit N.blocks nodes.old nodes.new }
 {
     let mut blocks = [head; PLACES];
     if index == 0 {

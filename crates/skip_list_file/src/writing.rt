@@ -9,6 +9,7 @@ ghost use Rattle.block_trees.specs.Bodies.{head_index, Divides, IsBody};
 ghost use Rattle.block_trees.specs.Reached.{IsHeld, Keeps};
 ghost use Rattle.skip_list_file.specs.Reading.{nodes_between, AreBlocks};
 ghost use Rattle.skip_list_file.specs.Writing as spec;
+ghost use Rattle.node_store.specs.Frames.{OnlyLooks, Works};
 
 use crate::bodies::Body;
 use crate::old_nodes::{list_blocks, read_kept};
@@ -49,10 +50,7 @@ fn append<N: Nodes>(
     ensures faults { IfErr result spec.IsWritingFault }
     ensures one { IfOk result (λ _. N.writes nodes.new ≡ N.writes nodes.old + 1) }
     ensures writes { N.writes nodes.new ≤ N.writes nodes.old + 1 }
-    ensures follows { N.follows nodes.old nodes.new }
-    ensures sound { N.is_sound nodes.new }
-    ensures limit { N.limit nodes.new ≡ N.limit nodes.old }
-    ensures blocks { N.blocks nodes.new ≡ N.blocks nodes.old }
+    ensures works { Works N.follows N.is_sound N.limit N.blocks nodes.old nodes.new }
 {
     let node = body_node(alloc, index, &table.blocks, bytes)?;
     let block = nodes.write(&node)?;
@@ -71,13 +69,7 @@ fn front<N: Nodes>(nodes: &mut N, room: u32, body: Body, part: u32) -> Result<u3
     ensures front { IfOk result (λ front. spec.IsFront room (N.node nodes.old) body.head body.length front part) }
     ensures why { IfErr result (λ fault. N.causes nodes.old nodes.new fault) }
     ensures faults { IfErr result spec.IsWritingFault }
-    ensures same_nodes { N.node nodes.new ≡ N.node nodes.old }
-    ensures same_kept { N.kept nodes.new ≡ N.kept nodes.old }
-    ensures writes { N.writes nodes.new ≡ N.writes nodes.old }
-    ensures follows { N.follows nodes.old nodes.new }
-    ensures sound { N.is_sound nodes.new }
-    ensures limit { N.limit nodes.new ≡ N.limit nodes.old }
-    ensures blocks { N.blocks nodes.new ≡ N.blocks nodes.old }
+    ensures looks { OnlyLooks N.node N.kept N.writes N.follows N.is_sound N.limit N.blocks nodes.old nodes.new }
 {
     if part == 0 {
         return Ok(0);
@@ -128,13 +120,7 @@ fn edit_into<N: Nodes>(
     ensures reads { (digits : ℕ) → head_index room body.length < 2 ^ digits → N.reads nodes.new ≤ N.reads nodes.old + (1 + 2 * digits) }
     ensures why { IfErr result (λ fault. N.causes nodes.old nodes.new fault) }
     ensures faults { IfErr result spec.IsWritingFault }
-    ensures same_nodes { N.node nodes.new ≡ N.node nodes.old }
-    ensures same_kept { N.kept nodes.new ≡ N.kept nodes.old }
-    ensures writes { N.writes nodes.new ≡ N.writes nodes.old }
-    ensures follows { N.follows nodes.old nodes.new }
-    ensures sound { N.is_sound nodes.new }
-    ensures limit { N.limit nodes.new ≡ N.limit nodes.old }
-    ensures blocks { N.blocks nodes.new ≡ N.blocks nodes.old }
+    ensures looks { OnlyLooks N.node N.kept N.writes N.follows N.is_sound N.limit N.blocks nodes.old nodes.new }
 {
     let end = offset + bytes.len() as u32;
     read_kept(nodes, room, body, blocks, offset, end, index, out)?;
@@ -168,13 +154,7 @@ fn edited_bytes<N: Nodes>(
     ensures reads { (digits : ℕ) → head_index room body.length < 2 ^ digits → N.reads nodes.new ≤ N.reads nodes.old + (1 + 2 * digits) }
     ensures why { IfErr result (λ fault. N.causes nodes.old nodes.new fault) }
     ensures faults { IfErr result spec.IsWritingFault }
-    ensures same_nodes { N.node nodes.new ≡ N.node nodes.old }
-    ensures same_kept { N.kept nodes.new ≡ N.kept nodes.old }
-    ensures writes { N.writes nodes.new ≡ N.writes nodes.old }
-    ensures follows { N.follows nodes.old nodes.new }
-    ensures sound { N.is_sound nodes.new }
-    ensures limit { N.limit nodes.new ≡ N.limit nodes.old }
-    ensures blocks { N.blocks nodes.new ≡ N.blocks nodes.old }
+    ensures looks { OnlyLooks N.node N.kept N.writes N.follows N.is_sound N.limit N.blocks nodes.old nodes.new }
 {
     let mut new = vec![in alloc; 0; count as usize]?;
     edit_into(nodes, room, body, blocks, offset, bytes, index, &mut new)?;
@@ -205,10 +185,7 @@ fn edited<N: Nodes>(
     ensures reads { (digits : ℕ) → head_index (N.limit nodes.old - body_front) body.length < 2 ^ digits → N.reads nodes.new ≤ N.reads nodes.old + (2 * nodes_between (N.limit nodes.old - body_front) (offset + length bytes.now) body.length + (1 + 5 * digits)) }
     ensures count { IfOk result (λ _. N.writes nodes.new ≡ N.writes nodes.old + nodes_from (N.limit nodes.old - body_front) (min offset body.length) size) }
     ensures writes { N.writes nodes.new ≤ N.writes nodes.old + nodes_from (N.limit nodes.old - body_front) (min offset body.length) size }
-    ensures follows { N.follows nodes.old nodes.new }
-    ensures sound { N.is_sound nodes.new }
-    ensures limit { N.limit nodes.new ≡ N.limit nodes.old }
-    ensures blocks { N.blocks nodes.new ≡ N.blocks nodes.old }
+    ensures works { Works N.follows N.is_sound N.limit N.blocks nodes.old nodes.new }
 {
     let room = nodes.block_bytes() - BODY_FRONT;
     let first = offset.min(body.length) / room;
@@ -264,10 +241,7 @@ pub fn write_range<N: Nodes>(
     ensures writes { N.writes nodes.new ≤ N.writes nodes.old + pwrite_need (N.limit nodes.old - body_front) body.length offset (length bytes.now) }
     ensures why { IfErr result (λ fault. N.causes nodes.old nodes.new fault) }
     ensures faults { IfErr result spec.IsWritingFault }
-    ensures follows { N.follows nodes.old nodes.new }
-    ensures sound { N.is_sound nodes.new }
-    ensures limit { N.limit nodes.new ≡ N.limit nodes.old }
-    ensures blocks { N.blocks nodes.new ≡ N.blocks nodes.old }
+    ensures works { Works N.follows N.is_sound N.limit N.blocks nodes.old nodes.new }
 {
     let end = offset + bytes.len() as u32;
     edited(alloc, nodes, body, offset, bytes, body.length.max(end))
@@ -297,10 +271,7 @@ pub fn set_length<N: Nodes>(
     ensures writes { N.writes nodes.new ≤ N.writes nodes.old + ftruncate_need (N.limit nodes.old - body_front) body.length length }
     ensures why { IfErr result (λ fault. N.causes nodes.old nodes.new fault) }
     ensures faults { IfErr result spec.IsWritingFault }
-    ensures follows { N.follows nodes.old nodes.new }
-    ensures sound { N.is_sound nodes.new }
-    ensures limit { N.limit nodes.new ≡ N.limit nodes.old }
-    ensures blocks { N.blocks nodes.new ≡ N.blocks nodes.old }
+    ensures works { Works N.follows N.is_sound N.limit N.blocks nodes.old nodes.new }
 {
     if length > body.length {
         return edited(alloc, nodes, body, body.length, &[], length);

@@ -11,7 +11,7 @@ pointer_at-requires-clause-place g c =
     let now = c.loop-step.invariant in
     let step : ℕ = c.loop-step._step - 1 in
     let there = listed_pointer c.args.room f c.args.body.head c.args.body.length step (omega arith) c.requires.whole (omega arith) in
-    let same : g.N.Nodes.node c.loop-step.nodes c.loop-step.block ≡ f (back f c.args.body.head step) = ap (λ (h : Blocks). h c.loop-step.block) now.same_nodes ∙ ap f now.here in
+    let same : g.N.Nodes.node c.loop-step.nodes c.loop-step.block ≡ f (back f c.args.body.head step) = ap (λ (h : Blocks). h c.loop-step.block) now.looks.same_nodes ∙ ap f now.here in
     subst (λ (node : Option (List ℕ)). HasPointer node 0) (sym same) there
 
 pub loop-step-preserved : goal.loop-step-preserved
@@ -25,18 +25,12 @@ loop-step-preserved g c =
     let before : step - 1 + 1 ≡ step = omega arith in
     let after : step ≡ step + 1 - 1 = omega arith in
     let is : block ≡ back f head step =
-    done.found ∙ ap (λ (h : Blocks). pointer_of (h c.loop-step.block) 0) now.same_nodes ∙ ap (λ (b : ℕ). pointer_of (f b) 0) now.here ∙ listed_next f head (step - 1) ∙ ap (back f head) before in
+    done.found ∙ ap (λ (h : Blocks). pointer_of (h c.loop-step.block) 0) now.looks.same_nodes ∙ ap (λ (b : ℕ). pointer_of (f b) 0) now.here ∙ listed_next f head (step - 1) ∙ ap (back f head) before in
     let items : c.push-in-loop-step.new.self.items ≡ c.loop-step.blocks.items ++ block ∷ [] = c.in_ok-push-2.ensures.items in
     record {
       here = is ∙ ap (back f head) after;
       listed = subst (AreBlocks f head) (sym items) (more_listed f head block step c.loop-step.blocks.items now.size is now.listed);
       size = ap length items ∙ length-append c.loop-step.blocks.items (block ∷ []) ∙ ap (λ (n : ℕ). n + 1) now.size;
       reads = omega (arith, now.reads, done.reads);
-      same_nodes = done.same_nodes ∙ now.same_nodes;
-      same_kept = done.same_kept ∙ now.same_kept;
-      writes = done.writes ∙ now.writes;
-      follows = g.met.N.Nodes.follows_on c.args.nodes.now c.loop-step.nodes c.pointer_at.new.nodes now.follows done.follows;
-      sound = done.sound;
-      limit = done.limit ∙ now.limit;
-      blocks = done.blocks ∙ now.blocks;
+      looks = g.met.N.Nodes.looks_on c.args.nodes.now c.loop-step.nodes c.pointer_at.new.nodes now.looks done.looks;
     }

@@ -29,7 +29,7 @@ copy_data-requires-clause-node g c =
     let head_index : ℕ = (c.args.body.length - 1) / c.args.room in
     let some : 0 < c.args.body.length = omega (arith, c.min-kept.ensures, c.saturating_sub.ensures) in
     let chain = listed_chain c.args.room f c.args.body.head c.args.body.length (head_index - c.args.index) some c.requires.whole (omega arith) in
-    let same = ap (λ (h : Blocks). index_of (h c.in_ok-block.block)) c.in_ok-block.ensures.same_nodes in (
+    let same = ap (λ (h : Blocks). index_of (h c.in_ok-block.block)) c.in_ok-block.ensures.looks.same_nodes in (
       head_index - (head_index - c.args.index),
       same ∙ ap (λ (b : ℕ). index_of (f b)) c.in_ok-block.ensures.found ∙ chain_node c.args.room (head_index - (head_index - c.args.index)) (back f c.args.body.head (head_index - c.args.index)) f chain,
     )
@@ -40,7 +40,7 @@ copy_data-requires-clause-within g c =
     let kept = c.min-kept.result in
     let part = part_of c.args.room f c.args.body.head c.args.body.length c.args.index kept c.in_ok-block.block c.requires.least c.requires.whole (omega arith)
     (omega (arith, c.min-kept.ensures, c.requires.size)) (omega (arith, c.min-kept.ensures, c.saturating_sub.ensures)) c.in_ok-block.ensures.found in
-    let same = ap (λ (h : Blocks). length (data_of (h c.in_ok-block.block))) c.in_ok-block.ensures.same_nodes in
+    let same = ap (λ (h : Blocks). length (data_of (h c.in_ok-block.block))) c.in_ok-block.ensures.looks.same_nodes in
     omega (arith, part.long, same, length-take-le kept c.args.out.now (omega (arith, c.min-kept.ensures)))
 
 pub returns-clause-kept : goal.returns-clause-kept
@@ -55,6 +55,6 @@ returns-clause-kept g c =
     (omega (arith, c.min-kept.ensures, c.requires.size)) (omega (arith, c.min-kept.ensures, c.saturating_sub.ensures)) c.in_ok-block.ensures.found in
     let copied : c.copy_data.new.out ≡ take kept (data_of (f c.in_ok-block.block)) =
     c.in_ok-copy_data.ensures.copied ∙ ap (λ (n : ℕ). take n (data_of (g.N.Nodes.node c.find_listed.new.nodes c.in_ok-block.block))) (length-take-le kept c.args.out.now (omega (arith, c.min-kept.ensures)))
-    ∙ ap (λ (h : Blocks). take kept (data_of (h c.in_ok-block.block))) c.in_ok-block.ensures.same_nodes in
+    ∙ ap (λ (h : Blocks). take kept (data_of (h c.in_ok-block.block))) c.in_ok-block.ensures.looks.same_nodes in
     let all = part_kept file c.args.out.now (data_of (f c.in_ok-block.block)) start c.args.offset c.args.end kept c.requires.zeros is part.long part.bytes in
     λ i lt which. ap (λ (xs : List ℕ). slice_index (xs ++ drop kept c.args.out.now) i) copied ∙ all i lt which

@@ -8,7 +8,7 @@ use Rattle.skip_list_file.proofs.reading.fill.Goals as goal
 pub copy_data-requires-clause-node : goal.copy_data-requires-clause-node
 copy_data-requires-clause-node g c =
     let now = c.loop-end.invariant in
-    let here = ap (λ (f : Blocks). index_of (f c.loop-end.block)) now.same_nodes in
+    let here = ap (λ (f : Blocks). index_of (f c.loop-end.block)) now.looks.same_nodes in
     ((c.loop-end.end - 1) / c.args.room, here ∙ chain_node c.args.room ((c.loop-end.end - 1) / c.args.room) c.loop-end.block (g.N.Nodes.node c.args.nodes.now) (now.left.chain c.loop-end-test.true))
 
 pub copy_data-requires-clause-within : goal.copy_data-requires-clause-within
@@ -19,7 +19,7 @@ copy_data-requires-clause-within g c =
     let last = now.left.last lt in
     let is = c.max-from.ensures in
     let whole = piece_length c.args.room (g.N.Nodes.node c.args.nodes.now) c.args.start c.loop-end.end index c.loop-end.block c.loop-end.out _ lt now.left in
-    let same = ap (λ (f : Blocks). length (data_of (f c.loop-end.block))) now.same_nodes in
+    let same = ap (λ (f : Blocks). length (data_of (f c.loop-end.block))) now.looks.same_nodes in
     let le : c.args.start ≤ c.max-from.result = omega (arith, is) in
     let le' : c.max-from.result ≤ c.loop-end.end = omega (arith, is, last.starts) in
     let part = part_length c.args.start c.loop-end.end c.max-from.result c.loop-end.out le le' now.left.size in
@@ -51,10 +51,10 @@ loop-end-preserved g c =
     let part = part_length c.args.start end from out le le' now.left.size in
     let long : length ys ≡ end - c.args.start - (from - c.args.start) = omega (arith, c.copy_data.auto.out, part) in
     let same = filled_length (from - c.args.start) (end - c.args.start - (from - c.args.start)) out ys (omega (arith, now.left.size)) long in
-    let copied = done.copied ∙ ap (λ (f : Blocks). take (length (take (end - c.args.start - (from - c.args.start)) (drop (from - c.args.start) out))) (drop (from - index * c.args.room) (data_of (f c.loop-end.block)))) now.same_nodes in
+    let copied = done.copied ∙ ap (λ (f : Blocks). take (length (take (end - c.args.start - (from - c.args.start)) (drop (from - c.args.start) out))) (drop (from - index * c.args.room) (data_of (f c.loop-end.block)))) now.looks.same_nodes in
     let before : 0 < index → c.in_ok-block.block ≡ pointer_of (f c.loop-end.block) 0 = λ some.
-    done.before index (ap (λ (f : Blocks). index_of (f c.loop-end.block)) now.same_nodes ∙ chain_node c.args.room index c.loop-end.block f (now.left.chain lt)) some
-    ∙ ap (λ (f : Blocks). pointer_of (f c.loop-end.block) 0) now.same_nodes in
+    done.before index (ap (λ (f : Blocks). index_of (f c.loop-end.block)) now.looks.same_nodes ∙ chain_node c.args.room index c.loop-end.block f (now.left.chain lt)) some
+    ∙ ap (λ (f : Blocks). pointer_of (f c.loop-end.block) 0) now.looks.same_nodes in
     let step = step_of c.args.room f c.args.start end index c.loop-end.block from c.in_ok-block.block out ys new lt last now.left.size is copied refl before in
     let fewer = one_fewer c.args.room c.args.start end from c.requires.room lt is in
     record {
@@ -62,11 +62,5 @@ loop-end-preserved g c =
       below = omega (arith, le', now.below);
       size = same ∙ now.size;
       reads = omega (arith, fewer, now.reads, done.reads);
-      same_nodes = done.same_nodes ∙ now.same_nodes;
-      same_kept = done.same_kept ∙ now.same_kept;
-      writes = done.writes ∙ now.writes;
-      follows = g.met.N.Nodes.follows_on old c.loop-end.nodes c.copy_data.new.nodes now.follows done.follows;
-      sound = done.sound;
-      limit = done.limit ∙ now.limit;
-      blocks = done.blocks ∙ now.blocks;
+      looks = g.met.N.Nodes.looks_on old c.loop-end.nodes c.copy_data.new.nodes now.looks done.looks;
     }

@@ -1,4 +1,5 @@
 use Rattle.std.proofs.Common.{◌≡◌, ◌+◌, ◌-◌, ◌/◌, ◌≤◌, length, take, drop}
+use Rattle.node_store.specs.Frames.{OnlyLooks}
 use Rattle.block_trees.specs.Bodies.{data_to}
 use Rattle.skip_list_file.specs.Reading.{nodes_between}
 use Rattle.skip_list_file.proofs.Parts.{IsLeft}
@@ -14,11 +15,5 @@ invariant-loop-end g l = record {
   below : l.end ≤ l.initial.end;
   size : length l.out ≡ l.initial.end - l.start;
   reads : g.N.Nodes.reads l.nodes + nodes_between l.room l.start l.end ≤ g.N.Nodes.reads l.initial.nodes + nodes_between l.room l.start l.initial.end;
-  same_nodes : g.N.Nodes.node l.nodes ≡ g.N.Nodes.node l.initial.nodes;
-  same_kept : g.N.Nodes.kept l.nodes ≡ g.N.Nodes.kept l.initial.nodes;
-  writes : g.N.Nodes.writes l.nodes ≡ g.N.Nodes.writes l.initial.nodes;
-  follows : g.N.Nodes.follows l.initial.nodes l.nodes;
-  sound : g.N.Nodes.is_sound l.nodes;
-  limit : g.N.Nodes.limit l.nodes ≡ g.N.Nodes.limit l.initial.nodes;
-  blocks : g.N.Nodes.blocks l.nodes ≡ g.N.Nodes.blocks l.initial.nodes;
+  looks : OnlyLooks g.N.Nodes.node g.N.Nodes.kept g.N.Nodes.writes g.N.Nodes.follows g.N.Nodes.is_sound g.N.Nodes.limit g.N.Nodes.blocks l.initial.nodes l.nodes;
 }

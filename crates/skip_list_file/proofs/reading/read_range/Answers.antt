@@ -18,7 +18,7 @@ fill-requires-clause-chain g c =
     let room = c.room_in-room.ensures in
     let range = range_found (g.N.Nodes.limit c.args.nodes.now - body_front) c.room_in-room.result f c.args.body.head c.args.body.length c.args.offset c.min-end.result c.in_ok-block.block room.room room.some
     (omega arith) (omega (arith, c.min-end.ensures, c.from.ensures)) c.requires.body c.in_ok-block.ensures.found in
-    subst (λ (blocks : Blocks). IsChain c.room_in-room.result blocks ((c.min-end.result - 1) / c.room_in-room.result) c.in_ok-block.block) (sym c.in_ok-block.ensures.same_nodes) range.chain
+    subst (λ (blocks : Blocks). IsChain c.room_in-room.result blocks ((c.min-end.result - 1) / c.room_in-room.result) c.in_ok-block.block) (sym c.in_ok-block.ensures.looks.same_nodes) range.chain
 
 pub fill-requires-clause-within : goal.fill-requires-clause-within
 fill-requires-clause-within g c =
@@ -26,7 +26,7 @@ fill-requires-clause-within g c =
     let room = c.room_in-room.ensures in
     let range = range_found (g.N.Nodes.limit c.args.nodes.now - body_front) c.room_in-room.result f c.args.body.head c.args.body.length c.args.offset c.min-end.result c.in_ok-block.block room.room room.some
     (omega arith) (omega (arith, c.min-end.ensures, c.from.ensures)) c.requires.body c.in_ok-block.ensures.found in
-    let same = ap (λ (blocks : Blocks). length (data_to blocks ((c.min-end.result - 1) / c.room_in-room.result) c.in_ok-block.block)) c.in_ok-block.ensures.same_nodes in
+    let same = ap (λ (blocks : Blocks). length (data_to blocks ((c.min-end.result - 1) / c.room_in-room.result) c.in_ok-block.block)) c.in_ok-block.ensures.looks.same_nodes in
     omega (arith, range.within, same)
 
 pub returns-in_err-fill-clause-unread : goal.returns-in_err-fill-clause-unread
@@ -49,5 +49,5 @@ returns-clause-read g c =
     c.from_vec.ensures
     ∙ take_at out (drop (length out) c.in_ok-bytes.bytes.items) c.in_ok-bytes.bytes.len long
     ∙ c.in_ok-fill.ensures.filled
-    ∙ ap (λ (blocks : Blocks). take (c.min-end.result - c.args.offset) (drop c.args.offset (data_to blocks index block))) c.in_ok-block.ensures.same_nodes
+    ∙ ap (λ (blocks : Blocks). take (c.min-end.result - c.args.offset) (drop c.args.offset (data_to blocks index block))) c.in_ok-block.ensures.looks.same_nodes
     ∙ body_read limit c.room_in-room.result f c.args.body.head c.args.body.length c.args.offset c.args.count c.min-end.result block room.room end_is (omega arith) c.requires.body range

@@ -22,7 +22,7 @@ step_back-requires-clause-chain g c =
     let x : ℕ = c.loop-place.place - 1 in
     let n : ℕ = c.args.index - 1 in
     let chain = mark_chain room f c.args.head n x (linked_before room f c.args.head c.args.index (omega arith) c.requires.linked.1).0 in
-    (room, subst (λ (h : Blocks). IsChain room h (n / 2 ^ x * 2 ^ x) c.loop-place.block) (sym c.loop-place.invariant.same_nodes) (subst (IsChain room f (n / 2 ^ x * 2 ^ x)) (sym c.loop-place.invariant.here) chain))
+    (room, subst (λ (h : Blocks). IsChain room h (n / 2 ^ x * 2 ^ x) c.loop-place.block) (sym c.loop-place.invariant.looks.same_nodes) (subst (IsChain room f (n / 2 ^ x * 2 ^ x)) (sym c.loop-place.invariant.here) chain))
 
 pub step_back-requires-clause-linked : goal.step_back-requires-clause-linked
 step_back-requires-clause-linked g c =
@@ -31,7 +31,7 @@ step_back-requires-clause-linked g c =
     let x : ℕ = c.loop-place.place - 1 in
     let n : ℕ = c.args.index - 1 in
     let linked = mark_linked f c.args.head n x (linked_before room f c.args.head c.args.index (omega arith) c.requires.linked.1).1 in
-    subst (λ (h : Blocks). IsLinked h (n / 2 ^ x * 2 ^ x) c.loop-place.block) (sym c.loop-place.invariant.same_nodes) (subst (IsLinked f (n / 2 ^ x * 2 ^ x)) (sym c.loop-place.invariant.here) linked)
+    subst (λ (h : Blocks). IsLinked h (n / 2 ^ x * 2 ^ x) c.loop-place.block) (sym c.loop-place.invariant.looks.same_nodes) (subst (IsLinked f (n / 2 ^ x * 2 ^ x)) (sym c.loop-place.invariant.here) linked)
 
 pub returns-in_err-block-clause-reads : goal.returns-in_err-block-clause-reads
 returns-in_err-block-clause-reads g c digits small =
@@ -49,7 +49,7 @@ loop-place-preserved g c =
     let after : suc x ≡ place = omega arith in
     let again : place ≡ place + 1 - 1 = omega arith in
     let here : c.in_ok-block.block ≡ back f c.args.head (n % 2 ^ suc x) =
-    mark_next f c.args.head n x c.loop-place.block c.in_ok-block.block now.here (done.next ∙ ap (λ (h : Blocks). back h c.loop-place.block (n / 2 ^ x % 2 * 2 ^ x)) now.same_nodes) in
+    mark_next f c.args.head n x c.loop-place.block c.in_ok-block.block now.here (done.next ∙ ap (λ (h : Blocks). back h c.loop-place.block (n / 2 ^ x % 2 * 2 ^ x)) now.looks.same_nodes) in
     let at : c.in_ok-block.block ≡ back f c.args.head (n % 2 ^ place) = here ∙ ap (λ (y : ℕ). back f c.args.head (n % 2 ^ y)) after in
     record {
       size = length-set c.loop-place.blocks place c.in_ok-block.block ∙ now.size;
@@ -58,11 +58,5 @@ loop-place-preserved g c =
       reads = omega (arith, now.reads, c.step_back.ensures.reads);
       few = λ digits small. few_more c.args.index digits place (g.N.Nodes.reads c.args.nodes.now) (g.N.Nodes.reads c.loop-place.nodes) (g.N.Nodes.reads c.step_back.new.nodes)
           (omega arith) small (omega arith) now.reads (now.few digits small) c.step_back.ensures.reads c.step_back.ensures.unread;
-      same_nodes = done.same_nodes ∙ now.same_nodes;
-      same_kept = done.same_kept ∙ now.same_kept;
-      writes = done.writes ∙ now.writes;
-      follows = g.met.N.Nodes.follows_on c.args.nodes.now c.loop-place.nodes c.step_back.new.nodes now.follows done.follows;
-      sound = done.sound;
-      limit = done.limit ∙ now.limit;
-      blocks = done.blocks ∙ now.blocks;
+      looks = g.met.N.Nodes.looks_on c.args.nodes.now c.loop-place.nodes c.step_back.new.nodes now.looks done.looks;
     }

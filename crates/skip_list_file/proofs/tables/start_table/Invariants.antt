@@ -1,4 +1,5 @@
 use Rattle.std.proofs.Common.{◌≡◌, ℕ, ◌+◌, ◌-◌, ◌%◌, ◌^◌, ◌<◌, ◌≤◌, length, slice_index}
+use Rattle.node_store.specs.Frames.{OnlyLooks}
 use Rattle.block_trees.specs.Bodies.{back}
 use Rattle.skip_list_file.proofs.tables.start_table.Given as goal
 
@@ -10,11 +11,5 @@ invariant-loop-place g l = record {
   named : (x : ℕ) → x < l.place → slice_index l.blocks x ≡ back (g.N.Nodes.node l.initial.nodes) l.head (l.before % 2 ^ x);
   reads : g.N.Nodes.reads l.nodes ≤ g.N.Nodes.reads l.initial.nodes + (l.place - 1);
   few : (digits : ℕ) → l.index ≤ 2 ^ digits → g.N.Nodes.reads l.nodes ≤ g.N.Nodes.reads l.initial.nodes + digits;
-  same_nodes : g.N.Nodes.node l.nodes ≡ g.N.Nodes.node l.initial.nodes;
-  same_kept : g.N.Nodes.kept l.nodes ≡ g.N.Nodes.kept l.initial.nodes;
-  writes : g.N.Nodes.writes l.nodes ≡ g.N.Nodes.writes l.initial.nodes;
-  follows : g.N.Nodes.follows l.initial.nodes l.nodes;
-  sound : g.N.Nodes.is_sound l.nodes;
-  limit : g.N.Nodes.limit l.nodes ≡ g.N.Nodes.limit l.initial.nodes;
-  blocks : g.N.Nodes.blocks l.nodes ≡ g.N.Nodes.blocks l.initial.nodes;
+  looks : OnlyLooks g.N.Nodes.node g.N.Nodes.kept g.N.Nodes.writes g.N.Nodes.follows g.N.Nodes.is_sound g.N.Nodes.limit g.N.Nodes.blocks l.initial.nodes l.nodes;
 }

@@ -16,8 +16,8 @@ returns-clause-grown g c =
     let f : Blocks = g.N.Nodes.node old in
     let least : 0 < room = omega (arith, c.requires.some, c.requires.fits) in
     let keeps : Keeps (g.N.Nodes.kept old) f (g.N.Nodes.kept new) (g.N.Nodes.node new) = record {
-      same = λ b kept. g.met.N.Nodes.same_node old new b c.requires.sound c.write.ensures.follows kept;
-      stays = λ b kept. g.met.N.Nodes.stays_kept old new b c.write.ensures.follows kept;
+      same = λ b kept. g.met.N.Nodes.same_node old new b c.requires.sound c.write.ensures.works.came kept;
+      stays = λ b kept. g.met.N.Nodes.stays_kept old new b c.write.ensures.works.came kept;
     } in
     let full : 0 < c.args.index → length (data_of (f c.args.head)) ≡ room = head_full (g.N.Nodes.limit old) room f c.args.head c.args.index c.requires.room least c.requires.whole (λ bytes is. g.met.N.Nodes.whole old c.args.head bytes c.requires.sound is) in
     let spelled : IsBodySpelling c.deref.result.now c.args.index c.args.table.now.blocks c.args.bytes.now =
@@ -39,8 +39,8 @@ returns-clause-table g c last few is =
     let f' : Blocks = g.N.Nodes.node new in
     let least : 0 < room = omega (arith, c.requires.some, c.requires.fits) in
     let keeps : Keeps (g.N.Nodes.kept old) f (g.N.Nodes.kept new) f' = record {
-      same = λ b kept. g.met.N.Nodes.same_node old new b c.requires.sound c.write.ensures.follows kept;
-      stays = λ b kept. g.met.N.Nodes.stays_kept old new b c.write.ensures.follows kept;
+      same = λ b kept. g.met.N.Nodes.same_node old new b c.requires.sound c.write.ensures.works.came kept;
+      stays = λ b kept. g.met.N.Nodes.stays_kept old new b c.write.ensures.works.came kept;
     } in
     let spelled : IsBodySpelling c.deref.result.now index c.args.table.now.blocks c.args.bytes.now =
     subst (λ (node : List ℕ). IsBodySpelling node index c.args.table.now.blocks c.args.bytes.now) (sym c.deref.ensures.value) c.in_ok-node.ensures.spelled in

@@ -20,8 +20,8 @@ edited_bytes-requires-clause-whole g c =
     let old = c.args.nodes.now in
     let at = c.loop-index.nodes in
     let keeps : Keeps (g.N.Nodes.kept old) (g.N.Nodes.node old) (g.N.Nodes.kept at) (g.N.Nodes.node at) = record {
-      same = λ b kept. g.met.N.Nodes.same_node old at b c.requires.sound c.loop-index.invariant.follows kept;
-      stays = λ b kept. g.met.N.Nodes.stays_kept old at b c.loop-index.invariant.follows kept;
+      same = λ b kept. g.met.N.Nodes.same_node old at b c.requires.sound c.loop-index.invariant.works.came kept;
+      stays = λ b kept. g.met.N.Nodes.stays_kept old at b c.loop-index.invariant.works.came kept;
     } in
     let stays = body_stays (g.N.Nodes.limit old - 80) (g.N.Nodes.node old) (g.N.Nodes.node at) (g.N.Nodes.kept old) (g.N.Nodes.kept at) c.args.body.head c.args.body.length keeps c.requires.whole c.requires.held in
     let room : ℕ = c.block_bytes-room.result - 80 in
@@ -31,7 +31,7 @@ edited_bytes-requires-clause-whole g c =
 pub returns-in_err-data-clause-why : goal.returns-in_err-data-clause-why
 returns-in_err-data-clause-why g c =
     let p = err_from_is_err_and c.from_residual-in_err-data.result c.from_residual-in_err-data.ensures.1 in
-    let why = g.met.N.Nodes.causes_on c.args.nodes.now c.loop-index.nodes c.edited_bytes.new.nodes c.in_err-data.field-0.0 c.loop-index.invariant.follows c.in_err-data.ensures.why in
+    let why = g.met.N.Nodes.causes_on c.args.nodes.now c.loop-index.nodes c.edited_bytes.new.nodes c.in_err-data.field-0.0 c.loop-index.invariant.works.came c.in_err-data.ensures.why in
     rw (p.1, p.2) why
 
 pub append-requires-clause-some : goal.append-requires-clause-some
@@ -71,14 +71,15 @@ append-requires-clause-fits g c =
 pub returns-in_err-head-2-clause-why : goal.returns-in_err-head-2-clause-why
 returns-in_err-head-2-clause-why g c =
     let p = err_from_is_err_and c.from_residual-in_err-head-2.result c.from_residual-in_err-head-2.ensures.1 in
-    let before = g.met.N.Nodes.follows_on c.args.nodes.now c.loop-index.nodes c.edited_bytes.new.nodes c.loop-index.invariant.follows c.edited_bytes.ensures.follows in
+    let before = g.met.N.Nodes.follows_on c.args.nodes.now c.loop-index.nodes c.edited_bytes.new.nodes c.loop-index.invariant.works.came c.edited_bytes.ensures.looks.came in
     let why = g.met.N.Nodes.causes_on c.args.nodes.now c.edited_bytes.new.nodes c.append.new.nodes c.in_err-head-2.field-0.0 before c.in_err-head-2.ensures.why in
     rw (p.1, p.2) why
 
-pub returns-in_err-head-2-clause-follows : goal.returns-in_err-head-2-clause-follows
-returns-in_err-head-2-clause-follows g c =
-    let before = g.met.N.Nodes.follows_on c.args.nodes.now c.loop-index.nodes c.edited_bytes.new.nodes c.loop-index.invariant.follows c.edited_bytes.ensures.follows in
-    g.met.N.Nodes.follows_on c.args.nodes.now c.edited_bytes.new.nodes c.append.new.nodes before c.append.ensures.follows
+pub returns-in_err-head-2-clause-works : goal.returns-in_err-head-2-clause-works
+returns-in_err-head-2-clause-works g c =
+    let before = g.met.N.Nodes.looks_works c.loop-index.nodes c.edited_bytes.new.nodes c.edited_bytes.ensures.looks in
+    let both = g.met.N.Nodes.works_on c.args.nodes.now c.loop-index.nodes c.edited_bytes.new.nodes c.loop-index.invariant.works before in
+    g.met.N.Nodes.works_on c.args.nodes.now c.edited_bytes.new.nodes c.append.new.nodes both c.append.ensures.works
 
 pub loop-index-preserved : goal.loop-index-preserved
 loop-index-preserved g c =
@@ -96,10 +97,9 @@ loop-index-preserved g c =
     let sized = part_length new (i * room) count c.args.size (edited_length _ c.args.offset c.args.bytes.now c.args.size) (omega arith) in
     let counted : length c.deref.result.now ≡ count = ap length (c.deref.ensures.value ∙ part) ∙ sized in
     let f = g.N.Nodes.node old in
-    let before = g.met.N.Nodes.follows_on old at c.edited_bytes.new.nodes c.loop-index.invariant.follows c.edited_bytes.ensures.follows in
     let keeps : Keeps (g.N.Nodes.kept old) f (g.N.Nodes.kept at) (g.N.Nodes.node at) = record {
-      same = λ b kept. g.met.N.Nodes.same_node old at b c.requires.sound c.loop-index.invariant.follows kept;
-      stays = λ b kept. g.met.N.Nodes.stays_kept old at b c.loop-index.invariant.follows kept;
+      same = λ b kept. g.met.N.Nodes.same_node old at b c.requires.sound c.loop-index.invariant.works.came kept;
+      stays = λ b kept. g.met.N.Nodes.stays_kept old at b c.loop-index.invariant.works.came kept;
     } in
     let stays = body_stays (g.N.Nodes.limit old - 80) f (g.N.Nodes.node at) (g.N.Nodes.kept old) (g.N.Nodes.kept at) c.args.body.head c.args.body.length keeps c.requires.whole c.requires.held in
     let same : body room (g.N.Nodes.node at) c.args.body.head c.args.body.length ≡ body room f c.args.body.head c.args.body.length =
@@ -111,24 +111,21 @@ loop-index-preserved g c =
     record {
       begun = turn room f (g.N.Nodes.node at) (g.N.Nodes.node c.edited_bytes.new.nodes) (g.N.Nodes.node c.append.new.nodes) (g.N.Nodes.kept old) (g.N.Nodes.kept at) (g.N.Nodes.kept c.edited_bytes.new.nodes) (g.N.Nodes.kept c.append.new.nodes)
           c.args.body wanted c.loop-index.head i c.in_ok-head-2.head c.deref.result.now count c.args.size least within count_is (edited_length _ c.args.offset c.args.bytes.now c.args.size) c.loop-index.invariant.begun
-          c.edited_bytes.ensures.same_nodes c.edited_bytes.ensures.same_kept c.in_ok-head-2.ensures.grown (λ b fresh. g.met.N.Nodes.was_fresh old at b c.loop-index.invariant.follows fresh) chunk;
+          c.edited_bytes.ensures.looks.same_nodes c.edited_bytes.ensures.looks.same_kept c.in_ok-head-2.ensures.grown (λ b fresh. g.met.N.Nodes.was_fresh old at b c.loop-index.invariant.works.came fresh) chunk;
       table = c.in_ok-head-2.ensures.table ((c.args.size - 1) / room) (few_indices room c.args.size (omega (arith, c.block_bytes-room.ensures.least)) c.requires.most)
-          (subst (λ (h : Blocks). IsTable h c.loop-index.head i ((c.args.size - 1) / room) c.loop-index.table.blocks) (sym c.edited_bytes.ensures.same_nodes) c.loop-index.invariant.table);
+          (subst (λ (h : Blocks). IsTable h c.loop-index.head i ((c.args.size - 1) / room) c.loop-index.table.blocks) (sym c.edited_bytes.ensures.looks.same_nodes) c.loop-index.invariant.table);
       old = blocks_stay (g.N.Nodes.limit old - 80) (g.N.Nodes.node at) (g.N.Nodes.node c.append.new.nodes) (g.N.Nodes.kept at) (g.N.Nodes.kept c.append.new.nodes) c.args.body.head c.args.body.length c.in_ok-old.old.items
           (record {
-            same = λ b kept. g.met.N.Nodes.same_node at c.append.new.nodes b c.loop-index.invariant.sound (g.met.N.Nodes.follows_on at c.edited_bytes.new.nodes c.append.new.nodes c.edited_bytes.ensures.follows c.append.ensures.follows) kept;
-            stays = λ b kept. g.met.N.Nodes.stays_kept at c.append.new.nodes b (g.met.N.Nodes.follows_on at c.edited_bytes.new.nodes c.append.new.nodes c.edited_bytes.ensures.follows c.append.ensures.follows) kept;
+            same = λ b kept. g.met.N.Nodes.same_node at c.append.new.nodes b c.loop-index.invariant.works.sound (g.met.N.Nodes.follows_on at c.edited_bytes.new.nodes c.append.new.nodes c.edited_bytes.ensures.looks.came c.append.ensures.works.came) kept;
+            stays = λ b kept. g.met.N.Nodes.stays_kept at c.append.new.nodes b (g.met.N.Nodes.follows_on at c.edited_bytes.new.nodes c.append.new.nodes c.edited_bytes.ensures.looks.came c.append.ensures.works.came) kept;
           }) stays.whole stays.held c.loop-index.invariant.few_blocks c.loop-index.invariant.old;
       few_blocks = c.loop-index.invariant.few_blocks;
       reads = subst (AreFew room c.args.body.length (c.args.offset + length c.args.bytes.now) (c.min.result / room) (i + 1) (g.N.Nodes.reads old)) (sym c.append.ensures.reads)
           (few_on room c.args.body.length c.args.offset (c.args.offset + length c.args.bytes.now) (c.min.result / room) i count (g.N.Nodes.reads old) (g.N.Nodes.reads at) (g.N.Nodes.reads c.edited_bytes.new.nodes) (length c.in_ok-old.old.items)
           least (ap (λ (n : ℕ). n / room) c.min.ensures) (omega (arith, c.loop-index.auto.index)) (omega arith) c.in_ok-old.ensures.count
           c.edited_bytes.ensures.unread (λ within. c.edited_bytes.ensures.listed (omega (arith, within, c.as_slice.ensures.len, ap length c.as_slice.ensures.value))) c.edited_bytes.ensures.reads c.loop-index.invariant.reads);
-      writes = omega (arith, c.in_ok-head-2.ensures.one, c.edited_bytes.ensures.writes, c.loop-index.invariant.writes, c.loop-index.auto.index);
-      follows = g.met.N.Nodes.follows_on old c.edited_bytes.new.nodes c.append.new.nodes before c.append.ensures.follows;
-      sound = c.append.ensures.sound;
-      limit = c.append.ensures.limit ∙ c.edited_bytes.ensures.limit ∙ c.loop-index.invariant.limit;
-      blocks = c.append.ensures.blocks ∙ c.edited_bytes.ensures.blocks ∙ c.loop-index.invariant.blocks;
+      writes = omega (arith, c.in_ok-head-2.ensures.one, c.edited_bytes.ensures.looks.same_writes, c.loop-index.invariant.writes, c.loop-index.auto.index);
+      works = g.met.N.Nodes.works_on old c.edited_bytes.new.nodes c.append.new.nodes (g.met.N.Nodes.works_on old at c.edited_bytes.new.nodes c.loop-index.invariant.works (g.met.N.Nodes.looks_works at c.edited_bytes.new.nodes c.edited_bytes.ensures.looks)) c.append.ensures.works;
     }
 
 pub returns-clause-written : goal.returns-clause-written
@@ -219,7 +216,7 @@ start_table-requires-clause-linked g c =
     let room : ℕ = c.block_bytes-room.result - 80 in
     let least : 0 < room = omega (arith, c.block_bytes-room.ensures.least) in
     let linked = are_linked room (g.N.Nodes.node c.args.nodes.now) c.in_ok-head.head (c.min.result / room) least c.in_ok-head.ensures.front.whole in
-    (room, subst (λ (h : Blocks). AreLinked room h c.in_ok-head.head (c.min.result / room)) (sym c.in_ok-head.ensures.same_nodes) linked)
+    (room, subst (λ (h : Blocks). AreLinked room h c.in_ok-head.head (c.min.result / room)) (sym c.in_ok-head.ensures.looks.same_nodes) linked)
 
 pub returns-in_err-table-clause-reads : goal.returns-in_err-table-clause-reads
 returns-in_err-table-clause-reads g c =
@@ -266,23 +263,20 @@ loop-index-init g c =
     let size : length (body room f from.head from.length) ≡ from.length = body_length room f from.head from.length whole in
     let same = edited_front (body room f from.head from.length) c.args.offset c.args.bytes.now c.args.size (first * room) (omega (arith, rows, c.min.ensures)) (omega (arith, rows, c.min.ensures, size)) (omega (arith, so_far)) in
     let begun = begun_front room f (g.N.Nodes.kept old) from wanted c.in_ok-head.head (first * room) (omega (arith, rows, c.min.ensures)) c.requires.held c.in_ok-head.ensures.front same in
-    let same_nodes : g.N.Nodes.node now ≡ f = c.in_ok-old.ensures.same_nodes ∙ c.in_ok-table.ensures.same_nodes ∙ c.in_ok-head.ensures.same_nodes in
-    let same_kept : g.N.Nodes.kept now ≡ g.N.Nodes.kept old = c.in_ok-old.ensures.same_kept ∙ c.in_ok-table.ensures.same_kept ∙ c.in_ok-head.ensures.same_kept in
-    let at_table : g.N.Nodes.node now ≡ g.N.Nodes.node c.front.new.nodes = c.in_ok-old.ensures.same_nodes ∙ c.in_ok-table.ensures.same_nodes in
+    let same_nodes : g.N.Nodes.node now ≡ f = c.in_ok-old.ensures.looks.same_nodes ∙ c.in_ok-table.ensures.looks.same_nodes ∙ c.in_ok-head.ensures.looks.same_nodes in
+    let same_kept : g.N.Nodes.kept now ≡ g.N.Nodes.kept old = c.in_ok-old.ensures.looks.same_kept ∙ c.in_ok-table.ensures.looks.same_kept ∙ c.in_ok-head.ensures.looks.same_kept in
+    let at_table : g.N.Nodes.node now ≡ g.N.Nodes.node c.front.new.nodes = c.in_ok-old.ensures.looks.same_nodes ∙ c.in_ok-table.ensures.looks.same_nodes in
     record {
       begun = subst (λ (n : ℕ). IsBegun room f (g.N.Nodes.kept old) from wanted (g.N.Nodes.node now) (g.N.Nodes.kept now) c.in_ok-head.head n) (sym so_far)
           (subst (λ (h : Blocks). IsBegun room f (g.N.Nodes.kept old) from wanted h (g.N.Nodes.kept now) c.in_ok-head.head (first * room)) (sym same_nodes)
           (subst (λ (k : ℕ → Bool). IsBegun room f (g.N.Nodes.kept old) from wanted f k c.in_ok-head.head (first * room)) (sym same_kept) begun));
       table = subst (λ (h : Blocks). IsTable h c.in_ok-head.head first ((c.args.size - 1) / room) c.in_ok-table.table.blocks) (sym at_table) c.in_ok-table.ensures.table;
-      old = subst (λ (h : Blocks). AreBlocks h from.head c.in_ok-old.old.items) (sym c.in_ok-old.ensures.same_nodes) c.in_ok-old.ensures.listed;
+      old = subst (λ (h : Blocks). AreBlocks h from.head c.in_ok-old.old.items) (sym c.in_ok-old.ensures.looks.same_nodes) c.in_ok-old.ensures.listed;
       few_blocks = few_listed room c.args.body.length end (length c.in_ok-old.old.items) (g.N.Nodes.limit old - 80) room_is c.in_ok-old.ensures.count;
       reads = few_begun room from.length c.args.offset end first (g.N.Nodes.reads old) (g.N.Nodes.reads c.front.new.nodes) (g.N.Nodes.reads c.start_table.new.nodes) (g.N.Nodes.reads now)
           least first_is c.in_ok-head.ensures.reads c.in_ok-table.ensures.reads c.in_ok-old.ensures.reads;
-      writes = omega (arith, c.in_ok-old.ensures.writes, c.in_ok-table.ensures.writes, c.in_ok-head.ensures.writes);
-      follows = g.met.N.Nodes.follows_on old c.start_table.new.nodes now (g.met.N.Nodes.follows_on old c.front.new.nodes c.start_table.new.nodes c.in_ok-head.ensures.follows c.in_ok-table.ensures.follows) c.in_ok-old.ensures.follows;
-      sound = c.in_ok-old.ensures.sound;
-      limit = c.in_ok-old.ensures.limit ∙ c.in_ok-table.ensures.limit ∙ c.in_ok-head.ensures.limit;
-      blocks = c.in_ok-old.ensures.blocks ∙ c.in_ok-table.ensures.blocks ∙ c.in_ok-head.ensures.blocks;
+      writes = omega (arith, c.in_ok-old.ensures.looks.same_writes, c.in_ok-table.ensures.looks.same_writes, c.in_ok-head.ensures.looks.same_writes);
+      works = g.met.N.Nodes.looks_works old now (g.met.N.Nodes.looks_on old c.start_table.new.nodes now (g.met.N.Nodes.looks_on old c.front.new.nodes c.start_table.new.nodes c.in_ok-head.ensures.looks c.in_ok-table.ensures.looks) c.in_ok-old.ensures.looks);
     }
 
 pub edited_bytes-requires-clause-blocks : goal.edited_bytes-requires-clause-blocks
@@ -321,7 +315,7 @@ pub append-requires-clause-places : goal.append-requires-clause-places
 append-requires-clause-places g c =
     let room : ℕ = c.block_bytes-room.result - 80 in
     let last : ℕ = (c.args.size - 1) / room in
-    let is = subst (λ (h : Blocks). IsTable h c.loop-index.head c.loop-index.index last c.loop-index.table.blocks) (sym c.edited_bytes.ensures.same_nodes) c.loop-index.invariant.table in
+    let is = subst (λ (h : Blocks). IsTable h c.loop-index.head c.loop-index.index last c.loop-index.table.blocks) (sym c.edited_bytes.ensures.looks.same_nodes) c.loop-index.invariant.table in
     table_places (g.N.Nodes.node c.edited_bytes.new.nodes) c.loop-index.head c.loop-index.index last c.loop-index.table.blocks (omega (arith, c.loop-index-test.true)) is
 
 pub returns-in_err-head-2-clause-reads : goal.returns-in_err-head-2-clause-reads

@@ -1,4 +1,5 @@
 use Rattle.std.proofs.Common.{◌≡◌, ◌+◌, ◌-◌, ◌*◌, ◌≤◌, length, min}
+use Rattle.node_store.specs.Frames.{Works}
 use Rattle.block_trees.specs.Bodies.{body, head_index}
 use Rattle.skip_list_file.specs.Reading.{AreBlocks}
 use Rattle.skip_list_file.specs.Writing as spec
@@ -17,8 +18,5 @@ invariant-loop-index g l = record {
   few_blocks : length l.old.items ≤ head_index (g.N.Nodes.limit l.fn.nodes - 80) l.body.length + 1;
   reads : AreFew l.room l.body.length (l.offset + length l.bytes) l.first l.index (g.N.Nodes.reads l.fn.nodes) (g.N.Nodes.reads l.nodes);
   writes : g.N.Nodes.writes l.nodes ≡ g.N.Nodes.writes l.fn.nodes + (l.index - l.first);
-  follows : g.N.Nodes.follows l.fn.nodes l.nodes;
-  sound : g.N.Nodes.is_sound l.nodes;
-  limit : g.N.Nodes.limit l.nodes ≡ g.N.Nodes.limit l.fn.nodes;
-  blocks : g.N.Nodes.blocks l.nodes ≡ g.N.Nodes.blocks l.fn.nodes;
+  works : Works g.N.Nodes.follows g.N.Nodes.is_sound g.N.Nodes.limit g.N.Nodes.blocks l.fn.nodes l.nodes;
 }

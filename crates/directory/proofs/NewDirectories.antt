@@ -1,23 +1,17 @@
--- A new directory: what is held stays while its node is written, so the path has room for it then too.
-use Rattle.std.proofs.Common.{◌≡◌, ℕ, ◌<◌, Bool, true, false, cond, Option, Some, None, Result, Ok, Err, List, [], ◌∷◌, length, refl, sym, ap, subst, ◌∙◌, arith}
-use Rattle.std.specs.Prelude.{nat_le}
+-- What is held stays while other nodes are written, and a rewriting after a write.
+use Rattle.std.proofs.Common.{◌≡◌, ℕ, Bool, false, cond, Option, Some, Result, Ok, Err, List, [], ◌∷◌, refl, sym, ap, subst, ◌∙◌, arith}
 use Rattle.fs_types.specs.Names.{Name, Path, same_name}
 use Rattle.fs_types.specs.declared.faults.Fault.{Fault}
-use Rattle.fs_types.specs.declared.faults.Fault.TheVariants.{NoEntry, NotDirectory, Damaged, DirectoryFull}
-use Rattle.node_format.specs.Items.{Item, named}
+use Rattle.node_format.specs.Items.{named}
 use Rattle.node_format.specs.declared.places.Place.{Place}
-use Rattle.node_format.specs.declared.places.Place.TheVariants.{Dir, File}
+use Rattle.node_format.specs.declared.places.Place.TheVariants.{Dir}
 use Rattle.block_trees.specs.Bodies.{Blocks}
-use Rattle.block_trees.specs.Trees.{entries_of, items_of, child}
+use Rattle.block_trees.specs.Trees.{items_of, child}
 use Rattle.block_trees.specs.Reached.{IsHeld, Keeps, Reached, IsFirst, IsNamed, Names}
 use Rattle.block_trees.specs.Rewritten.{IsDirectoryEdit, IsRewritten, AreFresh}
 use Rattle.block_trees.proofs.Reaching.{held_child}
 use Rattle.directory.specs.declared.lookups.Found.{Found}
-use Rattle.directory.specs.declared.lookups.Found.TheVariants as found
-use Rattle.directory.specs.Lookups.{below_in, found_of, found_in, look_up, ◌>>=◌}
-use Rattle.directory.specs.Edits.{edit_refusal, path_refusal, on_way, is_edit_fault, IsEditFault}
-use Rattle.directory.specs.Making.{IsMakeFault}
-use Rattle.directory.proofs.Rewrites.{child_below}
+use Rattle.directory.specs.Lookups.{◌>>=◌}
 
 -- ---- what is held stays
 
@@ -36,35 +30,11 @@ held_later f g k l keeps root held other is block reached =
 pub same_held : (f g : Blocks) (k l : ℕ → Bool) → Keeps k f l g → (root : ℕ) → IsHeld f k (Dir root) → g root ≡ f root
 same_held f g k l keeps root held = keeps.same root (held root refl root (IsFirst (0, omega arith, refl)))
 
--- ---- a look up that found room
-
-pub missing_below : (f : Blocks) (root : ℕ) (path : Path) (is_full : Bool) → look_up f root path ≡ Ok (found.Missing is_full) → 0 < length path
-missing_below f root [] is_full e = absurd cc
-missing_below f root (n ∷ path) is_full e = omega arith
-
-room_in : (entries : Option (List Item)) (name : Name) (place : Place) → found_in entries name ≡ Ok (found.Missing false) → edit_refusal entries name (Some place) ≡ None
-room_in None name place e = absurd cc
-room_in (Some items) name place e = on (named items name) (nat_le 32 (length items)) refl refl e
-  where
-    on : (there : Option Place) (is_full : Bool) → named items name ≡ there → nat_le 32 (length items) ≡ is_full → (let r : Result Found Fault = Ok (found_of there is_full) in r ≡ Ok (found.Missing false)) → edit_refusal (Some items) name (Some place) ≡ None
-    on None true is full e = absurd cc
-    on None false is full e = rw (is, full) refl
-    on (Some (File head size)) is_full is full e = absurd cc
-    on (Some (Dir block)) is_full is full e = absurd cc
+-- ---- a look up that found something
 
 pub on_below : (below : Result ℕ Fault) (after : ℕ → Result Found Fault) (found : Found) → (below >>= after) ≡ Ok found → (block : ℕ) × (below ≡ Ok block) × (after block ≡ Ok found)
 on_below (Err fault) after found e = absurd cc
 on_below (Ok block) after found e = (block, refl, e)
-
-pub room_later : (f g : Blocks) (k l : ℕ → Bool) → Keeps k f l g → (path : Path) (root : ℕ) (place : Place) → IsHeld f k (Dir root) → look_up f root path ≡ Ok (found.Missing false) → path_refusal g root path (Some place) ≡ None
-room_later f g k l keeps [] root place held e = refl
-room_later f g k l keeps (n ∷ []) root place held e =
-    ap (λ (node : Option (List ℕ)). edit_refusal (entries_of node) n (Some place)) (same_held f g k l keeps root held) ∙ room_in (entries_of (f root)) n place e
-room_later f g k l keeps (n ∷ m ∷ p) root place held e =
-    let step = on_below (below_in (entries_of (f root)) n) (λ below. look_up f below (m ∷ p)) (found.Missing false) e in
-    ap (λ (node : Option (List ℕ)). on_way (below_in (entries_of node) n) (λ below. path_refusal g below (m ∷ p) (Some place))) (same_held f g k l keeps root held)
-    ∙ ap (λ (below : Result ℕ Fault). on_way below (λ below. path_refusal g below (m ∷ p) (Some place))) step.1
-    ∙ room_later f g k l keeps (m ∷ p) step.0 place (held_child f k (Dir root) n (Dir step.0) (child_below f root n step.0 step.1) held) step.2
 
 -- ---- a rewriting after a write
 
@@ -84,19 +54,3 @@ pub fresh_before : (k l kept : ℕ → Bool) (h : Blocks) → ((b : ℕ) → l b
 fresh_before k l kept h was [] to r = absurd r
 fresh_before k l kept h was (n ∷ []) to (fresh, is_kept) = (was to fresh, is_kept)
 fresh_before k l kept h was (n ∷ m ∷ p) to (below, leads, fresh, is_kept, rest) = (below, leads, was to fresh, is_kept, fresh_before k l kept h was (m ∷ p) below rest)
-
--- ---- what making is refused with
-
-pub not_refused : (refusal : Option Fault) (fault : Fault) → refusal ≡ None → (is_edit_fault fault ≡ true → refusal ≡ Some fault) → is_edit_fault fault ≡ false
-not_refused refusal fault none own = on (is_edit_fault fault) refl
-  where
-    on : (own_fault : Bool) → is_edit_fault fault ≡ own_fault → is_edit_fault fault ≡ false
-    on true is = let some = own is in absurd cc
-    on false is = is
-
-pub make_fault : (fault : Fault) → is_edit_fault fault ≡ false → IsEditFault fault → IsMakeFault fault
-make_fault NoEntry other it = absurd cc
-make_fault NotDirectory other it = absurd cc
-make_fault Damaged other it = absurd cc
-make_fault DirectoryFull other it = absurd cc
-make_fault fault other it = it

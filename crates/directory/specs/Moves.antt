@@ -1,15 +1,12 @@
 -- What stands at a path of directories moved to another.
 use Rattle.std.specs.Prelude.{◌≡◌, ℕ, suc, ◌+◌, ◌-◌, ◌<◌, Bool, false, Option, Some, None, IsSome, List, [], ◌∷◌, length, slice_index, slice_index_or, if◌then◌else◌}
-use Rattle.fs_types.specs.Names.{Name, Path, same_name, same_path}
-use Rattle.plain_trees.specs.Contents.{parent_of}
-use Rattle.fs_types.specs.declared.faults.Fault.{Fault}
+use Rattle.fs_types.specs.Names.{Name, Path, same_name}
 use Rattle.node_format.specs.Items.{Item, named}
 use Rattle.node_format.specs.Directories.{directory_at}
 use Rattle.node_format.specs.declared.places.Place.{Place}
 use Rattle.node_format.specs.declared.places.Place.TheVariants.{Dir}
 use Rattle.block_trees.specs.Bodies.{Blocks}
 use Rattle.block_trees.specs.Trees.{child}
-use Rattle.directory.specs.Edits.{edit_refusal, path_refusal}
 use Rattle.directory.specs.Trails.{IsHeldTrail, IsTaken}
 
 -- how many names two paths begin with in common
@@ -21,20 +18,6 @@ common (n ∷ p) (m ∷ q) = if same_name n m then suc (common p q) else 0
 -- the directories along two paths, the root first; both go through the root and one for each name in common, which count once
 abbrev pub directories_along : Path → Path → ℕ
 directories_along old new = length old + length new - (common old new + 1)
-
--- why a move is refused: as an entry put at the new path is, but never within one directory
-abbrev pub move_refusal : Blocks → ℕ → Path → Path → Place → Option Fault
-move_refusal f root old new place = if same_path (parent_of old) (parent_of new) then None else path_refusal f root new (Some place)
-
--- why the directories after a name cannot be edited; there may be none
-abbrev pub branch_refusal : Blocks → ℕ → Name → Path → Option Place → Option Fault
-branch_refusal f block name [] place = None
-branch_refusal f block name (next ∷ path) place = path_refusal f block (name ∷ next ∷ path) place
-
--- why a second name of a directory cannot be edited: a first one that is taken out makes room
-abbrev pub second_refusal : Option (List Item) → Option Place → Name → Option Place → Option Fault
-second_refusal entries None name place = None
-second_refusal entries (Some gone) name place = edit_refusal entries name place
 
 -- the bytes are a directory in which one name leads to one place and another to another, or to nothing, and all others lead where they did
 pub record IsEditedTwice (old : List Item) (name : Name) (gone : Option Place) (other : Name) (here : Option Place) (bytes : List ℕ) : Type 0 where

@@ -25,7 +25,7 @@ use Rattle.directory.specs.declared.lookups.Found.{Found}
 use Rattle.directory.specs.declared.lookups.Found.TheVariants as found
 use Rattle.directory.specs.Edits as directories
 use Rattle.directory.specs.Lookups.{look_up}
-use Rattle.directory.specs.Making.{IsMakeFault}
+use Rattle.directory.specs.Trails.{IsChangeFault}
 use Rattle.directory.proofs.LookupLaws.{found_is, found_leads_file}
 use Rattle.directory.proofs.NewDirectories.{rewritten_before}
 use Rattle.skip_list_file.specs.Writing as bodies
@@ -35,7 +35,7 @@ use Rattle.tree_edits.specs.Edits.{TakesFile}
 use Rattle.tree_edits.specs.Roots.{IsNewRoot}
 use Rattle.tree_edits.proofs.Lookups.{path_within, no_directory}
 
-pub body_fault : (fault : Fault) → IsWritingFault fault → IsMakeFault fault
+pub body_fault : (fault : Fault) → IsWritingFault fault → IsChangeFault fault
 body_fault FlashFull is = refl
 body_fault ReadOnly is = refl
 body_fault ReadFailed is = refl

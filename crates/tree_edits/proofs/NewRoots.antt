@@ -89,8 +89,8 @@ removed_result room old new kept kept' from path x (Err fault) keeps held rooted
 
 -- ---- an entry moved
 
-pub moved_root : (room : ℕ) (old new : Blocks) (kept kept' : ℕ → Bool) (from to : ℕ) (old_path new_path : Path) (place : Place) → Keeps kept old kept' new → IsHeld old kept (Dir from) → IsRoot room old from
-    → IsMovable old from old_path new_path place → IsMoved old new kept kept' from to old_path new_path place
+pub moved_root : (room : ℕ) (old new : Blocks) (kept kept' : ℕ → Bool) (from to : ℕ) (old_path new_path : Path) {old_trail new_trail : List ℕ} (place : Place) → Keeps kept old kept' new → IsHeld old kept (Dir from) → IsRoot room old from
+    → IsMovable old from old_path old_trail new_path new_trail place → IsMoved old new kept kept' from to old_path new_path place
     → IsNewRoot room old kept new kept' from to (move (root_tree room old from) old_path new_path)
 moved_root room old new kept kept' from to old_path new_path place keeps held rooted movable moved =
     let short = path_within new_path (and_parts (is_path old_path) (is_path new_path) movable.lawful).1 in
@@ -98,8 +98,8 @@ moved_root room old new kept kept' from to old_path new_path place keeps held ro
     let law = rename_law room old new kept kept' from to old_path new_path place keeps held rooted movable.stands short movable.shallow moved in
     record { rooted = law.0; held = all.held; shows = law.1; reached = all.reached }
 
-pub moved_result : (room : ℕ) (old new : Blocks) (kept kept' : ℕ → Bool) (from : ℕ) (old_path new_path : Path) (place : Place) (result : Result ℕ Fault) → Keeps kept old kept' new → IsHeld old kept (Dir from) → IsRoot room old from
-    → IsMovable old from old_path new_path place → IfOk result (λ to. IsMoved old new kept kept' from to old_path new_path place)
+pub moved_result : (room : ℕ) (old new : Blocks) (kept kept' : ℕ → Bool) (from : ℕ) (old_path new_path : Path) {old_trail new_trail : List ℕ} (place : Place) (result : Result ℕ Fault) → Keeps kept old kept' new → IsHeld old kept (Dir from) → IsRoot room old from
+    → IsMovable old from old_path old_trail new_path new_trail place → IfOk result (λ to. IsMoved old new kept kept' from to old_path new_path place)
     → IfOk result (λ to. IsNewRoot room old kept new kept' from to (move (root_tree room old from) old_path new_path))
 moved_result room old new kept kept' from old_path new_path place (Ok to) keeps held rooted movable moved = moved_root room old new kept kept' from to old_path new_path place keeps held rooted movable moved
 moved_result room old new kept kept' from old_path new_path place (Err fault) keeps held rooted movable moved = tt

@@ -1,19 +1,21 @@
 -- Edits of trees: when one can be applied, the tree that it makes, and how many nodes it writes.
-use Rattle.std.specs.Prelude.{◌≡◌, ℕ, ◌+◌, ◌-◌, ◌<◌, ◌≤◌, ◌&&◌, Bool, true, false, Some, None, Ok, [], length}
-use Rattle.fs_types.specs.Names.{Path, is_path}
-use Rattle.plain_trees.specs.Contents.{Entry, Apart, overwritten, resized, pwrite_need, ftruncate_need}
+use Rattle.std.specs.Prelude.{◌≡◌, ℕ, ◌+◌, ◌-◌, ◌*◌, ◌^◌, ◌<◌, ◌≤◌, ◌&&◌, Bool, true, false, Some, None, Ok, List, [], length}
+use Rattle.fs_types.specs.Names.{Path, is_path, same_path}
+use Rattle.plain_trees.specs.Contents.{Entry, Apart, parent_of, overwritten, resized, pwrite_need, ftruncate_need}
 use Rattle.plain_trees.specs.Trees.{Tree, put, remove, move, bytes_at}
 use Rattle.node_format.specs.Items.{is_place}
 use Rattle.node_format.specs.declared.places.Place.{Place}
 use Rattle.node_format.specs.declared.places.Place.TheVariants.{Dir}
-use Rattle.block_trees.specs.Bodies.{Blocks}
+use Rattle.block_trees.specs.Bodies.{Blocks, head_index}
 use Rattle.block_trees.specs.Laws.{IsShallow}
 use Rattle.block_trees.specs.Reached.{IsHeld}
 use Rattle.block_trees.specs.Trees.{entries_of, leads, IsRoot}
 use Rattle.directory.specs.declared.lookups.Found.{Found}
 use Rattle.directory.specs.declared.lookups.Found.TheVariants as found
 use Rattle.directory.specs.Lookups.{look_up}
-use Rattle.directory.specs.Moves.{move_refusal, directories_along}
+use Rattle.directory.specs.Moves.{directories_along}
+use Rattle.directory.specs.Trails.{IsTrail, has_room}
+use Rattle.skip_list_file.specs.Reading.{nodes_between}
 use Rattle.tree_edits.specs.declared.edits.Edit.{Edit}
 
 -- a file may be put where this was found: where nothing stands and the directory has room, and in the place of a file
@@ -28,33 +30,37 @@ IsRemovable f (found.Missing is_full) = ⊥
 IsRemovable f (found.File head size) = Unit {0}
 IsRemovable f (found.Dir block) = entries_of (f block) ≡ Some []
 
--- what an old path leads to can be moved to a new one: no path gets too long, and the new name has room
-pub record IsMovable (f : Blocks) (root : ℕ) (old new : Path) (place : Place) : Type 0 where
+-- what an old path leads to can be moved to a new one: the trails are those of the paths, no path gets too long, and the
+-- new name has room, which a move within one directory does not ask
+pub record IsMovable (f : Blocks) (root : ℕ) (old : Path) (old_trail : List ℕ) (new : Path) (new_trail : List ℕ) (place : Place) : Type 0 where
   pub lawful : is_path old && is_path new ≡ true
   pub lawful_place : is_place place ≡ true
+  pub old_way : IsTrail f root old old_trail
+  pub new_way : IsTrail f root new new_trail
   pub stands : leads f (Dir root) old ≡ Some place
   pub shallow : IsShallow f place (16 - length new)
-  pub editable : move_refusal f root old new place ≡ None
+  pub room : same_path (parent_of old) (parent_of new) ≡ false → has_room (look_up f root new) ≡ true
 
 -- what look ups told of an edit of the tree of a root
 abbrev pub IsEditable : ℕ → Blocks → (ℕ → Bool) → ℕ → Edit → Type 0
-IsEditable room f kept root (Edit.MakeDirectory path) = (is_path path.now ≡ true) × (look_up f root path.now ≡ Ok (found.Missing false))
-IsEditable room f kept root (Edit.PutEmptyFile path) = (is_path path.now ≡ true) × (x : Found) × (look_up f root path.now ≡ Ok x) × TakesFile x
-IsEditable room f kept root (Edit.Overwrite path body offset bytes) =
-    (is_path path.now ≡ true) × (look_up f root path.now ≡ Ok (found.File body.head body.length)) × (body.length ≤ 16777216) × (0 < length bytes.now) × (offset + length bytes.now ≤ 16777216)
-IsEditable room f kept root (Edit.SetLength path body size) = (is_path path.now ≡ true) × (look_up f root path.now ≡ Ok (found.File body.head body.length)) × (size ≤ 16777216)
-IsEditable room f kept root (Edit.Remove path) = (is_path path.now ≡ true) × (0 < length path.now) × (x : Found) × (look_up f root path.now ≡ Ok x) × IsRemovable f x
-IsEditable room f kept root (Edit.Move old new place) = Apart old.now new.now × IsMovable f root old.now new.now place
+IsEditable room f kept root (Edit.MakeDirectory path trail) = (is_path path.now ≡ true) × IsTrail f root path.now trail.now × (look_up f root path.now ≡ Ok (found.Missing false))
+IsEditable room f kept root (Edit.PutEmptyFile path trail) = (is_path path.now ≡ true) × IsTrail f root path.now trail.now × (x : Found) × (look_up f root path.now ≡ Ok x) × TakesFile x
+IsEditable room f kept root (Edit.Overwrite path trail body offset bytes) =
+    (is_path path.now ≡ true) × IsTrail f root path.now trail.now × (look_up f root path.now ≡ Ok (found.File body.head body.length)) × (body.length ≤ 16777216) × (0 < length bytes.now) × (offset + length bytes.now ≤ 16777216)
+IsEditable room f kept root (Edit.SetLength path trail body size) =
+    (is_path path.now ≡ true) × IsTrail f root path.now trail.now × (look_up f root path.now ≡ Ok (found.File body.head body.length)) × (size ≤ 16777216)
+IsEditable room f kept root (Edit.Remove path trail) = (is_path path.now ≡ true) × IsTrail f root path.now trail.now × (0 < length path.now) × (x : Found) × (look_up f root path.now ≡ Ok x) × IsRemovable f x
+IsEditable room f kept root (Edit.Move old old_trail new new_trail place) = Apart old.now new.now × IsMovable f root old.now old_trail.now new.now new_trail.now place
 IsEditable room f kept root (Edit.Restore other) = IsHeld f kept (Dir other) × IsRoot room f other
 
 -- the tree that an edit makes of a tree, where each root has this tree
 abbrev pub effect : (ℕ → Tree) → Edit → Tree → Tree
-effect trees (Edit.MakeDirectory path) t = put t path.now Entry.Dir
-effect trees (Edit.PutEmptyFile path) t = put t path.now (Entry.File [])
-effect trees (Edit.Overwrite path body offset bytes) t = put t path.now (Entry.File (overwritten (bytes_at t path.now) offset bytes.now))
-effect trees (Edit.SetLength path body size) t = put t path.now (Entry.File (resized (bytes_at t path.now) size))
-effect trees (Edit.Remove path) t = remove t path.now
-effect trees (Edit.Move old new place) t = move t old.now new.now
+effect trees (Edit.MakeDirectory path trail) t = put t path.now Entry.Dir
+effect trees (Edit.PutEmptyFile path trail) t = put t path.now (Entry.File [])
+effect trees (Edit.Overwrite path trail body offset bytes) t = put t path.now (Entry.File (overwritten (bytes_at t path.now) offset bytes.now))
+effect trees (Edit.SetLength path trail body size) t = put t path.now (Entry.File (resized (bytes_at t path.now) size))
+effect trees (Edit.Remove path trail) t = remove t path.now
+effect trees (Edit.Move old old_trail new new_trail place) t = move t old.now new.now
 effect trees (Edit.Restore other) t = trees other
 
 -- the root whose blocks an edit goes on from
@@ -64,10 +70,30 @@ source root _ = root
 
 -- how many nodes an edit writes, where a body node has room for so many data bytes
 abbrev pub need : ℕ → Edit → ℕ
-need room (Edit.MakeDirectory path) = length path.now + 1
-need room (Edit.PutEmptyFile path) = length path.now
-need room (Edit.Overwrite path body offset bytes) = pwrite_need room body.length offset (length bytes.now) + length path.now
-need room (Edit.SetLength path body size) = ftruncate_need room body.length size + length path.now
-need room (Edit.Remove path) = length path.now
-need room (Edit.Move old new place) = directories_along old.now new.now
+need room (Edit.MakeDirectory path trail) = length path.now + 1
+need room (Edit.PutEmptyFile path trail) = length path.now
+need room (Edit.Overwrite path trail body offset bytes) = pwrite_need room body.length offset (length bytes.now) + length path.now
+need room (Edit.SetLength path trail body size) = ftruncate_need room body.length size + length path.now
+need room (Edit.Remove path trail) = length path.now
+need room (Edit.Move old old_trail new new_trail place) = directories_along old.now new.now
 need room (Edit.Restore other) = 0
+
+-- how many nodes are read at most to overwrite a body of this length up to an end, where the index of its head has so
+-- many binary digits
+abbrev pub overwrite_reads : ℕ → ℕ → ℕ → ℕ → ℕ
+overwrite_reads room size end digits = 2 * nodes_between room end size + (1 + 5 * digits)
+
+-- and to give a body another length
+abbrev pub resize_reads : ℕ → ℕ
+resize_reads digits = 1 + 5 * digits
+
+-- an edit read few nodes: each directory that is written anew once, and of a file what its body's write asks
+abbrev pub ReadsFew : ℕ → Edit → ℕ → ℕ → Type 0
+ReadsFew room (Edit.MakeDirectory path trail) before after = after ≤ before + length path.now
+ReadsFew room (Edit.PutEmptyFile path trail) before after = after ≤ before + length path.now
+ReadsFew room (Edit.Overwrite path trail body offset bytes) before after =
+    (digits : ℕ) → head_index room body.length < 2 ^ digits → after ≤ before + (overwrite_reads room body.length (offset + length bytes.now) digits + length path.now)
+ReadsFew room (Edit.SetLength path trail body size) before after = (digits : ℕ) → head_index room body.length < 2 ^ digits → after ≤ before + (resize_reads digits + length path.now)
+ReadsFew room (Edit.Remove path trail) before after = after ≤ before + length path.now
+ReadsFew room (Edit.Move old old_trail new new_trail place) before after = after ≤ before + directories_along old.now new.now
+ReadsFew room (Edit.Restore other) before after = after ≡ before

@@ -4,8 +4,8 @@ ghost use Rattle.node_format.specs.Headers.{body_front};
 ghost use Rattle.node_format.specs.declared.places.Place.TheVariants.{Dir};
 ghost use Rattle.block_trees.specs.Reached.{IsHeld, Keeps};
 ghost use Rattle.block_trees.specs.Trees.{IsRoot, root_tree};
-ghost use Rattle.directory.specs.Making.{IsMakeFault};
-ghost use Rattle.tree_edits.specs.Edits.{IsEditable, effect, source, need};
+ghost use Rattle.directory.specs.Trails.{IsChangeFault};
+ghost use Rattle.tree_edits.specs.Edits.{IsEditable, ReadsFew, effect, source, need};
 ghost use Rattle.tree_edits.specs.Roots.{IsNewRoot};
 
 use crate::edits::Edit;
@@ -16,7 +16,8 @@ use node_store::Nodes;
 use std::alloc::Global;
 
 /// Applies an edit to the tree of a root, as what was looked up allows, and answers the new root. It
-/// writes exactly as many nodes as the edit needs. The old root stays as it was, whatever is answered.
+/// writes exactly as many nodes as the edit needs, and reads each directory that is written anew once
+/// more. The old root stays as it was, whatever is answered.
 ///
 /// Refused only with what reads and writes are refused with, and with `NoMemory`.
 pub fn apply<N: Nodes>(
@@ -32,23 +33,36 @@ pub fn apply<N: Nodes>(
     ensures root { IfOk result (λ to. IsNewRoot (N.limit nodes.old - body_front) (N.node nodes.old) (N.kept nodes.old) (N.node nodes.new) (N.kept nodes.new) (source root edit.entry) to (effect (root_tree (N.limit nodes.old - body_front) (N.node nodes.old)) edit.entry (root_tree (N.limit nodes.old - body_front) (N.node nodes.old) root))) }
     ensures keeps { Keeps (N.kept nodes.old) (N.node nodes.old) (N.kept nodes.new) (N.node nodes.new) }
     ensures why { IfErr result (λ fault. N.causes nodes.old nodes.new fault) }
-    ensures faults { IfErr result IsMakeFault }
+    ensures faults { IfErr result IsChangeFault }
     ensures written { IfOk result (λ _. N.writes nodes.new ≡ N.writes nodes.old + need (N.limit nodes.old - body_front) edit.entry) }
     ensures writes { N.writes nodes.new ≤ N.writes nodes.old + need (N.limit nodes.old - body_front) edit.entry }
+    ensures reads { ReadsFew (N.limit nodes.old - body_front) edit.entry (N.reads nodes.old) (N.reads nodes.new) }
     ensures follows { N.follows nodes.old nodes.new }
 {
     match edit {
-        Edit::MakeDirectory { path } => make(alloc, nodes, root, path),
-        Edit::PutEmptyFile { path } => put_empty(alloc, nodes, root, path),
+        Edit::MakeDirectory { path, trail } => make(alloc, nodes, root, trail, path),
+        Edit::PutEmptyFile { path, trail } => put_empty(alloc, nodes, root, trail, path),
         Edit::Overwrite {
             path,
+            trail,
             body,
             offset,
             bytes,
-        } => overwrite(alloc, nodes, root, path, body, offset, bytes),
-        Edit::SetLength { path, body, length } => { resize(alloc, nodes, root, path, body, length) }
-        Edit::Remove { path } => remove(alloc, nodes, root, path),
-        Edit::Move { old, new, place } => rename(alloc, nodes, root, old, new, place),
+        } => overwrite(alloc, nodes, root, trail, path, body, offset, bytes),
+        Edit::SetLength {
+            path,
+            trail,
+            body,
+            length,
+        } => resize(alloc, nodes, root, trail, path, body, length),
+        Edit::Remove { path, trail } => remove(alloc, nodes, root, trail, path),
+        Edit::Move {
+            old,
+            old_trail,
+            new,
+            new_trail,
+            place,
+        } => rename(alloc, nodes, root, old_trail, old, new_trail, new, place),
         Edit::Restore { root } => Ok(root),
     }
 }

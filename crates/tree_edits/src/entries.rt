@@ -10,12 +10,12 @@ ghost use Rattle.block_trees.specs.Trees.{IsRoot, root_tree};
 ghost use Rattle.directory.specs.declared.lookups.Found.{Found};
 ghost use Rattle.directory.specs.declared.lookups.Found.TheVariants.{Missing};
 ghost use Rattle.directory.specs.Lookups.{look_up};
-ghost use Rattle.directory.specs.Making.{IsMakeFault};
 ghost use Rattle.directory.specs.Moves.{directories_along};
+ghost use Rattle.directory.specs.Trails.{IsTrail, IsChangeFault};
 ghost use Rattle.tree_edits.specs.Edits.{IsMovable, IsRemovable};
 ghost use Rattle.tree_edits.specs.Roots.{IsNewRoot};
 
-use directory::{make_directory, moved, without_entry};
+use directory::{Trail, move_entry, put_directory, remove_entry};
 use fs_types::{Fault, Path};
 use node_format::Place;
 use node_store::Nodes;
@@ -26,21 +26,24 @@ pub(crate) fn make<N: Nodes>(
     alloc: Global,
     nodes: &mut N,
     root: u32,
+    trail: &Trail,
     path: &Path,
 ) -> Result<u32, Fault>
     requires sound { N.is_sound nodes.old }
     requires held { IsHeld (N.node nodes.old) (N.kept nodes.old) (Dir root) }
     requires rooted { IsRoot (N.limit nodes.old - body_front) (N.node nodes.old) root }
     requires lawful { is_path path.now ≡ true }
+    requires way { IsTrail (N.node nodes.old) root path.now trail.now }
     requires missing { look_up (N.node nodes.old) root path.now ≡ Ok (Missing false) }
     ensures root { IfOk result (λ to. IsNewRoot (N.limit nodes.old - body_front) (N.node nodes.old) (N.kept nodes.old) (N.node nodes.new) (N.kept nodes.new) root to (put (root_tree (N.limit nodes.old - body_front) (N.node nodes.old) root) path.now Entry.Dir)) }
     ensures why { IfErr result (λ fault. N.causes nodes.old nodes.new fault) }
-    ensures faults { IfErr result IsMakeFault }
+    ensures faults { IfErr result IsChangeFault }
     ensures written { IfOk result (λ _. N.writes nodes.new ≡ N.writes nodes.old + (length path.now + 1)) }
     ensures writes { N.writes nodes.new ≤ N.writes nodes.old + (length path.now + 1) }
+    ensures reads { N.reads nodes.new ≤ N.reads nodes.old + length path.now }
     ensures follows { N.follows nodes.old nodes.new }
 {
-    make_directory(alloc, nodes, root, path)
+    put_directory(alloc, nodes, root, trail, path)
 }
 
 /// Takes out the file at a path, or the directory without entries.
@@ -48,22 +51,25 @@ pub(crate) fn remove<N: Nodes>(
     alloc: Global,
     nodes: &mut N,
     root: u32,
+    trail: &Trail,
     path: &Path,
 ) -> Result<u32, Fault>
     requires sound { N.is_sound nodes.old }
     requires held { IsHeld (N.node nodes.old) (N.kept nodes.old) (Dir root) }
     requires rooted { IsRoot (N.limit nodes.old - body_front) (N.node nodes.old) root }
     requires lawful { is_path path.now ≡ true }
+    requires way { IsTrail (N.node nodes.old) root path.now trail.now }
     requires below { 0 < length path.now }
     requires removable { (x : Found) × (look_up (N.node nodes.old) root path.now ≡ Ok x) × IsRemovable (N.node nodes.old) x }
     ensures root { IfOk result (λ to. IsNewRoot (N.limit nodes.old - body_front) (N.node nodes.old) (N.kept nodes.old) (N.node nodes.new) (N.kept nodes.new) root to (remove (root_tree (N.limit nodes.old - body_front) (N.node nodes.old) root) path.now)) }
     ensures why { IfErr result (λ fault. N.causes nodes.old nodes.new fault) }
-    ensures faults { IfErr result IsMakeFault }
+    ensures faults { IfErr result IsChangeFault }
     ensures written { IfOk result (λ _. N.writes nodes.new ≡ N.writes nodes.old + length path.now) }
     ensures writes { N.writes nodes.new ≤ N.writes nodes.old + length path.now }
+    ensures reads { N.reads nodes.new ≤ N.reads nodes.old + length path.now }
     ensures follows { N.follows nodes.old nodes.new }
 {
-    without_entry(alloc, nodes, root, path)
+    remove_entry(alloc, nodes, root, trail, path)
 }
 
 /// Moves what stands at one path to another; neither begins the other.
@@ -71,7 +77,9 @@ pub(crate) fn rename<N: Nodes>(
     alloc: Global,
     nodes: &mut N,
     root: u32,
+    old_trail: &Trail,
     old: &Path,
+    new_trail: &Trail,
     new: &Path,
     place: Place,
 ) -> Result<u32, Fault>
@@ -79,13 +87,14 @@ pub(crate) fn rename<N: Nodes>(
     requires held { IsHeld (N.node nodes.old) (N.kept nodes.old) (Dir root) }
     requires rooted { IsRoot (N.limit nodes.old - body_front) (N.node nodes.old) root }
     requires apart { Apart old.now new.now }
-    requires movable { IsMovable (N.node nodes.old) root old.now new.now place }
+    requires movable { IsMovable (N.node nodes.old) root old.now old_trail.now new.now new_trail.now place }
     ensures root { IfOk result (λ to. IsNewRoot (N.limit nodes.old - body_front) (N.node nodes.old) (N.kept nodes.old) (N.node nodes.new) (N.kept nodes.new) root to (move (root_tree (N.limit nodes.old - body_front) (N.node nodes.old) root) old.now new.now)) }
     ensures why { IfErr result (λ fault. N.causes nodes.old nodes.new fault) }
-    ensures faults { IfErr result IsMakeFault }
+    ensures faults { IfErr result IsChangeFault }
     ensures written { IfOk result (λ _. N.writes nodes.new ≡ N.writes nodes.old + directories_along old.now new.now) }
     ensures writes { N.writes nodes.new ≤ N.writes nodes.old + directories_along old.now new.now }
+    ensures reads { N.reads nodes.new ≤ N.reads nodes.old + directories_along old.now new.now }
     ensures follows { N.follows nodes.old nodes.new }
 {
-    moved(alloc, nodes, root, old, new, place)
+    move_entry(alloc, nodes, root, old_trail, old, new_trail, new, place)
 }

@@ -1,10 +1,11 @@
 //! Files with other bytes.
-ghost use Rattle.std.specs.Prelude.{◌≡◌, ℕ, ◌+◌, ◌-◌, ◌≤◌, ◌<◌, true, length, Some, Ok, [], IfOk, IfErr};
+ghost use Rattle.std.specs.Prelude.{◌≡◌, ℕ, ◌+◌, ◌-◌, ◌^◌, ◌≤◌, ◌<◌, true, length, Some, Ok, [], IfOk, IfErr};
 ghost use Rattle.plain_trees.specs.Contents.{Entry, overwritten, resized, pwrite_need, ftruncate_need};
 ghost use Rattle.plain_trees.specs.Trees.{bytes_at, put};
 ghost use Rattle.fs_types.specs.Names.{is_path};
 ghost use Rattle.node_format.specs.Headers.{body_front};
 ghost use Rattle.node_format.specs.declared.places.Place.TheVariants.{Dir, File};
+ghost use Rattle.block_trees.specs.Bodies.{head_index};
 ghost use Rattle.block_trees.specs.Reached.{IsHeld, Keeps};
 ghost use Rattle.block_trees.specs.Rewritten.{IsRewritten};
 ghost use Rattle.block_trees.specs.Trees.{IsRoot, root_tree};
@@ -12,11 +13,11 @@ ghost use Rattle.directory.specs.declared.lookups.Found.{Found};
 ghost use Rattle.directory.specs.declared.lookups.Found.TheVariants as found;
 ghost use Rattle.directory.specs.Edits.{OnlyReaches};
 ghost use Rattle.directory.specs.Lookups.{look_up};
-ghost use Rattle.directory.specs.Making.{IsMakeFault};
-ghost use Rattle.tree_edits.specs.Edits.{TakesFile};
+ghost use Rattle.directory.specs.Trails.{IsTrail, IsChangeFault};
+ghost use Rattle.tree_edits.specs.Edits.{TakesFile, overwrite_reads, resize_reads};
 ghost use Rattle.tree_edits.specs.Roots.{IsNewRoot};
 
-use directory::with_entry;
+use directory::{Trail, put_entry};
 use fs_types::{Fault, Path};
 use node_format::Place;
 use node_store::Nodes;
@@ -28,27 +29,30 @@ fn put_body<N: Nodes>(
     alloc: Global,
     nodes: &mut N,
     root: u32,
+    trail: &Trail,
     path: &Path,
     body: Body,
 ) -> Result<u32, Fault>
     requires sound { N.is_sound nodes.old }
     requires held { IsHeld (N.node nodes.old) (N.kept nodes.old) (Dir root) }
+    requires way { IsTrail (N.node nodes.old) root path.now trail.now }
     requires fits { (x : Found) × (look_up (N.node nodes.old) root path.now ≡ Ok x) × TakesFile x }
     requires short { body.length ≤ 16777216 }
     ensures rewritten { IfOk result (λ to. IsRewritten (N.node nodes.old) (N.kept nodes.new) (N.node nodes.new) root to path.now (Some (File body.head body.length))) }
     ensures reaches { IfOk result (λ to. OnlyReaches (N.node nodes.old) (N.node nodes.new) (N.kept nodes.old) root to (Some (File body.head body.length))) }
     ensures keeps { Keeps (N.kept nodes.old) (N.node nodes.old) (N.kept nodes.new) (N.node nodes.new) }
     ensures why { IfErr result (λ fault. N.causes nodes.old nodes.new fault) }
-    ensures faults { IfErr result IsMakeFault }
+    ensures faults { IfErr result IsChangeFault }
     ensures written { IfOk result (λ _. N.writes nodes.new ≡ N.writes nodes.old + length path.now) }
     ensures writes { N.writes nodes.new ≤ N.writes nodes.old + length path.now }
+    ensures reads { N.reads nodes.new ≤ N.reads nodes.old + length path.now }
     ensures follows { N.follows nodes.old nodes.new }
 {
     let place = Place::File {
         head: body.head,
         length: body.length,
     };
-    with_entry(alloc, nodes, root, path, place)
+    put_entry(alloc, nodes, root, trail, path, place)
 }
 
 /// Puts an empty file at a path, where nothing stands in a directory with room, or a file.
@@ -56,22 +60,25 @@ pub(crate) fn put_empty<N: Nodes>(
     alloc: Global,
     nodes: &mut N,
     root: u32,
+    trail: &Trail,
     path: &Path,
 ) -> Result<u32, Fault>
     requires sound { N.is_sound nodes.old }
     requires held { IsHeld (N.node nodes.old) (N.kept nodes.old) (Dir root) }
     requires rooted { IsRoot (N.limit nodes.old - body_front) (N.node nodes.old) root }
     requires lawful { is_path path.now ≡ true }
+    requires way { IsTrail (N.node nodes.old) root path.now trail.now }
     requires fits { (x : Found) × (look_up (N.node nodes.old) root path.now ≡ Ok x) × TakesFile x }
     ensures root { IfOk result (λ to. IsNewRoot (N.limit nodes.old - body_front) (N.node nodes.old) (N.kept nodes.old) (N.node nodes.new) (N.kept nodes.new) root to (put (root_tree (N.limit nodes.old - body_front) (N.node nodes.old) root) path.now (Entry.File []))) }
     ensures why { IfErr result (λ fault. N.causes nodes.old nodes.new fault) }
-    ensures faults { IfErr result IsMakeFault }
+    ensures faults { IfErr result IsChangeFault }
     ensures written { IfOk result (λ _. N.writes nodes.new ≡ N.writes nodes.old + length path.now) }
     ensures writes { N.writes nodes.new ≤ N.writes nodes.old + length path.now }
+    ensures reads { N.reads nodes.new ≤ N.reads nodes.old + length path.now }
     ensures follows { N.follows nodes.old nodes.new }
 {
     let body = Body { head: 0, length: 0 };
-    put_body(alloc, nodes, root, path, body)
+    put_body(alloc, nodes, root, trail, path, body)
 }
 
 /// Writes bytes, at least one, from `offset` on over those of the file at a path, which has this
@@ -80,6 +87,7 @@ pub(crate) fn overwrite<N: Nodes>(
     alloc: Global,
     nodes: &mut N,
     root: u32,
+    trail: &Trail,
     path: &Path,
     body: Body,
     offset: u32,
@@ -89,19 +97,21 @@ pub(crate) fn overwrite<N: Nodes>(
     requires held { IsHeld (N.node nodes.old) (N.kept nodes.old) (Dir root) }
     requires rooted { IsRoot (N.limit nodes.old - body_front) (N.node nodes.old) root }
     requires lawful { is_path path.now ≡ true }
+    requires way { IsTrail (N.node nodes.old) root path.now trail.now }
     requires found { look_up (N.node nodes.old) root path.now ≡ Ok (found.File body.head body.length) }
     requires short { body.length ≤ 16777216 }
     requires some { 0 < length bytes.now }
     requires fits { offset + length bytes.now ≤ 16777216 }
     ensures root { IfOk result (λ to. IsNewRoot (N.limit nodes.old - body_front) (N.node nodes.old) (N.kept nodes.old) (N.node nodes.new) (N.kept nodes.new) root to (put (root_tree (N.limit nodes.old - body_front) (N.node nodes.old) root) path.now (Entry.File (overwritten (bytes_at (root_tree (N.limit nodes.old - body_front) (N.node nodes.old) root) path.now) offset bytes.now)))) }
     ensures why { IfErr result (λ fault. N.causes nodes.old nodes.new fault) }
-    ensures faults { IfErr result IsMakeFault }
+    ensures faults { IfErr result IsChangeFault }
     ensures written { IfOk result (λ _. N.writes nodes.new ≡ N.writes nodes.old + (pwrite_need (N.limit nodes.old - body_front) body.length offset (length bytes.now) + length path.now)) }
     ensures writes { N.writes nodes.new ≤ N.writes nodes.old + (pwrite_need (N.limit nodes.old - body_front) body.length offset (length bytes.now) + length path.now) }
+    ensures reads { (digits : ℕ) → head_index (N.limit nodes.old - body_front) body.length < 2 ^ digits → N.reads nodes.new ≤ N.reads nodes.old + (overwrite_reads (N.limit nodes.old - body_front) body.length (offset + length bytes.now) digits + length path.now) }
     ensures follows { N.follows nodes.old nodes.new }
 {
     let new = write_range(alloc, nodes, body, offset, bytes)?;
-    put_body(alloc, nodes, root, path, new)
+    put_body(alloc, nodes, root, trail, path, new)
 }
 
 /// Makes the length of the file at a path this, which has this body.
@@ -109,6 +119,7 @@ pub(crate) fn resize<N: Nodes>(
     alloc: Global,
     nodes: &mut N,
     root: u32,
+    trail: &Trail,
     path: &Path,
     body: Body,
     size: u32,
@@ -117,15 +128,17 @@ pub(crate) fn resize<N: Nodes>(
     requires held { IsHeld (N.node nodes.old) (N.kept nodes.old) (Dir root) }
     requires rooted { IsRoot (N.limit nodes.old - body_front) (N.node nodes.old) root }
     requires lawful { is_path path.now ≡ true }
+    requires way { IsTrail (N.node nodes.old) root path.now trail.now }
     requires found { look_up (N.node nodes.old) root path.now ≡ Ok (found.File body.head body.length) }
     requires fits { size ≤ 16777216 }
     ensures root { IfOk result (λ to. IsNewRoot (N.limit nodes.old - body_front) (N.node nodes.old) (N.kept nodes.old) (N.node nodes.new) (N.kept nodes.new) root to (put (root_tree (N.limit nodes.old - body_front) (N.node nodes.old) root) path.now (Entry.File (resized (bytes_at (root_tree (N.limit nodes.old - body_front) (N.node nodes.old) root) path.now) size)))) }
     ensures why { IfErr result (λ fault. N.causes nodes.old nodes.new fault) }
-    ensures faults { IfErr result IsMakeFault }
+    ensures faults { IfErr result IsChangeFault }
     ensures written { IfOk result (λ _. N.writes nodes.new ≡ N.writes nodes.old + (ftruncate_need (N.limit nodes.old - body_front) body.length size + length path.now)) }
     ensures writes { N.writes nodes.new ≤ N.writes nodes.old + (ftruncate_need (N.limit nodes.old - body_front) body.length size + length path.now) }
+    ensures reads { (digits : ℕ) → head_index (N.limit nodes.old - body_front) body.length < 2 ^ digits → N.reads nodes.new ≤ N.reads nodes.old + (resize_reads digits + length path.now) }
     ensures follows { N.follows nodes.old nodes.new }
 {
     let new = set_length(alloc, nodes, body, size)?;
-    put_body(alloc, nodes, root, path, new)
+    put_body(alloc, nodes, root, trail, path, new)
 }

@@ -6,6 +6,6 @@ use Rattle.tree_edits.proofs.entries.make.Goals as goal
 pub returns-clause-root : goal.returns-clause-root
 returns-clause-root g c =
     let old = c.args.nodes.now in
-    let new = c.make_directory.new.nodes in
-    made_result (g.N.Nodes.limit c.args.nodes.now - body_front) (g.N.Nodes.node old) (g.N.Nodes.node new) (g.N.Nodes.kept old) (g.N.Nodes.kept new) c.args.root c.args.path.now c.make_directory.result
-    c.make_directory.ensures.keeps c.requires.held c.requires.rooted c.requires.lawful c.requires.missing c.make_directory.ensures.made c.make_directory.ensures.reaches
+    let new = c.put_directory.new.nodes in
+    made_result (g.N.Nodes.limit c.args.nodes.now - body_front) (g.N.Nodes.node old) (g.N.Nodes.node new) (g.N.Nodes.kept old) (g.N.Nodes.kept new) c.args.root c.args.path.now c.put_directory.result
+    c.put_directory.ensures.keeps c.requires.held c.requires.rooted c.requires.lawful c.requires.missing c.put_directory.ensures.made c.put_directory.ensures.reaches

@@ -1,12 +1,12 @@
-use Rattle.std.proofs.Common.{◌-◌, List, ℕ, subst}
+use Rattle.std.proofs.Common.{◌-◌, List, ℕ, subst, ◌∙◌}
 use Rattle.plain_trees.specs.Contents.{overwritten}
 use Rattle.plain_trees.specs.Trees.{bytes_at}
 use Rattle.node_format.specs.Headers.{body_front}
 use Rattle.block_trees.specs.Trees.{root_tree}
 use Rattle.directory.specs.declared.lookups.Found.TheVariants as found
 use Rattle.directory.proofs.NewDirectories.{held_later}
+use Rattle.directory.proofs.TrailEdits.{look_later, trail_later}
 use Rattle.skip_list_file.specs.Writing.{IsWritten}
-use Rattle.tree_edits.proofs.Lookups.{look_later}
 use Rattle.tree_edits.proofs.NewBytes.{file_result, from_file, file_whole, file_held, file_bytes}
 use Rattle.tree_edits.proofs.files.overwrite.Goals as goal
 
@@ -27,7 +27,13 @@ put_body-requires-clause-fits g c =
     let old = c.args.nodes.now in
     let mid = c.write_range.new.nodes in
     let there = found.File c.args.body.head c.args.body.length in
-    (there, look_later (g.N.Nodes.node old) (g.N.Nodes.node mid) (g.N.Nodes.kept old) (g.N.Nodes.kept mid) c.write_range.ensures.keeps c.args.path.now c.args.root there c.requires.held c.requires.found, tt)
+    (there, look_later (g.N.Nodes.node old) (g.N.Nodes.node mid) (g.N.Nodes.kept old) (g.N.Nodes.kept mid) c.write_range.ensures.keeps c.args.path.now c.args.root c.requires.held ∙ c.requires.found, tt)
+
+pub put_body-requires-clause-way : goal.put_body-requires-clause-way
+put_body-requires-clause-way g c =
+    let old = c.args.nodes.now in
+    let mid = c.write_range.new.nodes in
+    trail_later (g.N.Nodes.node old) (g.N.Nodes.node mid) (g.N.Nodes.kept old) (g.N.Nodes.kept mid) c.write_range.ensures.keeps c.args.path.now c.args.root c.args.trail.now c.requires.held c.requires.way
 
 pub returns-clause-root : goal.returns-clause-root
 returns-clause-root g c =

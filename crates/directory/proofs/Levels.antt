@@ -2,11 +2,13 @@
 use Rattle.std.proofs.Common.{◌≡◌, ℕ, zero, suc, ◌⊎◌, inl, inr, ◌+◌, ◌*◌, ◌<◌, ◌≤◌, Bool, true, false, cond, ◌&&◌, ◌||◌, eqb, Option, Some, None, List, [], ◌∷◌, ◌++◌, length, take, refl, sym, ap, subst, ◌∙◌, arith, rules, length-append}
 use Rattle.std.specs.Prelude.{nat_lt, nat_le, IsSome, Contains}
 use Rattle.std.specs.Option.{is_some, option_and_then}
-use Rattle.std.specs.List.{list_any}
+use Rattle.std.specs.List.{list_any, range_with_len}
 use Rattle.std.specs.FinSet.{FinSet, contains, insert, empty, members, contains-empty}
 use Rattle.std.specs.Ordering.{nat_cmp}
 use Rattle.std.proofs.lemmas.Bool.{true≢false, eqb-true, eq-eqb, ltb-true, ltb-false, lt-ltb, leb-true, leb-false}
 use Rattle.std.proofs.lemmas.List.{length-take-le}
+use Rattle.std.proofs.lemmas.List.Elements.{Contains-append_left, Contains-push, Contains-push_cases}
+use Rattle.std.proofs.lemmas.List.FromFn.{length-range_with_len, get_or-range_with_len}
 use Rattle.fs_types.specs.Names.{Name, Path, same_name}
 use Rattle.fs_types.proofs.Orders.{same_name-own}
 use Rattle.node_format.specs.Items.{Item, named}
@@ -19,7 +21,7 @@ use Rattle.block_trees.specs.Laws.{IsShallow}
 use Rattle.block_trees.proofs.Entries.{entry_named}
 use Rattle.block_trees.proofs.EditedTrees.{by_test}
 use Rattle.block_trees.proofs.RootMaps.{leads-append}
-use Rattle.directory.specs.Depths.{IsDeeper, is_directory_at, names_directory, AreNamedBy}
+use Rattle.directory.specs.Depths.{IsDeeper, is_directory_at, names_directory, AreNamedBy, HasBlocks, HasDirectories}
 
 -- ---- the directories that entries name
 
@@ -60,32 +62,14 @@ child_named (item ∷ items) n b is = on (same_name item.name n) is (child_named
 
 -- ---- levels
 
--- the set has just the directories that paths of k names lead to, as far as paths of more than `most` names go
-pub record IsLevel (f : Blocks) (root most k blocks : ℕ) (level : FinSet nat_cmp) : Type 0 where
+-- the set has just the directories that paths of k names below the roots lead to, as far as paths of more than `most` names go
+pub record IsLevel (f : Blocks) (roots : List ℕ) (most k blocks : ℕ) (level : FinSet nat_cmp) : Type 0 where
   pub within : (b : ℕ) → contains level b ≡ true → b < blocks
-  pub reached : (b : ℕ) → contains level b ≡ true → (p : Path) × (leads f (Dir root) p ≡ Some (Dir b)) × (length p ≡ k)
-  pub covers : (p : Path) → IsSome (leads f (Dir root) p) → length p ≡ suc most → (b : ℕ) × (q : Path) × (contains level b ≡ true) × IsSome (leads f (Dir b) q) × (k + length q ≡ suc most)
+  pub reached : (b : ℕ) → contains level b ≡ true → (root : ℕ) × Contains roots root × (p : Path) × (leads f (Dir root) p ≡ Some (Dir b)) × (length p ≡ k)
+  pub covers : (root : ℕ) → Contains roots root → (p : Path) → IsSome (leads f (Dir root) p) → length p ≡ suc most → (b : ℕ) × (q : Path) × (contains level b ≡ true) × IsSome (leads f (Dir b) q) × (k + length q ≡ suc most)
 
 contains_insert : (s : FinSet nat_cmp) (x b : ℕ) → contains (insert s x) b ≡ (eqb b x || contains s b)
 contains_insert s x b = search (members, rules)
-
-first_is : (root b : ℕ) → contains (insert (empty {R = nat_cmp}) root) b ≡ true → b ≡ root
-first_is root b is = on (eqb b root) refl (sym (contains_insert empty root b) ∙ is)
-  where
-    on : (t : Bool) → eqb b root ≡ t → (t || contains (empty {R = nat_cmp}) b) ≡ true → b ≡ root
-    on true same e = eqb-true b root same
-    on false differs e = absurd (true≢false (sym e ∙ contains-empty nat_cmp b))
-
-pub first_level : (f : Blocks) (root most blocks : ℕ) (level : FinSet nat_cmp) → root < blocks → level ≡ insert empty root → IsLevel f root most 0 blocks level
-first_level f root most blocks level below is = record {
-  within = λ b here. let same = only b here in omega arith;
-  reached = λ b here. ([], ap (λ (x : ℕ). Some (Dir x)) (sym (only b here)), refl);
-  covers = λ p led long.
-      (root, p, ap (λ (s : FinSet nat_cmp). contains s root) is ∙ contains_insert empty root root ∙ ap (λ (t : Bool). t || contains (empty {R = nat_cmp}) root) (eq-eqb root root refl), led, omega (arith, long));
-}
-  where
-    only : (b : ℕ) → contains level b ≡ true → b ≡ root
-    only b here = first_is root b (sym (ap (λ (s : FinSet nat_cmp). contains s b) is) ∙ here)
 
 -- a path of two names or more goes on through a directory of the next level
 abbrev GoesOn : Blocks → ℕ → ℕ → ℕ → FinSet nat_cmp → Type 0
@@ -101,37 +85,53 @@ some_leads f at path n p is led = on (child f at n) (subst (λ (q : Path). IsSom
     on None led = absurd cc
     on (Some next) led = refl
 
-goes_on : (f : Blocks) (root most k blocks : ℕ) (level next : FinSet nat_cmp) → k < most → ((b : ℕ) → blocks ≤ b → f b ≡ None) → AreNamedBy f blocks (contains level) next
-    → (b : ℕ) (q : Path) → contains level b ≡ true → IsSome (leads f (Dir b) q) → k + length q ≡ suc most → GoesOn f most k blocks next
-goes_on f root most k blocks level next more beyond names b [] here led long = absurd (omega arith)
-goes_on f root most k blocks level next more beyond names b (m ∷ []) here led long = absurd (omega arith)
-goes_on f root most k blocks level next more beyond names b (m ∷ a ∷ q) here led long = on (child f (Dir b) m) refl led
+-- a directory with a path below it is in a block
+led_below : (f : Blocks) (blocks root : ℕ) (p : Path) → ((b : ℕ) → blocks ≤ b → f b ≡ None) → IsSome (leads f (Dir root) p) → 0 < length p → root < blocks
+led_below f blocks root [] beyond led some = absurd (omega arith)
+led_below f blocks root (n ∷ p) beyond led some = by_test (nat_lt root blocks) (λ less. ltb-true root blocks less) (λ not_less. absurd (none (ltb-false root blocks not_less)))
   where
-    none : (to : ℕ) → IsSome (leads f (Dir to) (a ∷ q)) → blocks ≤ to → ⊥
-    none to led past = let no_child : child f (Dir to) a ≡ None = ap (λ (node : Option (List ℕ)). named (items_of node) a) (beyond to past) in
-        true≢false (sym (some_leads f (Dir to) (a ∷ q) a q refl led) ∙ ap is_some no_child)
+    none : blocks ≤ root → ⊥
+    none past = let no_child : child f (Dir root) n ≡ None = ap (λ (node : Option (List ℕ)). named (items_of node) n) (beyond root past) in
+        true≢false (sym (some_leads f (Dir root) (n ∷ p) n p refl led) ∙ ap is_some no_child)
 
+pub first_level : (f : Blocks) (roots : List ℕ) (most blocks : ℕ) (level : FinSet nat_cmp) → ((b : ℕ) → blocks ≤ b → f b ≡ None) → HasBlocks blocks roots level
+    → IsLevel f roots most 0 blocks level
+first_level f roots most blocks level beyond has = record {
+  within = has.within;
+  reached = λ b here. (b, has.listed b here, [], refl, refl);
+  covers = λ root rooted p led long.
+      (root, p, has.all root rooted (led_below f blocks root p beyond led (omega (arith, long))), led, omega (arith, long));
+}
+
+goes_on : (f : Blocks) (most k blocks : ℕ) (level next : FinSet nat_cmp) → k < most → ((b : ℕ) → blocks ≤ b → f b ≡ None) → AreNamedBy f blocks (contains level) next
+    → (b : ℕ) (q : Path) → contains level b ≡ true → IsSome (leads f (Dir b) q) → k + length q ≡ suc most → GoesOn f most k blocks next
+goes_on f most k blocks level next more beyond names b [] here led long = absurd (omega arith)
+goes_on f most k blocks level next more beyond names b (m ∷ []) here led long = absurd (omega arith)
+goes_on f most k blocks level next more beyond names b (m ∷ a ∷ q) here led long = on (child f (Dir b) m) refl led
+  where
     below : (to : ℕ) → IsSome (leads f (Dir to) (a ∷ q)) → to < blocks
-    below to led = by_test (nat_lt to blocks) (λ less. ltb-true to blocks less) (λ not_less. absurd (none to led (ltb-false to blocks not_less)))
+    below to led = led_below f blocks to (a ∷ q) beyond led (omega arith)
 
     on : (o : Option Place) → child f (Dir b) m ≡ o → IsSome (option_and_then (λ next. leads f next (a ∷ q)) o) → GoesOn f most k blocks next
     on None is led = absurd cc
     on (Some (File head size)) is led = absurd cc
     on (Some (Dir to)) is led = (to, a ∷ q, names.all b to here (below to led) (child_named (items_of (f b)) m to is), led, omega arith)
 
-pub next_is_level : (f : Blocks) (root most k blocks : ℕ) (level next : FinSet nat_cmp) → k < most → ((b : ℕ) → blocks ≤ b → f b ≡ None) → IsLevel f root most k blocks level → AreNamedBy f blocks (contains level) next
-    → IsLevel f root most (k + 1) blocks next
-next_is_level f root most k blocks level next more beyond is names = record {
+pub next_is_level : (f : Blocks) (roots : List ℕ) (most k blocks : ℕ) (level next : FinSet nat_cmp) → k < most → ((b : ℕ) → blocks ≤ b → f b ≡ None) → IsLevel f roots most k blocks level → AreNamedBy f blocks (contains level) next
+    → IsLevel f roots most (k + 1) blocks next
+next_is_level f roots most k blocks level next more beyond is names = record {
   within = names.within;
   reached = λ b here.
       let parent = names.named b here in
       let before = is.reached parent.0 parent.1 in
       let goes = named_child f parent.0 b parent.2 in (
-        before.0 ++ goes.0 ∷ [],
-        leads-append f (Dir root) before.0 (goes.0 ∷ []) ∙ ap (option_and_then (λ to. leads f to (goes.0 ∷ []))) before.1 ∙ leads_one f (Dir parent.0) (Dir b) goes.0 goes.1,
-        omega (arith, length-append before.0 (goes.0 ∷ []), before.2),
+        before.0,
+        before.1,
+        before.2 ++ goes.0 ∷ [],
+        leads-append f (Dir before.0) before.2 (goes.0 ∷ []) ∙ ap (option_and_then (λ to. leads f to (goes.0 ∷ []))) before.3 ∙ leads_one f (Dir parent.0) (Dir b) goes.0 goes.1,
+        omega (arith, length-append before.2 (goes.0 ∷ []), before.4),
       );
-  covers = λ p led long. let found = is.covers p led long in goes_on f root most k blocks level next more beyond names found.0 found.1 found.2 found.3 found.4;
+  covers = λ root rooted p led long. let found = is.covers root rooted p led long in goes_on f most k blocks level next more beyond names found.0 found.1 found.2 found.3 found.4;
 }
 
 -- ---- what the last level says
@@ -149,8 +149,9 @@ no_items : (items : List Item) (n : Name) → length items ≡ 0 → named items
 no_items [] n none = refl
 no_items (item ∷ items) n none = absurd (omega arith)
 
-pub last_shallow : (f : Blocks) (root most blocks : ℕ) (level : FinSet nat_cmp) → IsLevel f root most most blocks level → ((b : ℕ) → contains level b ≡ true → length (items_of (f b)) ≡ 0) → IsShallow f (Dir root) most
-last_shallow f root most blocks level is none path led = by_test (nat_le (length path) most) (λ short. leb-true (length path) most short) (λ long. absurd (never (leb-false (length path) most long)))
+pub last_shallow : (f : Blocks) (roots : List ℕ) (most blocks : ℕ) (level : FinSet nat_cmp) → IsLevel f roots most most blocks level → ((b : ℕ) → contains level b ≡ true → length (items_of (f b)) ≡ 0)
+    → (root : ℕ) → Contains roots root → IsShallow f (Dir root) most
+last_shallow f roots most blocks level is none root rooted path led = by_test (nat_le (length path) most) (λ short. leb-true (length path) most short) (λ long. absurd (never (leb-false (length path) most long)))
   where
     ends : (b : ℕ) (q : Path) → contains level b ≡ true → IsSome (leads f (Dir b) q) → most + length q ≡ suc most → ⊥
     ends b [] here goes long = omega arith
@@ -159,31 +160,30 @@ last_shallow f root most blocks level is none path led = by_test (nat_le (length
     never : most < length path → ⊥
     never long =
         let exact : length (take (suc most) path) ≡ suc most = length-take-le (suc most) path (omega arith) in
-        let found = is.covers (take (suc most) path) (front_leads f (suc most) path (Dir root) led) exact in
+        let found = is.covers root rooted (take (suc most) path) (front_leads f (suc most) path (Dir root) led) exact in
         ends found.0 found.1 found.2 found.3 found.4
 
 first_named : (items : List Item) → 0 < length items → (n : Name) × IsSome (named items n)
 first_named [] some = absurd (omega arith)
 first_named (item ∷ items) some = (item.name, ap (λ (t : Bool). is_some (cond t (Some item.place) (named items item.name))) (same_name-own item.name))
 
-pub last_deeper : (f : Blocks) (root most blocks b : ℕ) (level : FinSet nat_cmp) → IsLevel f root most most blocks level → contains level b ≡ true → 0 < length (items_of (f b)) → IsDeeper f (Dir root) most
-last_deeper f root most blocks b level is here some =
+pub last_deeper : (f : Blocks) (roots : List ℕ) (most blocks b : ℕ) (level : FinSet nat_cmp) → IsLevel f roots most most blocks level → contains level b ≡ true → 0 < length (items_of (f b))
+    → (root : ℕ) × Contains roots root × IsDeeper f (Dir root) most
+last_deeper f roots most blocks b level is here some =
     let before = is.reached b here in
     let entry = first_named (items_of (f b)) some in (
-      before.0 ++ entry.0 ∷ [],
-      ap is_some (leads-append f (Dir root) before.0 (entry.0 ∷ []) ∙ ap (option_and_then (λ to. leads f to (entry.0 ∷ []))) before.1) ∙ on (child f (Dir b) entry.0) entry.1,
-      omega (arith, length-append before.0 (entry.0 ∷ []), before.2),
+      before.0,
+      before.1,
+      (
+        before.2 ++ entry.0 ∷ [],
+        ap is_some (leads-append f (Dir before.0) before.2 (entry.0 ∷ []) ∙ ap (option_and_then (λ to. leads f to (entry.0 ∷ []))) before.3) ∙ on (child f (Dir b) entry.0) entry.1,
+        omega (arith, length-append before.2 (entry.0 ∷ []), before.4),
+      ),
     )
   where
     on : (o : Option Place) → IsSome o → is_some (option_and_then (λ to. leads f to []) o) ≡ true
     on None some = absurd cc
     on (Some next) some = refl
-
--- past the last block there is nothing below
-pub nothing_below : (f : Blocks) (root most : ℕ) → f root ≡ None → IsShallow f (Dir root) most
-nothing_below f root most none [] led = omega arith
-nothing_below f root most none (n ∷ path) led =
-    absurd (true≢false (sym (some_leads f (Dir root) (n ∷ path) n path refl led) ∙ ap (λ (node : Option (List ℕ)). is_some (named (items_of node) n)) none))
 
 -- ---- what entries add
 
@@ -276,6 +276,76 @@ all_named f blocks n level next within names = record {
   named = λ b here. let parent = names.named b here in (parent.0, (both_true (nat_lt parent.0 n) (contains level parent.0) parent.1).1, parent.2);
   all = λ parent b in_level below. names.all parent b (and_true _ _ (lt-ltb parent n (within parent in_level)) in_level) below;
 }
+
+-- ---- the first level, block by block
+
+pub no_blocks : (blocks : ℕ) (level : FinSet nat_cmp) → level ≡ empty → HasBlocks blocks [] level
+no_blocks blocks level none = record {
+  within = λ b here. absurd (not_here b here);
+  listed = λ b here. absurd (not_here b here);
+  all = λ b within below. absurd (omega (arith, within.1));
+}
+  where
+    not_here : (b : ℕ) → contains level b ≡ true → ⊥
+    not_here b here = true≢false (sym here ∙ ap (λ (s : FinSet nat_cmp). contains s b) none ∙ contains-empty nat_cmp b)
+
+-- the list has one block more
+pub block_more : (blocks x : ℕ) (list : List ℕ) (level : FinSet nat_cmp) → HasBlocks blocks list level → x < blocks → HasBlocks blocks (list ++ x ∷ []) (insert level x)
+block_more blocks x list level has below = record { within = within; listed = listed; all = all }
+  where
+    split : (b : ℕ) → contains (insert level x) b ≡ true → (b ≡ x) ⊎ (contains level b ≡ true)
+    split b here = on (eqb b x) refl (sym (contains_insert level x b) ∙ here)
+      where
+        on : (t : Bool) → eqb b x ≡ t → (t || contains level b) ≡ true → (b ≡ x) ⊎ (contains level b ≡ true)
+        on true same e = inl (eqb-true b x same)
+        on false differs e = inr e
+
+    within : (b : ℕ) → contains (insert level x) b ≡ true → b < blocks
+    within b here = elim (split b here) [ inl same ↦ omega arith | inr was ↦ has.within b was ]
+
+    listed : (b : ℕ) → contains (insert level x) b ≡ true → Contains (list ++ x ∷ []) b
+    listed b here = elim (split b here) [
+      | inl same ↦ subst (Contains (list ++ x ∷ [])) (sym same) (Contains-push list x)
+      | inr was ↦ Contains-append_left list (x ∷ []) b (has.listed b was)
+    ]
+
+    all : (b : ℕ) → Contains (list ++ x ∷ []) b → b < blocks → contains (insert level x) b ≡ true
+    all b within less = contains_insert level x b ∙ on (Contains-push_cases list x b within)
+      where
+        late : (s t : Bool) → t ≡ true → (s || t) ≡ true
+        late true t e = refl
+        late false t e = e
+
+        on : Contains list b ⊎ (x ≡ b) → (eqb b x || contains level b) ≡ true
+        on (inl before) = late (eqb b x) (contains level b) (has.all b before less)
+        on (inr same) = ap (λ (t : Bool). t || contains level b) (eq-eqb b x (sym same))
+
+pub block_past : (blocks x : ℕ) (list : List ℕ) (level : FinSet nat_cmp) → HasBlocks blocks list level → blocks ≤ x → HasBlocks blocks (list ++ x ∷ []) level
+block_past blocks x list level has past = record {
+  within = has.within;
+  listed = λ b here. Contains-append_left list (x ∷ []) b (has.listed b here);
+  all = λ b within below. on b below (Contains-push_cases list x b within);
+}
+  where
+    on : (b : ℕ) → b < blocks → Contains list b ⊎ (x ≡ b) → contains level b ≡ true
+    on b below (inl before) = has.all b before below
+    on b below (inr same) = absurd (omega (arith, same))
+
+-- ---- the directories of a list
+
+-- the next level is among the list too
+pub next_listed : (f : Blocks) (blocks : ℕ) (roots list : List ℕ) (level next : FinSet nat_cmp) → HasDirectories f blocks roots list → ((b : ℕ) → contains level b ≡ true → Contains list b)
+    → AreNamedBy f blocks (contains level) next → (b : ℕ) → contains next b ≡ true → Contains list b
+next_listed f blocks roots list level next has among names b here =
+    let parent = names.named b here in
+    has.next parent.0 b (among parent.0 parent.1) (names.within b here) parent.2
+
+-- all blocks have all directories
+pub range_has : (f : Blocks) (blocks : ℕ) (roots : List ℕ) → HasDirectories f blocks roots (range_with_len 0 blocks)
+range_has f blocks roots = record { first = λ b rooted below. at b below; next = λ parent b within below names. at b below }
+  where
+    at : (b : ℕ) → b < blocks → Contains (range_with_len 0 blocks) b
+    at b below = (b, omega (arith, length-range_with_len 0 blocks), get_or-range_with_len 0 blocks b b below ∙ omega arith)
 
 -- so many blocks a level
 pub one_level_more : (k blocks : ℕ) → (k + 1) * blocks ≡ k * blocks + blocks

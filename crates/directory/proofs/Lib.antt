@@ -3,6 +3,7 @@ pub mod EditedPaths
 pub mod NewDirectories
 pub mod MovedPaths
 pub mod LookupLaws
+pub mod Counting
 pub mod Levels
 pub mod Ways
 pub mod TrailEdits

@@ -1,5 +1,5 @@
 -- How many names the paths below a directory have.
-use Rattle.std.specs.Prelude.{◌≡◌, ℕ, ◌<◌, ◌≤◌, ◌-◌, ◌==◌, Bool, true, false, IsTrue, Some, IsSome, List, length}
+use Rattle.std.specs.Prelude.{◌≡◌, ℕ, ◌<◌, ◌≤◌, ◌-◌, ◌==◌, Bool, true, false, IsTrue, Some, IsSome, List, length, Contains}
 use Rattle.std.specs.List.{list_any}
 use Rattle.std.specs.FinSet.{FinSet, contains}
 use Rattle.std.specs.Ordering.{nat_cmp}
@@ -32,6 +32,17 @@ pub record AreNamedBy (f : Blocks) (blocks : ℕ) (level : ℕ → Bool) (next :
   pub within : (b : ℕ) → contains next b ≡ true → b < blocks
   pub named : (b : ℕ) → contains next b ≡ true → (parent : ℕ) × (level parent ≡ true) × (names_directory (items_of (f parent)) b ≡ true)
   pub all : (parent b : ℕ) → level parent ≡ true → b < blocks → names_directory (items_of (f parent)) b ≡ true → contains next b ≡ true
+
+-- the set has just the blocks of a list, of so many blocks
+pub record HasBlocks (blocks : ℕ) (list : List ℕ) (level : FinSet nat_cmp) : Type 0 where
+  pub within : (b : ℕ) → contains level b ≡ true → b < blocks
+  pub listed : (b : ℕ) → contains level b ≡ true → Contains list b
+  pub all : (b : ℕ) → Contains list b → b < blocks → contains level b ≡ true
+
+-- the list has these roots, and each directory that one of its directories names, of so many blocks
+pub record HasDirectories (f : Blocks) (blocks : ℕ) (roots list : List ℕ) : Type 0 where
+  pub first : (b : ℕ) → Contains roots b → b < blocks → Contains list b
+  pub next : (parent b : ℕ) → Contains list parent → b < blocks → names_directory (items_of (f parent)) b ≡ true → Contains list b
 
 -- the refusals of reading nodes that may be missing: those of reads, but that nothing is damaged
 abbrev pub is_depth_fault : Fault → Bool

@@ -1,5 +1,5 @@
 //! How many names the paths below a directory have.
-ghost use Rattle.std.specs.Prelude.{◌≡◌, ℕ, ◌+◌, ◌*◌, ◌≤◌, ◌<◌, true, false, ◌||◌, ◌&&◌, nat_lt, length, Some, None, OnOk, IfOk, IfErr};
+ghost use Rattle.std.specs.Prelude.{◌≡◌, ℕ, ◌+◌, ◌*◌, ◌≤◌, ◌<◌, true, false, ◌||◌, ◌&&◌, nat_lt, List, Contains, length, if◌then◌else◌, Some, None, OnOk, IfOk, IfErr};
 ghost use Rattle.std.specs.FinSet as set;
 ghost use Rattle.node_format.specs.declared.places.Place.TheVariants.{Dir};
 ghost use Rattle.block_trees.specs.Trees.{items_of};
@@ -65,7 +65,7 @@ fn add_named<N: Nodes>(
     ensures faults { IfErr result spec.IsDepthFault }
     ensures same_nodes { N.node nodes.new ≡ N.node nodes.old }
     ensures same_kept { N.kept nodes.new ≡ N.kept nodes.old }
-    ensures reads { N.reads nodes.new ≤ N.reads nodes.old + 1 }
+    ensures reads { N.reads nodes.new ≤ N.reads nodes.old + (if set.contains level.now.members block then 1 else 0) }
     ensures writes { N.writes nodes.new ≡ N.writes nodes.old }
     ensures follows { N.follows nodes.old nodes.new }
     ensures sound { N.is_sound nodes.new }
@@ -121,7 +121,7 @@ fn next_level<N: Nodes>(alloc: Global, nodes: &mut N, level: &BlockSet) -> Resul
     ensures faults { IfErr result spec.IsDepthFault }
     ensures same_nodes { N.node nodes.new ≡ N.node nodes.old }
     ensures same_kept { N.kept nodes.new ≡ N.kept nodes.old }
-    ensures reads { N.reads nodes.new ≤ N.reads nodes.old + level.now.blocks }
+    ensures reads { (list : List ℕ) → ((b : ℕ) → set.contains level.now.members b ≡ true → Contains list b) → N.reads nodes.new ≤ N.reads nodes.old + length list }
     ensures writes { N.writes nodes.new ≡ N.writes nodes.old }
     ensures follows { N.follows nodes.old nodes.new }
     ensures sound { N.is_sound nodes.new }
@@ -145,7 +145,7 @@ fn any_has_entries<N: Nodes>(nodes: &mut N, level: &BlockSet) -> Result<bool, Fa
     ensures faults { IfErr result spec.IsDepthFault }
     ensures same_nodes { N.node nodes.new ≡ N.node nodes.old }
     ensures same_kept { N.kept nodes.new ≡ N.kept nodes.old }
-    ensures reads { N.reads nodes.new ≤ N.reads nodes.old + level.now.blocks }
+    ensures reads { (list : List ℕ) → ((b : ℕ) → set.contains level.now.members b ≡ true → Contains list b) → N.reads nodes.new ≤ N.reads nodes.old + length list }
     ensures writes { N.writes nodes.new ≡ N.writes nodes.old }
     ensures follows { N.follows nodes.old nodes.new }
     ensures sound { N.is_sound nodes.new }
@@ -163,12 +163,59 @@ fn any_has_entries<N: Nodes>(nodes: &mut N, level: &BlockSet) -> Result<bool, Fa
     Ok(false)
 }
 
-/// Whether some path below the directory of a block has more than `most` names. Any content of the
-/// nodes is looked at, directories that reach themselves too; a block without a directory node leads
-/// nowhere. No path is walked: of each level of directories a set of blocks is kept, at most
-/// `most + 1` levels are read, and each block at most once a level.
+/// The set of the blocks of a list, but those past the last block.
+fn first_level(alloc: Global, blocks: u32, list: &[u32]) -> Result<BlockSet, Fault>
+    ensures has { IfOk result (λ level. spec.HasBlocks blocks list.now level.members) }
+    ensures size { IfOk result (λ level. level.blocks ≡ blocks) }
+    ensures memory { IfErr result (λ fault. fault ≡ Fault.NoMemory) }
+{
+    let mut level = BlockSet::new(alloc, blocks)?;
+    for block in list {
+        if *block < blocks {
+            level.insert(*block);
+        }
+    }
+    Ok(level)
+}
+
+/// Whether some path below one of the directories in some blocks has more than `most` names. Any
+/// content of the nodes is looked at, directories that reach themselves too; a block without a
+/// directory node leads nowhere. No path is walked: of each level of directories a set of blocks is
+/// kept, at most `most + 1` levels are read, and each block at most once a level.
 ///
 /// Refused with `NoMemory` and with what a read is refused with, but never with `Damaged`.
+pub fn any_is_deeper<N: Nodes>(
+    alloc: Global,
+    nodes: &mut N,
+    roots: &[u32],
+    most: usize,
+) -> Result<bool, Fault>
+    requires sound { N.is_sound nodes.old }
+    requires most { most ≤ 16 }
+    ensures deeper { IfOk result (λ deep. deep ≡ true → (root : ℕ) × Contains roots.now root × spec.IsDeeper (N.node nodes.old) (Dir root) most) }
+    ensures shallow { IfOk result (λ deep. deep ≡ false → (root : ℕ) → Contains roots.now root → IsShallow (N.node nodes.old) (Dir root) most) }
+    ensures why { IfErr result (λ fault. N.causes nodes.old nodes.new fault) }
+    ensures faults { IfErr result spec.IsDepthFault }
+    ensures same_nodes { N.node nodes.new ≡ N.node nodes.old }
+    ensures same_kept { N.kept nodes.new ≡ N.kept nodes.old }
+
+    // A level reads its directories alone: they are among any list that has the roots and all that it names.
+    ensures reads { (list : List ℕ) → spec.HasDirectories (N.node nodes.old) (N.blocks nodes.old) roots.now list → N.reads nodes.new ≤ N.reads nodes.old + (most + 1) * length list }
+    ensures writes { N.writes nodes.new ≡ N.writes nodes.old }
+    ensures follows { N.follows nodes.old nodes.new }
+    ensures sound { N.is_sound nodes.new }
+    ensures limit { N.limit nodes.new ≡ N.limit nodes.old }
+    ensures blocks { N.blocks nodes.new ≡ N.blocks nodes.old }
+{
+    let blocks = nodes.block_count();
+    let mut level = first_level(alloc, blocks, roots)?;
+    for done in 0..most {
+        level = next_level(alloc, nodes, &level)?;
+    }
+    any_has_entries(nodes, &level)
+}
+
+/// Whether some path below the directory of a block has more than `most` names, as `any_is_deeper`.
 pub fn is_deeper<N: Nodes>(
     alloc: Global,
     nodes: &mut N,
@@ -190,16 +237,7 @@ pub fn is_deeper<N: Nodes>(
     ensures limit { N.limit nodes.new ≡ N.limit nodes.old }
     ensures blocks { N.blocks nodes.new ≡ N.blocks nodes.old }
 {
-    let blocks = nodes.block_count();
-    if block >= blocks {
-        return Ok(false);
-    }
-    let mut level = BlockSet::new(alloc, blocks)?;
-    level.insert(block);
-    for done in 0..most {
-        level = next_level(alloc, nodes, &level)?;
-    }
-    any_has_entries(nodes, &level)
+    any_is_deeper(alloc, nodes, &[block], most)
 }
 
 /// Where a rename asks no depth: what stands at a path gets too deep at no path of as many names or

@@ -8,7 +8,7 @@ mod moving;
 mod rewriting;
 mod trails;
 
-pub use depths::{depth_laws, is_deeper};
+pub use depths::{any_is_deeper, depth_laws, is_deeper};
 pub use listings::{entry_count, names};
 pub use lookups::{Found, lookup};
 pub use moving::move_entry;

@@ -30,6 +30,8 @@ pub record IsTaken (old : Ring) (bad : set.FinSet nat_cmp) (b : ℕ) (new : Ring
   pub blocks : new.blocks ≡ old.blocks
   pub used : set.contains new.used b ≡ true
   pub kept : (c : ℕ) → set.contains old.used c ≡ true → set.contains new.used c ≡ true
+  pub noted : (c : ℕ) → set.contains new.used c ≡ true → set.contains old.used c ≡ false → set.contains new.note c ≡ true
+  pub note_stays : (c : ℕ) → set.contains old.note c ≡ true → set.contains new.note c ≡ true
   pub takes : new.takes ≡ old.takes + 1
   pub paid : free_count new bad + new.takes ≡ free_count old bad + old.takes
 
@@ -45,6 +47,9 @@ pub record Evolved (s t : Storage) : Type 0 where
   pub kept_pages : (p : ℕ) → is_kept s (block_of s.device p) ≡ true → t.device.pages p ≡ s.device.pages p
   pub anchor_pages : (p : ℕ) → block_of s.device p < first_data → t.device.pages p ≡ s.device.pages p
   pub kept : (b : ℕ) → is_kept s b ≡ true → is_kept t b ≡ true
+  -- the note gains each block that became kept, and loses none
+  pub noted : (b : ℕ) → is_kept t b ≡ true → is_kept s b ≡ false → set.contains t.ring.note b ≡ true
+  pub note_stays : (b : ℕ) → set.contains s.ring.note b ≡ true → set.contains t.ring.note b ≡ true
   -- the bad list grows by exactly the failures, and by blocks that are worn, which the ring has as used
   pub stays_bad : (b : ℕ) → set.contains s.bad b ≡ true → set.contains t.bad b ≡ true
   pub bad_used : (b : ℕ) → set.contains t.bad b ≡ true → set.contains s.bad b ≡ false → is_kept t b ≡ true

@@ -29,6 +29,8 @@ Evolved_itself s = record {
   kept_pages = λ p kept. refl;
   anchor_pages = λ p below. refl;
   kept = λ b kept. kept;
+  noted = λ b kept fresh. absurd (both_ways (is_kept s b) fresh kept);
+  note_stays = λ b noted. noted;
   stays_bad = λ b bad. bad;
   bad_used = λ b bad good. absurd (both_ways (set.contains s.bad b) good bad);
   bad_worn = λ b bad good. absurd (both_ways (set.contains s.bad b) good bad);
@@ -50,6 +52,11 @@ Evolved_on s t u e f =
       kept_pages = λ p kept. f.kept_pages p (ap (is_kept t) (same p) ∙ e.kept (block_of s.device p) kept) ∙ e.kept_pages p kept;
       anchor_pages = λ p below. f.anchor_pages p (subst (λ b. b < first_data) (sym (same p)) below) ∙ e.anchor_pages p below;
       kept = λ b kept. f.kept b (e.kept b kept);
+      noted = λ b kept fresh. elim (cases_Bool (is_kept t b)) [
+        | inl then_kept ↦ f.note_stays b (e.noted b then_kept fresh)
+        | inr then_fresh ↦ f.noted b kept then_fresh
+      ];
+      note_stays = λ b noted. f.note_stays b (e.note_stays b noted);
       stays_bad = λ b bad. f.stays_bad b (e.stays_bad b bad);
       bad_used = λ b bad good. elim (cases_Bool (set.contains t.bad b)) [
         | inl then_bad ↦ f.kept b (e.bad_used b then_bad good)
@@ -91,6 +98,8 @@ Untouched_evolved s t u = record {
   kept_pages = λ p kept. u.device.pages p;
   anchor_pages = λ p below. u.device.pages p;
   kept = λ b kept. ap (λ (r : Ring). set.contains r.used b) u.ring ∙ kept;
+  noted = λ b kept fresh. absurd (both_ways (is_kept t b) (ap (λ (r : Ring). set.contains r.used b) u.ring ∙ fresh) kept);
+  note_stays = λ b noted. ap (λ (r : Ring). set.contains r.note b) u.ring ∙ noted;
   stays_bad = λ b bad. ap (λ bads. set.contains bads b) u.bad ∙ bad;
   bad_used = λ b bad good. absurd (both_ways (set.contains t.bad b) (ap (λ bads. set.contains bads b) u.bad ∙ good) bad);
   bad_worn = λ b bad good. absurd (both_ways (set.contains t.bad b) (ap (λ bads. set.contains bads b) u.bad ∙ good) bad);
@@ -117,6 +126,8 @@ took_good s b ring bytes d result take w none = record {
   kept_pages = λ p kept. w.others p (apart_from s b (block_of s.device p) take.fresh kept);
   anchor_pages = λ p below. w.others p (λ same. absurd (omega (arith, take.data_block.0)));
   kept = take.kept;
+  noted = take.noted;
+  note_stays = take.note_stays;
   stays_bad = λ c bad. bad;
   bad_used = λ c bad good. absurd (both_ways (set.contains s.bad c) good bad);
   bad_worn = λ c bad good. absurd (both_ways (set.contains s.bad c) good bad);
@@ -170,6 +181,8 @@ took_bad s b ring bytes d take w = record {
   kept_pages = λ p kept. w.others p (apart_from s b (block_of s.device p) take.fresh kept);
   anchor_pages = λ p below. w.others p (λ same. absurd (omega (arith, take.data_block.0)));
   kept = take.kept;
+  noted = take.noted;
+  note_stays = take.note_stays;
   stays_bad = stays_listed s.bad b;
   bad_used = λ c bad good. ap (set.contains ring.used) (new_listed s.bad b c bad good) ∙ take.used;
   bad_worn = λ c bad good. ap d.worn (new_listed s.bad b c bad good) ∙ w.ends;

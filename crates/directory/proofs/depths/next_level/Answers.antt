@@ -1,9 +1,10 @@
-use Rattle.std.proofs.Common.{◌≡◌, nat_lt, ◌&&◌, ◌||◌, ap, refl, ◌∙◌, rules, arith}
+use Rattle.std.proofs.Common.{◌≡◌, nat_lt, ◌&&◌, ◌||◌, ap, refl, ◌∙◌, rules, arith, ◌+◌}
 use Rattle.std.specs.FinSet as set
 use Rattle.block_trees.specs.Trees.{items_of}
 use Rattle.allocator.specs.BlockSet.{BlockSet}
 use Rattle.directory.specs.Depths.{names_directory}
 use Rattle.directory.proofs.Levels.{none_named, one_named}
+use Rattle.directory.proofs.Counting.{one_more, count_few}
 use Rattle.directory.proofs.depths.next_level.Goals as goal
 
 pub loop-block-init : goal.loop-block-init
@@ -31,10 +32,20 @@ loop-block-preserved g c = record {
   size = c.add_named.ensures.size ∙ c.loop-block.invariant.size;
   same_nodes = search rules;
   same_kept = search rules;
-  reads = search rules;
+  reads = omega (arith, one_more (set.contains c.args.level.now.members) c.loop-block.block, c.add_named.ensures.reads, c.loop-block.invariant.reads);
   writes = search rules;
   follows = g.met.N.Nodes.follows_on c.args.nodes.now c.loop-block.nodes c.add_named.new.nodes c.loop-block.invariant.follows c.add_named.ensures.follows;
   sound = search rules;
   limit = search rules;
   blocks = search rules;
 }
+
+pub returns-in_err-add_named-clause-reads : goal.returns-in_err-add_named-clause-reads
+returns-in_err-add_named-clause-reads g c list among =
+    let p = set.contains c.args.level.now.members in
+    let i = c.loop-block.block in
+    omega (arith, one_more p i, count_few p list (i + 1) among, c.loop-block.invariant.reads, c.add_named.ensures.reads)
+
+pub returns-clause-reads : goal.returns-clause-reads
+returns-clause-reads g c list among =
+    omega (arith, count_few (set.contains c.args.level.now.members) list c.loop-block.block among, c.loop-block.invariant.reads)

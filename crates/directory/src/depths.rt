@@ -5,6 +5,7 @@ ghost use Rattle.node_format.specs.declared.places.Place.TheVariants.{Dir};
 ghost use Rattle.block_trees.specs.Trees.{items_of};
 ghost use Rattle.block_trees.specs.Laws.{IsShallow};
 ghost use Rattle.directory.specs.Depths as spec;
+ghost use Rattle.node_store.specs.Frames.{OnlyLooks};
 
 use allocator::BlockSet;
 use fs_types::Fault;
@@ -20,14 +21,8 @@ fn brings<N: Nodes>(nodes: &mut N, block: u32) -> Result<bool, Fault>
     ensures none { IfOk result (λ brought. brought ≡ false → N.node nodes.old block ≡ None) }
     ensures why { IfErr result (λ fault. N.causes nodes.old nodes.new fault) }
     ensures faults { IfErr result spec.IsDepthFault }
-    ensures same_nodes { N.node nodes.new ≡ N.node nodes.old }
-    ensures same_kept { N.kept nodes.new ≡ N.kept nodes.old }
+    ensures looks { OnlyLooks N.node N.kept N.writes N.follows N.is_sound N.limit N.blocks nodes.old nodes.new }
     ensures reads { N.reads nodes.new ≡ N.reads nodes.old + 1 }
-    ensures writes { N.writes nodes.new ≡ N.writes nodes.old }
-    ensures follows { N.follows nodes.old nodes.new }
-    ensures sound { N.is_sound nodes.new }
-    ensures limit { N.limit nodes.new ≡ N.limit nodes.old }
-    ensures blocks { N.blocks nodes.new ≡ N.blocks nodes.old }
 {
     match nodes.read(block) {
         Ok(()) => Ok(true),
@@ -63,14 +58,8 @@ fn add_named<N: Nodes>(
     ensures size { found.new.blocks ≡ found.old.blocks }
     ensures why { IfErr result (λ fault. N.causes nodes.old nodes.new fault) }
     ensures faults { IfErr result spec.IsDepthFault }
-    ensures same_nodes { N.node nodes.new ≡ N.node nodes.old }
-    ensures same_kept { N.kept nodes.new ≡ N.kept nodes.old }
+    ensures looks { OnlyLooks N.node N.kept N.writes N.follows N.is_sound N.limit N.blocks nodes.old nodes.new }
     ensures reads { N.reads nodes.new ≤ N.reads nodes.old + (if set.contains level.now.members block then 1 else 0) }
-    ensures writes { N.writes nodes.new ≡ N.writes nodes.old }
-    ensures follows { N.follows nodes.old nodes.new }
-    ensures sound { N.is_sound nodes.new }
-    ensures limit { N.limit nodes.new ≡ N.limit nodes.old }
-    ensures blocks { N.blocks nodes.new ≡ N.blocks nodes.old }
 {
     if !level.contains(block) {
         return Ok(());
@@ -92,14 +81,8 @@ fn has_entries<N: Nodes>(nodes: &mut N, block: u32) -> Result<bool, Fault>
     ensures value { IfOk result (λ some. some ≡ nat_lt 0 (length (items_of (N.node nodes.old block)))) }
     ensures why { IfErr result (λ fault. N.causes nodes.old nodes.new fault) }
     ensures faults { IfErr result spec.IsDepthFault }
-    ensures same_nodes { N.node nodes.new ≡ N.node nodes.old }
-    ensures same_kept { N.kept nodes.new ≡ N.kept nodes.old }
+    ensures looks { OnlyLooks N.node N.kept N.writes N.follows N.is_sound N.limit N.blocks nodes.old nodes.new }
     ensures reads { N.reads nodes.new ≡ N.reads nodes.old + 1 }
-    ensures writes { N.writes nodes.new ≡ N.writes nodes.old }
-    ensures follows { N.follows nodes.old nodes.new }
-    ensures sound { N.is_sound nodes.new }
-    ensures limit { N.limit nodes.new ≡ N.limit nodes.old }
-    ensures blocks { N.blocks nodes.new ≡ N.blocks nodes.old }
 {
     let brought = brings(nodes, block)?;
     if !brought {
@@ -119,14 +102,8 @@ fn next_level<N: Nodes>(alloc: Global, nodes: &mut N, level: &BlockSet) -> Resul
     ensures size { IfOk result (λ next. next.blocks ≡ level.now.blocks) }
     ensures why { IfErr result (λ fault. N.causes nodes.old nodes.new fault) }
     ensures faults { IfErr result spec.IsDepthFault }
-    ensures same_nodes { N.node nodes.new ≡ N.node nodes.old }
-    ensures same_kept { N.kept nodes.new ≡ N.kept nodes.old }
+    ensures looks { OnlyLooks N.node N.kept N.writes N.follows N.is_sound N.limit N.blocks nodes.old nodes.new }
     ensures reads { (list : List ℕ) → ((b : ℕ) → set.contains level.now.members b ≡ true → Contains list b) → N.reads nodes.new ≤ N.reads nodes.old + length list }
-    ensures writes { N.writes nodes.new ≡ N.writes nodes.old }
-    ensures follows { N.follows nodes.old nodes.new }
-    ensures sound { N.is_sound nodes.new }
-    ensures limit { N.limit nodes.new ≡ N.limit nodes.old }
-    ensures blocks { N.blocks nodes.new ≡ N.blocks nodes.old }
 {
     let mut next = BlockSet::new(alloc, level.blocks())?;
     for block in 0..level.blocks() {
@@ -143,14 +120,8 @@ fn any_has_entries<N: Nodes>(nodes: &mut N, level: &BlockSet) -> Result<bool, Fa
     ensures none { IfOk result (λ some. some ≡ false → (b : ℕ) → set.contains level.now.members b ≡ true → length (items_of (N.node nodes.old b)) ≡ 0) }
     ensures why { IfErr result (λ fault. N.causes nodes.old nodes.new fault) }
     ensures faults { IfErr result spec.IsDepthFault }
-    ensures same_nodes { N.node nodes.new ≡ N.node nodes.old }
-    ensures same_kept { N.kept nodes.new ≡ N.kept nodes.old }
+    ensures looks { OnlyLooks N.node N.kept N.writes N.follows N.is_sound N.limit N.blocks nodes.old nodes.new }
     ensures reads { (list : List ℕ) → ((b : ℕ) → set.contains level.now.members b ≡ true → Contains list b) → N.reads nodes.new ≤ N.reads nodes.old + length list }
-    ensures writes { N.writes nodes.new ≡ N.writes nodes.old }
-    ensures follows { N.follows nodes.old nodes.new }
-    ensures sound { N.is_sound nodes.new }
-    ensures limit { N.limit nodes.new ≡ N.limit nodes.old }
-    ensures blocks { N.blocks nodes.new ≡ N.blocks nodes.old }
 {
     for block in 0..level.blocks() {
         if level.contains(block) {
@@ -196,16 +167,10 @@ pub fn any_is_deeper<N: Nodes>(
     ensures shallow { IfOk result (λ deep. deep ≡ false → (root : ℕ) → Contains roots.now root → IsShallow (N.node nodes.old) (Dir root) most) }
     ensures why { IfErr result (λ fault. N.causes nodes.old nodes.new fault) }
     ensures faults { IfErr result spec.IsDepthFault }
-    ensures same_nodes { N.node nodes.new ≡ N.node nodes.old }
-    ensures same_kept { N.kept nodes.new ≡ N.kept nodes.old }
+    ensures looks { OnlyLooks N.node N.kept N.writes N.follows N.is_sound N.limit N.blocks nodes.old nodes.new }
 
     // A level reads its directories alone: they are among any list that has the roots and all that it names.
     ensures reads { (list : List ℕ) → spec.HasDirectories (N.node nodes.old) (N.blocks nodes.old) roots.now list → N.reads nodes.new ≤ N.reads nodes.old + (most + 1) * length list }
-    ensures writes { N.writes nodes.new ≡ N.writes nodes.old }
-    ensures follows { N.follows nodes.old nodes.new }
-    ensures sound { N.is_sound nodes.new }
-    ensures limit { N.limit nodes.new ≡ N.limit nodes.old }
-    ensures blocks { N.blocks nodes.new ≡ N.blocks nodes.old }
 {
     let blocks = nodes.block_count();
     let mut level = first_level(alloc, blocks, roots)?;
@@ -228,14 +193,8 @@ pub fn is_deeper<N: Nodes>(
     ensures shallow { IfOk result (λ deep. deep ≡ false → IsShallow (N.node nodes.old) (Dir block) most) }
     ensures why { IfErr result (λ fault. N.causes nodes.old nodes.new fault) }
     ensures faults { IfErr result spec.IsDepthFault }
-    ensures same_nodes { N.node nodes.new ≡ N.node nodes.old }
-    ensures same_kept { N.kept nodes.new ≡ N.kept nodes.old }
+    ensures looks { OnlyLooks N.node N.kept N.writes N.follows N.is_sound N.limit N.blocks nodes.old nodes.new }
     ensures reads { N.reads nodes.new ≤ N.reads nodes.old + (most + 1) * N.blocks nodes.old }
-    ensures writes { N.writes nodes.new ≡ N.writes nodes.old }
-    ensures follows { N.follows nodes.old nodes.new }
-    ensures sound { N.is_sound nodes.new }
-    ensures limit { N.limit nodes.new ≡ N.limit nodes.old }
-    ensures blocks { N.blocks nodes.new ≡ N.blocks nodes.old }
 {
     any_is_deeper(alloc, nodes, &[block], most)
 }

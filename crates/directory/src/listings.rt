@@ -2,6 +2,7 @@
 ghost use Rattle.std.specs.Prelude.{◌≡◌, ℕ, ◌+◌, Bool, true, false, List, length, Some, None, IfOk, IfErr, IsErrOf};
 ghost use Rattle.fs_types.specs.declared.faults.Fault.TheVariants.{NoMemory, Damaged};
 ghost use Rattle.node_store.specs.Faults.{IsReadFault};
+ghost use Rattle.node_store.specs.Frames.{OnlyLooks};
 ghost use Rattle.node_format.specs.Items.{Item};
 ghost use Rattle.block_trees.specs.Trees.{entries_of, is_dir_place, names_of};
 ghost use Rattle.directory.specs.Lookups.{is_path_fault};
@@ -48,14 +49,8 @@ pub fn names<N: Nodes>(
     ensures damaged { IsErrOf result Damaged → entries_of (N.node nodes.old block) ≡ None }
     ensures why { IfErr result (λ fault. is_path_fault fault ≡ false → N.causes nodes.old nodes.new fault) }
     ensures faults { IfErr result IsReadFault }
-    ensures same_nodes { N.node nodes.new ≡ N.node nodes.old }
-    ensures same_kept { N.kept nodes.new ≡ N.kept nodes.old }
+    ensures looks { OnlyLooks N.node N.kept N.writes N.follows N.is_sound N.limit N.blocks nodes.old nodes.new }
     ensures reads { N.reads nodes.new ≡ N.reads nodes.old + 1 }
-    ensures writes { N.writes nodes.new ≡ N.writes nodes.old }
-    ensures follows { N.follows nodes.old nodes.new }
-    ensures sound { N.is_sound nodes.new }
-    ensures limit { N.limit nodes.new ≡ N.limit nodes.old }
-    ensures blocks { N.blocks nodes.new ≡ N.blocks nodes.old }
 {
     nodes.read(block)?;
     let Some(entries) = Entries::of(nodes.lent()) else {
@@ -75,14 +70,8 @@ pub fn entry_count<N: Nodes>(nodes: &mut N, block: u32) -> Result<usize, Fault>
     ensures damaged { IsErrOf result Damaged → entries_of (N.node nodes.old block) ≡ None }
     ensures why { IfErr result (λ fault. is_path_fault fault ≡ false → N.causes nodes.old nodes.new fault) }
     ensures faults { IfErr result IsReadFault }
-    ensures same_nodes { N.node nodes.new ≡ N.node nodes.old }
-    ensures same_kept { N.kept nodes.new ≡ N.kept nodes.old }
+    ensures looks { OnlyLooks N.node N.kept N.writes N.follows N.is_sound N.limit N.blocks nodes.old nodes.new }
     ensures reads { N.reads nodes.new ≡ N.reads nodes.old + 1 }
-    ensures writes { N.writes nodes.new ≡ N.writes nodes.old }
-    ensures follows { N.follows nodes.old nodes.new }
-    ensures sound { N.is_sound nodes.new }
-    ensures limit { N.limit nodes.new ≡ N.limit nodes.old }
-    ensures blocks { N.blocks nodes.new ≡ N.blocks nodes.old }
 {
     nodes.read(block)?;
     let Some(entries) = Entries::of(nodes.lent()) else {

@@ -2,6 +2,7 @@
 ghost use Rattle.std.specs.Prelude.{◌≡◌, ℕ, ◌+◌, ◌≤◌, true, false, length, drop, Some, None, Ok, Err, IfOk, IfErr, IsErrOf};
 ghost use Rattle.fs_types.specs.declared.faults.Fault.TheVariants.{NoEntry, NotDirectory, Damaged};
 ghost use Rattle.node_store.specs.Faults.{IsReadFault};
+ghost use Rattle.node_store.specs.Frames.{OnlyLooks};
 ghost use Rattle.block_trees.specs.Trees.{entries_of};
 ghost use Rattle.directory.specs.Lookups as spec;
 
@@ -47,14 +48,8 @@ pub(crate) fn place_in<N: Nodes>(
     ensures damaged { IsErrOf result Damaged → entries_of (N.node nodes.old block) ≡ None }
     ensures why { IfErr result (λ fault. spec.is_path_fault fault ≡ false → N.causes nodes.old nodes.new fault) }
     ensures faults { IfErr result IsReadFault }
-    ensures same_nodes { N.node nodes.new ≡ N.node nodes.old }
-    ensures same_kept { N.kept nodes.new ≡ N.kept nodes.old }
+    ensures looks { OnlyLooks N.node N.kept N.writes N.follows N.is_sound N.limit N.blocks nodes.old nodes.new }
     ensures reads { N.reads nodes.new ≡ N.reads nodes.old + 1 }
-    ensures writes { N.writes nodes.new ≡ N.writes nodes.old }
-    ensures follows { N.follows nodes.old nodes.new }
-    ensures sound { N.is_sound nodes.new }
-    ensures limit { N.limit nodes.new ≡ N.limit nodes.old }
-    ensures blocks { N.blocks nodes.new ≡ N.blocks nodes.old }
 {
     nodes.read(block)?;
     let Some(entries) = Entries::of(nodes.lent()) else {
@@ -81,14 +76,8 @@ pub(crate) fn found_in<N: Nodes>(nodes: &mut N, block: u32, name: &Name) -> Resu
     ensures damaged { IsErrOf result Damaged → entries_of (N.node nodes.old block) ≡ None }
     ensures why { IfErr result (λ fault. spec.is_path_fault fault ≡ false → N.causes nodes.old nodes.new fault) }
     ensures faults { IfErr result IsReadFault }
-    ensures same_nodes { N.node nodes.new ≡ N.node nodes.old }
-    ensures same_kept { N.kept nodes.new ≡ N.kept nodes.old }
+    ensures looks { OnlyLooks N.node N.kept N.writes N.follows N.is_sound N.limit N.blocks nodes.old nodes.new }
     ensures reads { N.reads nodes.new ≡ N.reads nodes.old + 1 }
-    ensures writes { N.writes nodes.new ≡ N.writes nodes.old }
-    ensures follows { N.follows nodes.old nodes.new }
-    ensures sound { N.is_sound nodes.new }
-    ensures limit { N.limit nodes.new ≡ N.limit nodes.old }
-    ensures blocks { N.blocks nodes.new ≡ N.blocks nodes.old }
 {
     nodes.read(block)?;
     let Some(entries) = Entries::of(nodes.lent()) else {
@@ -110,14 +99,8 @@ pub fn lookup<N: Nodes>(nodes: &mut N, root: u32, path: &Path) -> Result<Found, 
     ensures refused { IfErr result (λ fault. spec.is_path_fault fault ≡ true → spec.look_up (N.node nodes.old) root path.now ≡ Err fault) }
     ensures why { IfErr result (λ fault. spec.is_path_fault fault ≡ false → N.causes nodes.old nodes.new fault) }
     ensures faults { IfErr result spec.IsLookupFault }
-    ensures same_nodes { N.node nodes.new ≡ N.node nodes.old }
-    ensures same_kept { N.kept nodes.new ≡ N.kept nodes.old }
+    ensures looks { OnlyLooks N.node N.kept N.writes N.follows N.is_sound N.limit N.blocks nodes.old nodes.new }
     ensures reads { N.reads nodes.new ≤ N.reads nodes.old + length path.now }
-    ensures writes { N.writes nodes.new ≡ N.writes nodes.old }
-    ensures follows { N.follows nodes.old nodes.new }
-    ensures sound { N.is_sound nodes.new }
-    ensures limit { N.limit nodes.new ≡ N.limit nodes.old }
-    ensures blocks { N.blocks nodes.new ≡ N.blocks nodes.old }
 {
     let (found, _trail) = find(nodes, root, path)?;
     Ok(found)

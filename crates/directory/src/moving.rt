@@ -12,6 +12,7 @@ ghost use Rattle.directory.specs.Lookups.{look_up};
 ghost use Rattle.directory.specs.Edits.{OnlyReaches};
 ghost use Rattle.directory.specs.Trails.{IsTrail, IsHeldTrail, IsTaken, IsChangeFault, has_room, takes};
 ghost use Rattle.directory.specs.Moves as spec;
+ghost use Rattle.node_store.specs.Frames.{Works};
 
 use crate::rewriting::{edit_bytes, edit_directory, rewrite_from};
 use crate::trails::Trail;
@@ -87,10 +88,7 @@ fn edit_directory_twice<N: Nodes>(
     ensures one { IfOk result (λ _. N.writes nodes.new ≡ N.writes nodes.old + 1) }
     ensures writes { N.writes nodes.new ≤ N.writes nodes.old + 1 }
     ensures reads { N.reads nodes.new ≡ N.reads nodes.old + 1 }
-    ensures follows { N.follows nodes.old nodes.new }
-    ensures sound { N.is_sound nodes.new }
-    ensures limit { N.limit nodes.new ≡ N.limit nodes.old }
-    ensures blocks { N.blocks nodes.new ≡ N.blocks nodes.old }
+    ensures works { Works N.follows N.is_sound N.limit N.blocks nodes.old nodes.new }
 {
     nodes.read(block)?;
     let bytes = edit_bytes_twice(alloc, nodes.lent(), name, gone, other, here)?;
@@ -122,10 +120,7 @@ fn rewrite_branch<N: Nodes>(
     ensures written { IfOk result (λ _. N.writes nodes.new + (fork + 1) ≡ N.writes nodes.old + length names.now) }
     ensures writes { N.writes nodes.new + (fork + 1) ≤ N.writes nodes.old + length names.now }
     ensures reads { N.reads nodes.new + (fork + 1) ≤ N.reads nodes.old + length names.now }
-    ensures follows { N.follows nodes.old nodes.new }
-    ensures sound { N.is_sound nodes.new }
-    ensures limit { N.limit nodes.new ≡ N.limit nodes.old }
-    ensures blocks { N.blocks nodes.new ≡ N.blocks nodes.old }
+    ensures works { Works N.follows N.is_sound N.limit N.blocks nodes.old nodes.new }
 {
     if fork + 1 == names.len() {
         return Ok(place);
@@ -156,10 +151,7 @@ fn rewrite_fork<N: Nodes>(
     ensures written { IfOk result (λ _. N.writes nodes.new + (2 * fork + 1) ≡ N.writes nodes.old + (length old.now + length new.now)) }
     ensures writes { N.writes nodes.new + (2 * fork + 1) ≤ N.writes nodes.old + (length old.now + length new.now) }
     ensures reads { N.reads nodes.new + (2 * fork + 1) ≤ N.reads nodes.old + (length old.now + length new.now) }
-    ensures follows { N.follows nodes.old nodes.new }
-    ensures sound { N.is_sound nodes.new }
-    ensures limit { N.limit nodes.new ≡ N.limit nodes.old }
-    ensures blocks { N.blocks nodes.new ≡ N.blocks nodes.old }
+    ensures works { Works N.follows N.is_sound N.limit N.blocks nodes.old nodes.new }
 {
     let gone = rewrite_branch(alloc, nodes, old_trail, old, fork, None)?;
     let here = rewrite_branch(alloc, nodes, new_trail, new, fork, Some(place))?;
@@ -209,10 +201,7 @@ pub fn move_entry<N: Nodes>(
     ensures written { IfOk result (λ _. N.writes nodes.new ≡ N.writes nodes.old + spec.directories_along old.now new.now) }
     ensures writes { N.writes nodes.new ≤ N.writes nodes.old + spec.directories_along old.now new.now }
     ensures reads { N.reads nodes.new ≤ N.reads nodes.old + spec.directories_along old.now new.now }
-    ensures follows { N.follows nodes.old nodes.new }
-    ensures sound { N.is_sound nodes.new }
-    ensures limit { N.limit nodes.new ≡ N.limit nodes.old }
-    ensures blocks { N.blocks nodes.new ≡ N.blocks nodes.old }
+    ensures works { Works N.follows N.is_sound N.limit N.blocks nodes.old nodes.new }
 {
     let blocks = old_trail.blocks();
     let names = old.names();

@@ -13,6 +13,7 @@ ghost use Rattle.directory.specs.declared.lookups.Found.TheVariants.{Missing};
 ghost use Rattle.directory.specs.Edits.{OnlyReaches};
 ghost use Rattle.directory.specs.Making.{IsMade};
 ghost use Rattle.directory.specs.Trails as spec;
+ghost use Rattle.node_store.specs.Frames.{Works};
 
 use crate::trails::Trail;
 use fs_types::{Fault, Name, Path};
@@ -61,10 +62,7 @@ pub(crate) fn edit_directory<N: Nodes>(
     ensures one { IfOk result (λ _. N.writes nodes.new ≡ N.writes nodes.old + 1) }
     ensures writes { N.writes nodes.new ≤ N.writes nodes.old + 1 }
     ensures reads { N.reads nodes.new ≡ N.reads nodes.old + 1 }
-    ensures follows { N.follows nodes.old nodes.new }
-    ensures sound { N.is_sound nodes.new }
-    ensures limit { N.limit nodes.new ≡ N.limit nodes.old }
-    ensures blocks { N.blocks nodes.new ≡ N.blocks nodes.old }
+    ensures works { Works N.follows N.is_sound N.limit N.blocks nodes.old nodes.new }
 {
     nodes.read(block)?;
     let bytes = edit_bytes(alloc, nodes.lent(), name, place)?;
@@ -96,10 +94,7 @@ pub(crate) fn rewrite_from<N: Nodes>(
     ensures written { IfOk result (λ _. N.writes nodes.new + level ≡ N.writes nodes.old + length names.now) }
     ensures writes { N.writes nodes.new + level ≤ N.writes nodes.old + length names.now }
     ensures reads { N.reads nodes.new + level ≤ N.reads nodes.old + length names.now }
-    ensures follows { N.follows nodes.old nodes.new }
-    ensures sound { N.is_sound nodes.new }
-    ensures limit { N.limit nodes.new ≡ N.limit nodes.old }
-    ensures blocks { N.blocks nodes.new ≡ N.blocks nodes.old }
+    ensures works { Works N.follows N.is_sound N.limit N.blocks nodes.old nodes.new }
 {
     let last = names.len() - 1;
     let mut to = edit_directory(alloc, nodes, trail[last], &names[last], place)?;
@@ -139,10 +134,7 @@ pub fn put_entry<N: Nodes>(
     ensures written { IfOk result (λ _. N.writes nodes.new ≡ N.writes nodes.old + length path.now) }
     ensures writes { N.writes nodes.new ≤ N.writes nodes.old + length path.now }
     ensures reads { N.reads nodes.new ≤ N.reads nodes.old + length path.now }
-    ensures follows { N.follows nodes.old nodes.new }
-    ensures sound { N.is_sound nodes.new }
-    ensures limit { N.limit nodes.new ≡ N.limit nodes.old }
-    ensures blocks { N.blocks nodes.new ≡ N.blocks nodes.old }
+    ensures works { Works N.follows N.is_sound N.limit N.blocks nodes.old nodes.new }
 {
     let blocks = trail.blocks();
     let begins = blocks[0] == root;
@@ -174,10 +166,7 @@ pub fn remove_entry<N: Nodes>(
     ensures written { IfOk result (λ _. N.writes nodes.new ≡ N.writes nodes.old + length path.now) }
     ensures writes { N.writes nodes.new ≤ N.writes nodes.old + length path.now }
     ensures reads { N.reads nodes.new ≤ N.reads nodes.old + length path.now }
-    ensures follows { N.follows nodes.old nodes.new }
-    ensures sound { N.is_sound nodes.new }
-    ensures limit { N.limit nodes.new ≡ N.limit nodes.old }
-    ensures blocks { N.blocks nodes.new ≡ N.blocks nodes.old }
+    ensures works { Works N.follows N.is_sound N.limit N.blocks nodes.old nodes.new }
 {
     let blocks = trail.blocks();
     let begins = blocks[0] == root;
@@ -210,10 +199,7 @@ pub fn put_directory<N: Nodes>(
     ensures written { IfOk result (λ _. N.writes nodes.new ≡ N.writes nodes.old + (length path.now + 1)) }
     ensures writes { N.writes nodes.new ≤ N.writes nodes.old + (length path.now + 1) }
     ensures reads { N.reads nodes.new ≤ N.reads nodes.old + length path.now }
-    ensures follows { N.follows nodes.old nodes.new }
-    ensures sound { N.is_sound nodes.new }
-    ensures limit { N.limit nodes.new ≡ N.limit nodes.old }
-    ensures blocks { N.blocks nodes.new ≡ N.blocks nodes.old }
+    ensures works { Works N.follows N.is_sound N.limit N.blocks nodes.old nodes.new }
 {
     let fits = nodes.block_bytes() >= 4096;
     prove!(fits);

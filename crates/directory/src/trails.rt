@@ -2,6 +2,7 @@
 ghost use Rattle.std.specs.Prelude.{◌≡◌, ℕ, ◌+◌, ◌≤◌, ◌<◌, true, false, length, [], ◌∷◌, ◌++◌, Ok, Err, IfOk, IfErr};
 ghost use Rattle.directory.specs.Lookups as spec;
 ghost use Rattle.directory.specs.Trails.{IsTrail};
+ghost use Rattle.node_store.specs.Frames.{OnlyLooks};
 
 use crate::lookups::{Found, directory_at, found_in, place_in};
 use arrayvec::ArrayVec;
@@ -62,14 +63,8 @@ pub fn find<N: Nodes>(nodes: &mut N, root: u32, path: &Path) -> Result<(Found, T
     ensures refused { IfErr result (λ fault. spec.is_path_fault fault ≡ true → spec.look_up (N.node nodes.old) root path.now ≡ Err fault) }
     ensures why { IfErr result (λ fault. spec.is_path_fault fault ≡ false → N.causes nodes.old nodes.new fault) }
     ensures faults { IfErr result spec.IsLookupFault }
-    ensures same_nodes { N.node nodes.new ≡ N.node nodes.old }
-    ensures same_kept { N.kept nodes.new ≡ N.kept nodes.old }
+    ensures looks { OnlyLooks N.node N.kept N.writes N.follows N.is_sound N.limit N.blocks nodes.old nodes.new }
     ensures reads { N.reads nodes.new ≤ N.reads nodes.old + length path.now }
-    ensures writes { N.writes nodes.new ≡ N.writes nodes.old }
-    ensures follows { N.follows nodes.old nodes.new }
-    ensures sound { N.is_sound nodes.new }
-    ensures limit { N.limit nodes.new ≡ N.limit nodes.old }
-    ensures blocks { N.blocks nodes.new ≡ N.blocks nodes.old }
 {
     let names = path.names();
     let mut trail = Trail::new();

@@ -18,17 +18,11 @@ loop-done-init g c =
       level = subst (λ (n : ℕ). IsLevel f c.args.roots.now c.args.most 0 n level.members) (sym c.in_ok-level.ensures.size)
           (first_level f c.args.roots.now c.args.most c.block_count-blocks.result level.members beyond has);
       size = c.in_ok-level.ensures.size ∙ c.block_count-blocks.ensures;
-      same_nodes = refl;
-      same_kept = refl;
       listed = λ list all b here.
           let one : b < c.block_count-blocks.result = has.within b here in
           all.first b (has.listed b here) (subst (λ (n : ℕ). b < n) c.block_count-blocks.ensures one);
       reads = λ list all. omega arith;
-      writes = refl;
-      follows = g.met.N.Nodes.follows_itself c.args.nodes.now;
-      sound = c.requires.sound;
-      limit = refl;
-      blocks = refl;
+      looks = record { same_nodes = refl; same_kept = refl; same_writes = refl; came = g.met.N.Nodes.follows_itself c.args.nodes.now; sound = c.requires.sound; same_limit = refl; same_blocks = refl };
     }
 
 pub loop-done-preserved : goal.loop-done-preserved
@@ -37,25 +31,19 @@ loop-done-preserved g c =
     let level = c.loop-done.level in
     let next = c.in_ok-level-2.level in
     let named : AreNamedBy f level.blocks (set.contains level.members) next.members =
-    subst (λ (f : Blocks). AreNamedBy f level.blocks (set.contains level.members) next.members) c.loop-done.invariant.same_nodes c.in_ok-level-2.ensures.named in
+    subst (λ (f : Blocks). AreNamedBy f level.blocks (set.contains level.members) next.members) c.loop-done.invariant.looks.same_nodes c.in_ok-level-2.ensures.named in
     let more : c.loop-done.done < c.args.most = omega (arith, c.loop-done-test.true) in
     let beyond = λ (b : ℕ) (past : level.blocks ≤ b). g.met.N.Nodes.none_beyond c.args.nodes.now b (subst (λ (n : ℕ). n ≤ b) c.loop-done.invariant.size past) in
     let step = next_is_level f c.args.roots.now c.args.most c.loop-done.done level.blocks level.members next.members more beyond c.loop-done.invariant.level named in
     record {
       level = subst (λ (n : ℕ). IsLevel f c.args.roots.now c.args.most (c.loop-done.done + 1) n next.members) (sym c.in_ok-level-2.ensures.size) step;
       size = search rules;
-      same_nodes = search rules;
-      same_kept = search rules;
       listed = λ list all.
           next_listed f level.blocks c.args.roots.now list level.members next.members
           (subst (λ (n : ℕ). HasDirectories f n c.args.roots.now list) (sym c.loop-done.invariant.size) all) (c.loop-done.invariant.listed list all) named;
       reads = λ list all.
           omega (arith, one_level_more c.loop-done.done (length list), c.next_level.ensures.reads list (c.loop-done.invariant.listed list all), c.loop-done.invariant.reads list all);
-      writes = search rules;
-      follows = g.met.N.Nodes.follows_on c.args.nodes.now c.loop-done.nodes c.next_level.new.nodes c.loop-done.invariant.follows c.next_level.ensures.follows;
-      sound = search rules;
-      limit = search rules;
-      blocks = search rules;
+      looks = g.met.N.Nodes.looks_on c.args.nodes.now c.loop-done.nodes c.next_level.new.nodes c.loop-done.invariant.looks c.next_level.ensures.looks;
     }
 
 pub returns-clause-deeper : goal.returns-clause-deeper
@@ -67,7 +55,7 @@ returns-clause-deeper g c =
     let last : IsLevel f roots c.args.most c.args.most level.blocks level.members = subst (λ (k : ℕ). IsLevel f roots c.args.most k level.blocks level.members) at_end c.loop-done.invariant.level in
     if_ok _ _ c.any_has_entries.result (λ deep found is.
     let entry = found is in
-    last_deeper f roots c.args.most level.blocks entry.0 level.members last entry.1 (subst (λ (f : Blocks). 0 < length (items_of (f entry.0))) c.loop-done.invariant.same_nodes entry.2)) c.any_has_entries.ensures.some
+    last_deeper f roots c.args.most level.blocks entry.0 level.members last entry.1 (subst (λ (f : Blocks). 0 < length (items_of (f entry.0))) c.loop-done.invariant.looks.same_nodes entry.2)) c.any_has_entries.ensures.some
 
 pub returns-clause-shallow : goal.returns-clause-shallow
 returns-clause-shallow g c =
@@ -78,7 +66,7 @@ returns-clause-shallow g c =
     let last : IsLevel f roots c.args.most c.args.most level.blocks level.members = subst (λ (k : ℕ). IsLevel f roots c.args.most k level.blocks level.members) at_end c.loop-done.invariant.level in
     if_ok _ _ c.any_has_entries.result (λ deep none is.
     last_shallow f roots c.args.most level.blocks level.members last
-    (λ b here. subst (λ (f : Blocks). length (items_of (f b)) ≡ 0) c.loop-done.invariant.same_nodes (none is b here))) c.any_has_entries.ensures.none
+    (λ b here. subst (λ (f : Blocks). length (items_of (f b)) ≡ 0) c.loop-done.invariant.looks.same_nodes (none is b here))) c.any_has_entries.ensures.none
 
 pub returns-in_err-level-2-clause-reads : goal.returns-in_err-level-2-clause-reads
 returns-in_err-level-2-clause-reads g c list all =

@@ -14,30 +14,18 @@ loop-block-init g c =
     record {
       named = none_named (g.N.Nodes.node c.args.nodes.now) c.args.level.now.blocks c.args.level.now.members c.in_ok-next.next.members members;
       size = ap (λ (s : BlockSet). s.blocks) made ∙ c.blocks-2.ensures;
-      same_nodes = refl;
-      same_kept = refl;
       reads = omega arith;
-      writes = refl;
-      follows = g.met.N.Nodes.follows_itself c.args.nodes.now;
-      sound = c.requires.sound;
-      limit = refl;
-      blocks = refl;
+      looks = record { same_nodes = refl; same_kept = refl; same_writes = refl; came = g.met.N.Nodes.follows_itself c.args.nodes.now; sound = c.requires.sound; same_limit = refl; same_blocks = refl };
     }
 
 pub loop-block-preserved : goal.loop-block-preserved
 loop-block-preserved g c = record {
   named = one_named (g.N.Nodes.node c.args.nodes.now) c.args.level.now.blocks c.loop-block.block c.args.level.now.members c.loop-block.next.members c.add_named.new.found.members c.loop-block.invariant.named
       (λ b. c.in_ok-add_named.ensures.added b ∙ (λ i. set.contains c.loop-block.next.members b || (set.contains c.args.level.now.members c.loop-block.block
-      && (nat_lt b (c.loop-block.invariant.size i) && names_directory (items_of (c.loop-block.invariant.same_nodes i c.loop-block.block)) b))));
+      && (nat_lt b (c.loop-block.invariant.size i) && names_directory (items_of (c.loop-block.invariant.looks.same_nodes i c.loop-block.block)) b))));
   size = c.add_named.ensures.size ∙ c.loop-block.invariant.size;
-  same_nodes = search rules;
-  same_kept = search rules;
   reads = omega (arith, one_more (set.contains c.args.level.now.members) c.loop-block.block, c.add_named.ensures.reads, c.loop-block.invariant.reads);
-  writes = search rules;
-  follows = g.met.N.Nodes.follows_on c.args.nodes.now c.loop-block.nodes c.add_named.new.nodes c.loop-block.invariant.follows c.add_named.ensures.follows;
-  sound = search rules;
-  limit = search rules;
-  blocks = search rules;
+  looks = g.met.N.Nodes.looks_on c.args.nodes.now c.loop-block.nodes c.add_named.new.nodes c.loop-block.invariant.looks c.add_named.ensures.looks;
 }
 
 pub returns-in_err-add_named-clause-reads : goal.returns-in_err-add_named-clause-reads

@@ -60,14 +60,14 @@ edit_directory-requires-clause-takes g c =
     subst (λ (p : Path). IsHeldTrail f0 k0 p trail) (sym c.names-names.ensures.names)
     (subst (λ (t : List ℕ). IsHeldTrail f0 k0 c.args.old.now t) (sym c.blocks-blocks.ensures) (record { root = c.args.root; trail_of = c.requires.old_way; held = c.requires.held })) in
     let before : Keeps (g.N.Nodes.kept old) (g.N.Nodes.node old) (g.N.Nodes.kept mid) (g.N.Nodes.node mid) = record {
-      same = λ b kept. g.met.N.Nodes.same_node old mid b c.requires.sound c.loop-i.invariant.follows kept;
-      stays = λ b kept. g.met.N.Nodes.stays_kept old mid b c.loop-i.invariant.follows kept;
+      same = λ b kept. g.met.N.Nodes.same_node old mid b c.requires.sound c.loop-i.invariant.works.came kept;
+      stays = λ b kept. g.met.N.Nodes.stays_kept old mid b c.loop-i.invariant.works.came kept;
     } in
     subst (λ (n : Name). takes (entries_of (f1 (slice_index trail i))) n (Some (Dir c.loop-i.to)) ≡ true) (sym name) (level_takes f0 f1 k0 k1 names trail i c.loop-i.to way more before)
 
 pub returns-in_err-to-2-clause-keeps : goal.returns-in_err-to-2-clause-keeps
 returns-in_err-to-2-clause-keeps g c =
-    let follows = g.met.N.Nodes.follows_on c.args.nodes.now c.loop-i.nodes c.edit_directory.new.nodes c.loop-i.invariant.follows c.edit_directory.ensures.follows in
+    let follows = g.met.N.Nodes.follows_on c.args.nodes.now c.loop-i.nodes c.edit_directory.new.nodes c.loop-i.invariant.works.came c.edit_directory.ensures.works.came in
     record {
       same = λ b kept. g.met.N.Nodes.same_node c.args.nodes.now c.edit_directory.new.nodes b c.requires.sound follows kept;
       stays = λ b kept. g.met.N.Nodes.stays_kept c.args.nodes.now c.edit_directory.new.nodes b follows kept;
@@ -75,12 +75,12 @@ returns-in_err-to-2-clause-keeps g c =
 
 pub returns-in_err-to-2-clause-why : goal.returns-in_err-to-2-clause-why
 returns-in_err-to-2-clause-why g c =
-    let why = g.met.N.Nodes.causes_on c.args.nodes.now c.loop-i.nodes c.edit_directory.new.nodes c.in_err-to-2.field-0.0 c.loop-i.invariant.follows c.in_err-to-2.ensures.why in
+    let why = g.met.N.Nodes.causes_on c.args.nodes.now c.loop-i.nodes c.edit_directory.new.nodes c.in_err-to-2.field-0.0 c.loop-i.invariant.works.came c.in_err-to-2.ensures.why in
     let p = err_from_is_err_and c.from_residual-in_err-to-2.result c.from_residual-in_err-to-2.ensures.1 in
     rw (p.1, p.2) why
 
-pub returns-in_err-to-2-clause-follows : goal.returns-in_err-to-2-clause-follows
-returns-in_err-to-2-clause-follows g c = g.met.N.Nodes.follows_on c.args.nodes.now c.loop-i.nodes c.edit_directory.new.nodes c.loop-i.invariant.follows c.edit_directory.ensures.follows
+pub returns-in_err-to-2-clause-works : goal.returns-in_err-to-2-clause-works
+returns-in_err-to-2-clause-works g c = g.met.N.Nodes.works_on c.args.nodes.now c.loop-i.nodes c.edit_directory.new.nodes c.loop-i.invariant.works c.edit_directory.ensures.works
 
 pub loop-i-preserved : goal.loop-i-preserved
 loop-i-preserved g c =
@@ -109,8 +109,8 @@ loop-i-preserved g c =
     subst (λ (p : Path). IsHeldTrail f0 k0 p trail) (sym c.names-names.ensures.names)
     (subst (λ (t : List ℕ). IsHeldTrail f0 k0 c.args.old.now t) (sym c.blocks-blocks.ensures) (record { root = c.args.root; trail_of = c.requires.old_way; held = c.requires.held })) in
     let before : Keeps (g.N.Nodes.kept old) (g.N.Nodes.node old) (g.N.Nodes.kept mid) (g.N.Nodes.node mid) = record {
-      same = λ b kept. g.met.N.Nodes.same_node old mid b c.requires.sound c.loop-i.invariant.follows kept;
-      stays = λ b kept. g.met.N.Nodes.stays_kept old mid b c.loop-i.invariant.follows kept;
+      same = λ b kept. g.met.N.Nodes.same_node old mid b c.requires.sound c.loop-i.invariant.works.came kept;
+      stays = λ b kept. g.met.N.Nodes.stays_kept old mid b c.loop-i.invariant.works.came kept;
     } in
     let last = c.edit_directory.new.nodes in
     let f2 = g.N.Nodes.node last in
@@ -118,8 +118,8 @@ loop-i-preserved g c =
     let to = c.in_ok-to-2.to in
     let next : c.loop-i.i ≡ i + 1 = omega arith in
     let keeps : Keeps (g.N.Nodes.kept mid) (g.N.Nodes.node mid) (g.N.Nodes.kept last) (g.N.Nodes.node last) = record {
-      same = λ b kept. g.met.N.Nodes.same_node mid last b c.loop-i.invariant.sound c.edit_directory.ensures.follows kept;
-      stays = λ b kept. g.met.N.Nodes.stays_kept mid last b c.edit_directory.ensures.follows kept;
+      same = λ b kept. g.met.N.Nodes.same_node mid last b c.loop-i.invariant.works.sound c.edit_directory.ensures.works.came kept;
+      stays = λ b kept. g.met.N.Nodes.stays_kept mid last b c.edit_directory.ensures.works.came kept;
     } in
     let same : same_name (get_or names i []) (get_or new_names i []) ≡ true =
     subst (λ (p : Path). same_name (get_or p i []) (get_or new_names i []) ≡ true) (sym c.names-names.ensures.names) (is.alike i before_fork) in
@@ -133,13 +133,10 @@ loop-i-preserved g c =
     let reads = c.loop-i.invariant.reads in
     record {
       lawful = search rules;
-      moved = moved_up f0 f1 f2 k0 k1 k2 names new_names trail i to c.loop-i.to c.args.place way more (omega arith) same before keeps lower edit (g.met.N.Nodes.was_fresh old mid to c.loop-i.invariant.follows c.in_ok-to-2.ensures.fresh) c.in_ok-to-2.ensures.kept;
+      moved = moved_up f0 f1 f2 k0 k1 k2 names new_names trail i to c.loop-i.to c.args.place way more (omega arith) same before keeps lower edit (g.met.N.Nodes.was_fresh old mid to c.loop-i.invariant.works.came c.in_ok-to-2.ensures.fresh) c.in_ok-to-2.ensures.kept;
       written = omega arith;
       reads = omega arith;
-      follows = g.met.N.Nodes.follows_on old mid last c.loop-i.invariant.follows c.edit_directory.ensures.follows;
-      sound = search rules;
-      limit = c.in_ok-to-2.ensures.limit ∙ c.loop-i.invariant.limit;
-      blocks = c.in_ok-to-2.ensures.blocks ∙ c.loop-i.invariant.blocks;
+      works = g.met.N.Nodes.works_on old mid last c.loop-i.invariant.works c.edit_directory.ensures.works;
     }
 
 pub prove-unreachable-requires : goal.prove-unreachable-requires
@@ -153,8 +150,8 @@ returns-clause-reaches g c =
     let old = c.args.nodes.now in
     let new = c.loop-i.nodes in
     let keeps : Keeps (g.N.Nodes.kept old) (g.N.Nodes.node old) (g.N.Nodes.kept new) (g.N.Nodes.node new) = record {
-      same = λ b kept. g.met.N.Nodes.same_node old new b c.requires.sound c.loop-i.invariant.follows kept;
-      stays = λ b kept. g.met.N.Nodes.stays_kept old new b c.loop-i.invariant.follows kept;
+      same = λ b kept. g.met.N.Nodes.same_node old new b c.requires.sound c.loop-i.invariant.works.came kept;
+      stays = λ b kept. g.met.N.Nodes.stays_kept old new b c.loop-i.invariant.works.came kept;
     } in
     let moved : IsMoved (g.N.Nodes.node old) (g.N.Nodes.node new) (g.N.Nodes.kept old) (g.N.Nodes.kept new) c.args.root c.loop-i.to c.args.old.now c.args.new.now c.args.place = search rules in
     only_moved (g.N.Nodes.node old) (g.N.Nodes.node new) (g.N.Nodes.kept old) (g.N.Nodes.kept new) c.args.root c.args.old.now c.args.new.now c.args.place (Ok c.loop-i.to) keeps c.requires.held c.requires.stands moved

@@ -25,8 +25,8 @@ rewrite_branch-requires-2-clause-way g c =
     let k0 = g.N.Nodes.kept old in
     let k1 = g.N.Nodes.kept one in
     let first : Keeps (g.N.Nodes.kept old) (g.N.Nodes.node old) (g.N.Nodes.kept one) (g.N.Nodes.node one) = record {
-      same = λ b kept. g.met.N.Nodes.same_node old one b c.requires.sound c.rewrite_branch.ensures.follows kept;
-      stays = λ b kept. g.met.N.Nodes.stays_kept old one b c.rewrite_branch.ensures.follows kept;
+      same = λ b kept. g.met.N.Nodes.same_node old one b c.requires.sound c.rewrite_branch.ensures.works.came kept;
+      stays = λ b kept. g.met.N.Nodes.stays_kept old one b c.rewrite_branch.ensures.works.came kept;
     } in
     way_later f0 f1 k0 k1 c.args.new.now c.args.new_trail.now first c.requires.fork.new_way
 
@@ -39,15 +39,15 @@ rewrite_branch-requires-2-clause-taken g c more =
     let k0 = g.N.Nodes.kept old in
     let k1 = g.N.Nodes.kept one in
     let first : Keeps (g.N.Nodes.kept old) (g.N.Nodes.node old) (g.N.Nodes.kept one) (g.N.Nodes.node one) = record {
-      same = λ b kept. g.met.N.Nodes.same_node old one b c.requires.sound c.rewrite_branch.ensures.follows kept;
-      stays = λ b kept. g.met.N.Nodes.stays_kept old one b c.rewrite_branch.ensures.follows kept;
+      same = λ b kept. g.met.N.Nodes.same_node old one b c.requires.sound c.rewrite_branch.ensures.works.came kept;
+      stays = λ b kept. g.met.N.Nodes.stays_kept old one b c.rewrite_branch.ensures.works.came kept;
     } in
     let in_new = c.requires.fork.in_new in
     taken_later f0 f1 k0 k1 c.args.new.now c.args.new_trail.now (Some c.args.place) first c.requires.fork.new_way (omega arith) (c.requires.fork.here (omega (arith, more)))
 
 pub returns-in_err-here-clause-why : goal.returns-in_err-here-clause-why
 returns-in_err-here-clause-why g c =
-    let why = g.met.N.Nodes.causes_on c.args.nodes.now c.rewrite_branch.new.nodes c.rewrite_branch-2.new.nodes c.in_err-here.field-0.0 c.rewrite_branch.ensures.follows c.in_err-here.ensures.why in
+    let why = g.met.N.Nodes.causes_on c.args.nodes.now c.rewrite_branch.new.nodes c.rewrite_branch-2.new.nodes c.in_err-here.field-0.0 c.rewrite_branch.ensures.works.came c.in_err-here.ensures.why in
     let p = err_from_is_err_and c.from_residual-in_err-here.result c.from_residual-in_err-here.ensures.1 in
     rw (p.1, p.2) why
 
@@ -63,12 +63,12 @@ edit_directory_twice-requires-clause-named g c =
     let k1 = g.N.Nodes.kept one in
     let k2 = g.N.Nodes.kept two in
     let first : Keeps (g.N.Nodes.kept old) (g.N.Nodes.node old) (g.N.Nodes.kept one) (g.N.Nodes.node one) = record {
-      same = λ b kept. g.met.N.Nodes.same_node old one b c.requires.sound c.rewrite_branch.ensures.follows kept;
-      stays = λ b kept. g.met.N.Nodes.stays_kept old one b c.rewrite_branch.ensures.follows kept;
+      same = λ b kept. g.met.N.Nodes.same_node old one b c.requires.sound c.rewrite_branch.ensures.works.came kept;
+      stays = λ b kept. g.met.N.Nodes.stays_kept old one b c.rewrite_branch.ensures.works.came kept;
     } in
     let second : Keeps (g.N.Nodes.kept one) (g.N.Nodes.node one) (g.N.Nodes.kept two) (g.N.Nodes.node two) = record {
-      same = λ b kept. g.met.N.Nodes.same_node one two b c.rewrite_branch.ensures.sound c.rewrite_branch-2.ensures.follows kept;
-      stays = λ b kept. g.met.N.Nodes.stays_kept one two b c.rewrite_branch-2.ensures.follows kept;
+      same = λ b kept. g.met.N.Nodes.same_node one two b c.rewrite_branch.ensures.works.sound c.rewrite_branch-2.ensures.works.came kept;
+      stays = λ b kept. g.met.N.Nodes.stays_kept one two b c.rewrite_branch-2.ensures.works.came kept;
     } in
     let fork = c.args.fork in
     let old_names = c.args.old.now in
@@ -95,12 +95,12 @@ edit_directory_twice-requires-clause-room g c some =
     let k1 = g.N.Nodes.kept one in
     let k2 = g.N.Nodes.kept two in
     let first : Keeps (g.N.Nodes.kept old) (g.N.Nodes.node old) (g.N.Nodes.kept one) (g.N.Nodes.node one) = record {
-      same = λ b kept. g.met.N.Nodes.same_node old one b c.requires.sound c.rewrite_branch.ensures.follows kept;
-      stays = λ b kept. g.met.N.Nodes.stays_kept old one b c.rewrite_branch.ensures.follows kept;
+      same = λ b kept. g.met.N.Nodes.same_node old one b c.requires.sound c.rewrite_branch.ensures.works.came kept;
+      stays = λ b kept. g.met.N.Nodes.stays_kept old one b c.rewrite_branch.ensures.works.came kept;
     } in
     let second : Keeps (g.N.Nodes.kept one) (g.N.Nodes.node one) (g.N.Nodes.kept two) (g.N.Nodes.node two) = record {
-      same = λ b kept. g.met.N.Nodes.same_node one two b c.rewrite_branch.ensures.sound c.rewrite_branch-2.ensures.follows kept;
-      stays = λ b kept. g.met.N.Nodes.stays_kept one two b c.rewrite_branch-2.ensures.follows kept;
+      same = λ b kept. g.met.N.Nodes.same_node one two b c.rewrite_branch.ensures.works.sound c.rewrite_branch-2.ensures.works.came kept;
+      stays = λ b kept. g.met.N.Nodes.stays_kept one two b c.rewrite_branch-2.ensures.works.came kept;
     } in
     let fork = c.args.fork in
     let old_names = c.args.old.now in
@@ -128,12 +128,12 @@ returns-clause-moved g c =
     let k1 = g.N.Nodes.kept one in
     let k2 = g.N.Nodes.kept two in
     let first : Keeps (g.N.Nodes.kept old) (g.N.Nodes.node old) (g.N.Nodes.kept one) (g.N.Nodes.node one) = record {
-      same = λ b kept. g.met.N.Nodes.same_node old one b c.requires.sound c.rewrite_branch.ensures.follows kept;
-      stays = λ b kept. g.met.N.Nodes.stays_kept old one b c.rewrite_branch.ensures.follows kept;
+      same = λ b kept. g.met.N.Nodes.same_node old one b c.requires.sound c.rewrite_branch.ensures.works.came kept;
+      stays = λ b kept. g.met.N.Nodes.stays_kept old one b c.rewrite_branch.ensures.works.came kept;
     } in
     let second : Keeps (g.N.Nodes.kept one) (g.N.Nodes.node one) (g.N.Nodes.kept two) (g.N.Nodes.node two) = record {
-      same = λ b kept. g.met.N.Nodes.same_node one two b c.rewrite_branch.ensures.sound c.rewrite_branch-2.ensures.follows kept;
-      stays = λ b kept. g.met.N.Nodes.stays_kept one two b c.rewrite_branch-2.ensures.follows kept;
+      same = λ b kept. g.met.N.Nodes.same_node one two b c.rewrite_branch.ensures.works.sound c.rewrite_branch-2.ensures.works.came kept;
+      stays = λ b kept. g.met.N.Nodes.stays_kept one two b c.rewrite_branch-2.ensures.works.came kept;
     } in
     let fork = c.args.fork in
     let old_names = c.args.old.now in
@@ -157,16 +157,16 @@ returns-clause-moved g c =
     let here = c.in_ok-here.here in
     let r = c.edit_directory_twice.result in
     let third : Keeps (g.N.Nodes.kept two) (g.N.Nodes.node two) (g.N.Nodes.kept new) (g.N.Nodes.node new) = record {
-      same = λ b kept. g.met.N.Nodes.same_node two new b c.rewrite_branch-2.ensures.sound c.edit_directory_twice.ensures.follows kept;
-      stays = λ b kept. g.met.N.Nodes.stays_kept two new b c.edit_directory_twice.ensures.follows kept;
+      same = λ b kept. g.met.N.Nodes.same_node two new b c.rewrite_branch-2.ensures.works.sound c.edit_directory_twice.ensures.works.came kept;
+      stays = λ b kept. g.met.N.Nodes.stays_kept two new b c.edit_directory_twice.ensures.works.came kept;
     } in
     let parts : Parts f0 f1 f2 k0 k1 k2 block n m p q place gone here = record {
       differs = c.requires.fork.differs;
       held = held;
       first = first;
       second = second;
-      was_fresh = λ b fresh. g.met.N.Nodes.was_fresh old one b c.rewrite_branch.ensures.follows fresh;
-      was_fresh_too = λ b fresh. g.met.N.Nodes.was_fresh one two b c.rewrite_branch-2.ensures.follows fresh;
+      was_fresh = λ b fresh. g.met.N.Nodes.was_fresh old one b c.rewrite_branch.ensures.works.came fresh;
+      was_fresh_too = λ b fresh. g.met.N.Nodes.was_fresh one two b c.rewrite_branch-2.ensures.works.came fresh;
       old_branch = c.in_ok-gone.ensures.branch;
       new_branch = subst (λ (b : ℕ). IsBranch f1 f2 k1 k2 b m q (Some place) here) c.requires.fork.same c.in_ok-here.ensures.branch;
     } in
@@ -179,10 +179,10 @@ returns-clause-moved g c =
 
 pub returns-clause-why : goal.returns-clause-why
 returns-clause-why g c =
-    let before = g.met.N.Nodes.follows_on c.args.nodes.now c.rewrite_branch.new.nodes c.rewrite_branch-2.new.nodes c.rewrite_branch.ensures.follows c.rewrite_branch-2.ensures.follows in
+    let before = g.met.N.Nodes.follows_on c.args.nodes.now c.rewrite_branch.new.nodes c.rewrite_branch-2.new.nodes c.rewrite_branch.ensures.works.came c.rewrite_branch-2.ensures.works.came in
     if_err _ _ c.edit_directory_twice.result (λ fault why. g.met.N.Nodes.causes_on c.args.nodes.now c.rewrite_branch-2.new.nodes c.edit_directory_twice.new.nodes fault before why) c.edit_directory_twice.ensures.why
 
-pub returns-clause-follows : goal.returns-clause-follows
-returns-clause-follows g c =
-    let before = g.met.N.Nodes.follows_on c.args.nodes.now c.rewrite_branch.new.nodes c.rewrite_branch-2.new.nodes c.rewrite_branch.ensures.follows c.rewrite_branch-2.ensures.follows in
-    g.met.N.Nodes.follows_on c.args.nodes.now c.rewrite_branch-2.new.nodes c.edit_directory_twice.new.nodes before c.edit_directory_twice.ensures.follows
+pub returns-clause-works : goal.returns-clause-works
+returns-clause-works g c =
+    let before = g.met.N.Nodes.works_on c.args.nodes.now c.rewrite_branch.new.nodes c.rewrite_branch-2.new.nodes c.rewrite_branch.ensures.works c.rewrite_branch-2.ensures.works in
+    g.met.N.Nodes.works_on c.args.nodes.now c.rewrite_branch-2.new.nodes c.edit_directory_twice.new.nodes before c.edit_directory_twice.ensures.works

@@ -14,8 +14,8 @@ put_entry-requires-clause-held g c =
     let old = c.args.nodes.now in
     let mid = c.write.new.self in
     let keeps : Keeps (g.N.Nodes.kept old) (g.N.Nodes.node old) (g.N.Nodes.kept mid) (g.N.Nodes.node mid) = record {
-      same = λ b kept. g.met.N.Nodes.same_node old mid b c.requires.sound c.write.ensures.follows kept;
-      stays = λ b kept. g.met.N.Nodes.stays_kept old mid b c.write.ensures.follows kept;
+      same = λ b kept. g.met.N.Nodes.same_node old mid b c.requires.sound c.write.ensures.works.came kept;
+      stays = λ b kept. g.met.N.Nodes.stays_kept old mid b c.write.ensures.works.came kept;
     } in
     held_later (g.N.Nodes.node old) (g.N.Nodes.node mid) (g.N.Nodes.kept old) (g.N.Nodes.kept mid) keeps c.args.root c.requires.held
 
@@ -24,8 +24,8 @@ put_entry-requires-clause-way g c =
     let old = c.args.nodes.now in
     let mid = c.write.new.self in
     let keeps : Keeps (g.N.Nodes.kept old) (g.N.Nodes.node old) (g.N.Nodes.kept mid) (g.N.Nodes.node mid) = record {
-      same = λ b kept. g.met.N.Nodes.same_node old mid b c.requires.sound c.write.ensures.follows kept;
-      stays = λ b kept. g.met.N.Nodes.stays_kept old mid b c.write.ensures.follows kept;
+      same = λ b kept. g.met.N.Nodes.same_node old mid b c.requires.sound c.write.ensures.works.came kept;
+      stays = λ b kept. g.met.N.Nodes.stays_kept old mid b c.write.ensures.works.came kept;
     } in
     trail_later (g.N.Nodes.node old) (g.N.Nodes.node mid) (g.N.Nodes.kept old) (g.N.Nodes.kept mid) keeps c.args.path.now c.args.root c.args.trail.now c.requires.held c.requires.way
 
@@ -34,14 +34,14 @@ put_entry-requires-clause-room g c =
     let old = c.args.nodes.now in
     let mid = c.write.new.self in
     let keeps : Keeps (g.N.Nodes.kept old) (g.N.Nodes.node old) (g.N.Nodes.kept mid) (g.N.Nodes.node mid) = record {
-      same = λ b kept. g.met.N.Nodes.same_node old mid b c.requires.sound c.write.ensures.follows kept;
-      stays = λ b kept. g.met.N.Nodes.stays_kept old mid b c.write.ensures.follows kept;
+      same = λ b kept. g.met.N.Nodes.same_node old mid b c.requires.sound c.write.ensures.works.came kept;
+      stays = λ b kept. g.met.N.Nodes.stays_kept old mid b c.write.ensures.works.came kept;
     } in
     ap has_room (look_later (g.N.Nodes.node old) (g.N.Nodes.node mid) (g.N.Nodes.kept old) (g.N.Nodes.kept mid) keeps c.args.path.now c.args.root c.requires.held ∙ c.requires.missing)
 
 pub returns-in_err-to-clause-why : goal.returns-in_err-to-clause-why
 returns-in_err-to-clause-why g c =
-    let why = g.met.N.Nodes.causes_on c.args.nodes.now c.write.new.self c.put_entry.new.nodes c.in_err-to.field-0.0 c.write.ensures.follows c.in_err-to.ensures.why in
+    let why = g.met.N.Nodes.causes_on c.args.nodes.now c.write.new.self c.put_entry.new.nodes c.in_err-to.field-0.0 c.write.ensures.works.came c.in_err-to.ensures.why in
     let p = err_from_is_err_and c.from_residual-in_err-to.result c.from_residual-in_err-to.ensures.1 in
     rw (p.1, p.2) why
 
@@ -51,25 +51,25 @@ returns-clause-made g c =
     let mid = c.write.new.self in
     let new = c.put_entry.new.nodes in
     let keeps : Keeps (g.N.Nodes.kept old) (g.N.Nodes.node old) (g.N.Nodes.kept mid) (g.N.Nodes.node mid) = record {
-      same = λ b kept. g.met.N.Nodes.same_node old mid b c.requires.sound c.write.ensures.follows kept;
-      stays = λ b kept. g.met.N.Nodes.stays_kept old mid b c.write.ensures.follows kept;
+      same = λ b kept. g.met.N.Nodes.same_node old mid b c.requires.sound c.write.ensures.works.came kept;
+      stays = λ b kept. g.met.N.Nodes.stays_kept old mid b c.write.ensures.works.came kept;
     } in
     let block = c.in_ok-block.block in
-    let same = g.met.N.Nodes.same_node mid new block c.write.ensures.sound c.put_entry.ensures.follows c.in_ok-block.ensures.kept in
+    let same = g.met.N.Nodes.same_node mid new block c.write.ensures.works.sound c.put_entry.ensures.works.came c.in_ok-block.ensures.kept in
     record {
       block = block;
       empty = ap entries_of (same ∙ c.in_ok-block.ensures.written) ∙ c.empty_directory.ensures.read;
       was_free = c.in_ok-block.ensures.fresh;
-      is_kept = g.met.N.Nodes.stays_kept mid new block c.put_entry.ensures.follows c.in_ok-block.ensures.kept;
+      is_kept = g.met.N.Nodes.stays_kept mid new block c.put_entry.ensures.works.came c.in_ok-block.ensures.kept;
       rewritten = rewritten_before (g.N.Nodes.node old) (g.N.Nodes.node mid) (g.N.Nodes.node new) (g.N.Nodes.kept old) (g.N.Nodes.kept mid) (g.N.Nodes.kept new) keeps c.args.path.now c.args.root c.in_ok-to.to (Some (Dir block)) c.requires.held c.in_ok-to.ensures.rewritten;
-      fresh = fresh_before (g.N.Nodes.kept old) (g.N.Nodes.kept mid) (g.N.Nodes.kept new) (g.N.Nodes.node new) (λ b free. g.met.N.Nodes.was_fresh old mid b c.write.ensures.follows free) c.args.path.now c.in_ok-to.to c.in_ok-to.ensures.fresh;
+      fresh = fresh_before (g.N.Nodes.kept old) (g.N.Nodes.kept mid) (g.N.Nodes.kept new) (g.N.Nodes.node new) (λ b free. g.met.N.Nodes.was_fresh old mid b c.write.ensures.works.came free) c.args.path.now c.in_ok-to.to c.in_ok-to.ensures.fresh;
     }
 
 pub returns-clause-reaches : goal.returns-clause-reaches
 returns-clause-reaches g c =
     let old = c.args.nodes.now in
     let new = c.put_entry.new.nodes in
-    let before = g.met.N.Nodes.follows_on old c.write.new.self new c.write.ensures.follows c.put_entry.ensures.follows in
+    let before = g.met.N.Nodes.follows_on old c.write.new.self new c.write.ensures.works.came c.put_entry.ensures.works.came in
     let keeps : Keeps (g.N.Nodes.kept old) (g.N.Nodes.node old) (g.N.Nodes.kept new) (g.N.Nodes.node new) = record {
       same = λ b kept. g.met.N.Nodes.same_node old new b c.requires.sound before kept;
       stays = λ b kept. g.met.N.Nodes.stays_kept old new b before kept;

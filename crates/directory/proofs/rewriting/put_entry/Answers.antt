@@ -22,7 +22,7 @@ returns-clause-reaches g c =
     let k = g.N.Nodes.kept old in
     let l = g.N.Nodes.kept new in
     let keeps : Keeps (g.N.Nodes.kept old) (g.N.Nodes.node old) (g.N.Nodes.kept new) (g.N.Nodes.node new) = record {
-      same = λ b kept. g.met.N.Nodes.same_node old new b c.requires.sound c.rewrite_from.ensures.follows kept;
-      stays = λ b kept. g.met.N.Nodes.stays_kept old new b c.rewrite_from.ensures.follows kept;
+      same = λ b kept. g.met.N.Nodes.same_node old new b c.requires.sound c.rewrite_from.ensures.works.came kept;
+      stays = λ b kept. g.met.N.Nodes.stays_kept old new b c.rewrite_from.ensures.works.came kept;
     } in
     only_reaches f h k l c.args.root c.args.path.now (Some c.args.place) c.rewrite_from.result keeps c.requires.held (search rules) (search rules)

@@ -23,20 +23,20 @@ edit_directory-requires-in-loop-i-clause-takes g c =
     let within : i < length names = omega arith in
     let name : c.index-names-i.result ≡ get_or names i [] = c.index-names-i.is ∙ get_or_default names i c.index-names-i.result [] within in
     let before : Keeps (g.N.Nodes.kept old) (g.N.Nodes.node old) (g.N.Nodes.kept mid) (g.N.Nodes.node mid) = record {
-      same = λ b kept. g.met.N.Nodes.same_node old mid b c.requires.sound c.loop-i.invariant.follows kept;
-      stays = λ b kept. g.met.N.Nodes.stays_kept old mid b c.loop-i.invariant.follows kept;
+      same = λ b kept. g.met.N.Nodes.same_node old mid b c.requires.sound c.loop-i.invariant.works.came kept;
+      stays = λ b kept. g.met.N.Nodes.stays_kept old mid b c.loop-i.invariant.works.came kept;
     } in
     subst (λ (n : Name). takes (entries_of (g.N.Nodes.node mid (slice_index c.args.trail.now i))) n (Some (Dir c.loop-i.to)) ≡ true) (sym name)
     (level_takes (g.N.Nodes.node old) (g.N.Nodes.node mid) (g.N.Nodes.kept old) (g.N.Nodes.kept mid) names c.args.trail.now i c.loop-i.to c.requires.way more before)
 
 pub returns-in_err-to-2-clause-why : goal.returns-in_err-to-2-clause-why
 returns-in_err-to-2-clause-why g c =
-    let why = g.met.N.Nodes.causes_on c.args.nodes.now c.loop-i.nodes c.edit_directory-in-loop-i.new.nodes c.in_err-to-2.field-0.0 c.loop-i.invariant.follows c.in_err-to-2.ensures.why in
+    let why = g.met.N.Nodes.causes_on c.args.nodes.now c.loop-i.nodes c.edit_directory-in-loop-i.new.nodes c.in_err-to-2.field-0.0 c.loop-i.invariant.works.came c.in_err-to-2.ensures.why in
     let p = err_from_is_err_and c.from_residual-in_err-to-2.result c.from_residual-in_err-to-2.ensures.1 in
     rw (p.1, p.2) why
 
-pub returns-in_err-to-2-clause-follows : goal.returns-in_err-to-2-clause-follows
-returns-in_err-to-2-clause-follows g c = g.met.N.Nodes.follows_on c.args.nodes.now c.loop-i.nodes c.edit_directory-in-loop-i.new.nodes c.loop-i.invariant.follows c.edit_directory-in-loop-i.ensures.follows
+pub returns-in_err-to-2-clause-works : goal.returns-in_err-to-2-clause-works
+returns-in_err-to-2-clause-works g c = g.met.N.Nodes.works_on c.args.nodes.now c.loop-i.nodes c.edit_directory-in-loop-i.new.nodes c.loop-i.invariant.works c.edit_directory-in-loop-i.ensures.works
 
 pub loop-i-preserved : goal.loop-i-preserved
 loop-i-preserved g c =
@@ -60,12 +60,12 @@ loop-i-preserved g c =
     let next : c.loop-i.i ≡ i + 1 = omega arith in
     let name : c.index-names-i.result ≡ get_or names i [] = c.index-names-i.is ∙ get_or_default names i c.index-names-i.result [] within in
     let before : Keeps (g.N.Nodes.kept old) (g.N.Nodes.node old) (g.N.Nodes.kept mid) (g.N.Nodes.node mid) = record {
-      same = λ b kept. g.met.N.Nodes.same_node old mid b c.requires.sound c.loop-i.invariant.follows kept;
-      stays = λ b kept. g.met.N.Nodes.stays_kept old mid b c.loop-i.invariant.follows kept;
+      same = λ b kept. g.met.N.Nodes.same_node old mid b c.requires.sound c.loop-i.invariant.works.came kept;
+      stays = λ b kept. g.met.N.Nodes.stays_kept old mid b c.loop-i.invariant.works.came kept;
     } in
     let keeps : Keeps (g.N.Nodes.kept mid) (g.N.Nodes.node mid) (g.N.Nodes.kept new) (g.N.Nodes.node new) = record {
-      same = λ b kept. g.met.N.Nodes.same_node mid new b c.loop-i.invariant.sound c.edit_directory-in-loop-i.ensures.follows kept;
-      stays = λ b kept. g.met.N.Nodes.stays_kept mid new b c.edit_directory-in-loop-i.ensures.follows kept;
+      same = λ b kept. g.met.N.Nodes.same_node mid new b c.loop-i.invariant.works.sound c.edit_directory-in-loop-i.ensures.works.came kept;
+      stays = λ b kept. g.met.N.Nodes.stays_kept mid new b c.edit_directory-in-loop-i.ensures.works.came kept;
     } in
     let edit : IsDirectoryEdit f1 f2 (slice_index trail i) to (get_or names i []) (Some (Dir c.loop-i.to)) =
     subst (λ (n : Name). IsDirectoryEdit f1 f2 (slice_index trail i) to n (Some (Dir c.loop-i.to))) name c.in_ok-to-2.ensures.edited in
@@ -80,11 +80,8 @@ loop-i-preserved g c =
       from = omega arith;
       lawful = search rules;
       rewritten = rewritten_up f0 f1 f2 k0 k1 k2 names trail i to c.loop-i.to c.args.place c.requires.way more before keeps lower edit c.in_ok-to-2.ensures.kept;
-      fresh = fresh_up f1 f2 k0 k1 k2 names i (slice_index trail i) to c.loop-i.to more keeps fresh edit (g.met.N.Nodes.was_fresh old mid to c.loop-i.invariant.follows c.in_ok-to-2.ensures.fresh) c.in_ok-to-2.ensures.kept;
+      fresh = fresh_up f1 f2 k0 k1 k2 names i (slice_index trail i) to c.loop-i.to more keeps fresh edit (g.met.N.Nodes.was_fresh old mid to c.loop-i.invariant.works.came c.in_ok-to-2.ensures.fresh) c.in_ok-to-2.ensures.kept;
       written = omega arith;
       reads = omega arith;
-      follows = g.met.N.Nodes.follows_on old mid new c.loop-i.invariant.follows c.edit_directory-in-loop-i.ensures.follows;
-      sound = search rules;
-      limit = c.in_ok-to-2.ensures.limit ∙ c.loop-i.invariant.limit;
-      blocks = c.in_ok-to-2.ensures.blocks ∙ c.loop-i.invariant.blocks;
+      works = g.met.N.Nodes.works_on old mid new c.loop-i.invariant.works c.edit_directory-in-loop-i.ensures.works;
     }

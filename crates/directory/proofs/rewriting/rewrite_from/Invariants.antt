@@ -1,5 +1,6 @@
 use Rattle.std.proofs.Common.{◌≡◌, true, ◌≤◌, ◌+◌, length, drop}
 use Rattle.std.specs.Prelude.{slice_index}
+use Rattle.node_store.specs.Frames.{Works}
 use Rattle.node_format.specs.Items.{is_place}
 use Rattle.node_format.specs.declared.places.Place.TheVariants.{Dir}
 use Rattle.block_trees.specs.Rewritten.{IsRewritten, AreFresh}
@@ -14,8 +15,5 @@ invariant-loop-i g l = record {
   fresh : AreFresh (g.N.Nodes.kept l.fn.nodes) (g.N.Nodes.kept l.nodes) (g.N.Nodes.node l.nodes) l.to (drop l.i l.names);
   written : g.N.Nodes.writes l.nodes + l.i ≡ g.N.Nodes.writes l.fn.nodes + length l.names;
   reads : g.N.Nodes.reads l.nodes + l.i ≡ g.N.Nodes.reads l.fn.nodes + length l.names;
-  follows : g.N.Nodes.follows l.fn.nodes l.nodes;
-  sound : g.N.Nodes.is_sound l.nodes;
-  limit : g.N.Nodes.limit l.nodes ≡ g.N.Nodes.limit l.fn.nodes;
-  blocks : g.N.Nodes.blocks l.nodes ≡ g.N.Nodes.blocks l.fn.nodes;
+  works : Works g.N.Nodes.follows g.N.Nodes.is_sound g.N.Nodes.limit g.N.Nodes.blocks l.fn.nodes l.nodes;
 }

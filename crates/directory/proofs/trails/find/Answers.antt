@@ -19,18 +19,12 @@ loop-i-preserved g c =
     let name : c.index-names-i.result ≡ get_or path i [] = c.index-names-i.is ∙ get_or_default path i c.index-names-i.result [] within in
     let place : place_in (entries_of (f c.loop-i.block)) (get_or path i []) ≡ Ok c.in_ok-place.place =
     subst (λ (n : Name). place_in (entries_of (f c.loop-i.block)) n ≡ Ok c.in_ok-place.place) name
-    (subst (λ (h : Blocks). place_in (entries_of (h c.loop-i.block)) c.index-names-i.result ≡ Ok c.in_ok-place.place) c.loop-i.invariant.same_nodes c.in_ok-place.ensures.found) in
+    (subst (λ (h : Blocks). place_in (entries_of (h c.loop-i.block)) c.index-names-i.result ≡ Ok c.in_ok-place.place) c.loop-i.invariant.looks.same_nodes c.in_ok-place.ensures.found) in
     let below : below_in (entries_of (f c.loop-i.block)) (get_or path i []) ≡ Ok c.in_ok-block.block = ap (λ r. r >>= directory_at) place ∙ sym c.in_ok-block.ensures in
     let led = child_below f c.loop-i.block (get_or path i []) c.in_ok-block.block below in
     record {
       looked = sym (looks_on f c.loop-i.block c.in_ok-block.block i path more below) ∙ c.loop-i.invariant.looked;
       goes = goes_on f c.args.root path i c.loop-i.trail c.push.new.self c.loop-i.block c.in_ok-block.block c.loop-i.invariant.goes c.push.ensures within led;
-      same_nodes = search rules;
-      same_kept = search rules;
       reads = search rules;
-      writes = search rules;
-      follows = g.met.N.Nodes.follows_on c.args.nodes.now c.loop-i.nodes c.place_in.new.nodes c.loop-i.invariant.follows c.place_in.ensures.follows;
-      sound = search rules;
-      limit = search rules;
-      blocks = search rules;
+      looks = g.met.N.Nodes.looks_on c.args.nodes.now c.loop-i.nodes c.place_in.new.nodes c.loop-i.invariant.looks c.place_in.ensures.looks;
     }

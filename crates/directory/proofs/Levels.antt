@@ -25,7 +25,7 @@ use Rattle.directory.specs.Depths.{IsDeeper, is_directory_at, names_directory, A
 
 -- ---- the directories that entries name
 
-any_contains : (p : Item → Bool) (items : List Item) → list_any p items ≡ true → (item : Item) × Contains items item × (p item ≡ true)
+pub any_contains : (p : Item → Bool) (items : List Item) → list_any p items ≡ true → (item : Item) × Contains items item × (p item ≡ true)
 any_contains p [] some = absurd cc
 any_contains p (item ∷ items) some = on (p item) refl some (any_contains p items)
   where
@@ -33,7 +33,7 @@ any_contains p (item ∷ items) some = on (p item) refl some (any_contains p ite
     on true is some again = (item, (0, omega arith, refl), is)
     on false is some again = let found = again some in (found.0, (suc found.1.0, omega (arith, found.1.1), found.1.2), found.2)
 
-directory_is : (place : Place) (b : ℕ) → is_directory_at place b ≡ true → place ≡ Dir b
+pub directory_is : (place : Place) (b : ℕ) → is_directory_at place b ≡ true → place ≡ Dir b
 directory_is (Dir block) b is = ap Dir (eqb-true block b is)
 directory_is (File head size) b is = absurd cc
 

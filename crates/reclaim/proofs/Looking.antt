@@ -1,19 +1,22 @@
 -- What one look at a block shows.
-use Rattle.std.proofs.Common.{◌≡◌, ◌≢◌, ◌↔◌, ℕ, zero, suc, ◌-◌, ◌/◌, ◌%◌, ◌^◌, ◌<◌, Bool, true, false, ◌&&◌, Option, Some, None, List, [], ◌∷◌, length, drop, length-drop, refl, sym, ap, subst, ◌∙◌, arith}
+use Rattle.std.proofs.Common.{◌≡◌, ◌≢◌, ◌↔◌, ℕ, zero, suc, ◌+◌, ◌-◌, ◌*◌, ◌/◌, ◌%◌, ◌^◌, ◌<◌, ◌≤◌, Bool, true, false, ◌&&◌, Option, Some, None, List, [], ◌∷◌, length, drop, length-drop, refl, sym, ap, subst, ◌∙◌, arith}
 use Rattle.std.specs.Prelude.{Contains, not, IsTrue, All, is_some, nat_eq, nat_lt, unwrap_or, map}
-use Rattle.std.specs.Option.{option_map, option_eq}
+use Rattle.std.specs.Option.{option_map, option_map_or, option_eq}
 use Rattle.std.proofs.Math.Nat.{div-add-mod'}
 use Rattle.std.proofs.lemmas.Bool.{true≢false, and_parts, and_from, ltb-true, lt-ltb, eqb-true, eq-eqb}
+use Rattle.std.proofs.lemmas.List.{length-map}
 use Rattle.std.proofs.lemmas.List.Elements.{All-nil, All-cons, All-head, All-tail, All-map, All-contains, All-contains_itself, All-weaker}
-use Rattle.node_format.specs.Items.{Item}
+use Rattle.node_format.specs.Items.{Item, most_length}
 use Rattle.node_format.specs.Directories.{directory_at}
 use Rattle.node_format.specs.declared.places.Place.{Place}
 use Rattle.block_trees.specs.Bodies.{Blocks, index_of, pointer_of, data_of, head_index}
 use Rattle.block_trees.specs.Trees.{entries_of, items_of}
+use Rattle.block_trees.proofs.Entries.{directory_no_index}
 use Rattle.reclaim.specs.Naming.{has_place}
 use Rattle.reclaim.specs.Sound.{IsDirectoryAt, IsHead, IsSoundPlace, HoldsPlace, IsSoundBody, IsSoundNode}
-use Rattle.reclaim.specs.Looks.{body_of, AreSteppedTo}
+use Rattle.reclaim.specs.Looks.{body_of, look_reads, AreSteppedTo}
 use Rattle.reclaim.proofs.NamedLaws.{has_place-divides, divides-has_place, divides-below}
+use Rattle.reclaim.proofs.Lengths.{divides-short}
 
 pub never : IsTrue false → ⊥
 never is = true≢false (sym is)
@@ -91,19 +94,19 @@ directory_shown f block bytes (Some items) found is same some = (λ t. (items, a
 
 -- ---- pointers
 
-pub stepped_not : (f : Blocks) (p : ℕ → ℕ) (index x : ℕ) (holds : Bool) → x < 31 → has_place index (suc x) ≡ true → holds ≡ false
-    → (IsTrue holds ↔ HoldsPlace (f (p x)) x (p (suc x))) → IsTrue false ↔ AreSteppedTo f p index 31
+pub stepped_not : (f : Blocks) (p : ℕ → ℕ) (index x : ℕ) (holds : Bool) → x < 12 → has_place index (suc x) ≡ true → holds ≡ false
+    → (IsTrue holds ↔ HoldsPlace (f (p x)) x (p (suc x))) → IsTrue false ↔ AreSteppedTo f p index 12
 stepped_not f p index x holds below has fails exact = (λ t. absurd (never t), λ all. sym fails ∙ exact.1 (all x below has))
 
-pub body_good : (room : ℕ) (f : Blocks) (p : ℕ → ℕ) (index : ℕ) (stepped : Bool) → index < 2 ^ 32 → index ≢ 0 → body_of (f (p 0)) ≡ Some (index - 1, room)
-    → (IsTrue stepped ↔ AreSteppedTo f p index 31) → IsTrue stepped ↔ IsSoundBody room f p index
+pub body_good : (room : ℕ) (f : Blocks) (p : ℕ → ℕ) (index : ℕ) (stepped : Bool) → index < 2 ^ 13 → index ≢ 0 → body_of (f (p 0)) ≡ Some (index - 1, room)
+    → (IsTrue stepped ↔ AreSteppedTo f p index 12) → IsTrue stepped ↔ IsSoundBody room f p index
 body_good room f p zero stepped fits some is exact = absurd (some refl)
 body_good room f p (suc i) stepped fits some is exact = (
   λ t. let all = exact.0 t in (
     parts.0 ∙ ap (λ (n : ℕ). Some n) less,
     parts.1,
     λ x divides.
-        let below : suc x < 32 = divides-below (suc i) (suc x) (omega arith) fits divides in
+        let below : suc x < 13 = divides-short (suc i) (suc x) (omega arith) fits divides in
         all x (omega arith) (divides-has_place (suc i) (suc x) (omega arith) divides),
   ),
   λ h. exact.1 (λ x below has. h.2 x (has_place-divides (suc i) (suc x) has).1),
@@ -184,20 +187,53 @@ node_plain room f node places good is exact well none = (
   λ t. record {
     entries = entries_all room f node places is (exact.0 well);
     pointers = λ index some. absurd (true≢false (ap is_some (sym some ∙ none)));
+    short = λ index some. absurd (true≢false (ap is_some (sym some ∙ none)));
   },
   λ h. refl,
 )
 
+-- no file has a node of such an index
+pub node_long : (room : ℕ) (f : Blocks) (held : Option (List ℕ)) (index : ℕ) (short : Bool) → index_of held ≡ Some index → short ≡ nat_lt (index * room) most_length
+    → short ≡ false → IsTrue false ↔ IsSoundNode room f held
+node_long room f held index short has is long = (λ t. absurd (never t), λ h. sym long ∙ is ∙ lt-ltb (index * room) most_length (h.short index has))
+
 pub node_body : (room : ℕ) (f : Blocks) (node : Option (List ℕ)) (places : List Place) (good : Bool) → places ≡ map (λ (item : Item). item.place) (items_of node)
     → (IsTrue good ↔ All (IsSoundPlace room f) places) → good ≡ true
-    → (index : ℕ) (pointers : ℕ → ℕ) (sound : Bool) → index_of node ≡ Some index → index < 2 ^ 32 → ((x : ℕ) → x < 32 → pointers x ≡ pointer_of node x)
+    → (index : ℕ) (pointers : ℕ → ℕ) (sound : Bool) → index_of node ≡ Some index → index < 2 ^ 32 → ((x : ℕ) → x < 32 → pointers x ≡ pointer_of node x) → index * room < most_length
     → (IsTrue sound ↔ IsSoundBody room f pointers index) → IsTrue sound ↔ IsSoundNode room f node
-node_body room f node places good is exact well index pointers sound has fits same body = (
+node_body room f node places good is exact well index pointers sound has fits same short body = (
   λ t. record {
     entries = entries_all room f node places is (exact.0 well);
     pointers = λ i some.
         let own : index ≡ i = some_is index i (sym has ∙ some) in
         subst (IsSoundBody room f (pointer_of node)) own (body_same room f pointers (pointer_of node) index fits same (body.0 t));
+    short = λ i some. subst (λ (k : ℕ). k * room < most_length) (some_is index i (sym has ∙ some)) short;
   },
   λ h. body.1 (body_same room f (pointer_of node) pointers index fits (λ x below. sym (same x below)) (h.pointers index has)),
 )
+
+-- ---- reads of a look
+
+pub look_least : (node : Option (List ℕ)) → 1 ≤ look_reads node
+look_least node = on (entries_of node)
+  where
+    on : (o : Option (List Item)) → 1 ≤ option_map_or (λ items. 1 + length items) o 14
+    on None = omega arith
+    on (Some items) = omega arith
+
+-- one for each entry
+pub look_places : (node : Option (List ℕ)) (places : List Place) → places ≡ map (λ (item : Item). item.place) (items_of node) → 1 + length places ≤ look_reads node
+look_places node places is = on (entries_of node) (ap length is)
+  where
+    on : (o : Option (List Item)) → length places ≡ length (map (λ (item : Item). item.place) (unwrap_or o [])) → 1 + length places ≤ option_map_or (λ items. 1 + length items) o 14
+    on None size = omega arith
+    on (Some items) size = omega (arith, size, length-map items (λ (item : Item). item.place))
+
+-- a body node has no entries
+pub look_body : (node : Option (List ℕ)) (places : List Place) (index : ℕ) → places ≡ map (λ (item : Item). item.place) (items_of node) → index_of node ≡ Some index
+    → 14 + length places ≤ look_reads node
+look_body node places index is has = on (entries_of node) refl (ap length is)
+  where
+    on : (o : Option (List Item)) → entries_of node ≡ o → length places ≡ length (map (λ (item : Item). item.place) (unwrap_or o [])) → 14 + length places ≤ option_map_or (λ items. 1 + length items) o 14
+    on None none size = omega arith
+    on (Some items) some size = absurd (true≢false (ap is_some (sym has ∙ directory_no_index node items some)))

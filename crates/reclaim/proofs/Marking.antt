@@ -216,6 +216,14 @@ pub begun : (f : Blocks) (p : Pass) (order names : List ℕ) → order ≡ [] �
 begun f p order names none roots marked next =
     pass_begun f p (subst (λ (l : List ℕ). IsMarked [] l p.order) (sym roots) (subst (λ (l : List ℕ). IsMarked l names p.order) none marked)) next
 
+-- the roots alone were
+pub first_marked : (old names new : List ℕ) → old ≡ [] → IsMarked old names new → (b : ℕ) → Contains new b ↔ Contains names b
+first_marked old names new none marked b = (λ h. named (marked.only b h), marked.each b)
+  where
+    named : Contains old b ⊎ Contains names b → Contains names b
+    named (inl h) = let size : length old ≡ 0 = ap length none in absurd (omega (arith, h.1))
+    named (inr h) = h
+
 -- the block that is read next
 pub at_next : (held p : Pass) (block : ℕ) → held ≡ p → block ≡ get_or held.order held.next block → p.next < length p.order
     → block ≡ slice_index p.order p.next

@@ -1,10 +1,11 @@
 -- Trees hang from roots exactly where all that they reach is sound.
-use Rattle.std.proofs.Common.{◌≡◌, ◌≢◌, ◌⊎◌, inl, inr, ℕ, zero, suc, ◌-◌, ◌^◌, ◌<◌, ◌≤◌, Option, Some, None, List, [], ◌∷◌, refl, sym, ap, subst, ◌∙◌, arith}
+use Rattle.std.proofs.Common.{◌≡◌, ◌≢◌, ◌⊎◌, inl, inr, ℕ, zero, suc, ◌-◌, ◌*◌, ◌^◌, ◌<◌, ◌≤◌, Option, Some, None, List, [], ◌∷◌, refl, sym, ap, subst, ◌∙◌, arith}
 use Rattle.std.specs.Prelude.{Contains, IsSome, unwrap_or}
 use Rattle.std.specs.Option.{option_and_then}
 use Rattle.std.proofs.lemmas.Nat.{pow_pos}
 use Rattle.fs_types.specs.Names.{Name, Path}
-use Rattle.node_format.specs.Items.{Item}
+use Rattle.node_format.specs.Items.{Item, most_length}
+use Rattle.node_format.specs.Directories.{size_of}
 use Rattle.node_format.specs.EntryLaws.{named-contained}
 use Rattle.node_format.specs.declared.places.Place.{Place}
 use Rattle.node_format.specs.declared.places.Place.TheVariants.{Dir, File}
@@ -14,6 +15,7 @@ use Rattle.block_trees.specs.Reached.{PlaceNames, BodyNames, Names, Reached, IsF
 use Rattle.block_trees.proofs.Entries.{entry_named, directory_no_index, place_is}
 use Rattle.block_trees.proofs.Reaching.{before_named}
 use Rattle.reclaim.specs.Sound.{IsDirectoryAt, IsHead, IsSoundPlace, HoldsPlace, AreStepped, IsSoundBody, IsSoundNode, SoundHasTrees, TreesAreSound, TreesHoldNodes}
+use Rattle.reclaim.proofs.Lengths.{entry_short, head_short, shorter}
 use Rattle.reclaim.proofs.Chains.{chain_node, chain_back, linked_back, data_length, half_divides, divides_least, fewer_divides, some_before, back_twice}
 
 -- ---- sound nodes make chains
@@ -52,16 +54,18 @@ places_linked f i block linked stepped (suc x) divides =
 pub record IsLinkedChain (room : ℕ) (f : Blocks) (i block : ℕ) : Type 0 where
   pub chain : IsChain room f i block
   pub linked : IsLinked f i block
+  pub short : i * room < most_length
 
 chain_sound : (room : ℕ) (f : Blocks) (roots : List ℕ) → ((b : ℕ) → Reached f roots b → IsSoundNode room f (f b))
     → (i block : ℕ) → Reached f roots block → index_of (f block) ≡ Some i → IsLinkedChain room f i block
-chain_sound room f roots sound zero block reached is = record { chain = is; linked = tt }
+chain_sound room f roots sound zero block reached is = record { chain = is; linked = tt; short = (sound block reached).short 0 is }
 chain_sound room f roots sound (suc i) block reached is =
     let own = (sound block reached).pointers (suc i) is in
     let before = chain_sound room f roots sound i (pointer_of (f block) 0) (IsNamed reached (before_named f i block is)) own.0 in
     record {
       chain = (is, own.1, before.chain);
       linked = (places_linked f i block before.linked own.2, before.linked);
+      short = (sound block reached).short (suc i) is;
     }
 
 -- ---- sound trees
@@ -144,14 +148,14 @@ entry_tree room f block depth item tree within = λ path at is.
 abbrev IsShaped : ℕ → Blocks → ℕ → Type 0
 IsShaped room f block = ((depth : ℕ) × HasTree room f (Dir block) depth) ⊎ ((i : ℕ) × IsLinkedChain room f i block)
 
-body_shape : (room : ℕ) (f : Blocks) (head n : ℕ) → IsBody room f head (suc n) → IsShaped room f head
-body_shape room f head n whole = inr (head_index room (suc n), record { chain = whole.0; linked = whole.2 })
+body_shape : (room : ℕ) (f : Blocks) (head n : ℕ) → suc n ≤ most_length → IsBody room f head (suc n) → IsShaped room f head
+body_shape room f head n few whole = inr (head_index room (suc n), record { chain = whole.0; linked = whole.2; short = head_short room n few })
 
-place_shape : (room : ℕ) (f : Blocks) (place : Place) (depth next : ℕ) → HasTree room f place depth → PlaceNames place next → IsShaped room f next
-place_shape room f (Dir block) depth next tree same = subst (IsShaped room f) same (inl (depth, tree))
-place_shape room f (File head zero) depth next tree names = absurd (omega (arith, names.0))
-place_shape room f (File head (suc n)) depth next tree names =
-    subst (IsShaped room f) names.1 (body_shape room f head n (tree_body room f head (suc n) depth tree))
+place_shape : (room : ℕ) (f : Blocks) (place : Place) (depth next : ℕ) → size_of place ≤ most_length → HasTree room f place depth → PlaceNames place next → IsShaped room f next
+place_shape room f (Dir block) depth next few tree same = subst (IsShaped room f) same (inl (depth, tree))
+place_shape room f (File head zero) depth next few tree names = absurd (omega (arith, names.0))
+place_shape room f (File head (suc n)) depth next few tree names =
+    subst (IsShaped room f) names.1 (body_shape room f head n few (tree_body room f head (suc n) depth tree))
 
 abbrev some_number : ℕ → Option ℕ
 some_number n = Some n
@@ -176,11 +180,11 @@ pointed room f zero block x next c some divides is = absurd (omega arith)
 pointed room f (suc i) block x next c some divides is =
     let le : 2 ^ x ≤ suc i = divides_least x (suc i) some divides in
     subst (IsShaped room f) (sym (c.linked.0 x divides) ∙ is)
-    (inr (suc i - 2 ^ x, record { chain = chain_back room f (2 ^ x) (suc i) block le c.chain; linked = linked_back f (2 ^ x) (suc i) block le c.linked }))
+    (inr (suc i - 2 ^ x, record { chain = chain_back room f (2 ^ x) (suc i) block le c.chain; linked = linked_back f (2 ^ x) (suc i) block le c.linked; short = shorter room (suc i) (suc i - 2 ^ x) (omega arith) c.short }))
 
 named_shape : (room : ℕ) (f : Blocks) (block next : ℕ) → IsShaped room f block → Names (f block) next → IsShaped room f next
 named_shape room f block next (inl (depth, tree)) (inl (item, within, names)) =
-    place_shape room f item.place depth next (entry_tree room f block depth item tree within) names
+    place_shape room f item.place depth next (entry_short (f block) item within) (entry_tree room f block depth item tree within) names
 named_shape room f block next (inl (depth, tree)) (inr names) =
     let own = tree_directory room f block depth tree in
     absurd (subst (λ (o : Option ℕ). BodyNames o (pointer_of (f block)) next) (directory_no_index (f block) own.0 own.1) names)
@@ -244,6 +248,7 @@ shape_sound room f block (inl (depth, tree)) =
           place_sound room f item.place depth
           (entry_tree room f block depth item tree (subst (λ (l : List Item). Contains l item) (sym (some_items (entries_of (f block)) items is)) within));
       pointers = λ index is. absurd (no_number index (sym is ∙ directory_no_index (f block) own.0 own.1));
+      short = λ index is. absurd (no_number index (sym is ∙ directory_no_index (f block) own.0 own.1));
     }
 shape_sound room f block (inr (i, c)) =
     let node = chain_node room i block f c.chain in
@@ -251,6 +256,7 @@ shape_sound room f block (inr (i, c)) =
       entries = λ items is item within. absurd (no_number i (sym node ∙ directory_no_index (f block) items is));
       pointers = λ index is.
           subst (IsSoundBody room f (pointer_of (f block))) (number_is i index (sym node ∙ is)) (chain_body room f i block c);
+      short = λ index is. subst (λ (k : ℕ). k * room < most_length) (number_is i index (sym node ∙ is)) c.short;
     }
 
 found_place : (o : Option Place) → IsSome o → (at : Place) × (o ≡ Some at)

@@ -28,11 +28,20 @@ all_not P xs i good below exact is = (λ t. absurd (never t), λ all. sym is ∙
 pub all_end : (P : ℕ → Type 0) (xs : List ℕ) (i : ℕ) → length xs ≤ i → All P (take i xs) → IsTrue true ↔ All P xs
 all_end P xs i past all = (λ t. subst (All P) (take_all i xs past) all, λ h. refl)
 
+all_of : (P : ℕ → Type 0) (xs : List ℕ) → ((b : ℕ) → Contains xs b → P b) → All P xs
+all_of P xs each = All-weaker (Contains xs) P each xs (All-contains_itself xs)
+
 -- what is not too deep is shallow enough
-pub shallow_exact : (f : Blocks) (root : ℕ) (deep : Bool) → (deep ≡ true → IsDeeper f (Dir root) 16) → (deep ≡ false → IsShallow f (Dir root) 16)
-    → IsTrue (not deep) ↔ IsShallow f (Dir root) 16
-shallow_exact f root true deeper shallow = (λ t. absurd (never t), λ h. let found = deeper refl in absurd (omega (arith, h found.0 found.1, found.2)))
-shallow_exact f root false deeper shallow = (λ t. shallow refl, λ h. refl)
+pub shallow_exact : (f : Blocks) (roots : List ℕ) (deep : Bool) → (deep ≡ true → (root : ℕ) × Contains roots root × IsDeeper f (Dir root) 16)
+    → (deep ≡ false → (root : ℕ) → Contains roots root → IsShallow f (Dir root) 16) → IsTrue (not deep) ↔ All (λ root. IsShallow f (Dir root) 16) roots
+shallow_exact f roots true deeper shallow = (
+  λ t. absurd (never t),
+  λ all.
+      let found = deeper refl in
+      let own = All-contains (λ root. IsShallow f (Dir root) 16) roots found.0 all found.1 in
+      absurd (omega (arith, own found.2.0 found.2.1, found.2.2)),
+)
+shallow_exact f roots false deeper shallow = (λ t. all_of (λ root. IsShallow f (Dir root) 16) roots (shallow refl), λ h. refl)
 
 -- ---- roots
 
@@ -41,9 +50,6 @@ pub record AreAsked (room : ℕ) (f : Blocks) (roots marked : List ℕ) : Type 0
   pub nodes : All (λ b. IsSoundNode room f (f b)) marked
   pub directories : All (IsDirectoryAt f) roots
   pub shallow : All (λ root. IsShallow f (Dir root) 16) roots
-
-all_of : (P : ℕ → Type 0) (xs : List ℕ) → ((b : ℕ) → Contains xs b → P b) → All P xs
-all_of P xs each = All-weaker (Contains xs) P each xs (All-contains_itself xs)
 
 pub roots_asked : (limit : ℕ) (f : Blocks) (roots marked : List ℕ) → ((b : ℕ) → Contains marked b ↔ Reached f roots b) → AreRoots limit f roots → AreAsked (limit - 80) f roots marked
 roots_asked limit f roots marked all trees =
@@ -84,3 +90,13 @@ none_reached limit f own roots same (b, reached, none) trees =
 pub marked_exact : (f : Blocks) (p : Pass) (marked roots : List ℕ) → IsPass f p → IsFinished p → marked ≡ p.order → p.roots ≡ roots → (b : ℕ) → Contains marked b ↔ Reached f roots b
 marked_exact f p marked roots pass end list same b =
     subst (λ (l : List ℕ). Contains marked b ↔ Reached f l b) same (subst (λ (l : List ℕ). Contains l b ↔ Reached f p.roots b) (sym list) (pass_marks f p pass end b))
+
+-- ---- roots, each once
+
+pub roots_directories : (limit : ℕ) (f : Blocks) (roots order : List ℕ) → ((b : ℕ) → Contains order b ↔ Contains roots b) → AreRoots limit f roots → All (IsDirectoryAt f) order
+roots_directories limit f roots order same trees =
+    let sound = trees_are_sound (limit - 80) f roots trees in
+    all_of (IsDirectoryAt f) order (λ b h. sound.directories b ((same b).0 h))
+
+pub directories_roots : (f : Blocks) (roots order : List ℕ) → ((b : ℕ) → Contains order b ↔ Contains roots b) → All (IsDirectoryAt f) order → All (IsDirectoryAt f) roots
+directories_roots f roots order same all = all_of (IsDirectoryAt f) roots (λ b h. All-contains (IsDirectoryAt f) order b all ((same b).1 h))

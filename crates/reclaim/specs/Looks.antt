@@ -1,10 +1,11 @@
 -- What a look at a block brings.
-use Rattle.std.specs.Prelude.{◌≡◌, ℕ, suc, ◌<◌, Bool, true, false, IsTrue, Option, List, length}
-use Rattle.std.specs.Option.{option_map}
+use Rattle.std.specs.Prelude.{◌≡◌, ℕ, suc, ◌+◌, ◌<◌, Bool, true, false, IsTrue, Option, List, length}
+use Rattle.std.specs.Option.{option_map, option_map_or}
 use Rattle.fs_types.specs.declared.faults.Fault.{Fault}
 use Rattle.fs_types.specs.declared.faults.Fault.TheVariants.{Damaged}
 use Rattle.node_store.specs.Faults.{is_read_fault}
 use Rattle.block_trees.specs.Bodies.{Blocks, index_of, data_of}
+use Rattle.block_trees.specs.Trees.{entries_of}
 use Rattle.reclaim.specs.Naming.{has_place}
 use Rattle.reclaim.specs.Sound.{HoldsPlace}
 
@@ -19,6 +20,10 @@ is_look_fault fault = is_read_fault fault
 
 abbrev pub IsLookFault : Fault → Type 0
 IsLookFault fault = IsTrue (is_look_fault fault)
+
+-- the most reads of a look at a node: one, and one for each entry of a directory, or those for the pointers of a body node
+abbrev pub look_reads : Option (List ℕ) → ℕ
+look_reads node = option_map_or (λ items. 1 + length items) (entries_of node) 14
 
 -- the pointers of an index are stepped at the places below n
 abbrev pub AreSteppedTo : Blocks → (ℕ → ℕ) → ℕ → ℕ → Type 0

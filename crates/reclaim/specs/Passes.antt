@@ -1,5 +1,5 @@
 -- A marking of the blocks that roots reach, in steps.
-use Rattle.std.specs.Prelude.{◌≡◌, ◌≢◌, ◌⊎◌, ◌↔◌, ℕ, ◌<◌, ◌≤◌, ◌++◌, List, length, slice_index, Contains, refl}
+use Rattle.std.specs.Prelude.{◌≡◌, ◌≢◌, ◌⊎◌, ◌↔◌, ℕ, ◌+◌, ◌<◌, ◌≤◌, ◌++◌, List, length, slice_index, Contains, refl}
 use Rattle.std.specs.Coded.{Coded, code_by, coded×, coded_ℕ, coded_list}
 use Rattle.std.specs.FinSet as set
 use Rattle.fs_types.specs.declared.faults.Fault.{Fault}
@@ -51,6 +51,18 @@ pub record IsPass (f : Blocks) (p : Pass) : Type 0 where
   pub named : (k b : ℕ) → k < p.next → Names (f (slice_index p.order k)) b → Contains p.order b
   pub distinct : AreDistinct p.order
   pub within : p.next ≤ length p.order
+
+-- blocks that the roots reach, none twice
+pub record AreReached (f : Blocks) (roots blocks : List ℕ) : Type 0 where
+  pub distinct : AreDistinct blocks
+  pub reached : (b : ℕ) → Contains blocks b → Reached f roots b
+
+-- as a pass went on, so many reads came: each was of another block that the roots reach
+pub record HasRead (f : Blocks) (p : Pass) (before after : ℕ) : Type 0 where
+  pub seen : List ℕ
+  pub begins : Begins p.order seen
+  pub are : AreReached f p.roots seen
+  pub most : after + p.next ≤ before + length seen
 
 -- no marked block is left to be read
 abbrev pub IsFinished : Pass → Type 0

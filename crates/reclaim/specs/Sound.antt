@@ -1,7 +1,7 @@
 -- What one look at a block, and at the blocks that it names, shows: where each reached block is sound, whole trees hang
 -- from the roots.
-use Rattle.std.specs.Prelude.{◌≡◌, ◌≢◌, ℕ, zero, suc, ◌+◌, ◌*◌, ◌≤◌, Option, Some, None, List, length, Contains}
-use Rattle.node_format.specs.Items.{Item}
+use Rattle.std.specs.Prelude.{◌≡◌, ◌≢◌, ℕ, zero, suc, ◌+◌, ◌*◌, ◌<◌, ◌≤◌, Option, Some, None, List, length, Contains}
+use Rattle.node_format.specs.Items.{Item, most_length}
 use Rattle.node_format.specs.declared.places.Place.{Place}
 use Rattle.node_format.specs.declared.places.Place.TheVariants.{Dir, File}
 use Rattle.block_trees.specs.Bodies.{Blocks, index_of, pointer_of, data_of, head_index, Divides}
@@ -38,10 +38,11 @@ IsSoundBody room f pointer zero = Unit {0}
 IsSoundBody room f pointer (suc i) =
     (index_of (f (pointer 0)) ≡ Some i) × (length (data_of (f (pointer 0))) ≡ room) × AreStepped f pointer (suc i)
 
--- a directory's entries are sound, and so are a body node's pointers
+-- a directory's entries are sound, and so are a body node's pointers; its index is one that a file can have
 pub record IsSoundNode (room : ℕ) (f : Blocks) (node : Option (List ℕ)) : Type 0 where
   pub entries : (items : List Item) → entries_of node ≡ Some items → (item : Item) → Contains items item → IsSoundPlace room f item.place
   pub pointers : (index : ℕ) → index_of node ≡ Some index → IsSoundBody room f (pointer_of node) index
+  pub short : (index : ℕ) → index_of node ≡ Some index → index * room < most_length
 
 -- all that the roots reach is sound, and they are directories below which no path has more than 16 names
 pub record AreSound (room : ℕ) (f : Blocks) (roots : List ℕ) : Type 0 where

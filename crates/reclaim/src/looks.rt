@@ -1,7 +1,8 @@
 //! One look at a block, and at the blocks that it names.
-ghost use Rattle.std.specs.Prelude.{◌≡◌, ◌≢◌, ℕ, ◌+◌, ◌-◌, ◌≤◌, ◌<◌, ◌↔◌, ◌++◌, ◌/◌, ◌%◌, ◌&&◌, nat_eq, nat_lt, All, true, false, IsTrue, map, length, Some, None, OnOk, IfOk, IfErr, IsErrOf, slice_index};
+ghost use Rattle.std.specs.Prelude.{◌≡◌, ◌≢◌, ℕ, ◌+◌, ◌*◌, ◌^◌, ◌-◌, ◌≤◌, ◌<◌, ◌↔◌, ◌++◌, ◌/◌, ◌%◌, ◌&&◌, nat_eq, nat_lt, All, true, false, IsTrue, map, length, Some, None, OnOk, IfOk, IfErr, IsErrOf, slice_index};
 ghost use Rattle.fs_types.specs.declared.faults.Fault.TheVariants.{Damaged};
 ghost use Rattle.node_format.specs.declared.places.Place.TheVariants.{Dir, File};
+ghost use Rattle.node_format.specs.Items.{most_length};
 ghost use Rattle.block_trees.specs.Bodies.{index_of, pointer_of, data_of};
 ghost use Rattle.block_trees.specs.Trees.{entries_of, items_of};
 ghost use Rattle.reclaim.specs.Sound.{IsDirectoryAt, IsHead, IsSoundPlace, HoldsPlace, IsSoundBody, IsSoundNode, AreStepped};
@@ -13,6 +14,9 @@ use node_format::{Entries, Place};
 use node_store::Nodes;
 use std::alloc::{AllocError, Global};
 
+/// The most bytes of a file.
+const MOST_LENGTH: u64 = 16_777_216;
+
 /// Brings the node in a block, for `lent` to lend; whether there is one.
 fn brings<N: Nodes>(nodes: &mut N, block: u32) -> Result<bool, Fault>
     requires { N.is_sound nodes.old }
@@ -23,6 +27,7 @@ fn brings<N: Nodes>(nodes: &mut N, block: u32) -> Result<bool, Fault>
     ensures faults { IfErr result spec.IsLookFault }
     ensures same_nodes { N.node nodes.new ≡ N.node nodes.old }
     ensures same_kept { N.kept nodes.new ≡ N.kept nodes.old }
+    ensures reads { N.reads nodes.new ≡ N.reads nodes.old + 1 }
     ensures writes { N.writes nodes.new ≡ N.writes nodes.old }
     ensures follows { N.follows nodes.old nodes.new }
     ensures sound { N.is_sound nodes.new }
@@ -44,6 +49,7 @@ pub fn is_directory<N: Nodes>(nodes: &mut N, block: u32) -> Result<bool, Fault>
     ensures faults { IfErr result spec.IsLookFault }
     ensures same_nodes { N.node nodes.new ≡ N.node nodes.old }
     ensures same_kept { N.kept nodes.new ≡ N.kept nodes.old }
+    ensures reads { N.reads nodes.new ≡ N.reads nodes.old + 1 }
     ensures writes { N.writes nodes.new ≡ N.writes nodes.old }
     ensures follows { N.follows nodes.old nodes.new }
     ensures sound { N.is_sound nodes.new }
@@ -65,6 +71,7 @@ fn body_at<N: Nodes>(nodes: &mut N, block: u32) -> Result<Option<(u32, usize)>, 
     ensures faults { IfErr result spec.IsLookFault }
     ensures same_nodes { N.node nodes.new ≡ N.node nodes.old }
     ensures same_kept { N.kept nodes.new ≡ N.kept nodes.old }
+    ensures reads { N.reads nodes.new ≡ N.reads nodes.old + 1 }
     ensures writes { N.writes nodes.new ≡ N.writes nodes.old }
     ensures follows { N.follows nodes.old nodes.new }
     ensures sound { N.is_sound nodes.new }
@@ -100,6 +107,7 @@ fn is_head<N: Nodes>(nodes: &mut N, room: u32, head: u32, length: u32) -> Result
     ensures faults { IfErr result spec.IsLookFault }
     ensures same_nodes { N.node nodes.new ≡ N.node nodes.old }
     ensures same_kept { N.kept nodes.new ≡ N.kept nodes.old }
+    ensures reads { N.reads nodes.new ≤ N.reads nodes.old + 1 }
     ensures writes { N.writes nodes.new ≡ N.writes nodes.old }
     ensures follows { N.follows nodes.old nodes.new }
     ensures sound { N.is_sound nodes.new }
@@ -125,6 +133,7 @@ fn is_sound_place<N: Nodes>(nodes: &mut N, room: u32, place: Place) -> Result<bo
     ensures faults { IfErr result spec.IsLookFault }
     ensures same_nodes { N.node nodes.new ≡ N.node nodes.old }
     ensures same_kept { N.kept nodes.new ≡ N.kept nodes.old }
+    ensures reads { N.reads nodes.new ≤ N.reads nodes.old + 1 }
     ensures writes { N.writes nodes.new ≡ N.writes nodes.old }
     ensures follows { N.follows nodes.old nodes.new }
     ensures sound { N.is_sound nodes.new }
@@ -166,6 +175,7 @@ fn are_sound_places<N: Nodes>(nodes: &mut N, room: u32, places: &[Place]) -> Res
     ensures faults { IfErr result spec.IsLookFault }
     ensures same_nodes { N.node nodes.new ≡ N.node nodes.old }
     ensures same_kept { N.kept nodes.new ≡ N.kept nodes.old }
+    ensures reads { N.reads nodes.new ≤ N.reads nodes.old + length places.now }
     ensures writes { N.writes nodes.new ≡ N.writes nodes.old }
     ensures follows { N.follows nodes.old nodes.new }
     ensures sound { N.is_sound nodes.new }
@@ -202,6 +212,7 @@ fn holds_place<N: Nodes>(nodes: &mut N, block: u32, place: usize, next: u32) -> 
     ensures faults { IfErr result spec.IsLookFault }
     ensures same_nodes { N.node nodes.new ≡ N.node nodes.old }
     ensures same_kept { N.kept nodes.new ≡ N.kept nodes.old }
+    ensures reads { N.reads nodes.new ≡ N.reads nodes.old + 1 }
     ensures writes { N.writes nodes.new ≡ N.writes nodes.old }
     ensures follows { N.follows nodes.old nodes.new }
     ensures sound { N.is_sound nodes.new }
@@ -215,22 +226,24 @@ fn holds_place<N: Nodes>(nodes: &mut N, block: u32, place: usize, next: u32) -> 
     Ok(pointer_in(nodes.lent(), place) == next)
 }
 
-/// Whether each pointer of an index is the one before it of the node that the one before it names.
+/// Whether each pointer of an index below 2^13 is the one before it of the node that the one before it
+/// names.
 fn are_stepped<N: Nodes>(nodes: &mut N, pointers: &[u32], index: u32) -> Result<bool, Fault>
     requires sound { N.is_sound nodes.old }
     requires count { length pointers.now ≡ 32 }
-    ensures exact { IfOk result (λ good. IsTrue good ↔ spec.AreSteppedTo (N.node nodes.old) (slice_index pointers.now) index 31) }
+    ensures exact { IfOk result (λ good. IsTrue good ↔ spec.AreSteppedTo (N.node nodes.old) (slice_index pointers.now) index 12) }
     ensures why { IfErr result (λ fault. N.causes nodes.old nodes.new fault) }
     ensures faults { IfErr result spec.IsLookFault }
     ensures same_nodes { N.node nodes.new ≡ N.node nodes.old }
     ensures same_kept { N.kept nodes.new ≡ N.kept nodes.old }
+    ensures reads { N.reads nodes.new ≤ N.reads nodes.old + 12 }
     ensures writes { N.writes nodes.new ≡ N.writes nodes.old }
     ensures follows { N.follows nodes.old nodes.new }
     ensures sound { N.is_sound nodes.new }
     ensures limit { N.limit nodes.new ≡ N.limit nodes.old }
     ensures blocks { N.blocks nodes.new ≡ N.blocks nodes.old }
 {
-    for place in 0..31 {
+    for place in 0..12 {
         if has_pointer(index, place + 1) {
             let holds = holds_place(nodes, pointers[place], place, pointers[place + 1])?;
             if !holds {
@@ -250,11 +263,13 @@ fn is_sound_body<N: Nodes>(
 ) -> Result<bool, Fault>
     requires sound { N.is_sound nodes.old }
     requires count { length pointers.now ≡ 32 }
+    requires short { index < 2 ^ 13 }
     ensures exact { IfOk result (λ good. IsTrue good ↔ IsSoundBody room (N.node nodes.old) (slice_index pointers.now) index) }
     ensures why { IfErr result (λ fault. N.causes nodes.old nodes.new fault) }
     ensures faults { IfErr result spec.IsLookFault }
     ensures same_nodes { N.node nodes.new ≡ N.node nodes.old }
     ensures same_kept { N.kept nodes.new ≡ N.kept nodes.old }
+    ensures reads { N.reads nodes.new ≤ N.reads nodes.old + 13 }
     ensures writes { N.writes nodes.new ≡ N.writes nodes.old }
     ensures follows { N.follows nodes.old nodes.new }
     ensures sound { N.is_sound nodes.new }
@@ -272,15 +287,23 @@ fn is_sound_body<N: Nodes>(
     Ok(stepped)
 }
 
+/// Whether a file can have a node of an index.
+fn is_short(room: u32, index: u32) -> bool
+    ensures { result ≡ nat_lt (index * room) most_length }
+{
+    index as u64 * (room as u64) < MOST_LENGTH
+}
+
 /// Whether a directory's entries are sound, or a body node's pointers.
 pub fn look<N: Nodes>(alloc: Global, nodes: &mut N, room: u32, block: u32) -> Result<bool, Fault>
     requires sound { N.is_sound nodes.old }
-    requires room { 0 < room }
+    requires room { 2 ^ 11 ≤ room }
     ensures exact { IfOk result (λ good. IsTrue good ↔ IsSoundNode room (N.node nodes.old) (N.node nodes.old block)) }
     ensures why { IfErr result (λ fault. N.causes nodes.old nodes.new fault) }
     ensures faults { IfErr result spec.IsLookFault }
     ensures same_nodes { N.node nodes.new ≡ N.node nodes.old }
     ensures same_kept { N.kept nodes.new ≡ N.kept nodes.old }
+    ensures reads { N.reads nodes.new ≤ N.reads nodes.old + spec.look_reads (N.node nodes.old block) }
     ensures writes { N.writes nodes.new ≡ N.writes nodes.old }
     ensures follows { N.follows nodes.old nodes.new }
     ensures sound { N.is_sound nodes.new }
@@ -301,6 +324,9 @@ pub fn look<N: Nodes>(alloc: Global, nodes: &mut N, room: u32, block: u32) -> Re
     let Some(index) = index else {
         return Ok(true);
     };
+    if !is_short(room, index) {
+        return Ok(false);
+    }
     let sound = is_sound_body(nodes, room, &pointers, index)?;
     Ok(sound)
 }

@@ -5,7 +5,7 @@ ghost use Rattle.allocator.specs.Ring.{IsDataBlock};
 ghost use Rattle.block_trees.specs.Bodies.{Blocks};
 ghost use Rattle.block_trees.specs.Reached.{Reached};
 ghost use Rattle.node_store.specs.Faults.{IsReadFault};
-ghost use Rattle.reclaim.specs.Passes.{IsMarked, IsPass, IsFinished, IsMarkFault, Begins};
+ghost use Rattle.reclaim.specs.Passes.{IsMarked, IsPass, IsFinished, HasRead, IsMarkFault, Begins};
 
 use crate::naming::named;
 use allocator::Marks;
@@ -53,6 +53,7 @@ impl Pass {
         requires { (b : ℕ) → Contains roots.now b → IsDataBlock blocks b }
         ensures pass { IfOk result (λ p. (f : Blocks) → IsPass f p) }
         ensures begun { IfOk result (λ p. (p.blocks ≡ blocks) × (p.roots ≡ roots.now) × (p.next ≡ 0)) }
+        ensures first { IfOk result (λ p. (b : ℕ) → Contains p.order b ↔ Contains roots.now b) }
         ensures memory { IfErr result (λ fault. fault ≡ Fault.NoMemory) }
     {
         let marks = Marks::new(alloc, blocks)?;
@@ -85,6 +86,9 @@ impl Pass {
         ensures done { result ≡ Ok true → (self.new.next ≤ self.old.next + budget) × IsFinished self.new }
         ensures reads { N.reads nodes.new ≤ N.reads nodes.old + budget }
 
+        // Whatever is answered, each read was of another block that the roots reach.
+        ensures seen { HasRead (N.node nodes.old) self.old (N.reads nodes.old) (N.reads nodes.new) }
+
         // Damaged where a block that the roots reach has no node, and only there.
         ensures damaged { IsErrOf result Fault.Damaged → (b : ℕ) × Reached (N.node nodes.old) self.old.roots b × (N.node nodes.old b ≡ None) }
         ensures why { IfErr result (λ fault. fault ≢ Fault.Damaged → N.causes nodes.old nodes.new fault) }
@@ -113,7 +117,10 @@ impl Pass {
         requires pass { IsPass (N.node nodes.old) self.old }
         ensures pass { OnOk result (IsPass (N.node nodes.new) self.new) }
         ensures finished { OnOk result (IsFinished self.new) }
+        ensures read { OnOk result (N.reads nodes.new + self.old.next ≡ N.reads nodes.old + self.new.next) }
         ensures same { (self.new.blocks ≡ self.old.blocks) × (self.new.roots ≡ self.old.roots) }
+        ensures begins { Begins self.old.order self.new.order }
+        ensures seen { HasRead (N.node nodes.old) self.old (N.reads nodes.old) (N.reads nodes.new) }
         ensures damaged { IsErrOf result Fault.Damaged → (b : ℕ) × Reached (N.node nodes.old) self.old.roots b × (N.node nodes.old b ≡ None) }
         ensures why { IfErr result (λ fault. fault ≢ Fault.Damaged → N.causes nodes.old nodes.new fault) }
         ensures faults { IfErr result IsReadFault }

@@ -1,19 +1,22 @@
 //! Whether roots have trees: one look at each block that they reach, and at the depth below each root.
-ghost use Rattle.std.specs.Prelude.{◌≡◌, ◌≢◌, ◌↔◌, ℕ, ◌<◌, All, Contains, IsTrue, IfOk, IfErr, IsErrOf};
+ghost use Rattle.std.specs.Prelude.{◌≡◌, ◌≢◌, ◌↔◌, ℕ, ◌+◌, ◌*◌, ◌^◌, ◌≤◌, ◌<◌, List, length, All, Contains, IsTrue, IfOk, IfErr, IsErrOf};
+ghost use Rattle.std.specs.List.{sum_by};
 ghost use Rattle.allocator.specs.Ring.{IsDataBlock};
 ghost use Rattle.node_format.specs.declared.places.Place.TheVariants.{Dir};
+ghost use Rattle.block_trees.specs.Trees.{items_of};
 ghost use Rattle.block_trees.specs.Laws.{IsShallow};
+ghost use Rattle.directory.specs.Depths.{HasDirectories};
 ghost use Rattle.block_trees.specs.Reached.{Reached};
 ghost use Rattle.node_store.specs.Faults.{IsReadFault};
-ghost use Rattle.reclaim.specs.Looks.{IsLookFault};
+ghost use Rattle.reclaim.specs.Looks.{IsLookFault, look_reads};
 ghost use Rattle.reclaim.specs.Passes.{IsPass, IsFinished};
 ghost use Rattle.reclaim.specs.Sound.{IsDirectoryAt, IsSoundNode};
-ghost use Rattle.reclaim.specs.Verified.{AreRoots};
+ghost use Rattle.reclaim.specs.Verified.{AreRoots, HasCost};
 
 use crate::fields::FRONT;
 use crate::looks::{is_directory, look};
 use crate::passes::{FIRST, Pass};
-use directory::is_deeper;
+use directory::any_is_deeper;
 use fs_types::Fault;
 use node_store::Nodes;
 use std::alloc::Global;
@@ -43,12 +46,13 @@ fn are_data_blocks(blocks: u32, list: &[u32]) -> bool
 // Whether a look at each block of a list finds it sound.
 fn are_sound<N: Nodes>(alloc: Global, nodes: &mut N, room: u32, list: &[u32]) -> Result<bool, Fault>
     requires sound { N.is_sound nodes.old }
-    requires room { 0 < room }
+    requires room { 2 ^ 11 ≤ room }
     ensures exact { IfOk result (λ good. IsTrue good ↔ All (λ b. IsSoundNode room (N.node nodes.old) (N.node nodes.old b)) list.now) }
     ensures why { IfErr result (λ fault. N.causes nodes.old nodes.new fault) }
     ensures faults { IfErr result IsLookFault }
     ensures same_nodes { N.node nodes.new ≡ N.node nodes.old }
     ensures same_kept { N.kept nodes.new ≡ N.kept nodes.old }
+    ensures reads { N.reads nodes.new ≤ N.reads nodes.old + sum_by (λ b. look_reads (N.node nodes.old b)) list.now }
     ensures writes { N.writes nodes.new ≡ N.writes nodes.old }
     ensures follows { N.follows nodes.old nodes.new }
     ensures sound { N.is_sound nodes.new }
@@ -72,6 +76,7 @@ fn are_directories<N: Nodes>(nodes: &mut N, list: &[u32]) -> Result<bool, Fault>
     ensures faults { IfErr result IsLookFault }
     ensures same_nodes { N.node nodes.new ≡ N.node nodes.old }
     ensures same_kept { N.kept nodes.new ≡ N.kept nodes.old }
+    ensures reads { N.reads nodes.new ≤ N.reads nodes.old + length list.now }
     ensures writes { N.writes nodes.new ≡ N.writes nodes.old }
     ensures follows { N.follows nodes.old nodes.new }
     ensures sound { N.is_sound nodes.new }
@@ -87,24 +92,6 @@ fn are_directories<N: Nodes>(nodes: &mut N, list: &[u32]) -> Result<bool, Fault>
     Ok(true)
 }
 
-// Whether no path below a root has too many names.
-fn is_shallow<N: Nodes>(alloc: Global, nodes: &mut N, root: u32) -> Result<bool, Fault>
-    requires { N.is_sound nodes.old }
-    ensures exact { IfOk result (λ good. IsTrue good ↔ IsShallow (N.node nodes.old) (Dir root) 16) }
-    ensures why { IfErr result (λ fault. N.causes nodes.old nodes.new fault) }
-    ensures faults { IfErr result IsLookFault }
-    ensures same_nodes { N.node nodes.new ≡ N.node nodes.old }
-    ensures same_kept { N.kept nodes.new ≡ N.kept nodes.old }
-    ensures writes { N.writes nodes.new ≡ N.writes nodes.old }
-    ensures follows { N.follows nodes.old nodes.new }
-    ensures sound { N.is_sound nodes.new }
-    ensures limit { N.limit nodes.new ≡ N.limit nodes.old }
-    ensures blocks { N.blocks nodes.new ≡ N.blocks nodes.old }
-{
-    let deep = is_deeper(alloc, nodes, root, DEPTH)?;
-    Ok(!deep)
-}
-
 // Whether no path below any root has too many names.
 fn are_shallow<N: Nodes>(alloc: Global, nodes: &mut N, roots: &[u32]) -> Result<bool, Fault>
     requires { N.is_sound nodes.old }
@@ -113,22 +100,18 @@ fn are_shallow<N: Nodes>(alloc: Global, nodes: &mut N, roots: &[u32]) -> Result<
     ensures faults { IfErr result IsLookFault }
     ensures same_nodes { N.node nodes.new ≡ N.node nodes.old }
     ensures same_kept { N.kept nodes.new ≡ N.kept nodes.old }
+    ensures reads { (all : List ℕ) → HasDirectories (N.node nodes.old) (N.blocks nodes.old) roots.now all → N.reads nodes.new ≤ N.reads nodes.old + 17 * length all }
     ensures writes { N.writes nodes.new ≡ N.writes nodes.old }
     ensures follows { N.follows nodes.old nodes.new }
     ensures sound { N.is_sound nodes.new }
     ensures limit { N.limit nodes.new ≡ N.limit nodes.old }
     ensures blocks { N.blocks nodes.new ≡ N.blocks nodes.old }
 {
-    for root in roots {
-        let good = is_shallow(alloc, nodes, *root)?;
-        if !good {
-            return Ok(false);
-        }
-    }
-    Ok(true)
+    let deep = any_is_deeper(alloc, nodes, roots, DEPTH)?;
+    Ok(!deep)
 }
 
-// Whether each root has a tree, by the list of all that they reach.
+// Whether each root has a tree, by the list of all that they reach. The roots are directories.
 fn have_trees<N: Nodes>(
     alloc: Global,
     nodes: &mut N,
@@ -137,11 +120,13 @@ fn have_trees<N: Nodes>(
 ) -> Result<bool, Fault>
     requires sound { N.is_sound nodes.old }
     requires marked { (b : ℕ) → Contains marked.now b ↔ Reached (N.node nodes.old) roots.now b }
+    requires directories { All (IsDirectoryAt (N.node nodes.old)) roots.now }
     ensures exact { IfOk result (λ good. IsTrue good ↔ AreRoots (N.limit nodes.old) (N.node nodes.old) roots.now) }
     ensures why { IfErr result (λ fault. N.causes nodes.old nodes.new fault) }
     ensures faults { IfErr result IsLookFault }
     ensures same_nodes { N.node nodes.new ≡ N.node nodes.old }
     ensures same_kept { N.kept nodes.new ≡ N.kept nodes.old }
+    ensures reads { N.reads nodes.new ≤ N.reads nodes.old + sum_by (λ b. 18 + 2 * length (items_of (N.node nodes.old b))) marked.now }
     ensures writes { N.writes nodes.new ≡ N.writes nodes.old }
     ensures follows { N.follows nodes.old nodes.new }
     ensures sound { N.is_sound nodes.new }
@@ -153,10 +138,6 @@ fn have_trees<N: Nodes>(
     if !are_sound {
         return Ok(false);
     }
-    let are_directories = are_directories(nodes, roots)?;
-    if !are_directories {
-        return Ok(false);
-    }
     let are_shallow = are_shallow(alloc, nodes, roots)?;
     Ok(are_shallow)
 }
@@ -164,7 +145,7 @@ fn have_trees<N: Nodes>(
 /// A finished pass of roots that each have a tree with linked bodies, on a flash of `blocks` blocks.
 ///
 /// `Damaged` where a root has none, and only there: a root that is no data block has none. Nothing
-/// is written.
+/// is written, and at most 20 reads come for each block that the roots reach and 2 for each entry.
 pub fn verify<N: Nodes>(
     alloc: Global,
     blocks: u32,
@@ -181,6 +162,7 @@ pub fn verify<N: Nodes>(
     ensures faults { IfErr result IsReadFault }
     ensures same_nodes { N.node nodes.new ≡ N.node nodes.old }
     ensures same_kept { N.kept nodes.new ≡ N.kept nodes.old }
+    ensures reads { HasCost (N.node nodes.old) roots.now (N.reads nodes.old) (N.reads nodes.new) }
     ensures writes { N.writes nodes.new ≡ N.writes nodes.old }
     ensures follows { N.follows nodes.old nodes.new }
     ensures sound { N.is_sound nodes.new }
@@ -191,6 +173,11 @@ pub fn verify<N: Nodes>(
         return Err(Fault::Damaged);
     }
     let mut pass = Pass::start(alloc, blocks, roots)?;
+    // The marked blocks are the roots so far, each once.
+    let are_directories = are_directories(nodes, pass.marked())?;
+    if !are_directories {
+        return Err(Fault::Damaged);
+    }
     pass.read_all(nodes)?;
     let have_trees = have_trees(alloc, nodes, roots, pass.marked())?;
     if !have_trees {

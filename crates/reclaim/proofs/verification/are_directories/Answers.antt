@@ -21,6 +21,7 @@ loop-block-preserved g c =
           c.if-not-good.false;
       same_nodes = search rules;
       same_kept = search rules;
+      reads = search rules;
       writes = search rules;
       follows = g.met.N.Nodes.follows_on c.args.nodes.now c.loop-block.nodes c.is_directory.new.nodes c.loop-block.invariant.follows c.is_directory.ensures.follows;
       sound = search rules;

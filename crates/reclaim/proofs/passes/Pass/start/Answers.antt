@@ -2,7 +2,7 @@ use Rattle.std.proofs.Common.{ap, ◌∙◌}
 use Rattle.std.proofs.lemmas.Result.{err_from_is_err_and}
 use Rattle.allocator.specs.BlockSet.{BlockSet}
 use Rattle.reclaim.specs.Passes.{Pass}
-use Rattle.reclaim.proofs.Marking.{begun, only_memory}
+use Rattle.reclaim.proofs.Marking.{begun, first_marked, only_memory}
 use Rattle.reclaim.proofs.passes.Pass.start.Goals as goal
 
 pub returns-in_err-mark_all-clause-memory : goal.returns-in_err-mark_all-clause-memory
@@ -16,3 +16,6 @@ returns-clause-pass c f =
     begun f _ _ _ c.new-2.ensures.items
     (ap (λ (p : Pass). p.roots) same ∙ c.in_ok-own.ensures.items_if_clones_equal (λ x y same. same))
     c.in_ok-mark_all.ensures.marked (ap (λ (p : Pass). p.next) same)
+
+pub returns-clause-first : goal.returns-clause-first
+returns-clause-first c = first_marked _ _ _ c.new-2.ensures.items c.in_ok-mark_all.ensures.marked

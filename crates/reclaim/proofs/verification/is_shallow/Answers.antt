@@ -1,6 +1,0 @@
-use Rattle.reclaim.proofs.Verifying.{shallow_exact}
-use Rattle.reclaim.proofs.verification.is_shallow.Goals as goal
-
-pub returns-clause-exact : goal.returns-clause-exact
-returns-clause-exact g c =
-    shallow_exact (g.N.Nodes.node c.args.nodes.now) c.args.root c.in_ok-deep.deep c.in_ok-deep.ensures.deeper c.in_ok-deep.ensures.shallow

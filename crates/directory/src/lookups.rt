@@ -12,7 +12,7 @@ use node_format::{Entries, Place};
 use node_store::Nodes;
 
 /// The entries of a full directory.
-pub(crate) const MOST_ENTRIES: usize = 32;
+const MOST_ENTRIES: usize = 32;
 
 /// What a path leads to.
 #[derive(Clone, Copy, Debug, PartialEq, Eq)]

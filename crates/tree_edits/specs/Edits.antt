@@ -1,5 +1,5 @@
 -- Edits of trees: when one can be applied, the tree that it makes, and how many nodes it writes.
-use Rattle.std.specs.Prelude.{◌≡◌, ℕ, ◌+◌, ◌-◌, ◌*◌, ◌^◌, ◌<◌, ◌≤◌, ◌&&◌, Bool, true, false, Some, None, Ok, List, [], length}
+use Rattle.std.specs.Prelude.{◌≡◌, ℕ, ◌+◌, ◌-◌, ◌*◌, ◌^◌, ◌<◌, ◌≤◌, ◌&&◌, Bool, true, false, Some, Ok, List, [], length}
 use Rattle.fs_types.specs.Names.{Path, is_path, same_path}
 use Rattle.plain_trees.specs.Contents.{Entry, Apart, parent_of, overwritten, resized, pwrite_need, ftruncate_need}
 use Rattle.plain_trees.specs.Trees.{Tree, put, remove, move, bytes_at}

@@ -24,7 +24,7 @@ pub fn apply<N: Nodes>(
     alloc: Global,
     nodes: &mut N,
     root: u32,
-    edit: Edit<'_>,
+    edit: Edit<'_, '_>,
 ) -> Result<u32, Fault>
     requires sound { N.is_sound nodes.old }
     requires held { IsHeld (N.node nodes.old) (N.kept nodes.old) (Dir root) }

@@ -17,7 +17,7 @@ use Rattle.fs_types.specs.declared.faults.Fault.{Fault}
 use Rattle.flash_model.specs.Device.{Device}
 use Rattle.node_store.specs.NodePages.{node_of}
 use Rattle.block_trees.specs.Reached.{Keeps}
-use Rattle.directory.specs.Making.{IsMakeFault}
+use Rattle.directory.specs.Trails.{IsChangeFault}
 use Rattle.undofs.specs.Seen.{room_of, tree_on, seen_on, machine_on, is_read_only}
 use Rattle.undofs.specs.Steps.{is_light, last_serial, Refuses, CallStep}
 use Rattle.undofs.specs.Mounted.{IsStanding, IsMounted}
@@ -41,7 +41,7 @@ pub needs : (room : ℕ) (m : Machine) (call : Call) → makes_version m call �
 needs room m call version more = subst (λ b. 0 < (if b then change_need room m call else 0)) (sym version) more
 
 pub writing_refuses : (d : Device) (s : State) (e : Device) (t : State) (f : Device) (u : State) (call : Call) (fault : Fault) → IsLooked d s e t → is_light call ≡ false → makes_version (machine_on d s) call ≡ true
-    → 0 < change_need (room_of d) (machine_on d s) call → IsMakeFault fault → WorkCause (seen_on e t) fault (seen_on f u)
+    → 0 < change_need (room_of d) (machine_on d s) call → IsChangeFault fault → WorkCause (seen_on e t) fault (seen_on f u)
     → Refuses (seen_on d s) (machine_on d s) call fault (seen_on f u)
 writing_refuses d s e t f u call fault l heavy version more is why =
     let m = machine_on d s in

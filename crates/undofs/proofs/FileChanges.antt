@@ -1,5 +1,5 @@
--- The step of a change of the bytes of an has file.
-use Rattle.std.proofs.Common.{Bool, ◌≡◌, ℕ, zero, suc, ◌+◌, ◌<◌, ◌≤◌, true, false, Option, Some, None, Result, Ok, Err, List, [], ◌∷◌, length, refl, sym, ap, subst, ◌∙◌, inr, arith}
+-- The step of a change of the bytes of an open file.
+use Rattle.std.proofs.Common.{Bool, ◌≡◌, ℕ, zero, suc, ◌+◌, ◌<◌, ◌≤◌, true, false, Option, Some, None, Result, Ok, Err, List, [], ◌∷◌, length, refl, sym, ap, subst, ◌∙◌, arith}
 use Rattle.std.proofs.lemmas.Bool.{true≢false, eq-eqb, ne_eqb}
 use Rattle.std.proofs.lemmas.List.{length-take}
 use Rattle.std.specs.Prelude.{unwrap_or, is_some, if◌then◌else◌, ◌==◌}
@@ -32,18 +32,18 @@ use Rattle.directory.specs.declared.lookups.Found.{Found}
 use Rattle.directory.specs.declared.lookups.Found.TheVariants as found
 use Rattle.directory.specs.Lookups.{◌>>=◌, look_up, found_in, found_of, below_in, directory_at, is_path_fault, IsLookupFault}
 use Rattle.directory.proofs.LookupLaws.{found_is, found_leads_file}
-use Rattle.undofs.specs.Changing.{IsPathOf, IsAlwaysRefused}
-use Rattle.undofs.specs.Seen.{room_of, tree_on, seen_on, machine_on}
-use Rattle.undofs.specs.Steps.{is_light, MayRefuse}
+use Rattle.undofs.specs.Changing.{IsPathOf}
+use Rattle.undofs.specs.Seen.{Seen, room_of, tree_on, seen_on, machine_on}
+use Rattle.undofs.specs.Steps.{is_light}
 use Rattle.undofs.specs.Mounted.{IsMounted}
 use Rattle.undofs.specs.Opening.{IsAnswered}
-use Rattle.undofs.specs.Worked.{storage_on, IsWorked, IsLooked, WorkCause}
+use Rattle.undofs.specs.Worked.{storage_on, IsWorked, IsLooked, WorkCause, ReadCause}
 use Rattle.undofs.specs.declared.state.State.{State}
 use Rattle.undofs.proofs.ChangedCalls.{IsChangeBy}
 use Rattle.undofs.proofs.ChangeSteps.{makes, later_tree}
+use Rattle.undofs.proofs.MovedEntries.{read_cause}
 use Rattle.undofs.proofs.OpenCalls.{present_is}
 use Rattle.undofs.proofs.PathCalls.{OnlyReads, present_stands, read_done}
-use Rattle.undofs.proofs.Refusals.{read_refuses}
 use Rattle.undofs.proofs.Standing.{worked_machine, worked_mounted, worked_pages, looked_worked}
 
 -- What a path leads to, looked up.
@@ -115,22 +115,17 @@ present_body d s root path head size m is led =
 
 -- Refusals.
 
--- a look up of a file that is there
-pub lookup_refused : (d : Device) (s : State) (e : Device) (t : State) (root : ℕ) (path : Path) (fault : Fault) → IsMounted d s → present_root s.history ≡ Some root → IsFile (present_tree (machine_on d s)) path
-    → (is_path_fault fault ≡ true → look_up (node_of d) root path ≡ Err fault) → (is_path_fault fault ≡ false → WorkCause (seen_on d s) fault (seen_on e t)) → IsLookupFault fault
-    → IsAlwaysRefused (seen_on d s) (machine_on d s) fault (seen_on e t)
-lookup_refused d s e t root path fault m is file refused why lookup call heavy =
-    inr (by (is_path_fault fault) refl)
+-- a look up of a file that is there is refused only for what reads are refused for
+pub file_cause : (f : Blocks) (root : ℕ) (path : Path) (old new : Seen) (fault : Fault) → (head : ℕ) × (size : ℕ) × (look_up f root path ≡ Ok (found.File head size))
+    → (is_path_fault fault ≡ true → look_up f root path ≡ Err fault) → (is_path_fault fault ≡ false → WorkCause old fault new) → IsLookupFault fault → ReadCause old fault new
+file_cause f root path old new fault there refused why lookup = by (is_path_fault fault) refl
   where
-    there : (head : ℕ) × (size : ℕ) × (look_up (node_of d) root path ≡ Ok (found.File head size))
-    there = present_file d s root path m is file
-
-    not_both : look_up (node_of d) root path ≡ Err fault → ⊥
+    not_both : look_up f root path ≡ Err fault → ⊥
     not_both e = let is = sym there.2 ∙ e in cc
 
-    by : (b : Bool) → is_path_fault fault ≡ b → MayRefuse (seen_on d s) (machine_on d s) call fault (seen_on e t)
+    by : (b : Bool) → is_path_fault fault ≡ b → ReadCause old fault new
     by true told = absurd (not_both (refused told))
-    by false other = read_refuses (seen_on d s) (seen_on e t) (machine_on d s) call fault heavy other lookup (why other)
+    by false other = read_cause old new fault other lookup (why other)
 
 -- a call that changes the bytes of the file at a path
 pub record IsFileChange (m : Machine) (call : Call) (path : Path) (bytes : List ℕ) : Type 0 where
@@ -167,7 +162,7 @@ same_answer d s e t call reply m l reads fine replies =
 pub looked_itself : (d : Device) (s : State) → IsLooked d s d s
 looked_itself d s = record { untouched = Untouched_itself (storage_on d s); rest = record { page_len = refl; node_room = omega arith; history = refl; files = refl; is_off = refl } }
 
--- the path of an has file
+-- the path of an open file
 
 pub open_file : (d : Device) (s : State) (number : ℕ) (path : Path) → IsMounted d s → IsPathOf s.files number path → IsFile (present_tree (machine_on d s)) path
 open_file d s number path m has = m.machine.files number (record { path = path; flags = has.0 }) has.1

@@ -1,10 +1,10 @@
 -- What a rename is refused with, by what its look ups find, and the step of what it moves.
 use Rattle.std.proofs.Common.{◌≡◌, ◌⊎◌, ℕ, ◌-◌, ◌<◌, ◌≤◌, Bool, true, false, not, ◌&&◌, ◌||◌, Option, Some, None, Result, Ok, Err, List, [], ◌∷◌, length, refl, sym, ap, subst, ◌∙◌, inl, inr, arith}
 use Rattle.std.proofs.lemmas.Bool.{cases_Bool, true≢false, lt-ltb}
-use Rattle.std.specs.Prelude.{nat_lt, nat_le, is_none, if◌then◌else◌, IfErr, IsTrue}
+use Rattle.std.specs.Prelude.{nat_lt, is_none, if◌then◌else◌, IfErr, IsTrue}
 use Rattle.std.specs.Option.{option_or, option_map_or}
 use Rattle.std.specs.FinMap.{get}
-use Rattle.fs_types.specs.Names.{Name, Path, same_path}
+use Rattle.fs_types.specs.Names.{Path, same_path}
 use Rattle.plain_trees.specs.Contents.{Contents, Entry, is_dir, begins, parent_of, lookup_refusal}
 use Rattle.plain_trees.specs.Trees.{Tree, entry_count, is_full, is_too_deep}
 use Rattle.history_machine.specs.History.{present_root}
@@ -16,7 +16,7 @@ use Rattle.fs_types.specs.declared.faults.Fault.TheVariants.{NoEntry, NotDirecto
 use Rattle.plain_trees.proofs.Beneath.{None≢Some}
 use Rattle.history_machine.proofs.Kept.{present-file_tree}
 use Rattle.flash_model.specs.Device.{Device}
-use Rattle.node_format.specs.Items.{Item, named}
+use Rattle.node_format.specs.Items.{Item}
 use Rattle.node_format.specs.declared.places.Place.{Place}
 use Rattle.node_format.specs.declared.places.Place.TheVariants.{Dir, File}
 use Rattle.node_store.specs.Faults.{IsReadFault}
@@ -28,11 +28,9 @@ use Rattle.block_trees.proofs.RootMaps.{map_law, full_directory}
 use Rattle.block_trees.proofs.TooDeep.{depth_law}
 use Rattle.directory.specs.declared.lookups.Found.{Found}
 use Rattle.directory.specs.declared.lookups.Found.TheVariants as found
-use Rattle.directory.specs.Edits.{edit_refusal, path_refusal, on_way}
-use Rattle.directory.specs.Moves as moves
-use Rattle.directory.specs.Lookups.{below_in, found_of, found_in, look_up, entry_of, is_path_fault, IsLookupFault}
+use Rattle.directory.specs.Trails.{has_room}
+use Rattle.directory.specs.Lookups.{look_up, entry_of, is_path_fault, IsLookupFault}
 use Rattle.directory.proofs.LookupLaws.{found_is, found_leads, found_leads_file, missing_parent, refused_is}
-use Rattle.directory.proofs.NewDirectories.{on_below}
 use Rattle.undofs.specs.Seen.{Seen, room_of, tree_on, seen_on, machine_on}
 use Rattle.undofs.specs.Steps.{is_light, MayRefuse, IsLater}
 use Rattle.undofs.specs.Mounted.{IsMounted}
@@ -126,34 +124,9 @@ dir_counted : (t : Tree) (path : Path) (entry : Entry) → is_dir entry ≡ true
 dir_counted t path Entry.Dir dir = refl
 dir_counted t path (Entry.File own) dir = absurd (true≢false (sym dir))
 
--- a name that is there, or has room
-abbrev pub has_room : Found → Bool
-has_room (found.Missing full) = not full
-has_room (found.File head size) = true
-has_room (found.Dir block) = true
-
-found_same : (x y : Found) → (let r : Result Found Fault = Ok x in r ≡ Ok y) → x ≡ y
-found_same x y e = cc
-
-editable_in : (entries : Option (List Item)) (name : Name) (place : Place) (x : Found) → found_in entries name ≡ Ok x → has_room x ≡ true → edit_refusal entries name (Some place) ≡ None
-editable_in None name place x e room = absurd cc
-editable_in (Some items) name place x e room = on (named items name) (nat_le 32 (length items)) refl refl (ap has_room (found_same (found_of (named items name) (nat_le 32 (length items))) x e) ∙ room)
-  where
-    on : (there : Option Place) (full : Bool) → named items name ≡ there → nat_le 32 (length items) ≡ full → has_room (found_of there full) ≡ true → edit_refusal (Some items) name (Some place) ≡ None
-    on None true is few h = absurd (true≢false (sym h))
-    on None false is few h = rw (is, few) refl
-    on (Some there) full is few h = rw is refl
-
-pub found_room : (f : Blocks) (root : ℕ) (path : Path) (x : Found) (place : Place) → look_up f root path ≡ Ok x → has_room x ≡ true → path_refusal f root path (Some place) ≡ None
-found_room f root [] x place e room = refl
-found_room f root (n ∷ []) x place e room = editable_in (entries_of (f root)) n place x e room
-found_room f root (n ∷ m ∷ p) x place e room =
-    let step = on_below (below_in (entries_of (f root)) n) (λ below. look_up f below (m ∷ p)) x e in
-    ap (λ (below : Result ℕ Fault). on_way below (λ below. path_refusal f below (m ∷ p) (Some place))) step.1 ∙ found_room f step.0 (m ∷ p) x place step.2 room
-
--- the same of what is also called `y`
-pub room_by : (f : Blocks) (root : ℕ) (path : Path) (x y : Found) (place : Place) → look_up f root path ≡ Ok x → x ≡ y → has_room y ≡ true → path_refusal f root path (Some place) ≡ None
-room_by f root path x y place e called room = found_room f root path x place e (ap has_room called ∙ room)
+-- a name that is there, or has room, by what was found, which is also called `y`
+pub room_by : (f : Blocks) (root : ℕ) (path : Path) (x y : Found) → look_up f root path ≡ Ok x → x ≡ y → has_room (Ok y) ≡ true → has_room (look_up f root path) ≡ true
+room_by f root path x y led called room = ap has_room (led ∙ ap (λ (z : Found). let r : Result Found Fault = Ok z in r) called) ∙ room
 
 -- Look ups in the present tree.
 
@@ -350,15 +323,15 @@ busy_refuses m old new shallow busy = moves_by m old new false true _ shallow bu
 pub kind_below : (entry : Entry) (dir : Bool) (old new : Path) (b : Bool) → is_dir entry ≡ dir → (dir && begins old new) ≡ b → (is_dir entry && begins old new) ≡ b
 kind_below entry dir old new b kind is = ap (λ k. k && begins old new) kind ∙ is
 
--- the directories along the new path can be written
-pub move_editable : (f : Blocks) (root : ℕ) (old new : Path) (place : Place) (full : Bool) → (full && not (same_path (parent_of old) (parent_of new))) ≡ false → (full ≡ false → (at : Place) → path_refusal f root new (Some at) ≡ None)
-    → moves.move_refusal f root old new place ≡ None
-move_editable f root old new place full room editable = go (same_path (parent_of old) (parent_of new)) full room editable
+-- the new name has room where that is asked
+pub move_room : (f : Blocks) (root : ℕ) (old new : Path) (full : Bool) → (full && not (same_path (parent_of old) (parent_of new))) ≡ false → (full ≡ false → has_room (look_up f root new) ≡ true)
+    → same_path (parent_of old) (parent_of new) ≡ false → has_room (look_up f root new) ≡ true
+move_room f root old new full room fits other = fits (go (same_path (parent_of old) (parent_of new)) full room other)
   where
-    go : (same : Bool) (full : Bool) → (full && not same) ≡ false → (full ≡ false → (at : Place) → path_refusal f root new (Some at) ≡ None) → (if same then None else path_refusal f root new (Some place)) ≡ None
-    go true full room editable = refl
-    go false true room editable = absurd (true≢false room)
-    go false false room editable = editable refl place
+    go : (within full : Bool) → (full && not within) ≡ false → within ≡ false → full ≡ false
+    go within false room other = refl
+    go false true room other = absurd (true≢false room)
+    go true true room other = absurd (true≢false other)
 
 module _ (d : Device) (s : State) (old new : Path) (place : Place) (dir : Bool) (differ : same_path old new ≡ false) (dirs : dir ≡ is_dir_place place) where
   pub move_below : (e : Device) (t : State) (fault : Fault) → (fault ≡ Invalid) × ((dir && begins old new) ≡ true) → MoveRefused d s e t old new place fault

@@ -9,7 +9,7 @@ use Rattle.fs_types.specs.declared.faults.Fault.{Fault}
 use Rattle.fs_types.specs.declared.faults.Fault.TheVariants.{NoEntry, NotDirectory, FlashFull, ReadOnly, ReadFailed, PowerCut, NoMemory, Damaged}
 use Rattle.flash_model.specs.Device.{Device}
 use Rattle.directory.specs.Lookups.{is_path_fault, IsLookupFault}
-use Rattle.directory.specs.Making.{IsMakeFault}
+use Rattle.directory.specs.Trails.{IsChangeFault}
 use Rattle.undofs.specs.Seen.{Seen, seen_on, machine_on}
 use Rattle.undofs.specs.Steps.{replied, is_light, is_writing, is_cut, is_cut_answer, MayRefuse, Refuses, IsLater, CallStep}
 use Rattle.undofs.specs.Mounted.{IsMounted, StateStep}
@@ -33,7 +33,7 @@ read_refuses old new m call Damaged heavy other is why = absurd (true≢false ot
 read_refuses old new m call _ heavy other is why = absurd (not_so is)
 
 -- a refusal of a new directory's nodes
-pub write_refuses : (old new : Seen) (m : Machine) (call : Call) (fault : Fault) → is_light call ≡ false → 0 < need old.room m call → is_writing m call ≡ true → IsMakeFault fault → WorkCause old fault new → MayRefuse old m call fault new
+pub write_refuses : (old new : Seen) (m : Machine) (call : Call) (fault : Fault) → is_light call ≡ false → 0 < need old.room m call → is_writing m call ≡ true → IsChangeFault fault → WorkCause old fault new → MayRefuse old m call fault new
 write_refuses old new m call FlashFull heavy needs writes is why = (needs, why)
 write_refuses old new m call ReadOnly heavy needs writes is why = (writes, why)
 write_refuses old new m call ReadFailed heavy needs writes is why = (heavy, why)

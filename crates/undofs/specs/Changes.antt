@@ -10,7 +10,7 @@ use Rattle.flash_model.specs.Geometry.{IsGeometry, block_bytes}
 use Rattle.node_store.specs.declared.storage.Storage.{Storage}
 use Rattle.node_store.specs.Storage as parts
 use Rattle.node_store.specs.NodePages.{node_of}
-use Rattle.directory.specs.Making.{IsMakeFault}
+use Rattle.directory.specs.Trails.{IsChangeFault}
 use Rattle.tree_edits.specs.declared.edits.Edit.{Edit}
 use Rattle.tree_edits.specs.Edits.{IsEditable, effect, need}
 use Rattle.undofs.specs.Mounted.{IsStanding}
@@ -24,6 +24,12 @@ pub record IsReady (device : Device) (storage : Storage) : Type 0 where
   pub ring_blocks : storage.ring.blocks ≡ device.geometry.blocks
   pub page_len : vec_len storage.page ≡ device.geometry.page
   pub node_room : block_bytes device.geometry ≤ vec_capacity storage.node
+
+-- nodes were read: all that is kept is as it was
+pub record HasLooked (old : Device) (s : Storage) (new : Device) (t : Storage) : Type 0 where
+  pub untouched : parts.IsUntouched (parts.storage old s.bad s.ring) (parts.storage new t.bad t.ring)
+  pub page_len : vec_len t.page ≡ vec_len s.page
+  pub node_room : vec_capacity s.node ≤ vec_capacity t.node
 
 -- so many nodes were written at most: kept blocks stay, anchors and kept blocks keep their pages, and a block was taken
 -- for each node at most, and one for each that went bad
@@ -48,7 +54,7 @@ pub record IsTried (old : Device) (s : Storage) (edit : Edit) (root : ℕ) (resu
   pub stands : IfOk result (IsStanding new t.ring)
   pub shows : IfOk result (λ to. tree_on new to ≡ edited_tree old edit root)
   pub why : IfErr result (λ fault. WorkCause (seen_of old s) fault (seen_of new t))
-  pub faults : IfErr result IsMakeFault
+  pub faults : IfErr result IsChangeFault
 
 -- a root stands that has the edited tree of the present root, and is the present root now; where read-only mode was on,
 -- or no serial was left, it is not
@@ -64,7 +70,7 @@ pub record IsPushed (old : Device) (h : Past ℕ) (s : Storage) (edit : Edit) (n
 
 -- why a change is refused: no serial is left, or for what reads and writes of nodes are refused
 abbrev pub ChangeCause : Device → Past ℕ → Storage → Fault → Device → Storage → Type 0
-ChangeCause old h s fault new t = ((fault ≡ Overflow) × (h.next ≡ last_serial)) ⊎ (IsMakeFault fault × WorkCause (seen_of old s) fault (seen_of new t))
+ChangeCause old h s fault new t = ((fault ≡ Overflow) × (h.next ≡ last_serial)) ⊎ (IsChangeFault fault × WorkCause (seen_of old s) fault (seen_of new t))
 
 -- how a change ends: one version more, or the same history
 abbrev pub ChangeEnds : Device → Past ℕ → Storage → Edit → Result (Unit {0}) Fault → Device → Past ℕ → Storage → Type 0

@@ -7,9 +7,9 @@ use Rattle.plain_trees.specs.Contents.{Entry, parent_of, lookup_refusal}
 use Rattle.plain_trees.specs.Trees.{Tree, is_full}
 use Rattle.history_machine.specs.Machine.{replace_refusal}
 use Rattle.fs_types.specs.declared.faults.Fault.{Fault}
-use Rattle.node_format.specs.declared.places.Place.{Place}
 use Rattle.block_trees.specs.Bodies.{Blocks}
 use Rattle.tree_edits.specs.Edits.{IsMovable}
+use Rattle.undofs.specs.declared.renames.ToMove.{ToMove}
 
 -- why an entry is not moved to a path: the path cannot be looked up, or what stands there is not replaced
 abbrev pub target_refusal : Tree → Path → Entry → Option Fault
@@ -20,6 +20,6 @@ abbrev pub lacks_room : Tree → Path → Bool
 lacks_room t path = is_none (get t path) && is_full t (parent_of path)
 
 -- what is to be moved: nothing where both paths are the same
-abbrev pub IsToMove : Blocks → ℕ → Path → Path → Option Place → Type 0
+abbrev pub IsToMove : Blocks → ℕ → Path → Path → Option ToMove → Type 0
 IsToMove f root old new None = same_path old new ≡ true
-IsToMove f root old new (Some place) = (same_path old new ≡ false) × IsMovable f root old new place
+IsToMove f root old new (Some it) = (same_path old new ≡ false) × IsMovable f root old it.old_trail new it.new_trail it.place

@@ -20,7 +20,7 @@ pub(crate) fn change<F: Flash>(
     flash: &mut F,
     history: &mut History<u32>,
     storage: &mut Storage,
-    edit: Edit<'_>,
+    edit: Edit<'_, '_>,
 ) -> Result<(), Fault>
     requires ready { IsReady (F.device flash.old) storage.old }
     requires stands { (root : ℕ) → present_root history.old ≡ Some root → IsStanding (F.device flash.old) storage.old.ring root }
@@ -40,7 +40,7 @@ fn try_change<F: Flash>(
     flash: &mut F,
     storage: &mut Storage,
     root: u32,
-    edit: Edit<'_>,
+    edit: Edit<'_, '_>,
 ) -> Result<u32, Fault>
     requires ready { IsReady (F.device flash.old) storage.old }
     requires stands { IsStanding (F.device flash.old) storage.old.ring root }
@@ -56,7 +56,7 @@ fn write_edit<F: Flash>(
     alloc: Global,
     store: &mut Store<'_, F>,
     root: u32,
-    edit: Edit<'_>,
+    edit: Edit<'_, '_>,
 ) -> Result<u32, Fault>
     requires sound { IsSound F.device store.old }
     requires stands { IsStanding (F.device store.old.flash.now) store.old.storage.now.ring root }

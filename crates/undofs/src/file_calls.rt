@@ -11,6 +11,7 @@ ghost use Rattle.fs_types.specs.declared.calls.Reply.{Reply};
 ghost use Rattle.flash_model.specs.Device.{Device};
 ghost use Rattle.node_store.specs.NodePages.{node_of};
 ghost use Rattle.directory.specs.Lookups.{look_up};
+ghost use Rattle.directory.specs.Trails.{IsTrail};
 ghost use Rattle.undofs.specs.Mounted.{IsMounted, StateStep, KeepsPages};
 ghost use Rattle.undofs.specs.Opening.{found_refusal, changes_found, IsAnswered};
 ghost use Rattle.undofs.specs.Seen.{seen_on, machine_on};
@@ -18,9 +19,10 @@ ghost use Rattle.undofs.specs.Steps.{replied, empty, is_cut_answer, Refuses};
 ghost use Rattle.undofs.specs.Worked.{IsLooked};
 
 use crate::changes::change;
+use crate::lookups::find_path;
 use crate::state::State;
 use bitflags::Flags;
-use directory::Found;
+use directory::{Found, Trail};
 use flash_model::Flash;
 use fs_types::{Fault, OpenFlags, Path};
 use open_files::{OpenFile, are_lawful};
@@ -72,26 +74,30 @@ impl State {
         ensures { IsAnswered (F.device flash.old) self.old (Call.Open path.now flags) (replied Reply.Fd result) (F.device flash.new) self.new (is_cut_answer result) }
     {
         let root = self.history.root();
-        let (found, number) = self.check_open(flash, root, path, flags)?;
+        let (found, trail, number) = self.check_open(flash, root, path, flags)?;
         let file = OpenFile::new(path.clone()?, flags);
         if !is_changed(found, flags) {
             self.files.open(number, file);
             return Ok(number);
         }
-        let edit = Edit::PutEmptyFile { path };
+        let edit = Edit::PutEmptyFile {
+            path,
+            trail: &trail,
+        };
         change(alloc, flash, &mut self.history, &mut self.storage, edit)?;
         self.files.open(number, file);
         Ok(number)
     }
 
-    /// Refuses what cannot be opened. Answers what stands at the path, and the least free number.
+    /// Refuses what cannot be opened. Answers what stands at the path, the directories that it goes
+    /// through, and the least free number.
     fn check_open<F: Flash>(
         &mut self,
         flash: &mut F,
         root: u32,
         path: &Path,
         flags: OpenFlags,
-    ) -> Result<(Found, u8), Fault>
+    ) -> Result<(Found, Trail, u8), Fault>
         requires mounted { IsMounted (F.device flash.old) self.old }
         requires present { present_root self.old.history ≡ Some root }
         ensures looked { IsLooked (F.device flash.old) self.old (F.device flash.new) self.new }
@@ -99,21 +105,22 @@ impl State {
         ensures nodes { node_of (F.device flash.new) ≡ node_of (F.device flash.old) }
         ensures found { IfOk result (λ r. look_up (node_of (F.device flash.old)) root path.now ≡ Ok r.0) }
         ensures fits { IfOk result (λ r. found_refusal flags r.0 ≡ None) }
-        ensures number { IfOk result (λ r. least_free self.old.files ≡ Some r.1) }
+        ensures way { IfOk result (λ r. IsTrail (node_of (F.device flash.old)) root path.now r.1) }
+        ensures number { IfOk result (λ r. least_free self.old.files ≡ Some r.2) }
         ensures accepted { OnOk result (refusal (machine_on (F.device flash.old) self.old) (Call.Open path.now flags) ≡ None) }
         ensures refused { IfErr result (λ fault. Refuses (seen_on (F.device flash.old) self.old) (machine_on (F.device flash.old) self.old) (Call.Open path.now flags) fault (seen_on (F.device flash.new) self.new)) }
     {
         if !are_lawful(flags) {
             return Err(Fault::Invalid);
         }
-        let found = self.look_up(flash, root, path)?;
+        let (found, trail) = find_path(flash, &mut self.storage, root, path)?;
         check_found(found, flags)?;
         let Some(number) = self.files.least_free() else {
             return Err(Fault::TooManyOpen);
         };
         // The names of each path are lawful, as their contract tells.
         let _names = path.names();
-        Ok((found, number))
+        Ok((found, trail, number))
     }
 }
 

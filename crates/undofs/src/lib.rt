@@ -7,6 +7,7 @@ mod events;
 mod file_calls;
 mod file_changes;
 mod history_calls;
+mod lookups;
 mod promises;
 mod reads;
 mod removals;

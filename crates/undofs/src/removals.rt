@@ -10,6 +10,7 @@ ghost use Rattle.node_store.specs.NodePages.{node_of};
 ghost use Rattle.block_trees.specs.Trees.{entries_of};
 ghost use Rattle.directory.specs.declared.lookups.Found.TheVariants as found;
 ghost use Rattle.directory.specs.Lookups.{look_up};
+ghost use Rattle.directory.specs.Trails.{IsTrail};
 ghost use Rattle.undofs.specs.Mounted.{IsMounted, StateStep, KeepsPages};
 ghost use Rattle.undofs.specs.Opening.{IsAnswered};
 ghost use Rattle.undofs.specs.Seen.{seen_on, machine_on};
@@ -17,8 +18,9 @@ ghost use Rattle.undofs.specs.Steps.{replied, empty, is_cut_answer, Refuses};
 ghost use Rattle.undofs.specs.Worked.{IsLooked};
 
 use crate::changes::change;
+use crate::lookups::find_path;
 use crate::state::State;
-use directory::Found;
+use directory::{Found, Trail};
 use flash_model::Flash;
 use fs_types::{Fault, Path};
 use std::alloc::Global;
@@ -53,18 +55,28 @@ impl State {
         ensures { IsAnswered (F.device flash.old) self.old (Call.Rmdir path.now) (replied empty result) (F.device flash.new) self.new (is_cut_answer result) }
     {
         let root = self.history.root();
-        self.check_empty(flash, root, path)?;
-        let edit = Edit::Remove { path };
+        let trail = self.check_empty(flash, root, path)?;
+        let edit = Edit::Remove {
+            path,
+            trail: &trail,
+        };
         change(alloc, flash, &mut self.history, &mut self.storage, edit)
     }
 
     /// Refuses the root, a path where no directory stands, and that of a directory with entries.
-    fn check_empty<F: Flash>(&mut self, flash: &mut F, root: u32, path: &Path) -> Result<(), Fault>
+    /// Answers the directories that the path goes through.
+    fn check_empty<F: Flash>(
+        &mut self,
+        flash: &mut F,
+        root: u32,
+        path: &Path,
+    ) -> Result<Trail, Fault>
         requires mounted { IsMounted (F.device flash.old) self.old }
         requires present { present_root self.old.history ≡ Some root }
         ensures looked { IsLooked (F.device flash.old) self.old (F.device flash.new) self.new }
         ensures lawful { OnOk result (is_path path.now ≡ true) }
         ensures below { OnOk result (0 < length path.now) }
+        ensures way { IfOk result (IsTrail (node_of (F.device flash.new)) root path.now) }
         ensures empty { OnOk result ((block : ℕ) × (look_up (node_of (F.device flash.new)) root path.now ≡ Ok (found.Dir block)) × (entries_of (node_of (F.device flash.new) block) ≡ Some [])) }
         ensures accepted { OnOk result (refusal (machine_on (F.device flash.old) self.old) (Call.Rmdir path.now) ≡ None) }
         ensures refused { IfErr result (λ fault. Refuses (seen_on (F.device flash.old) self.old) (machine_on (F.device flash.old) self.old) (Call.Rmdir path.now) fault (seen_on (F.device flash.new) self.new)) }
@@ -72,14 +84,15 @@ impl State {
         if path.names().is_empty() {
             return Err(Fault::Busy);
         }
-        match self.look_up(flash, root, path)? {
+        let (found, trail) = find_path(flash, &mut self.storage, root, path)?;
+        match found {
             Found::Missing { .. } => Err(Fault::NoEntry),
             Found::File { .. } => Err(Fault::NotDirectory),
             Found::Dir { block } => {
                 if self.count_in(flash, block)? > 0 {
                     return Err(Fault::NotEmpty);
                 }
-                Ok(())
+                Ok(trail)
             }
         }
     }
@@ -112,29 +125,40 @@ impl State {
         ensures { IsAnswered (F.device flash.old) self.old (Call.Unlink path.now) (replied empty result) (F.device flash.new) self.new (is_cut_answer result) }
     {
         let root = self.history.root();
-        self.check_file(flash, root, path)?;
-        let edit = Edit::Remove { path };
+        let trail = self.check_file(flash, root, path)?;
+        let edit = Edit::Remove {
+            path,
+            trail: &trail,
+        };
         change(alloc, flash, &mut self.history, &mut self.storage, edit)
     }
 
-    /// Refuses a path where no file stands, and that of an open file.
-    fn check_file<F: Flash>(&mut self, flash: &mut F, root: u32, path: &Path) -> Result<(), Fault>
+    /// Refuses a path where no file stands, and that of an open file. Answers the directories that the
+    /// path goes through.
+    fn check_file<F: Flash>(
+        &mut self,
+        flash: &mut F,
+        root: u32,
+        path: &Path,
+    ) -> Result<Trail, Fault>
         requires mounted { IsMounted (F.device flash.old) self.old }
         requires present { present_root self.old.history ≡ Some root }
         ensures looked { IsLooked (F.device flash.old) self.old (F.device flash.new) self.new }
         ensures lawful { OnOk result (is_path path.now ≡ true) }
+        ensures way { IfOk result (IsTrail (node_of (F.device flash.new)) root path.now) }
         ensures found { OnOk result ((head size : ℕ) × (look_up (node_of (F.device flash.new)) root path.now ≡ Ok (found.File head size))) }
         ensures accepted { OnOk result (refusal (machine_on (F.device flash.old) self.old) (Call.Unlink path.now) ≡ None) }
         ensures refused { IfErr result (λ fault. Refuses (seen_on (F.device flash.old) self.old) (machine_on (F.device flash.old) self.old) (Call.Unlink path.now) fault (seen_on (F.device flash.new) self.new)) }
     {
-        match self.look_up(flash, root, path)? {
+        let (found, trail) = find_path(flash, &mut self.storage, root, path)?;
+        match found {
             Found::Missing { .. } => Err(Fault::NoEntry),
             Found::Dir { .. } => Err(Fault::NotPermitted),
             Found::File { .. } => {
                 if self.files.is_open(path) {
                     return Err(Fault::Busy);
                 }
-                Ok(())
+                Ok(trail)
             }
         }
     }

@@ -16,8 +16,8 @@ ghost use Rattle.node_store.specs.NodePages.{node_of};
 ghost use Rattle.block_trees.specs.Laws.{IsShallow};
 ghost use Rattle.block_trees.specs.Trees.{leads, is_dir_place};
 ghost use Rattle.directory.specs.Depths.{IsDeeper, IsDepthFault};
-ghost use Rattle.directory.specs.Edits.{path_refusal};
-ghost use Rattle.tree_edits.specs.Edits.{IsMovable};
+ghost use Rattle.directory.specs.Lookups.{look_up};
+ghost use Rattle.directory.specs.Trails.{IsTrail, has_room};
 ghost use Rattle.undofs.specs.Mounted.{IsMounted, StateStep, KeepsPages};
 ghost use Rattle.undofs.specs.Opening.{IsAnswered};
 ghost use Rattle.undofs.specs.Renames.{IsToMove, target_refusal, lacks_room};
@@ -26,8 +26,9 @@ ghost use Rattle.undofs.specs.Steps.{replied, empty, is_cut_answer, Refuses};
 ghost use Rattle.undofs.specs.Worked.{IsLooked, WorkCause, ReadCause};
 
 use crate::changes::change;
+use crate::lookups::find_path;
 use crate::state::State;
-use directory::{Found, is_deeper};
+use directory::{Found, Trail, is_deeper};
 use flash_model::Flash;
 use fs_types::{Fault, Name, Path};
 use node_format::Place;
@@ -35,6 +36,14 @@ use node_store::Store;
 use open_files::is_beginning;
 use std::alloc::Global;
 use tree_edits::Edit;
+
+/// What is to be moved, and the directories that the old and the new path go through.
+#[derive(Drop)]
+struct ToMove {
+    place: Place,
+    old_trail: Trail,
+    new_trail: Trail,
+}
 
 impl State {
     /// Moves what stands at a path to another.
@@ -67,10 +76,16 @@ impl State {
         ensures { IsAnswered (F.device flash.old) self.old (Call.Rename old.now new.now) (replied empty result) (F.device flash.new) self.new (is_cut_answer result) }
     {
         let root = self.history.root();
-        let Some(place) = self.check_rename(alloc, flash, root, old, new)? else {
+        let Some(moves) = self.check_rename(alloc, flash, root, old, new)? else {
             return Ok(());
         };
-        let edit = Edit::Move { old, new, place };
+        let edit = Edit::Move {
+            old,
+            old_trail: &moves.old_trail,
+            new,
+            new_trail: &moves.new_trail,
+            place: moves.place,
+        };
         change(alloc, flash, &mut self.history, &mut self.storage, edit)
     }
 
@@ -82,7 +97,7 @@ impl State {
         root: u32,
         old: &Path,
         new: &Path,
-    ) -> Result<Option<Place>, Fault>
+    ) -> Result<Option<ToMove>, Fault>
         requires mounted { IsMounted (F.device flash.old) self.old }
         requires present { present_root self.old.history ≡ Some root }
         ensures looked { IsLooked (F.device flash.old) self.old (F.device flash.new) self.new }
@@ -90,38 +105,46 @@ impl State {
         ensures accepted { OnOk result (refusal (machine_on (F.device flash.old) self.old) (Call.Rename old.now new.now) ≡ None) }
         ensures refused { IfErr result (λ fault. Refuses (seen_on (F.device flash.old) self.old) (machine_on (F.device flash.old) self.old) (Call.Rename old.now new.now) fault (seen_on (F.device flash.new) self.new)) }
     {
-        let place = self.find_place(flash, root, old)?;
+        let (place, old_trail) = self.find_place(flash, root, old)?;
         if old == new {
             return Ok(None);
         }
-        self.check_move(alloc, flash, root, old, new, place)?;
-        Ok(Some(place))
+        let new_trail = self.check_move(alloc, flash, root, old, new, place)?;
+        Ok(Some(ToMove {
+            place,
+            old_trail,
+            new_trail,
+        }))
     }
 
-    /// What a path leads to; refuses a path where nothing stands.
+    /// What a path leads to, and the directories that it goes through; refuses a path where nothing
+    /// stands.
     fn find_place<F: Flash>(
         &mut self,
         flash: &mut F,
         root: u32,
         path: &Path,
-    ) -> Result<Place, Fault>
+    ) -> Result<(Place, Trail), Fault>
         requires mounted { IsMounted (F.device flash.old) self.old }
         requires present { present_root self.old.history ≡ Some root }
         ensures looked { IsLooked (F.device flash.old) self.old (F.device flash.new) self.new }
         ensures nodes { node_of (F.device flash.new) ≡ node_of (F.device flash.old) }
-        ensures stands { IfOk result (λ place. leads (node_of (F.device flash.old)) (Dir root) path.now ≡ Some place) }
-        ensures place { IfOk result (λ place. is_place place ≡ true) }
-        ensures found { IfOk result (λ place. (entry : Entry) × (is_dir entry ≡ is_dir_place place) × ((refuse : Entry → Option Fault) → found_refusal (present_tree (machine_on (F.device flash.old) self.old)) path.now refuse ≡ refuse entry)) }
+        ensures stands { IfOk result (λ r. leads (node_of (F.device flash.old)) (Dir root) path.now ≡ Some r.0) }
+        ensures way { IfOk result (λ r. IsTrail (node_of (F.device flash.old)) root path.now r.1) }
+        ensures place { IfOk result (λ r. is_place r.0 ≡ true) }
+        ensures found { IfOk result (λ r. (entry : Entry) × (is_dir entry ≡ is_dir_place r.0) × ((refuse : Entry → Option Fault) → found_refusal (present_tree (machine_on (F.device flash.old) self.old)) path.now refuse ≡ refuse entry)) }
         ensures refused { IfErr result (λ fault. ((refuse : Entry → Option Fault) → found_refusal (present_tree (machine_on (F.device flash.old) self.old)) path.now refuse ≡ Some fault) ⊎ ReadCause (seen_on (F.device flash.old) self.old) fault (seen_on (F.device flash.new) self.new)) }
     {
-        match self.look_up(flash, root, path)? {
+        let (found, trail) = find_path(flash, &mut self.storage, root, path)?;
+        match found {
             Found::Missing { .. } => Err(Fault::NoEntry),
-            Found::File { head, length } => Ok(Place::File { head, length }),
-            Found::Dir { block } => Ok(Place::Dir { block }),
+            Found::File { head, length } => Ok((Place::File { head, length }, trail)),
+            Found::Dir { block } => Ok((Place::Dir { block }, trail)),
         }
     }
 
-    /// Refuses to move what stands at a path to another path, which is not the same.
+    /// Refuses to move what stands at a path to another path, which is not the same. Answers the
+    /// directories that the other path goes through.
     fn check_move<F: Flash>(
         &mut self,
         alloc: Global,
@@ -130,52 +153,56 @@ impl State {
         old: &Path,
         new: &Path,
         place: Place,
-    ) -> Result<(), Fault>
+    ) -> Result<Trail, Fault>
         requires mounted { IsMounted (F.device flash.old) self.old }
         requires present { present_root self.old.history ≡ Some root }
         requires differ { same_path old.now new.now ≡ false }
         requires stands { leads (node_of (F.device flash.old)) (Dir root) old.now ≡ Some place }
-        requires place { is_place place ≡ true }
         ensures looked { IsLooked (F.device flash.old) self.old (F.device flash.new) self.new }
         ensures nodes { node_of (F.device flash.new) ≡ node_of (F.device flash.old) }
-        ensures movable { OnOk result (IsMovable (node_of (F.device flash.old)) root old.now new.now place) }
+        ensures lawful { OnOk result (is_path old.now && is_path new.now ≡ true) }
+        ensures way { IfOk result (IsTrail (node_of (F.device flash.old)) root new.now) }
+        ensures shallow { OnOk result (IsShallow (node_of (F.device flash.old)) place (16 - length new.now)) }
+        ensures room { OnOk result (same_path (parent_of old.now) (parent_of new.now) ≡ false → has_room (look_up (node_of (F.device flash.old)) root new.now) ≡ true) }
         ensures accepted { OnOk result ((entry : Entry) → is_dir entry ≡ is_dir_place place → rename_refusal (machine_on (F.device flash.old) self.old) old.now new.now entry ≡ None) }
         ensures refused { IfErr result (λ fault. ((entry : Entry) → is_dir entry ≡ is_dir_place place → rename_refusal (machine_on (F.device flash.old) self.old) old.now new.now entry ≡ Some fault) ⊎ ReadCause (seen_on (F.device flash.old) self.old) fault (seen_on (F.device flash.new) self.new)) }
     {
         let moves_directory = is_directory(place);
         check_beyond(old, new, moves_directory)?;
-        let lacks_room = self.check_target(flash, root, new, moves_directory)?;
+        let (lacks_room, trail) = self.check_target(flash, root, new, moves_directory)?;
         self.check_depth(alloc, flash, root, old, new, place)?;
         self.check_closed(old, new)?;
         check_room(old, new, lacks_room)?;
-        Ok(())
+        Ok(trail)
     }
 
     /// Refuses to replace what is of another kind, and a directory with entries; else whether the path
-    /// is a new name of a full directory.
+    /// is a new name of a full directory, and the directories that it goes through.
     fn check_target<F: Flash>(
         &mut self,
         flash: &mut F,
         root: u32,
         path: &Path,
         moves_directory: bool,
-    ) -> Result<bool, Fault>
+    ) -> Result<(bool, Trail), Fault>
         requires mounted { IsMounted (F.device flash.old) self.old }
         requires present { present_root self.old.history ≡ Some root }
         ensures looked { IsLooked (F.device flash.old) self.old (F.device flash.new) self.new }
         ensures nodes { node_of (F.device flash.new) ≡ node_of (F.device flash.old) }
-        ensures room { IfOk result (λ full. full ≡ lacks_room (present_tree (machine_on (F.device flash.old) self.old)) path.now) }
-        ensures editable { IfOk result (λ full. full ≡ false → (place : Place) → path_refusal (node_of (F.device flash.old)) root path.now (Some place) ≡ None) }
+        ensures room { IfOk result (λ r. r.0 ≡ lacks_room (present_tree (machine_on (F.device flash.old) self.old)) path.now) }
+        ensures fits { IfOk result (λ r. r.0 ≡ false → has_room (look_up (node_of (F.device flash.old)) root path.now) ≡ true) }
+        ensures way { IfOk result (λ r. IsTrail (node_of (F.device flash.old)) root path.now r.1) }
         ensures allowed { OnOk result ((entry : Entry) → is_dir entry ≡ moves_directory → target_refusal (present_tree (machine_on (F.device flash.old) self.old)) path.now entry ≡ None) }
         ensures refused { IfErr result (λ fault. ((entry : Entry) → is_dir entry ≡ moves_directory → target_refusal (present_tree (machine_on (F.device flash.old) self.old)) path.now entry ≡ Some fault) ⊎ ReadCause (seen_on (F.device flash.old) self.old) fault (seen_on (F.device flash.new) self.new)) }
     {
-        match self.look_up(flash, root, path)? {
-            Found::Missing { is_full } => Ok(is_full),
+        let (found, trail) = find_path(flash, &mut self.storage, root, path)?;
+        match found {
+            Found::Missing { is_full } => Ok((is_full, trail)),
             Found::File { .. } => {
                 if moves_directory {
                     return Err(Fault::NotDirectory);
                 }
-                Ok(false)
+                Ok((false, trail))
             }
             Found::Dir { block } => {
                 if !moves_directory {
@@ -184,7 +211,7 @@ impl State {
                 if self.count_in(flash, block)? > 0 {
                     return Err(Fault::NotEmpty);
                 }
-                Ok(false)
+                Ok((false, trail))
             }
         }
     }

@@ -14,6 +14,7 @@ ghost use Rattle.undofs.specs.Seen.{seen_on, machine_on};
 ghost use Rattle.undofs.specs.Steps.{replied, is_cut_answer, CallStep};
 ghost use Rattle.undofs.specs.Worked.{IsLooked, WorkCause};
 
+use crate::lookups::find_path;
 use crate::state::State;
 use directory::{Found, entry_count};
 use flash_model::Flash;
@@ -50,7 +51,8 @@ impl State {
         ensures step { CallStep (seen_on (F.device flash.old) self.old) (machine_on (F.device flash.old) self.old) false (Call.Stat view.now path.now) (replied Reply.Stat result) (seen_on (F.device flash.new) self.new) (machine_on (F.device flash.new) self.new) (is_cut_answer result) }
     {
         let root = self.history.find(view)?;
-        match self.look_up(flash, root, path)? {
+        let (found, _trail) = find_path(flash, &mut self.storage, root, path)?;
+        match found {
             Found::Missing { .. } => Err(Fault::NoEntry),
             Found::File { length, .. } => Ok(Stat::File(length as u64)),
             Found::Dir { block } => Ok(Stat::Dir(self.count_in(flash, block)? as u64)),

@@ -13,7 +13,8 @@ ghost use Rattle.node_store.specs.Faults.{IsReadFault};
 ghost use Rattle.node_store.specs.NodePages.{node_of};
 ghost use Rattle.block_trees.specs.Trees.{entries_of, names_of};
 ghost use Rattle.directory.specs.declared.lookups.Found.TheVariants.{Missing};
-ghost use Rattle.directory.specs.Lookups.{look_up, is_path_fault, IsLookupFault};
+ghost use Rattle.directory.specs.Lookups.{look_up, is_path_fault};
+ghost use Rattle.directory.specs.Trails.{IsTrail};
 ghost use Rattle.undofs.specs.Mounted.{IsMounted, StateStep, KeepsPages};
 ghost use Rattle.undofs.specs.Opening.{IsAnswered};
 ghost use Rattle.undofs.specs.Seen.{seen_on, machine_on};
@@ -21,8 +22,9 @@ ghost use Rattle.undofs.specs.Steps.{replied, empty, is_cut_answer, Refuses, Cal
 ghost use Rattle.undofs.specs.Worked.{IsLooked, WorkCause};
 
 use crate::changes::change;
+use crate::lookups::find_path;
 use crate::state::State;
-use directory::{Found, lookup, names};
+use directory::{Found, Trail, names};
 use flash_model::Flash;
 use fs_types::{Fault, Name, Path, Sequence, View};
 use node_store::Store;
@@ -61,7 +63,8 @@ impl State {
         ensures step { CallStep (seen_on (F.device flash.old) self.old) (machine_on (F.device flash.old) self.old) false (Call.List view.now path.now) (replied Reply.Names result) (seen_on (F.device flash.new) self.new) (machine_on (F.device flash.new) self.new) (is_cut_answer result) }
     {
         let root = self.history.find(view)?;
-        match self.look_up(flash, root, path)? {
+        let (found, _trail) = find_path(flash, &mut self.storage, root, path)?;
+        match found {
             Found::Missing { .. } => Err(Fault::NoEntry),
             Found::File { .. } => Err(Fault::NotDirectory),
             Found::Dir { block } => self.names_in(alloc, flash, block),
@@ -96,22 +99,27 @@ impl State {
         ensures { IsAnswered (F.device flash.old) self.old (Call.Mkdir path.now) (replied empty result) (F.device flash.new) self.new (is_cut_answer result) }
     {
         let root = self.history.root();
-        self.check_missing(flash, root, path)?;
-        let edit = Edit::MakeDirectory { path };
+        let trail = self.check_missing(flash, root, path)?;
+        let edit = Edit::MakeDirectory {
+            path,
+            trail: &trail,
+        };
         change(alloc, flash, &mut self.history, &mut self.storage, edit)
     }
 
-    /// Refuses the root, a path where something stands, and a new name in a full directory.
+    /// Refuses the root, a path where something stands, and a new name in a full directory. Answers
+    /// the directories that the path goes through.
     fn check_missing<F: Flash>(
         &mut self,
         flash: &mut F,
         root: u32,
         path: &Path,
-    ) -> Result<(), Fault>
+    ) -> Result<Trail, Fault>
         requires mounted { IsMounted (F.device flash.old) self.old }
         requires present { present_root self.old.history ≡ Some root }
         ensures looked { IsLooked (F.device flash.old) self.old (F.device flash.new) self.new }
         ensures lawful { OnOk result (is_path path.now ≡ true) }
+        ensures way { IfOk result (IsTrail (node_of (F.device flash.new)) root path.now) }
         ensures missing { OnOk result (look_up (node_of (F.device flash.new)) root path.now ≡ Ok (Missing false)) }
         ensures accepted { OnOk result (refusal (machine_on (F.device flash.old) self.old) (Call.Mkdir path.now) ≡ None) }
         ensures refused { IfErr result (λ fault. Refuses (seen_on (F.device flash.old) self.old) (machine_on (F.device flash.old) self.old) (Call.Mkdir path.now) fault (seen_on (F.device flash.new) self.new)) }
@@ -119,31 +127,13 @@ impl State {
         if path.names().is_empty() {
             return Err(Fault::Exists);
         }
-        match self.look_up(flash, root, path)? {
-            Found::Missing { is_full: false } => Ok(()),
+        let (found, trail) = find_path(flash, &mut self.storage, root, path)?;
+        match found {
+            Found::Missing { is_full: false } => Ok(trail),
             Found::Missing { is_full: true } => Err(Fault::DirectoryFull),
             Found::File { .. } => Err(Fault::Exists),
             Found::Dir { .. } => Err(Fault::Exists),
         }
-    }
-
-    /// What a path leads to from a root.
-    pub(crate) fn look_up<F: Flash>(
-        &mut self,
-        flash: &mut F,
-        root: u32,
-        path: &Path,
-    ) -> Result<Found, Fault>
-        requires { IsMounted (F.device flash.old) self.old }
-        ensures looked { IsLooked (F.device flash.old) self.old (F.device flash.new) self.new }
-        ensures nodes { node_of (F.device flash.new) ≡ node_of (F.device flash.old) }
-        ensures found { IfOk result (λ found. look_up (node_of (F.device flash.old)) root path.now ≡ Ok found) }
-        ensures refused { IfErr result (λ fault. is_path_fault fault ≡ true → look_up (node_of (F.device flash.old)) root path.now ≡ Err fault) }
-        ensures why { IfErr result (λ fault. is_path_fault fault ≡ false → WorkCause (seen_on (F.device flash.old) self.old) fault (seen_on (F.device flash.new) self.new)) }
-        ensures faults { IfErr result IsLookupFault }
-    {
-        let mut store = Store::new(flash, &mut self.storage);
-        lookup(&mut store, root, path)
     }
 
     /// The names in the directory of a block.

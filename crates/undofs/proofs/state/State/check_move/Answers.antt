@@ -10,7 +10,7 @@ use Rattle.block_trees.specs.Bodies.{Blocks}
 use Rattle.block_trees.specs.Trees.{leads}
 use Rattle.undofs.specs.Seen.{seen_on, machine_on}
 use Rattle.undofs.proofs.ChangeSteps.{path_within}
-use Rattle.undofs.proofs.MovedEntries.{of_fault, MoveRefused, move_below, move_target, move_then, is_deep, is_shallow, deeper_before, shallow_before, busy_before, deep_refuses, busy_refuses, moves_by, move_editable, room_is, read_later}
+use Rattle.undofs.proofs.MovedEntries.{of_fault, MoveRefused, move_below, move_target, move_then, is_deep, is_shallow, deeper_before, shallow_before, busy_before, deep_refuses, busy_refuses, moves_by, move_room, room_is, read_later}
 use Rattle.undofs.proofs.Standing.{looked_worked, worked_mounted, worked_later}
 use Rattle.undofs.proofs.state.State.check_move.Goals as goal
 
@@ -89,11 +89,10 @@ returns-clause-accepted g c =
     (busy_before c.args.self.now c.check_depth.new.self c.args.old.now c.args.new.now false (c.check_depth.ensures.looked.rest.files ∙ c.check_target.ensures.looked.rest.files) c.in_ok-check_closed.ensures.ok)
     (room_is (present_tree (machine_on (g.F.Flash.device c.args.flash.now) c.args.self.now)) c.args.old.now c.args.new.now _ _ c.in_ok-lacks_room.ensures.room c.in_ok-check_room.ensures.ok))
 
-pub returns-clause-movable : goal.returns-clause-movable
-returns-clause-movable g c = record {
-  lawful = c.in_ok-check_beyond.ensures.lawful;
-  lawful_place = c.requires.place;
-  stands = c.requires.stands;
-  shallow = shallow_before (node_of (g.F.Flash.device c.args.flash.now)) (node_of (g.F.Flash.device c.check_target.new.flash)) c.args.place _ c.check_target.ensures.nodes c.in_ok-check_depth.ensures.shallow;
-  editable = move_editable (node_of (g.F.Flash.device c.args.flash.now)) c.args.root c.args.old.now c.args.new.now c.args.place _ c.in_ok-check_room.ensures.ok c.in_ok-lacks_room.ensures.editable;
-}
+pub returns-clause-shallow : goal.returns-clause-shallow
+returns-clause-shallow g c =
+    shallow_before (node_of (g.F.Flash.device c.args.flash.now)) (node_of (g.F.Flash.device c.check_target.new.flash)) c.args.place _ c.check_target.ensures.nodes c.in_ok-check_depth.ensures.shallow
+
+pub returns-clause-room : goal.returns-clause-room
+returns-clause-room g c =
+    move_room (node_of (g.F.Flash.device c.args.flash.now)) c.args.root c.args.old.now c.args.new.now _ c.in_ok-check_room.ensures.ok c.in_ok-lacks_room.ensures.fits

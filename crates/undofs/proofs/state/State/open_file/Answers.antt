@@ -2,15 +2,18 @@ use Rattle.std.proofs.Common.{◌≡◌, false, true, Ok, Err, refl, inr, sym, a
 use Rattle.std.proofs.lemmas.Result.{err_from_is_err_and}
 use Rattle.history_machine.specs.Descriptors.{Descriptor, opened}
 use Rattle.history_machine.specs.Machine.{present_tree, open_changes}
+use Rattle.fs_types.specs.Names.{is_path}
 use Rattle.fs_types.specs.declared.calls.Call.{Call}
 use Rattle.fs_types.specs.declared.calls.Reply.{Reply}
 use Rattle.fs_types.specs.declared.faults.Fault.TheVariants.{NoMemory}
 use Rattle.block_trees.specs.Bodies.{Blocks}
 use Rattle.directory.specs.Lookups.{look_up}
-use Rattle.tree_edits.specs.declared.edits.Edit.TheVariants.{PutEmptyFile}
-use Rattle.undofs.specs.Changes.{CanApply}
+use Rattle.directory.specs.Trails.{IsTrail}
+use Rattle.directory.specs.declared.lookups.Found.{Found}
+use Rattle.tree_edits.specs.Edits.{TakesFile}
+use Rattle.node_store.specs.NodePages.{node_of}
 use Rattle.undofs.specs.Seen.{machine_on}
-use Rattle.undofs.proofs.ChangedCalls.{looked_ready, looked_stands, at_present, pushed_answer, refused_change}
+use Rattle.undofs.proofs.ChangedCalls.{looked_ready, looked_stands, at_present, pushed_by, refused_change}
 use Rattle.undofs.proofs.OpenCalls.{changes_is, found_below, at_answer, refused_answer, opened_answer}
 use Rattle.undofs.proofs.OpenChanges.{found_takes, open_change, open_descriptors}
 use Rattle.undofs.proofs.Standing.{looked_worked}
@@ -61,8 +64,9 @@ change-requires-clause-editable g c =
     let e = g.F.Flash.device c.check_open.new.flash in
     let t = c.check_open.new.self in
     let ok = c.in_ok-found.ensures in
-    at_present (λ root. CanApply e t.storage root (PutEmptyFile c.args.path)) (g.F.Flash.device c.args.flash.now) c.args.self.now e t c.root-root.result c.root-root.ensures c.check_open.ensures.looked
-    (ok.lawful, c.in_ok-found.found, subst (λ (n : Blocks). look_up n c.root-root.result c.args.path.now ≡ Ok c.in_ok-found.found) (sym c.check_open.ensures.nodes) ok.found, found_takes c.args.flags c.in_ok-found.found ok.fits)
+    let path = c.args.path.now in
+    at_present (λ root. (is_path path ≡ true) × IsTrail (node_of e) root path c.in_ok-found.trail × (x : Found) × (look_up (node_of e) root path ≡ Ok x) × TakesFile x) (g.F.Flash.device c.args.flash.now) c.args.self.now e t c.root-root.result c.root-root.ensures c.check_open.ensures.looked
+    (ok.lawful, subst (λ (n : Blocks). IsTrail n c.root-root.result path c.in_ok-found.trail) (sym c.check_open.ensures.nodes) ok.way, c.in_ok-found.found, subst (λ (n : Blocks). look_up n c.root-root.result c.args.path.now ≡ Ok c.in_ok-found.found) (sym c.check_open.ensures.nodes) ok.found, found_takes c.args.flags c.in_ok-found.found ok.fits)
 
 pub returns-in_err-change : goal.returns-in_err-change
 returns-in_err-change g c =
@@ -103,5 +107,5 @@ returns g c =
     let by = open_change d s e t path flags number c.requires looked ok.accepted ok.lawful changes ok.number (found_below _ c.root-root.result path flags c.in_ok-found.found ok.found ok.fits) in
     let opens : c.open-2.new.self ≡ opened t.files number (record { path = path; flags = flags }) =
     c.open-2.ensures ∙ ap (λ (f : Descriptor). opened t.files number f) (c.new-file.ensures ∙ ap (λ p. record { path = p; flags = flags }) c.in_ok-clone.ensures) in
-    pushed_answer d s e t f c.change.new.storage c.change.new.history c.open-2.new.self call (PutEmptyFile c.args.path) (Reply.Fd number) _ c.requires looked by c.in_ok-change.ensures.written c.in_ok-change.ensures.ends
+    pushed_by d s e t f c.change.new.storage c.change.new.history c.open-2.new.self call (Reply.Fd number) _ c.in_ok-change.ensures.ends by c.in_ok-change.ensures.written c.requires looked
     (open_descriptors d s e t path flags number c.open-2.new.self looked ok.number opens)

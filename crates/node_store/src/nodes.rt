@@ -69,14 +69,7 @@ pub trait Nodes {
 
         // Whatever is answered, no block changes.
         ensures looks { OnlyLooks node kept writes follows is_sound limit blocks self.old self.new }
-        ensures same_nodes { node self.new ≡ node self.old }
-        ensures same_kept { kept self.new ≡ kept self.old }
-        ensures reads { reads self.new ≡ reads self.old + 1 }
-        ensures writes { writes self.new ≡ writes self.old }
-        ensures follows { follows self.old self.new }
-        ensures sound { is_sound self.new }
-        ensures limit { limit self.new ≡ limit self.old }
-        ensures blocks { blocks self.new ≡ blocks self.old };
+        ensures reads { reads self.new ≡ reads self.old + 1 };
 
     /// The bytes of the node that the last read brought. A read answered Ok before, and no read or
     /// write came since.
@@ -97,11 +90,7 @@ pub trait Nodes {
         // Whatever is answered, each block that was kept stays so, with its node: the laws of `follows` say so.
         ensures works { Works follows is_sound limit blocks self.old self.new }
         ensures reads { reads self.new ≡ reads self.old }
-        ensures writes { writes self.new ≡ writes self.old + 1 }
-        ensures follows { follows self.old self.new }
-        ensures sound { is_sound self.new }
-        ensures limit { limit self.new ≡ limit self.old }
-        ensures blocks { blocks self.new ≡ blocks self.old };
+        ensures writes { writes self.new ≡ writes self.old + 1 };
 
     ghost follows_itself: { (s : Self) → follows s s };
 

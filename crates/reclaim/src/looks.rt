@@ -7,6 +7,7 @@ ghost use Rattle.block_trees.specs.Bodies.{index_of, pointer_of, data_of};
 ghost use Rattle.block_trees.specs.Trees.{entries_of, items_of};
 ghost use Rattle.reclaim.specs.Sound.{IsDirectoryAt, IsHead, IsSoundPlace, HoldsPlace, IsSoundBody, IsSoundNode, AreStepped};
 ghost use Rattle.reclaim.specs.Looks as spec;
+ghost use Rattle.node_store.specs.Frames.{OnlyLooks};
 
 use crate::fields::{FRONT, PLACES, has_pointer, index_in, pointer_in};
 use fs_types::Fault;
@@ -25,14 +26,8 @@ fn brings<N: Nodes>(nodes: &mut N, block: u32) -> Result<bool, Fault>
     ensures none { IfOk result (λ brought. brought ≡ false → N.node nodes.old block ≡ None) }
     ensures why { IfErr result (λ fault. N.causes nodes.old nodes.new fault) }
     ensures faults { IfErr result spec.IsLookFault }
-    ensures same_nodes { N.node nodes.new ≡ N.node nodes.old }
-    ensures same_kept { N.kept nodes.new ≡ N.kept nodes.old }
+    ensures looks { OnlyLooks N.node N.kept N.writes N.follows N.is_sound N.limit N.blocks nodes.old nodes.new }
     ensures reads { N.reads nodes.new ≡ N.reads nodes.old + 1 }
-    ensures writes { N.writes nodes.new ≡ N.writes nodes.old }
-    ensures follows { N.follows nodes.old nodes.new }
-    ensures sound { N.is_sound nodes.new }
-    ensures limit { N.limit nodes.new ≡ N.limit nodes.old }
-    ensures blocks { N.blocks nodes.new ≡ N.blocks nodes.old }
 {
     match nodes.read(block) {
         Ok(()) => Ok(true),
@@ -47,14 +42,8 @@ pub fn is_directory<N: Nodes>(nodes: &mut N, block: u32) -> Result<bool, Fault>
     ensures exact { IfOk result (λ found. IsTrue found ↔ IsDirectoryAt (N.node nodes.old) block) }
     ensures why { IfErr result (λ fault. N.causes nodes.old nodes.new fault) }
     ensures faults { IfErr result spec.IsLookFault }
-    ensures same_nodes { N.node nodes.new ≡ N.node nodes.old }
-    ensures same_kept { N.kept nodes.new ≡ N.kept nodes.old }
+    ensures looks { OnlyLooks N.node N.kept N.writes N.follows N.is_sound N.limit N.blocks nodes.old nodes.new }
     ensures reads { N.reads nodes.new ≡ N.reads nodes.old + 1 }
-    ensures writes { N.writes nodes.new ≡ N.writes nodes.old }
-    ensures follows { N.follows nodes.old nodes.new }
-    ensures sound { N.is_sound nodes.new }
-    ensures limit { N.limit nodes.new ≡ N.limit nodes.old }
-    ensures blocks { N.blocks nodes.new ≡ N.blocks nodes.old }
 {
     let brought = brings(nodes, block)?;
     if !brought {
@@ -69,14 +58,8 @@ fn body_at<N: Nodes>(nodes: &mut N, block: u32) -> Result<Option<(u32, usize)>, 
     ensures exact { IfOk result (λ found. found ≡ spec.body_of (N.node nodes.old block)) }
     ensures why { IfErr result (λ fault. N.causes nodes.old nodes.new fault) }
     ensures faults { IfErr result spec.IsLookFault }
-    ensures same_nodes { N.node nodes.new ≡ N.node nodes.old }
-    ensures same_kept { N.kept nodes.new ≡ N.kept nodes.old }
+    ensures looks { OnlyLooks N.node N.kept N.writes N.follows N.is_sound N.limit N.blocks nodes.old nodes.new }
     ensures reads { N.reads nodes.new ≡ N.reads nodes.old + 1 }
-    ensures writes { N.writes nodes.new ≡ N.writes nodes.old }
-    ensures follows { N.follows nodes.old nodes.new }
-    ensures sound { N.is_sound nodes.new }
-    ensures limit { N.limit nodes.new ≡ N.limit nodes.old }
-    ensures blocks { N.blocks nodes.new ≡ N.blocks nodes.old }
 {
     let brought = brings(nodes, block)?;
     if !brought {
@@ -105,14 +88,8 @@ fn is_head<N: Nodes>(nodes: &mut N, room: u32, head: u32, length: u32) -> Result
     ensures exact { IfOk result (λ good. IsTrue good ↔ IsHead room (N.node nodes.old) head length) }
     ensures why { IfErr result (λ fault. N.causes nodes.old nodes.new fault) }
     ensures faults { IfErr result spec.IsLookFault }
-    ensures same_nodes { N.node nodes.new ≡ N.node nodes.old }
-    ensures same_kept { N.kept nodes.new ≡ N.kept nodes.old }
+    ensures looks { OnlyLooks N.node N.kept N.writes N.follows N.is_sound N.limit N.blocks nodes.old nodes.new }
     ensures reads { N.reads nodes.new ≤ N.reads nodes.old + 1 }
-    ensures writes { N.writes nodes.new ≡ N.writes nodes.old }
-    ensures follows { N.follows nodes.old nodes.new }
-    ensures sound { N.is_sound nodes.new }
-    ensures limit { N.limit nodes.new ≡ N.limit nodes.old }
-    ensures blocks { N.blocks nodes.new ≡ N.blocks nodes.old }
 {
     if length == 0 {
         return Ok(head == 0);
@@ -131,14 +108,8 @@ fn is_sound_place<N: Nodes>(nodes: &mut N, room: u32, place: Place) -> Result<bo
     ensures exact { IfOk result (λ good. IsTrue good ↔ IsSoundPlace room (N.node nodes.old) place) }
     ensures why { IfErr result (λ fault. N.causes nodes.old nodes.new fault) }
     ensures faults { IfErr result spec.IsLookFault }
-    ensures same_nodes { N.node nodes.new ≡ N.node nodes.old }
-    ensures same_kept { N.kept nodes.new ≡ N.kept nodes.old }
+    ensures looks { OnlyLooks N.node N.kept N.writes N.follows N.is_sound N.limit N.blocks nodes.old nodes.new }
     ensures reads { N.reads nodes.new ≤ N.reads nodes.old + 1 }
-    ensures writes { N.writes nodes.new ≡ N.writes nodes.old }
-    ensures follows { N.follows nodes.old nodes.new }
-    ensures sound { N.is_sound nodes.new }
-    ensures limit { N.limit nodes.new ≡ N.limit nodes.old }
-    ensures blocks { N.blocks nodes.new ≡ N.blocks nodes.old }
 {
     match place {
         Place::Dir { block } => is_directory(nodes, block),
@@ -173,14 +144,8 @@ fn are_sound_places<N: Nodes>(nodes: &mut N, room: u32, places: &[Place]) -> Res
     ensures exact { IfOk result (λ good. IsTrue good ↔ All (IsSoundPlace room (N.node nodes.old)) places.now) }
     ensures why { IfErr result (λ fault. N.causes nodes.old nodes.new fault) }
     ensures faults { IfErr result spec.IsLookFault }
-    ensures same_nodes { N.node nodes.new ≡ N.node nodes.old }
-    ensures same_kept { N.kept nodes.new ≡ N.kept nodes.old }
+    ensures looks { OnlyLooks N.node N.kept N.writes N.follows N.is_sound N.limit N.blocks nodes.old nodes.new }
     ensures reads { N.reads nodes.new ≤ N.reads nodes.old + length places.now }
-    ensures writes { N.writes nodes.new ≡ N.writes nodes.old }
-    ensures follows { N.follows nodes.old nodes.new }
-    ensures sound { N.is_sound nodes.new }
-    ensures limit { N.limit nodes.new ≡ N.limit nodes.old }
-    ensures blocks { N.blocks nodes.new ≡ N.blocks nodes.old }
 {
     for place in places {
         let good = is_sound_place(nodes, room, *place)?;
@@ -210,14 +175,8 @@ fn holds_place<N: Nodes>(nodes: &mut N, block: u32, place: usize, next: u32) -> 
     ensures exact { IfOk result (λ holds. IsTrue holds ↔ HoldsPlace (N.node nodes.old block) place next) }
     ensures why { IfErr result (λ fault. N.causes nodes.old nodes.new fault) }
     ensures faults { IfErr result spec.IsLookFault }
-    ensures same_nodes { N.node nodes.new ≡ N.node nodes.old }
-    ensures same_kept { N.kept nodes.new ≡ N.kept nodes.old }
+    ensures looks { OnlyLooks N.node N.kept N.writes N.follows N.is_sound N.limit N.blocks nodes.old nodes.new }
     ensures reads { N.reads nodes.new ≡ N.reads nodes.old + 1 }
-    ensures writes { N.writes nodes.new ≡ N.writes nodes.old }
-    ensures follows { N.follows nodes.old nodes.new }
-    ensures sound { N.is_sound nodes.new }
-    ensures limit { N.limit nodes.new ≡ N.limit nodes.old }
-    ensures blocks { N.blocks nodes.new ≡ N.blocks nodes.old }
 {
     let brought = brings(nodes, block)?;
     if !brought {
@@ -234,14 +193,8 @@ fn are_stepped<N: Nodes>(nodes: &mut N, pointers: &[u32], index: u32) -> Result<
     ensures exact { IfOk result (λ good. IsTrue good ↔ spec.AreSteppedTo (N.node nodes.old) (slice_index pointers.now) index 12) }
     ensures why { IfErr result (λ fault. N.causes nodes.old nodes.new fault) }
     ensures faults { IfErr result spec.IsLookFault }
-    ensures same_nodes { N.node nodes.new ≡ N.node nodes.old }
-    ensures same_kept { N.kept nodes.new ≡ N.kept nodes.old }
+    ensures looks { OnlyLooks N.node N.kept N.writes N.follows N.is_sound N.limit N.blocks nodes.old nodes.new }
     ensures reads { N.reads nodes.new ≤ N.reads nodes.old + 12 }
-    ensures writes { N.writes nodes.new ≡ N.writes nodes.old }
-    ensures follows { N.follows nodes.old nodes.new }
-    ensures sound { N.is_sound nodes.new }
-    ensures limit { N.limit nodes.new ≡ N.limit nodes.old }
-    ensures blocks { N.blocks nodes.new ≡ N.blocks nodes.old }
 {
     for place in 0..12 {
         if has_pointer(index, place + 1) {
@@ -267,14 +220,8 @@ fn is_sound_body<N: Nodes>(
     ensures exact { IfOk result (λ good. IsTrue good ↔ IsSoundBody room (N.node nodes.old) (slice_index pointers.now) index) }
     ensures why { IfErr result (λ fault. N.causes nodes.old nodes.new fault) }
     ensures faults { IfErr result spec.IsLookFault }
-    ensures same_nodes { N.node nodes.new ≡ N.node nodes.old }
-    ensures same_kept { N.kept nodes.new ≡ N.kept nodes.old }
+    ensures looks { OnlyLooks N.node N.kept N.writes N.follows N.is_sound N.limit N.blocks nodes.old nodes.new }
     ensures reads { N.reads nodes.new ≤ N.reads nodes.old + 13 }
-    ensures writes { N.writes nodes.new ≡ N.writes nodes.old }
-    ensures follows { N.follows nodes.old nodes.new }
-    ensures sound { N.is_sound nodes.new }
-    ensures limit { N.limit nodes.new ≡ N.limit nodes.old }
-    ensures blocks { N.blocks nodes.new ≡ N.blocks nodes.old }
 {
     if index == 0 {
         return Ok(true);
@@ -301,14 +248,8 @@ pub fn look<N: Nodes>(alloc: Global, nodes: &mut N, room: u32, block: u32) -> Re
     ensures exact { IfOk result (λ good. IsTrue good ↔ IsSoundNode room (N.node nodes.old) (N.node nodes.old block)) }
     ensures why { IfErr result (λ fault. N.causes nodes.old nodes.new fault) }
     ensures faults { IfErr result spec.IsLookFault }
-    ensures same_nodes { N.node nodes.new ≡ N.node nodes.old }
-    ensures same_kept { N.kept nodes.new ≡ N.kept nodes.old }
+    ensures looks { OnlyLooks N.node N.kept N.writes N.follows N.is_sound N.limit N.blocks nodes.old nodes.new }
     ensures reads { N.reads nodes.new ≤ N.reads nodes.old + spec.look_reads (N.node nodes.old block) }
-    ensures writes { N.writes nodes.new ≡ N.writes nodes.old }
-    ensures follows { N.follows nodes.old nodes.new }
-    ensures sound { N.is_sound nodes.new }
-    ensures limit { N.limit nodes.new ≡ N.limit nodes.old }
-    ensures blocks { N.blocks nodes.new ≡ N.blocks nodes.old }
 {
     let brought = brings(nodes, block)?;
     if !brought {

@@ -5,6 +5,7 @@ ghost use Rattle.allocator.specs.Ring.{IsDataBlock};
 ghost use Rattle.block_trees.specs.Bodies.{Blocks};
 ghost use Rattle.block_trees.specs.Reached.{Reached};
 ghost use Rattle.node_store.specs.Faults.{IsReadFault};
+ghost use Rattle.node_store.specs.Frames.{OnlyLooks};
 ghost use Rattle.reclaim.specs.Passes.{IsMarked, IsPass, IsFinished, HasRead, IsMarkFault, Begins};
 
 use crate::naming::named;
@@ -93,13 +94,7 @@ impl Pass {
         ensures damaged { IsErrOf result Fault.Damaged → (b : ℕ) × Reached (N.node nodes.old) self.old.roots b × (N.node nodes.old b ≡ None) }
         ensures why { IfErr result (λ fault. fault ≢ Fault.Damaged → N.causes nodes.old nodes.new fault) }
         ensures faults { IfErr result IsReadFault }
-        ensures same_nodes { N.node nodes.new ≡ N.node nodes.old }
-        ensures same_kept { N.kept nodes.new ≡ N.kept nodes.old }
-        ensures writes { N.writes nodes.new ≡ N.writes nodes.old }
-        ensures follows { N.follows nodes.old nodes.new }
-        ensures sound { N.is_sound nodes.new }
-        ensures limit { N.limit nodes.new ≡ N.limit nodes.old }
-        ensures block_count { N.blocks nodes.new ≡ N.blocks nodes.old }
+        ensures looks { OnlyLooks N.node N.kept N.writes N.follows N.is_sound N.limit N.blocks nodes.old nodes.new }
     {
         for done in 0..budget {
             if self.is_finished() {
@@ -124,13 +119,7 @@ impl Pass {
         ensures damaged { IsErrOf result Fault.Damaged → (b : ℕ) × Reached (N.node nodes.old) self.old.roots b × (N.node nodes.old b ≡ None) }
         ensures why { IfErr result (λ fault. fault ≢ Fault.Damaged → N.causes nodes.old nodes.new fault) }
         ensures faults { IfErr result IsReadFault }
-        ensures same_nodes { N.node nodes.new ≡ N.node nodes.old }
-        ensures same_kept { N.kept nodes.new ≡ N.kept nodes.old }
-        ensures writes { N.writes nodes.new ≡ N.writes nodes.old }
-        ensures follows { N.follows nodes.old nodes.new }
-        ensures sound { N.is_sound nodes.new }
-        ensures limit { N.limit nodes.new ≡ N.limit nodes.old }
-        ensures block_count { N.blocks nodes.new ≡ N.blocks nodes.old }
+        ensures looks { OnlyLooks N.node N.kept N.writes N.follows N.is_sound N.limit N.blocks nodes.old nodes.new }
     {
         let _is_finished = self.step(nodes, u64::MAX)?;
         // The list fits in memory, so a step of so many reads has ended the pass.
@@ -176,14 +165,8 @@ impl Pass {
         ensures damaged { IsErrOf result Fault.Damaged → (b : ℕ) × Reached (N.node nodes.old) self.old.roots b × (N.node nodes.old b ≡ None) }
         ensures why { IfErr result (λ fault. fault ≢ Fault.Damaged → N.causes nodes.old nodes.new fault) }
         ensures faults { IfErr result IsReadFault }
-        ensures same_nodes { N.node nodes.new ≡ N.node nodes.old }
-        ensures same_kept { N.kept nodes.new ≡ N.kept nodes.old }
+        ensures looks { OnlyLooks N.node N.kept N.writes N.follows N.is_sound N.limit N.blocks nodes.old nodes.new }
         ensures reads { N.reads nodes.new ≡ N.reads nodes.old + 1 }
-        ensures writes { N.writes nodes.new ≡ N.writes nodes.old }
-        ensures follows { N.follows nodes.old nodes.new }
-        ensures sound { N.is_sound nodes.new }
-        ensures limit { N.limit nodes.new ≡ N.limit nodes.old }
-        ensures block_count { N.blocks nodes.new ≡ N.blocks nodes.old }
     {
         let block = self.order[self.next];
         nodes.read(block)?;

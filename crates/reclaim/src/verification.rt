@@ -8,6 +8,7 @@ ghost use Rattle.block_trees.specs.Laws.{IsShallow};
 ghost use Rattle.directory.specs.Depths.{HasDirectories};
 ghost use Rattle.block_trees.specs.Reached.{Reached};
 ghost use Rattle.node_store.specs.Faults.{IsReadFault};
+ghost use Rattle.node_store.specs.Frames.{OnlyLooks};
 ghost use Rattle.reclaim.specs.Looks.{IsLookFault, look_reads};
 ghost use Rattle.reclaim.specs.Passes.{IsPass, IsFinished};
 ghost use Rattle.reclaim.specs.Sound.{IsDirectoryAt, IsSoundNode};
@@ -50,14 +51,8 @@ fn are_sound<N: Nodes>(alloc: Global, nodes: &mut N, room: u32, list: &[u32]) ->
     ensures exact { IfOk result (λ good. IsTrue good ↔ All (λ b. IsSoundNode room (N.node nodes.old) (N.node nodes.old b)) list.now) }
     ensures why { IfErr result (λ fault. N.causes nodes.old nodes.new fault) }
     ensures faults { IfErr result IsLookFault }
-    ensures same_nodes { N.node nodes.new ≡ N.node nodes.old }
-    ensures same_kept { N.kept nodes.new ≡ N.kept nodes.old }
+    ensures looks { OnlyLooks N.node N.kept N.writes N.follows N.is_sound N.limit N.blocks nodes.old nodes.new }
     ensures reads { N.reads nodes.new ≤ N.reads nodes.old + sum_by (λ b. look_reads (N.node nodes.old b)) list.now }
-    ensures writes { N.writes nodes.new ≡ N.writes nodes.old }
-    ensures follows { N.follows nodes.old nodes.new }
-    ensures sound { N.is_sound nodes.new }
-    ensures limit { N.limit nodes.new ≡ N.limit nodes.old }
-    ensures blocks { N.blocks nodes.new ≡ N.blocks nodes.old }
 {
     for block in list {
         let good = look(alloc, nodes, room, *block)?;
@@ -74,14 +69,8 @@ fn are_directories<N: Nodes>(nodes: &mut N, list: &[u32]) -> Result<bool, Fault>
     ensures exact { IfOk result (λ good. IsTrue good ↔ All (IsDirectoryAt (N.node nodes.old)) list.now) }
     ensures why { IfErr result (λ fault. N.causes nodes.old nodes.new fault) }
     ensures faults { IfErr result IsLookFault }
-    ensures same_nodes { N.node nodes.new ≡ N.node nodes.old }
-    ensures same_kept { N.kept nodes.new ≡ N.kept nodes.old }
+    ensures looks { OnlyLooks N.node N.kept N.writes N.follows N.is_sound N.limit N.blocks nodes.old nodes.new }
     ensures reads { N.reads nodes.new ≤ N.reads nodes.old + length list.now }
-    ensures writes { N.writes nodes.new ≡ N.writes nodes.old }
-    ensures follows { N.follows nodes.old nodes.new }
-    ensures sound { N.is_sound nodes.new }
-    ensures limit { N.limit nodes.new ≡ N.limit nodes.old }
-    ensures blocks { N.blocks nodes.new ≡ N.blocks nodes.old }
 {
     for block in list {
         let good = is_directory(nodes, *block)?;
@@ -98,14 +87,8 @@ fn are_shallow<N: Nodes>(alloc: Global, nodes: &mut N, roots: &[u32]) -> Result<
     ensures exact { IfOk result (λ good. IsTrue good ↔ All (λ root. IsShallow (N.node nodes.old) (Dir root) 16) roots.now) }
     ensures why { IfErr result (λ fault. N.causes nodes.old nodes.new fault) }
     ensures faults { IfErr result IsLookFault }
-    ensures same_nodes { N.node nodes.new ≡ N.node nodes.old }
-    ensures same_kept { N.kept nodes.new ≡ N.kept nodes.old }
+    ensures looks { OnlyLooks N.node N.kept N.writes N.follows N.is_sound N.limit N.blocks nodes.old nodes.new }
     ensures reads { (all : List ℕ) → HasDirectories (N.node nodes.old) (N.blocks nodes.old) roots.now all → N.reads nodes.new ≤ N.reads nodes.old + 17 * length all }
-    ensures writes { N.writes nodes.new ≡ N.writes nodes.old }
-    ensures follows { N.follows nodes.old nodes.new }
-    ensures sound { N.is_sound nodes.new }
-    ensures limit { N.limit nodes.new ≡ N.limit nodes.old }
-    ensures blocks { N.blocks nodes.new ≡ N.blocks nodes.old }
 {
     let deep = any_is_deeper(alloc, nodes, roots, DEPTH)?;
     Ok(!deep)
@@ -124,14 +107,8 @@ fn have_trees<N: Nodes>(
     ensures exact { IfOk result (λ good. IsTrue good ↔ AreRoots (N.limit nodes.old) (N.node nodes.old) roots.now) }
     ensures why { IfErr result (λ fault. N.causes nodes.old nodes.new fault) }
     ensures faults { IfErr result IsLookFault }
-    ensures same_nodes { N.node nodes.new ≡ N.node nodes.old }
-    ensures same_kept { N.kept nodes.new ≡ N.kept nodes.old }
+    ensures looks { OnlyLooks N.node N.kept N.writes N.follows N.is_sound N.limit N.blocks nodes.old nodes.new }
     ensures reads { N.reads nodes.new ≤ N.reads nodes.old + sum_by (λ b. 18 + 2 * length (items_of (N.node nodes.old b))) marked.now }
-    ensures writes { N.writes nodes.new ≡ N.writes nodes.old }
-    ensures follows { N.follows nodes.old nodes.new }
-    ensures sound { N.is_sound nodes.new }
-    ensures limit { N.limit nodes.new ≡ N.limit nodes.old }
-    ensures blocks { N.blocks nodes.new ≡ N.blocks nodes.old }
 {
     let room = nodes.block_bytes() - FRONT;
     let are_sound = are_sound(alloc, nodes, room, marked)?;
@@ -160,14 +137,8 @@ pub fn verify<N: Nodes>(
     ensures damaged { IsErrOf result Fault.Damaged → AreRoots (N.limit nodes.old) (N.node nodes.old) roots.now → ⊥ }
     ensures why { IfErr result (λ fault. fault ≢ Fault.Damaged → N.causes nodes.old nodes.new fault) }
     ensures faults { IfErr result IsReadFault }
-    ensures same_nodes { N.node nodes.new ≡ N.node nodes.old }
-    ensures same_kept { N.kept nodes.new ≡ N.kept nodes.old }
+    ensures looks { OnlyLooks N.node N.kept N.writes N.follows N.is_sound N.limit N.blocks nodes.old nodes.new }
     ensures reads { HasCost (N.node nodes.old) roots.now (N.reads nodes.old) (N.reads nodes.new) }
-    ensures writes { N.writes nodes.new ≡ N.writes nodes.old }
-    ensures follows { N.follows nodes.old nodes.new }
-    ensures sound { N.is_sound nodes.new }
-    ensures limit { N.limit nodes.new ≡ N.limit nodes.old }
-    ensures block_count { N.blocks nodes.new ≡ N.blocks nodes.old }
 {
     if !are_data_blocks(blocks, roots) {
         return Err(Fault::Damaged);

@@ -16,4 +16,4 @@ returns-then-not-holds-clause-exact g c =
     (ap (has_place c.args.index) next ∙ sym c.has_pointer.ensures ∙ c.if-has_pointer.true)
     c.if-not-holds.true
     (subst (λ (k : ℕ). IsTrue c.in_ok-holds.holds ↔ HoldsPlace (g.N.Nodes.node c.args.nodes.now (p x)) x (p k)) (sym next)
-    (subst (λ (f : Blocks). IsTrue c.in_ok-holds.holds ↔ HoldsPlace (f (p x)) x (p (x + 1))) c.loop-place.invariant.same_nodes c.in_ok-holds.ensures.exact))
+    (subst (λ (f : Blocks). IsTrue c.in_ok-holds.holds ↔ HoldsPlace (f (p x)) x (p (x + 1))) c.loop-place.invariant.looks.same_nodes c.in_ok-holds.ensures.exact))

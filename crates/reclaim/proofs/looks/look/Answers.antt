@@ -15,7 +15,7 @@ returns-then-not-good-clause-exact g c =
     node_bad c.args.room f (f c.args.block) c.deref.result.now c.in_ok-good.good
     (c.deref.ensures.value ∙ c.in_ok-places.ensures
     ∙ ap (λ (node : Option (List ℕ)). map (λ (item : Item). item.place) (items_of node)) (ap (λ (b : List ℕ). Some b) c.lent.ensures ∙ sym at))
-    (subst (λ (f : Blocks). IsTrue c.in_ok-good.good ↔ All (IsSoundPlace c.args.room f) c.deref.result.now) c.brings.ensures.same_nodes c.in_ok-good.ensures.exact)
+    (subst (λ (f : Blocks). IsTrue c.in_ok-good.good ↔ All (IsSoundPlace c.args.room f) c.deref.result.now) c.brings.ensures.looks.same_nodes c.in_ok-good.ensures.exact)
     c.if-not-good.true
 
 pub returns-in_default-clause-exact : goal.returns-in_default-clause-exact
@@ -25,7 +25,7 @@ returns-in_default-clause-exact g c =
     node_plain c.args.room f (f c.args.block) c.deref.result.now c.in_ok-good.good
     (c.deref.ensures.value ∙ c.in_ok-places.ensures
     ∙ ap (λ (node : Option (List ℕ)). map (λ (item : Item). item.place) (items_of node)) (ap (λ (b : List ℕ). Some b) c.lent.ensures ∙ sym at))
-    (subst (λ (f : Blocks). IsTrue c.in_ok-good.good ↔ All (IsSoundPlace c.args.room f) c.deref.result.now) c.brings.ensures.same_nodes c.in_ok-good.ensures.exact)
+    (subst (λ (f : Blocks). IsTrue c.in_ok-good.good ↔ All (IsSoundPlace c.args.room f) c.deref.result.now) c.brings.ensures.looks.same_nodes c.in_ok-good.ensures.exact)
     c.if-not-good.false
     (ap index_of at ∙ ap (λ (b : List ℕ). index_of (Some b)) (sym c.lent-3.ensures) ∙ sym c.in_default.ensures.value)
 
@@ -36,7 +36,7 @@ returns-clause-exact g c =
     node_body c.args.room f (f c.args.block) c.deref.result.now c.in_ok-good.good
     (c.deref.ensures.value ∙ c.in_ok-places.ensures
     ∙ ap (λ (node : Option (List ℕ)). map (λ (item : Item). item.place) (items_of node)) (ap (λ (b : List ℕ). Some b) c.lent.ensures ∙ sym at))
-    (subst (λ (f : Blocks). IsTrue c.in_ok-good.good ↔ All (IsSoundPlace c.args.room f) c.deref.result.now) c.brings.ensures.same_nodes c.in_ok-good.ensures.exact)
+    (subst (λ (f : Blocks). IsTrue c.in_ok-good.good ↔ All (IsSoundPlace c.args.room f) c.deref.result.now) c.brings.ensures.looks.same_nodes c.in_ok-good.ensures.exact)
     c.if-not-good.false
     c.in-Some.index (slice_index c.deref-2.result.now) c.in_ok-sound.sound
     (ap index_of at ∙ ap (λ (b : List ℕ). index_of (Some b)) (sym c.lent-3.ensures) ∙ sym c.in-Some.ensures.value)
@@ -45,7 +45,7 @@ returns-clause-exact g c =
     ∙ ap (λ (node : Option (List ℕ)). pointer_of node x) (ap (λ (b : List ℕ). Some b) c.lent-2.ensures ∙ sym at))
     (ltb-true (c.in-Some.index * c.args.room) most_length (sym c.is_short.ensures ∙ c.if-not-is_short.false))
     (subst (λ (f : Blocks). IsTrue c.in_ok-sound.sound ↔ IsSoundBody c.args.room f (slice_index c.deref-2.result.now) c.in-Some.index)
-    (c.are_sound_places.ensures.same_nodes ∙ c.brings.ensures.same_nodes) c.in_ok-sound.ensures.exact)
+    (c.are_sound_places.ensures.looks.same_nodes ∙ c.brings.ensures.looks.same_nodes) c.in_ok-sound.ensures.exact)
 
 pub returns-in_err-sound-clause-reads : goal.returns-in_err-sound-clause-reads
 returns-in_err-sound-clause-reads g c =
@@ -67,12 +67,12 @@ returns-clause-reads g c =
     (ap index_of at ∙ ap (λ (b : List ℕ). index_of (Some b)) (sym c.lent-3.ensures) ∙ sym c.in-Some.ensures.value) in
     omega (arith, few, c.brings.ensures.reads, c.are_sound_places.ensures.reads, c.is_sound_body.ensures.reads)
 
-pub returns-in_err-sound-clause-follows : goal.returns-in_err-sound-clause-follows
-returns-in_err-sound-clause-follows g c =
-    g.met.N.Nodes.follows_on c.args.nodes.now c.are_sound_places.new.nodes c.is_sound_body.new.nodes
-    (g.met.N.Nodes.follows_on c.args.nodes.now c.brings.new.nodes c.are_sound_places.new.nodes c.brings.ensures.follows c.are_sound_places.ensures.follows) c.is_sound_body.ensures.follows
+pub returns-in_err-sound-clause-looks : goal.returns-in_err-sound-clause-looks
+returns-in_err-sound-clause-looks g c =
+    g.met.N.Nodes.looks_on c.args.nodes.now c.are_sound_places.new.nodes c.is_sound_body.new.nodes
+    (g.met.N.Nodes.looks_on c.args.nodes.now c.brings.new.nodes c.are_sound_places.new.nodes c.brings.ensures.looks c.are_sound_places.ensures.looks) c.is_sound_body.ensures.looks
 
-pub returns-clause-follows : goal.returns-clause-follows
-returns-clause-follows g c =
-    g.met.N.Nodes.follows_on c.args.nodes.now c.are_sound_places.new.nodes c.is_sound_body.new.nodes
-    (g.met.N.Nodes.follows_on c.args.nodes.now c.brings.new.nodes c.are_sound_places.new.nodes c.brings.ensures.follows c.are_sound_places.ensures.follows) c.is_sound_body.ensures.follows
+pub returns-clause-looks : goal.returns-clause-looks
+returns-clause-looks g c =
+    g.met.N.Nodes.looks_on c.args.nodes.now c.are_sound_places.new.nodes c.is_sound_body.new.nodes
+    (g.met.N.Nodes.looks_on c.args.nodes.now c.brings.new.nodes c.are_sound_places.new.nodes c.brings.ensures.looks c.are_sound_places.ensures.looks) c.is_sound_body.ensures.looks

@@ -9,7 +9,7 @@ pub returns-then-not-good-clause-exact : goal.returns-then-not-good-clause-exact
 returns-then-not-good-clause-exact g c =
     let f = g.N.Nodes.node c.args.nodes.now in
     all_not (IsDirectoryAt f) c.args.list.now c.loop-block.block-index c.in_ok-good.good (omega (arith, c.loop-block-test.true))
-    (subst (λ (f : Blocks). IsTrue c.in_ok-good.good ↔ IsDirectoryAt f (slice_index c.args.list.now c.loop-block.block-index)) c.loop-block.invariant.same_nodes c.in_ok-good.ensures.exact)
+    (subst (λ (f : Blocks). IsTrue c.in_ok-good.good ↔ IsDirectoryAt f (slice_index c.args.list.now c.loop-block.block-index)) c.loop-block.invariant.looks.same_nodes c.in_ok-good.ensures.exact)
     c.if-not-good.true
 
 pub loop-block-preserved : goal.loop-block-preserved
@@ -17,16 +17,10 @@ loop-block-preserved g c =
     let f = g.N.Nodes.node c.args.nodes.now in
     record {
       good = all_more (IsDirectoryAt f) c.args.list.now c.loop-block.block-index c.in_ok-good.good (omega (arith, c.loop-block-test.true)) c.loop-block.invariant.good
-          (subst (λ (f : Blocks). IsTrue c.in_ok-good.good ↔ IsDirectoryAt f (slice_index c.args.list.now c.loop-block.block-index)) c.loop-block.invariant.same_nodes c.in_ok-good.ensures.exact)
+          (subst (λ (f : Blocks). IsTrue c.in_ok-good.good ↔ IsDirectoryAt f (slice_index c.args.list.now c.loop-block.block-index)) c.loop-block.invariant.looks.same_nodes c.in_ok-good.ensures.exact)
           c.if-not-good.false;
-      same_nodes = search rules;
-      same_kept = search rules;
       reads = search rules;
-      writes = search rules;
-      follows = g.met.N.Nodes.follows_on c.args.nodes.now c.loop-block.nodes c.is_directory.new.nodes c.loop-block.invariant.follows c.is_directory.ensures.follows;
-      sound = search rules;
-      limit = search rules;
-      blocks = search rules;
+      looks = g.met.N.Nodes.looks_on c.args.nodes.now c.loop-block.nodes c.is_directory.new.nodes c.loop-block.invariant.looks c.is_directory.ensures.looks;
     }
 
 pub returns-clause-exact : goal.returns-clause-exact

@@ -1,5 +1,6 @@
 use Rattle.std.proofs.Common.{◌≡◌, ◌≤◌, ◌+◌, take}
 use Rattle.std.specs.Prelude.{All}
+use Rattle.node_store.specs.Frames.{OnlyLooks}
 use Rattle.reclaim.specs.Sound.{IsDirectoryAt}
 use Rattle.reclaim.proofs.verification.are_directories.Given as goal
 
@@ -7,12 +8,6 @@ use Rattle.reclaim.proofs.verification.are_directories.Given as goal
 abbrev pub invariant-loop-block : goal.invariant-loop-block
 invariant-loop-block g l = record {
   good : All (IsDirectoryAt (g.N.Nodes.node l.initial.nodes)) (take l.block-index l.list);
-  same_nodes : g.N.Nodes.node l.nodes ≡ g.N.Nodes.node l.initial.nodes;
-  same_kept : g.N.Nodes.kept l.nodes ≡ g.N.Nodes.kept l.initial.nodes;
   reads : g.N.Nodes.reads l.nodes ≤ g.N.Nodes.reads l.initial.nodes + l.block-index;
-  writes : g.N.Nodes.writes l.nodes ≡ g.N.Nodes.writes l.initial.nodes;
-  follows : g.N.Nodes.follows l.initial.nodes l.nodes;
-  sound : g.N.Nodes.is_sound l.nodes;
-  limit : g.N.Nodes.limit l.nodes ≡ g.N.Nodes.limit l.initial.nodes;
-  blocks : g.N.Nodes.blocks l.nodes ≡ g.N.Nodes.blocks l.initial.nodes;
+  looks : OnlyLooks g.N.Nodes.node g.N.Nodes.kept g.N.Nodes.writes g.N.Nodes.follows g.N.Nodes.is_sound g.N.Nodes.limit g.N.Nodes.blocks l.initial.nodes l.nodes;
 }

@@ -12,25 +12,19 @@ pub returns-then-not-good-clause-exact : goal.returns-then-not-good-clause-exact
 returns-then-not-good-clause-exact g c =
     let f = g.N.Nodes.node c.args.nodes.now in
     all_not (λ b. IsSoundNode c.args.room f (f b)) c.args.list.now c.loop-block.block-index c.in_ok-good.good (omega (arith, c.loop-block-test.true))
-    (subst (λ (f : Blocks). IsTrue c.in_ok-good.good ↔ IsSoundNode c.args.room f (f (slice_index c.args.list.now c.loop-block.block-index))) c.loop-block.invariant.same_nodes c.in_ok-good.ensures.exact)
+    (subst (λ (f : Blocks). IsTrue c.in_ok-good.good ↔ IsSoundNode c.args.room f (f (slice_index c.args.list.now c.loop-block.block-index))) c.loop-block.invariant.looks.same_nodes c.in_ok-good.ensures.exact)
     c.if-not-good.true
 
 pub loop-block-preserved : goal.loop-block-preserved
 loop-block-preserved g c =
     let f = g.N.Nodes.node c.args.nodes.now in
-    let own = look_cost f (g.N.Nodes.node c.loop-block.nodes) (slice_index c.args.list.now c.loop-block.block-index) (g.N.Nodes.reads c.loop-block.nodes) (g.N.Nodes.reads c.look.new.nodes) c.loop-block.invariant.same_nodes c.look.ensures.reads in
+    let own = look_cost f (g.N.Nodes.node c.loop-block.nodes) (slice_index c.args.list.now c.loop-block.block-index) (g.N.Nodes.reads c.loop-block.nodes) (g.N.Nodes.reads c.look.new.nodes) c.loop-block.invariant.looks.same_nodes c.look.ensures.reads in
     record {
       good = all_more (λ b. IsSoundNode c.args.room f (f b)) c.args.list.now c.loop-block.block-index c.in_ok-good.good (omega (arith, c.loop-block-test.true)) c.loop-block.invariant.good
-          (subst (λ (f : Blocks). IsTrue c.in_ok-good.good ↔ IsSoundNode c.args.room f (f (slice_index c.args.list.now c.loop-block.block-index))) c.loop-block.invariant.same_nodes c.in_ok-good.ensures.exact)
+          (subst (λ (f : Blocks). IsTrue c.in_ok-good.good ↔ IsSoundNode c.args.room f (f (slice_index c.args.list.now c.loop-block.block-index))) c.loop-block.invariant.looks.same_nodes c.in_ok-good.ensures.exact)
           c.if-not-good.false;
-      same_nodes = search rules;
-      same_kept = search rules;
       reads = omega (arith, own, sum_more (λ b. look_reads (f b)) c.args.list.now c.loop-block.block-index (omega (arith, c.loop-block-test.true)), c.loop-block.invariant.reads);
-      writes = search rules;
-      follows = g.met.N.Nodes.follows_on c.args.nodes.now c.loop-block.nodes c.look.new.nodes c.loop-block.invariant.follows c.look.ensures.follows;
-      sound = search rules;
-      limit = search rules;
-      blocks = search rules;
+      looks = g.met.N.Nodes.looks_on c.args.nodes.now c.loop-block.nodes c.look.new.nodes c.loop-block.invariant.looks c.look.ensures.looks;
     }
 
 pub returns-clause-exact : goal.returns-clause-exact
@@ -41,13 +35,13 @@ returns-clause-exact g c =
 pub returns-in_err-good-clause-reads : goal.returns-in_err-good-clause-reads
 returns-in_err-good-clause-reads g c =
     let f = g.N.Nodes.node c.args.nodes.now in
-    let own = look_cost f (g.N.Nodes.node c.loop-block.nodes) (slice_index c.args.list.now c.loop-block.block-index) (g.N.Nodes.reads c.loop-block.nodes) (g.N.Nodes.reads c.look.new.nodes) c.loop-block.invariant.same_nodes c.look.ensures.reads in
+    let own = look_cost f (g.N.Nodes.node c.loop-block.nodes) (slice_index c.args.list.now c.loop-block.block-index) (g.N.Nodes.reads c.loop-block.nodes) (g.N.Nodes.reads c.look.new.nodes) c.loop-block.invariant.looks.same_nodes c.look.ensures.reads in
     omega (arith, own, sum_within (λ b. look_reads (f b)) c.args.list.now c.loop-block.block-index (omega (arith, c.loop-block-test.true)), c.loop-block.invariant.reads)
 
 pub returns-then-not-good-clause-reads : goal.returns-then-not-good-clause-reads
 returns-then-not-good-clause-reads g c =
     let f = g.N.Nodes.node c.args.nodes.now in
-    let own = look_cost f (g.N.Nodes.node c.loop-block.nodes) (slice_index c.args.list.now c.loop-block.block-index) (g.N.Nodes.reads c.loop-block.nodes) (g.N.Nodes.reads c.look.new.nodes) c.loop-block.invariant.same_nodes c.look.ensures.reads in
+    let own = look_cost f (g.N.Nodes.node c.loop-block.nodes) (slice_index c.args.list.now c.loop-block.block-index) (g.N.Nodes.reads c.loop-block.nodes) (g.N.Nodes.reads c.look.new.nodes) c.loop-block.invariant.looks.same_nodes c.look.ensures.reads in
     omega (arith, own, sum_within (λ b. look_reads (f b)) c.args.list.now c.loop-block.block-index (omega (arith, c.loop-block-test.true)), c.loop-block.invariant.reads)
 
 pub returns-clause-reads : goal.returns-clause-reads

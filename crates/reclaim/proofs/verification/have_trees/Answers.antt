@@ -29,7 +29,7 @@ returns-clause-exact g c =
     c.in_ok-are_sound.ensures.exact in
     let shallow : IsTrue c.in_ok-are_shallow.are_shallow ↔ All (λ root. IsShallow f (Dir root) 16) c.args.roots.now =
     subst (λ (f : Blocks). IsTrue c.in_ok-are_shallow.are_shallow ↔ All (λ root. IsShallow f (Dir root) 16) c.args.roots.now)
-    c.are_sound.ensures.same_nodes c.in_ok-are_shallow.ensures.exact in
+    c.are_sound.ensures.looks.same_nodes c.in_ok-are_shallow.ensures.exact in
     let own : AreAsked (limit - 80) f c.args.roots.now c.args.marked.now → IsTrue c.in_ok-are_shallow.are_shallow = λ asked. shallow.1 asked.shallow in (
       λ t.
           asked_roots limit f c.args.roots.now c.args.marked.now c.requires.marked
@@ -53,7 +53,7 @@ returns-in_err-are_shallow-clause-reads g c =
     let directories : HasDirectories f blocks roots list =
     reached_directories (c.block_bytes-room.result - 80) blocks f roots marked (λ b. (c.requires.marked b).1) (λ b. (c.requires.marked b).0)
     (c.in_ok-are_sound.ensures.exact.0 c.if-not-are_sound.false) c.requires.directories in
-    let levels = c.are_shallow.ensures.reads list (subst (λ (h : Blocks). HasDirectories h blocks roots list) (sym c.are_sound.ensures.same_nodes) directories) in
+    let levels = c.are_shallow.ensures.reads list (subst (λ (h : Blocks). HasDirectories h blocks roots list) (sym c.are_sound.ensures.looks.same_nodes) directories) in
     omega (arith, looks_and_levels f marked, c.are_sound.ensures.reads, levels)
 
 pub returns-clause-reads : goal.returns-clause-reads
@@ -66,5 +66,5 @@ returns-clause-reads g c =
     let directories : HasDirectories f blocks roots list =
     reached_directories (c.block_bytes-room.result - 80) blocks f roots marked (λ b. (c.requires.marked b).1) (λ b. (c.requires.marked b).0)
     (c.in_ok-are_sound.ensures.exact.0 c.if-not-are_sound.false) c.requires.directories in
-    let levels = c.are_shallow.ensures.reads list (subst (λ (h : Blocks). HasDirectories h blocks roots list) (sym c.are_sound.ensures.same_nodes) directories) in
+    let levels = c.are_shallow.ensures.reads list (subst (λ (h : Blocks). HasDirectories h blocks roots list) (sym c.are_sound.ensures.looks.same_nodes) directories) in
     omega (arith, looks_and_levels f marked, c.are_sound.ensures.reads, levels)

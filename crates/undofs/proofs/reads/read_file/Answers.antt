@@ -23,10 +23,10 @@ returns-in-Dir-clause-refused g c =
 pub read_range-requires-clause-body : goal.read_range-requires-clause-body
 read_range-requires-clause-body g c =
     file_body (g.N.Nodes.limit c.args.nodes.now - body_front) (g.N.Nodes.node c.args.nodes.now) c.args.root c.args.path.now c.requires.rooted
-    (g.N.Nodes.limit c.lookup.new.nodes - body_front) (g.N.Nodes.node c.lookup.new.nodes) c.lookup.ensures.same_nodes (ap (λ n. n - body_front) c.lookup.ensures.limit) _ c.in-File.head c.in-File.length c.in_ok-lookup.ensures.found c.in-File.is
+    (g.N.Nodes.limit c.lookup.new.nodes - body_front) (g.N.Nodes.node c.lookup.new.nodes) c.lookup.ensures.looks.same_nodes (ap (λ n. n - body_front) c.lookup.ensures.looks.same_limit) _ c.in-File.head c.in-File.length c.in_ok-lookup.ensures.found c.in-File.is
 
 pub returns-in-File-clause-read : goal.returns-in-File-clause-read
 returns-in-File-clause-read g c =
     file_read (g.N.Nodes.limit c.args.nodes.now - body_front) (g.N.Nodes.node c.args.nodes.now) c.args.root c.args.path.now c.requires.rooted
-    (g.N.Nodes.limit c.lookup.new.nodes - body_front) (g.N.Nodes.node c.lookup.new.nodes) c.lookup.ensures.same_nodes (ap (λ n. n - body_front) c.lookup.ensures.limit) _ c.in-File.head c.in-File.length c.in_ok-lookup.ensures.found c.in-File.is
+    (g.N.Nodes.limit c.lookup.new.nodes - body_front) (g.N.Nodes.node c.lookup.new.nodes) c.lookup.ensures.looks.same_nodes (ap (λ n. n - body_front) c.lookup.ensures.looks.same_limit) _ c.in-File.head c.in-File.length c.in_ok-lookup.ensures.found c.in-File.is
     c.args.offset c.args.count c.read_range.result c.read_range.ensures.read

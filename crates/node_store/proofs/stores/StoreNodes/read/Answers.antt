@@ -12,6 +12,3 @@ returns-clause-looks g c = record {
   same_limit = search rules;
   same_blocks = search rules;
 }
-
-pub returns-clause-same_nodes : goal.returns-clause-same_nodes
-returns-clause-same_nodes g c = OnlyReads_nodes _ _ c.requires.lawful c.read_node.ensures.only_reads

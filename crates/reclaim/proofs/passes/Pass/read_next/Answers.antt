@@ -25,7 +25,7 @@ pub returns-clause-pass : goal.returns-clause-pass
 returns-clause-pass g c =
     let pass = c.args.self.now in
     read_and_marked (g.N.Nodes.node c.args.nodes.now) (g.N.Nodes.node c.read.new.self) pass _ c.mark_all.new.self c.index-block.result.now c.lent.result.now c.in_ok-names.names.items
-    c.requires.pass c.requires.left c.read.ensures.same_nodes
+    c.requires.pass c.requires.left c.read.ensures.looks.same_nodes
     (c.in_ok-read.ensures.shown ∙ ap (λ (bytes : List ℕ). Some bytes) (sym c.lent.ensures))
     (at_next _ pass _ c.self.view_is c.index-block.ensures c.requires.left)
     c.in_ok-names.ensures.names

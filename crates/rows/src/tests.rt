@@ -11,3 +11,4 @@ mod records;
 mod rings;
 mod scripts;
 mod stores;
+mod verifications;

@@ -9,6 +9,7 @@ mod laws;
 mod parts;
 mod payloads;
 mod programming;
+mod ring;
 mod scan;
 
 pub use anchors::Anchors;

@@ -12,3 +12,4 @@ pub mod Ascending
 pub mod Ending
 pub mod Attempting
 pub mod Following
+pub mod Beginning

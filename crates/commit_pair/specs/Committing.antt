@@ -76,6 +76,12 @@ pub record IsNext (bad : set.FinSet nat_cmp) (home anchor : ℕ) : Type 0 where
   pub good : set.contains bad anchor ≡ false
   pub between : (k : ℕ) → 1 ≤ k → k < steps → set.contains bad (after home k) ≡ true
 
+-- the lowest anchor that is not bad
+pub record IsLowest (bad : set.FinSet nat_cmp) (anchor : ℕ) : Type 0 where
+  pub below : anchor < first_data
+  pub good : set.contains bad anchor ≡ false
+  pub others : (b : ℕ) → b < anchor → set.contains bad b ≡ true
+
 -- a commit places the record, or leaves the newest one as it was; where power went, either
 abbrev pub Commits : {T : Type 0} → (ℕ → Page) → (ℕ → Page) → Record → ℕ → set.FinSet nat_cmp → Result T Fault → Type 0
 Commits was now r sequence bad (Ok _) = IsCommitted now r sequence bad

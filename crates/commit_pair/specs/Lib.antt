@@ -8,3 +8,4 @@ pub mod Programming
 pub mod Keeping
 pub mod Payloads
 pub mod Committing
+pub mod Remembering

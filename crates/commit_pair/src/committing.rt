@@ -121,7 +121,7 @@ pub(crate) fn commit_after<F: Flash>(
     requires is_lawful { is_record (record saved.now { bad = [] }) ≡ true }
     requires on_flash { (b : ℕ) → set.contains bad.old b ≡ true → b < saved.now.geometry.blocks }
     requires anchor { anchor < first_data }
-    requires in_block { place ≤ saved.now.geometry.pages }
+    requires in_block { set.contains bad.old anchor ≡ false → place ≤ saved.now.geometry.pages }
     requires blank { set.contains bad.old anchor ≡ false → (m : ℕ) → place ≤ m → m < saved.now.geometry.pages → (F.device flash.old).pages (anchor * saved.now.geometry.pages + m) ≡ erased }
     requires older { AreOlder saved.now.geometry (F.device flash.old).pages sequence }
     requires open { spec.is_read_only bad.old ≡ false }

@@ -76,7 +76,7 @@ pub(crate) fn commit_from<F: Flash>(
     requires is_lawful { is_record (record saved.now { bad = [] }) ≡ true }
     requires on_flash { (b : ℕ) → set.contains bad.old b ≡ true → b < saved.now.geometry.blocks }
     requires home { home < first_data }
-    requires in_block { place ≤ saved.now.geometry.pages }
+    requires in_block { set.contains bad.old home ≡ false → place ≤ saved.now.geometry.pages }
     requires blank { set.contains bad.old home ≡ false → (m : ℕ) → place ≤ m → m < saved.now.geometry.pages → (F.device flash.old).pages (home * saved.now.geometry.pages + m) ≡ erased }
     requires spares { (b : ℕ) → b < first_data → b ≢ home → set.contains bad.old b ≡ false → Spares saved.now.geometry (F.device flash.old).pages b }
     requires older { AreOlder saved.now.geometry (F.device flash.old).pages sequence }

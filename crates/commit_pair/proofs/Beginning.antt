@@ -1,9 +1,11 @@
 -- Where a commit begins, and what is remembered after one that was refused.
-use Rattle.std.proofs.Common.{◌≡◌, ◌≢◌, ℕ, ◌+◌, ◌*◌, ◌/◌, ◌<◌, ◌≤◌, false, Option, Some, None, Err, refl, sym, ap, subst, ◌∙◌, inl, inr, arith}
+use Rattle.std.proofs.Common.{◌≡◌, ◌≢◌, ℕ, ◌+◌, ◌*◌, ◌/◌, ◌<◌, ◌≤◌, false, Option, Some, None, Result, Err, refl, sym, ap, subst, ◌∙◌, inl, inr, arith}
 use Rattle.std.specs.FinSet as set
 use Rattle.std.specs.Ordering.{nat_cmp}
 use Rattle.std.proofs.lemmas.Bool.{both_ways}
-use Rattle.std.proofs.lemmas.Nat.{div-mul-add}
+use Rattle.std.proofs.lemmas.Nat.{div-mul-add, div_below}
+use Rattle.std.specs.Option.{option_map}
+use Rattle.record_format.specs.Payloads.{payload_at}
 use Rattle.fs_types.specs.declared.faults.Fault.{Fault}
 use Rattle.fs_types.specs.declared.faults.Fault.TheVariants.{PowerCut}
 use Rattle.flash_model.specs.declared.sizes.Geometry.{Geometry}
@@ -12,14 +14,15 @@ use Rattle.flash_model.specs.Device.{Device, Page, erased, block_of}
 use Rattle.record_format.specs.declared.records.Record.{Record}
 use Rattle.commit_pair.specs.declared.best.Found.{Found}
 use Rattle.commit_pair.specs.declared.anchors.Anchors.{Anchors}
-use Rattle.commit_pair.specs.Parts.{first_data, part_of, parts_on, newest_at, greatest_on}
+use Rattle.commit_pair.specs.Parts.{first_data, Entry, part_of, parts_on, newest_at, newest_on, greatest_on}
 use Rattle.commit_pair.specs.Reading.{OnlyReads, IsEnd}
 use Rattle.commit_pair.specs.Anchored.{OnlyAnchors}
 use Rattle.commit_pair.specs.Keeping.{Keeps, AreOlder, Spares}
 use Rattle.commit_pair.specs.Committing.{IsLowest, Commits, Untouched}
 use Rattle.commit_pair.specs.Remembering.{KnowsNewest, KnowsErased, MayCommit, begins, BeginsAt}
+use Rattle.commit_pair.specs.Following.{StillMayCommit, CommittedIsNewest}
 use Rattle.commit_pair.proofs.Following.{was_good}
-use Rattle.commit_pair.proofs.NewestLaws.{found_is_newest, greatest_most}
+use Rattle.commit_pair.proofs.NewestLaws.{found_is_newest, greatest_most, same_place}
 use Rattle.commit_pair.proofs.Places.{anchor_below}
 
 at_newest : (g : Geometry) (bad : set.FinSet nat_cmp) (end : ℕ) (o : Option Found) (home place : ℕ) (found : Found) → o ≡ Some found → begins g bad end o home place → (home ≡ found.page / g.pages) × (place ≡ end)
@@ -127,3 +130,41 @@ may_follow old new was now anchors r sequence fault same only on is untouched re
             untouched p still ∙ k.erased p (subst (λ b. b < first_data) (sym block) lt) (was_good was now (block_of old p) only.stays_bad still);
       })
     ]
+
+-- ---- the laws
+
+pub still_may_commit : StillMayCommit
+still_may_commit old new was now anchors same pages stays ready = elim ready [
+  | inl k ↦
+      let g = old.geometry in
+      let home = k.found.page / old.geometry.pages in
+      let within : k.found.page < first_data * g.pages = (found_is_newest g (parts_on g old.pages) k.found k.place).within in
+      let anchor : home < first_data = div_below k.found.page g.pages first_data (omega arith) within in
+      let still : (m : ℕ) → m < g.pages → new.pages (home * g.pages + m) ≡ old.pages (home * g.pages + m) =
+      λ m below. pages (home * g.pages + m) (subst (λ b. b < first_data) (sym (div-mul-add home g.pages m below)) anchor) in
+      inl (record {
+        found = k.found;
+        here = k.here;
+        place = subst (λ (h : Geometry). newest_at h (parts_on h new.pages) ≡ Some k.found) (sym same) (same_place g old.pages new.pages pages ∙ k.place);
+        end = subst (λ (h : Geometry). set.contains now (k.found.page / h.pages) ≡ false → IsEnd h new.pages (k.found.page / h.pages) h.pages anchors.end) (sym same) (λ good.
+            ends_still g old.pages new.pages home anchors.end still (k.end (was_good was now home stays good)));
+      })
+  | inr k ↦ inr (record {
+    none = k.none;
+    cleared = k.cleared;
+    erased = λ p lt good.
+        let block : block_of old p ≡ block_of new p = sym (ap (λ (h : Geometry). p / h.pages) same) in
+        let lt_old : block_of old p < first_data = subst (λ b. b < first_data) (sym block) lt in
+        pages p lt_old ∙ k.erased p lt_old (was_good was now (block_of old p) stays (ap (set.contains now) block ∙ good));
+  })
+]
+
+pub committed_is_newest : CommittedIsNewest
+committed_is_newest d r sequence bad same is = (
+  is.means.list,
+  is.means.ascends,
+  is.means.listed,
+  ap (λ (h : Geometry). option_map (λ (entry : Entry). payload_at h entry.sequence entry.payload) (newest_on h d.pages)) same
+      ∙ ap (option_map (λ (entry : Entry). payload_at r.geometry entry.sequence entry.payload)) is.newest
+      ∙ ap (λ (x : Result Record Fault). Some x) is.means.means,
+)

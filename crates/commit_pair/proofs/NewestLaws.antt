@@ -12,7 +12,7 @@ use Rattle.flash_model.specs.declared.sizes.Geometry.{Geometry}
 use Rattle.flash_model.specs.Device.{Page}
 use Rattle.record_format.specs.declared.pages.PageHead.{PageHead}
 use Rattle.commit_pair.specs.declared.best.Found.{Found}
-use Rattle.commit_pair.specs.Parts.{first_data, Part, part_of, parts_on, head_at, is_record, record_head, considered, best_below, best_on, sequence_of, greatest_on, newest_among}
+use Rattle.commit_pair.specs.Parts.{first_data, Part, part_of, parts_on, head_at, is_record, record_head, considered, best_below, best_on, sequence_of, greatest_on, newest_at, newest_among}
 use Rattle.commit_pair.specs.Laws.{HasNone, HasTie, IsNewest, FoundIsNewest, NewestIsFound, OnlyAnchorsMatter}
 
 both_true : (a b : Bool) → (a && b) ≡ true → (a ≡ true) × (b ≡ true)
@@ -216,3 +216,6 @@ same_part g old new same p = elim (cases_lt (p / g.pages) first_data) [
 
 pub only_anchors_matter : OnlyAnchorsMatter
 only_anchors_matter g old new same = ap (newest_among g) (λ i p. same_part g old new same p i)
+
+pub same_place : (g : Geometry) (old new : ℕ → Page) → ((p : ℕ) → p / g.pages < first_data → new p ≡ old p) → newest_at g (parts_on g new) ≡ newest_at g (parts_on g old)
+same_place g old new same = ap (newest_at g) (λ i p. same_part g old new same p i)

@@ -9,3 +9,4 @@ pub mod Keeping
 pub mod Payloads
 pub mod Committing
 pub mod Remembering
+pub mod Following

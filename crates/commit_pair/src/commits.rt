@@ -1,5 +1,5 @@
 //! Commits of records on the anchors.
-ghost use Rattle.std.specs.Prelude.{◌≡◌, ◌≢◌, ◌⊎◌, ℕ, ◌+◌, ◌*◌, ◌^◌, ◌<◌, ◌≤◌, [], true, false, length, None, IfOk, OnOk, IfErr, Err, vec_capacity};
+ghost use Rattle.std.specs.Prelude.{◌≡◌, ◌≢◌, ◌⊎◌, ℕ, ◌+◌, ◌-◌, ◌*◌, ◌^◌, ◌<◌, ◌≤◌, [], true, false, length, None, IfOk, OnOk, IfErr, IsErr, Err, vec_capacity};
 ghost use Rattle.std.specs.FinSet as set;
 ghost use Rattle.flash_model.specs.Geometry.{IsGeometry};
 ghost use Rattle.record_format.specs.Payloads.{is_record};
@@ -74,6 +74,9 @@ impl Anchors {
         // Read-only mode is met at once, and never left by an answer of Ok.
         ensures at_once { is_read_only bad.old ≡ true → (result ≡ Err Fault.ReadOnly) × (F.device flash.new ≡ F.device flash.old) × (bad.new ≡ bad.old) }
         ensures open { OnOk result (is_read_only bad.new ≡ false) }
+
+        // Nothing is written where no sequence is left.
+        ensures last { greatest_on saved.now.geometry (F.device flash.old).pages ≡ 2 ^ 64 - 1 → IsErr result × ((F.device flash.new).pages ≡ (F.device flash.old).pages) × (bad.new ≡ bad.old) }
         ensures why { IfErr result (CommitCause (F.device flash.old) bad.old self.old (F.device flash.new) bad.new) }
     {
         if is_read_only(bad) {

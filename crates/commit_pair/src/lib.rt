@@ -15,4 +15,4 @@ mod ring;
 mod scan;
 
 pub use anchors::Anchors;
-pub use laws::{newest_laws, writing_laws};
+pub use laws::{commit_laws, newest_laws, writing_laws};

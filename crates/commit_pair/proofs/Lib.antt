@@ -9,3 +9,7 @@ pub mod Programmed
 pub mod Placing
 pub mod Sparing
 pub mod Ascending
+pub mod Ending
+pub mod Attempting
+pub mod Following
+pub mod Beginning

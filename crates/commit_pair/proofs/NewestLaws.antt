@@ -12,7 +12,7 @@ use Rattle.flash_model.specs.declared.sizes.Geometry.{Geometry}
 use Rattle.flash_model.specs.Device.{Page}
 use Rattle.record_format.specs.declared.pages.PageHead.{PageHead}
 use Rattle.commit_pair.specs.declared.best.Found.{Found}
-use Rattle.commit_pair.specs.Parts.{first_data, Part, part_of, parts_on, head_at, is_record, record_head, considered, best_below, best_on, newest_among}
+use Rattle.commit_pair.specs.Parts.{first_data, Part, part_of, parts_on, head_at, is_record, record_head, considered, best_below, best_on, sequence_of, greatest_on, newest_at, newest_among}
 use Rattle.commit_pair.specs.Laws.{HasNone, HasTie, IsNewest, FoundIsNewest, NewestIsFound, OnlyAnchorsMatter}
 
 both_true : (a b : Bool) → (a && b) ≡ true → (a ≡ true) × (b ≡ true)
@@ -149,6 +149,18 @@ pub none_valid : (g : Geometry) (parts : ℕ → Option Part) → (best_on g par
 unfolding NoneBelow
 none_valid g parts none = (subst (λ (o : Option Found). BestIs g parts (first_data * g.pages) o (best_on g parts).twice) none (best_is g parts (first_data * g.pages))).0
 
+-- no valid record has a sequence above that of the best
+best_most : (g : Geometry) (parts : ℕ → Option Part) (found : Option Found) (twice : Bool) → BestIs g parts (first_data * g.pages) found twice → (q : ℕ) (head : PageHead) → q < first_data * g.pages → record_head g parts q ≡ Some head → head.sequence ≤ sequence_of found
+unfolding NoneBelow
+best_most g parts None twice is q head lt valid = absurd (is.0 q head lt valid)
+best_most g parts (Some f) twice is q head lt valid = elim (cases_eq q f.page) [
+  | inl here ↦ let same = ap (λ (x : PageHead). x.sequence) (same_Some head f.head (sym valid ∙ ap (record_head g parts) here ∙ is.valid)) in omega arith
+  | inr apart ↦ elim (is.others q head lt apart valid) [ inl less ↦ omega arith | inr tied ↦ omega (arith, tied.0) ]
+]
+
+pub greatest_most : (g : Geometry) (pages : ℕ → Page) (q : ℕ) (head : PageHead) → q < first_data * g.pages → record_head g (parts_on g pages) q ≡ Some head → head.sequence ≤ greatest_on g pages
+greatest_most g pages q head lt valid = best_most g (parts_on g pages) (best_on g (parts_on g pages)).found (best_on g (parts_on g pages)).twice (best_is g (parts_on g pages) (first_data * g.pages)) q head lt valid
+
 tie_from : (g : Geometry) (parts : ℕ → Option Part) (found : Option Found) (twice : Bool) → BestIs g parts (first_data * g.pages) found twice → twice ≡ true → HasTie g parts
 tie_from g parts None twice is e = absurd (let f = is.1 in cc)
 tie_from g parts (Some f) twice is e =
@@ -204,3 +216,6 @@ same_part g old new same p = elim (cases_lt (p / g.pages) first_data) [
 
 pub only_anchors_matter : OnlyAnchorsMatter
 only_anchors_matter g old new same = ap (newest_among g) (λ i p. same_part g old new same p i)
+
+pub same_place : (g : Geometry) (old new : ℕ → Page) → ((p : ℕ) → p / g.pages < first_data → new p ≡ old p) → newest_at g (parts_on g new) ≡ newest_at g (parts_on g old)
+same_place g old new same = ap (newest_at g) (λ i p. same_part g old new same p i)

@@ -1,14 +1,17 @@
--- What an attempt to commit a record leaves.
-use Rattle.std.specs.Prelude.{◌≡◌, ◌⊎◌, ℕ, ◌||◌, Bool, true, false, Some, List, nat_le, count_by, Result, Ok, Err}
+-- What attempts to commit a record leave, and which anchors are tried.
+use Rattle.std.specs.Prelude.{◌≡◌, ◌⊎◌, ℕ, ◌+◌, ◌*◌, ◌/◌, ◌%◌, ◌<◌, ◌≤◌, ◌||◌, Bool, true, false, Option, Some, None, List, nat_le, count_by, Result, Ok, Err}
 use Rattle.std.specs.List.{range_with_len}
 use Rattle.std.specs.FinSet as set
 use Rattle.std.specs.Ordering.{nat_cmp}
 use Rattle.fs_types.specs.declared.faults.Fault.{Fault}
-use Rattle.fs_types.specs.declared.faults.Fault.TheVariants.{PowerCut}
-use Rattle.flash_model.specs.Device.{Page}
+use Rattle.fs_types.specs.declared.faults.Fault.TheVariants.{ReadOnly, PowerCut}
+use Rattle.flash_model.specs.Device.{Device, Page, block_of}
 use Rattle.record_format.specs.declared.records.Record.{Record}
-use Rattle.commit_pair.specs.Parts.{first_data, newest_on}
+use Rattle.commit_pair.specs.declared.best.Found.{Found}
+use Rattle.commit_pair.specs.Parts.{first_data, parts_on, newest_at, newest_on}
 use Rattle.commit_pair.specs.Payloads.{Means}
+use Rattle.commit_pair.specs.Programming.{Fills}
+use Rattle.commit_pair.specs.Reading.{IsEnd}
 use Rattle.commit_pair.specs.Keeping.{Keeps}
 
 -- how many anchors are bad
@@ -25,9 +28,73 @@ pub record IsCommitted (pages : ℕ → Page) (r : Record) (sequence : ℕ) (bad
   pub newest : newest_on r.geometry pages ≡ Some (record { sequence = sequence; payload = bytes })
   pub means : Means r sequence bad bytes
 
+-- the newest record begins at this place, and all pages after it on its anchor are erased
+pub record Stands (pages : ℕ → Page) (r : Record) (found : Found) : Type 0 where
+  pub place : newest_at r.geometry (parts_on r.geometry pages) ≡ Some found
+  pub end : IsEnd r.geometry pages (found.page / r.geometry.pages) r.geometry.pages (found.page % r.geometry.pages + found.head.count)
+
 -- an attempt commits the record, or nothing changes of the newest one, or power went
-abbrev pub Attempts : (ℕ → Page) → (ℕ → Page) → Record → ℕ → set.FinSet nat_cmp → Result Bool Fault → Type 0
-Attempts was now r sequence bad (Ok true) = IsCommitted now r sequence bad
-Attempts was now r sequence bad (Ok false) = Keeps r.geometry was now
+abbrev pub Attempts : (ℕ → Page) → (ℕ → Page) → Record → ℕ → set.FinSet nat_cmp → Result (Option Found) Fault → Type 0
+Attempts was now r sequence bad (Ok (Some found)) = IsCommitted now r sequence bad × Stands now r found
+Attempts was now r sequence bad (Ok None) = Keeps r.geometry was now
 Attempts was now r sequence bad (Err PowerCut) = Keeps r.geometry was now ⊎ IsCommitted now r sequence bad
 Attempts was now r sequence bad (Err _) = ⊥
+
+-- what holds where an attempt placed the record, and where it did not
+abbrev pub IfPlaced : Result (Option Found) Fault → (Found → Type 0) → Type 0
+IfPlaced (Ok (Some found)) p = p found
+IfPlaced (Ok None) p = Unit {0}
+IfPlaced (Err _) p = Unit {0}
+
+abbrev pub OnNone : Result (Option Found) Fault → Type 0 → Type 0
+OnNone (Ok (Some found)) p = Unit {0}
+OnNone (Ok None) p = p
+OnNone (Err _) p = Unit {0}
+
+-- pages of blocks that are not in the list are as they were
+abbrev pub Untouched : Device → set.FinSet nat_cmp → Device → Type 0
+Untouched old bad new = (p : ℕ) → set.contains bad (block_of old p) ≡ false → new.pages p ≡ old.pages p
+
+-- the pages of an anchor from a place on are too few for the record with this list
+pub record LacksRoom (r : Record) (bad : set.FinSet nat_cmp) (place : ℕ) : Type 0 where
+  pub bytes : List ℕ
+  pub count : ℕ
+  pub means : (sequence : ℕ) → Means r sequence bad bytes
+  pub fills : Fills r.geometry bytes count
+  pub past : r.geometry.pages < place + count
+
+-- the k-th anchor after one, in ring order
+abbrev pub after : ℕ → ℕ → ℕ
+after home k = (home + k) % first_data
+
+-- the first anchor after one, in ring order, that is not bad
+pub record IsNext (bad : set.FinSet nat_cmp) (home anchor : ℕ) : Type 0 where
+  pub steps : ℕ
+  pub some : 1 ≤ steps
+  pub below : steps < first_data
+  pub is : anchor ≡ after home steps
+  pub good : set.contains bad anchor ≡ false
+  pub between : (k : ℕ) → 1 ≤ k → k < steps → set.contains bad (after home k) ≡ true
+
+-- the lowest anchor that is not bad
+pub record IsLowest (bad : set.FinSet nat_cmp) (anchor : ℕ) : Type 0 where
+  pub below : anchor < first_data
+  pub good : set.contains bad anchor ≡ false
+  pub others : (b : ℕ) → b < anchor → set.contains bad b ≡ true
+
+-- a commit places the record, or leaves the newest one as it was; where power went, either
+abbrev pub Commits : {T : Type 0} → (ℕ → Page) → (ℕ → Page) → Record → ℕ → set.FinSet nat_cmp → Result T Fault → Type 0
+Commits was now r sequence bad (Ok _) = IsCommitted now r sequence bad
+Commits was now r sequence bad (Err PowerCut) = Keeps r.geometry was now ⊎ IsCommitted now r sequence bad
+Commits was now r sequence bad (Err _) = Keeps r.geometry was now
+
+-- a record goes after the end of its home, where that is not bad and has room; else on the first page of the next anchor. The lists are those before and after the commit
+abbrev pub GoesTo : Record → set.FinSet nat_cmp → set.FinSet nat_cmp → ℕ → ℕ → ℕ → Type 0
+GoesTo r was now home place page = ((page ≡ home * r.geometry.pages + place) × (set.contains now home ≡ false))
+    ⊎ ((anchor : ℕ) × (page ≡ anchor * r.geometry.pages) × IsNext now home anchor × ((set.contains now home ≡ true) ⊎ LacksRoom r was place))
+
+-- no anchor is tried any more because too many blocks are bad, or because power is off
+abbrev pub TryCause : Device → set.FinSet nat_cmp → Fault → Type 0
+TryCause new bad ReadOnly = is_read_only bad ≡ true
+TryCause new bad PowerCut = new.powered ≡ false
+TryCause new bad _ = ⊥

@@ -8,3 +8,5 @@ pub mod Programming
 pub mod Keeping
 pub mod Payloads
 pub mod Committing
+pub mod Remembering
+pub mod Following

@@ -80,6 +80,14 @@ best_on g parts = best_below g parts (first_data * g.pages)
 abbrev pub newest_at : Geometry → (ℕ → Option Part) → Option Found
 newest_at g parts = if (best_on g parts).twice then None else (best_on g parts).found
 
+-- the greatest sequence of a valid record on the pages, 0 where none is valid
+abbrev pub sequence_of : Option Found → ℕ
+sequence_of None = 0
+sequence_of (Some found) = found.head.sequence
+
+abbrev pub greatest_on : Geometry → (ℕ → Page) → ℕ
+greatest_on g pages = sequence_of (best_on g (parts_on g pages)).found
+
 -- the payload bytes of so many pages from the n-th on
 abbrev pub part_bytes : Option Part → List ℕ
 part_bytes None = []

@@ -15,6 +15,7 @@ pub record OnlyReads (old new : Device) : Type 0 where
   pub worn : (b : ℕ) → new.worn b ≡ old.worn b
   pub failures : new.failures ≡ old.failures
   pub failed_reads : old.failed_reads ≤ new.failed_reads
+  pub cuts : old.cuts ≤ new.cuts
   pub was_on : new.powered ≡ true → old.powered ≡ true
   pub stays_off : old.powered ≡ false → new ≡ old
 
@@ -25,6 +26,7 @@ OnlyReads_itself d = record {
   worn = λ b. refl;
   failures = refl;
   failed_reads = omega arith;
+  cuts = omega arith;
   was_on = λ on. on;
   stays_off = λ off. refl;
 }
@@ -36,6 +38,7 @@ OnlyReads_on d e f first next = record {
   worn = λ b. next.worn b ∙ first.worn b;
   failures = next.failures ∙ first.failures;
   failed_reads = omega arith;
+  cuts = let h = first.cuts in let k = next.cuts in omega arith;
   was_on = λ on. first.was_on (next.was_on on);
   stays_off = λ off. next.stays_off (ap (λ (x : Device). x.powered) (first.stays_off off) ∙ off) ∙ first.stays_off off;
 }
@@ -47,6 +50,7 @@ OnlyReads_from old p was new now result reads = record {
   worn = reads.worn;
   failures = let h = reads.operates.failures in omega arith;
   failed_reads = let h = reads.operates.failed_reads in omega arith;
+  cuts = let h = reads.operates.cuts in omega arith;
   was_on = λ on. reads.operates.was_on (sym reads.operates.power ∙ on);
   stays_off = reads.operates.off;
 }

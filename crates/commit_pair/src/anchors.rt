@@ -1,11 +1,13 @@
 //! The newest record on the anchors.
-ghost use Rattle.std.specs.Prelude.{◌≡◌, ℕ, ◌+◌, ◌*◌, ◌<◌, ◌≤◌, false, length, None, IfOk, OnOk, OnErr, IfErr};
+ghost use Rattle.std.specs.Prelude.{◌≡◌, ◌≢◌, ℕ, ◌+◌, ◌*◌, ◌<◌, ◌≤◌, false, length, None, IfOk, OnOk, OnErr, IfErr};
 ghost use Rattle.std.specs.FinSet as set;
+ghost use Rattle.std.specs.Ordering.{nat_cmp};
 ghost use Rattle.flash_model.specs.Geometry.{IsGeometry};
 ghost use Rattle.commit_pair.specs.Parts as spec;
 ghost use Rattle.commit_pair.specs.Reading.{OnlyReads};
 ghost use Rattle.commit_pair.specs.Anchored.{OnlyAnchors, Fades, AreErased};
 ghost use Rattle.commit_pair.specs.Newest.{remembered, IsCleared, KnowsEnd, IsNewestRecord, NewestCause};
+ghost use Rattle.commit_pair.specs.Remembering.{MayCommit};
 
 use crate::best::{Best, Found};
 use crate::clearing::erase_anchors;
@@ -19,10 +21,10 @@ use std::alloc::Global;
 /// The place of the newest record on the first eight blocks of a flash, where it is known.
 #[derive(Debug, Drop)]
 pub struct Anchors {
-    newest: Option<Found>,
+    pub(crate) newest: Option<Found>,
     // the place after the last page that is not erased, on the anchor of the newest record
-    end: u32,
-    cleared: bool,
+    pub(crate) end: u32,
+    pub(crate) cleared: bool,
 }
 
 impl Anchors {
@@ -38,7 +40,7 @@ impl Anchors {
     }
 
     /// Reads all pages of the eight anchors, and answers the newest record, or None where no record
-    /// is valid. Its place is remembered; after a refusal none is.
+    /// is valid. Its place is remembered, so that a commit may follow; after a refusal none is.
     ///
     /// `Damaged` where two valid records have the greatest sequence; `Damaged` or `BadGeometry`
     /// where the payload of the newest is no record of a flash of these sizes; `ReadFailed` and
@@ -52,6 +54,7 @@ impl Anchors {
         ensures newest { IfOk result (IsNewestRecord (F.device flash.old)) }
         ensures remembers { OnOk result (remembered self.new ≡ spec.newest_at (F.device flash.old).geometry (spec.parts_on (F.device flash.old).geometry (F.device flash.old).pages)) }
         ensures end { OnOk result (KnowsEnd (F.device flash.old) self.new) }
+        ensures ready { IfOk result (λ newest. newest ≢ None → (bad : set.FinSet nat_cmp) → MayCommit (F.device flash.new) bad self.new) }
         ensures forgets { OnErr result (remembered self.new ≡ None) }
         ensures only_reads { OnlyReads (F.device flash.old) (F.device flash.new) }
         ensures why { IfErr result (NewestCause (F.device flash.old) (F.device flash.new)) }
@@ -69,7 +72,7 @@ impl Anchors {
     }
 
     /// Erases the eight anchors, whatever they hold. Those of which the erase failed are put into
-    /// the list of bad blocks. No place is remembered then.
+    /// the list of bad blocks. No place is remembered then, and a commit may follow.
     ///
     /// No anchor is in the list before, and it has room for eight blocks. `PowerCut` where power is
     /// off: each anchor may be erased then, or in part, and those that failed are in the list.
@@ -78,6 +81,7 @@ impl Anchors {
         requires good { (b : ℕ) → b < spec.first_data → set.contains bad.old b ≡ false }
         requires room { set.len bad.old + spec.first_data ≤ 256 }
         ensures cleared { OnOk result (IsCleared self.new) }
+        ensures ready { OnOk result (MayCommit (F.device flash.new) bad.new self.new) }
         ensures erased { OnOk result (AreErased (F.device flash.new) bad.new spec.first_data) }
 
         // Whatever is answered, no page has bytes that it had not, and no data block changes.

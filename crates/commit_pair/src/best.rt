@@ -29,6 +29,13 @@ impl Best {
         }
     }
 
+    /// The greatest sequence, 0 where there is no record.
+    pub(crate) fn sequence(self) -> u64
+        ensures { result ≡ spec.sequence_of self.found }
+    {
+        self.found.map_or(0, |found| found.head.sequence)
+    }
+
     fn considered_with(self, new: Found) -> Best
         ensures { result ≡ spec.considered_with self self.found new.page new.head }
     {

@@ -1,21 +1,23 @@
-//! An attempt to commit a record on one anchor, and when none is made.
-ghost use Rattle.std.specs.Prelude.{◌≡◌, ◌≢◌, ℕ, ◌+◌, ◌*◌, ◌^◌, ◌<◌, ◌≤◌, [], true, false, OnErr, IfOk, IfErr, vec_capacity, if◌then◌else◌};
+//! Attempts to commit a record on one anchor, and when none is made.
+ghost use Rattle.std.specs.Prelude.{◌≡◌, ◌≢◌, ◌⊎◌, ℕ, ◌+◌, ◌*◌, ◌^◌, ◌<◌, ◌≤◌, [], true, false, IfErr, vec_capacity, length};
 ghost use Rattle.std.specs.FinSet as set;
-ghost use Rattle.flash_model.specs.Device.{block_of, erased};
+ghost use Rattle.flash_model.specs.Device.{erased};
 ghost use Rattle.flash_model.specs.Geometry.{IsGeometry};
 ghost use Rattle.record_format.specs.Payloads.{is_record};
 ghost use Rattle.commit_pair.specs.Parts.{first_data};
 ghost use Rattle.commit_pair.specs.Anchored.{OnlyAnchors};
 ghost use Rattle.commit_pair.specs.Keeping.{AreOlder, Spares};
+ghost use Rattle.commit_pair.specs.Programming.{head_for};
 ghost use Rattle.commit_pair.specs.Committing as spec;
 
+use crate::best::Found;
 use crate::parts::FIRST_DATA;
 use crate::payloads::payload_with;
-use crate::programming::{pages_for, write_anchor};
+use crate::programming::{pages_for, piece_of, place_record, write_anchor};
 use bad_blocks::{BadBlocks, LIMIT};
-use flash_model::Flash;
+use flash_model::{Flash, Geometry};
 use fs_types::Fault;
-use record_format::Record;
+use record_format::{PageHead, Record};
 
 /// How many anchors are in the list.
 fn bad_anchors(bad: &BadBlocks) -> usize
@@ -33,8 +35,36 @@ pub(crate) fn is_read_only(bad: &BadBlocks) -> bool
     LIMIT <= bad.len() || 7 <= bad_anchors(bad)
 }
 
-/// Commits a record on an anchor that is erased first, with the list as it is, and answers whether
-/// that was done. Where an operation failed, the anchor is put into the list.
+/// The first page of a record that is written at a place of an anchor.
+fn first_page(
+    geometry: Geometry,
+    anchor: u32,
+    place: u32,
+    sequence: u64,
+    payload: &[u8],
+    count: u16,
+) -> Found
+    requires lawful { IsGeometry geometry }
+    requires anchor { anchor < first_data }
+    requires in_block { place < geometry.pages }
+    ensures page { result.page ≡ anchor * geometry.pages + place }
+    ensures head { result.head ≡ head_for geometry sequence payload.now count 0 }
+{
+    let piece = piece_of(geometry, payload, 0);
+    let head = PageHead {
+        sequence,
+        index: 0,
+        count,
+        used: piece.len() as u16,
+    };
+    Found {
+        page: geometry.page_number(anchor, place),
+        head,
+    }
+}
+
+/// Commits a record on an anchor that is erased first, with the list as it is, and answers where.
+/// None where the anchor is in the list; it is put there where an operation failed.
 pub(crate) fn commit_anew<F: Flash>(
     flash: &mut F,
     bad: &mut BadBlocks,
@@ -42,36 +72,83 @@ pub(crate) fn commit_anew<F: Flash>(
     sequence: u64,
     saved: &Record,
     page: &mut Vec<u8>,
-) -> Result<bool, Fault>
+) -> Result<Option<Found>, Fault>
     requires same { (F.device flash.old).geometry ≡ saved.now.geometry }
     requires lawful { IsGeometry saved.now.geometry }
     requires is_lawful { is_record (record saved.now { bad = [] }) ≡ true }
     requires on_flash { (b : ℕ) → set.contains bad.old b ≡ true → b < saved.now.geometry.blocks }
     requires anchor { anchor < first_data }
-    requires spares { Spares saved.now.geometry (F.device flash.old).pages anchor }
+    requires spares { set.contains bad.old anchor ≡ false → Spares saved.now.geometry (F.device flash.old).pages anchor }
     requires older { AreOlder saved.now.geometry (F.device flash.old).pages sequence }
-    requires good { set.contains bad.old anchor ≡ false }
-    requires room_in_list { set.len bad.old < 256 }
+    requires open { spec.is_read_only bad.old ≡ false }
     requires room { saved.now.geometry.page ≤ vec_capacity page.old }
-    ensures attempts { spec.Attempts (F.device flash.old).pages (F.device flash.new).pages saved.now sequence bad.old result }
-    ensures list { IfOk result (λ done. bad.new ≡ (if done then bad.old else set.insert bad.old anchor)) }
-    ensures list_stays { OnErr result (bad.new ≡ bad.old) }
-    ensures others { (p : ℕ) → block_of (F.device flash.old) p ≢ anchor → (F.device flash.new).pages p ≡ (F.device flash.old).pages p }
+    ensures attempts { spec.Attempts (F.device flash.old).pages (F.device flash.new).pages saved.now sequence bad.new result }
+    ensures place { spec.IfPlaced result (λ found. found.page ≡ anchor * saved.now.geometry.pages) }
+    ensures list { spec.IfPlaced result (λ found. bad.new ≡ bad.old) }
+    ensures good { spec.IfPlaced result (λ found. set.contains bad.old anchor ≡ false) }
+    ensures refused { spec.OnNone result (set.contains bad.new anchor ≡ true) }
+    ensures untouched { spec.OnNone result (spec.Untouched (F.device flash.old) bad.new (F.device flash.new)) }
     ensures only_anchors { OnlyAnchors (F.device flash.old) bad.old (F.device flash.new) bad.new }
     ensures why { IfErr result (λ fault. (fault ≡ Fault.PowerCut) × ((F.device flash.new).powered ≡ false)) }
     ensures room { saved.now.geometry.page ≤ vec_capacity page.new }
 {
+    if bad.contains(anchor) {
+        return Ok(None);
+    }
     let geometry = saved.geometry;
     let payload = payload_with(saved, bad);
-    let count = pages_for(geometry, payload.as_slice());
-    write_anchor(
-        flash,
-        bad,
-        geometry,
-        anchor,
-        sequence,
-        payload.as_slice(),
-        count,
-        page,
-    )
+    let bytes = payload.as_slice();
+    let count = pages_for(geometry, bytes);
+    let found = first_page(geometry, anchor, 0, sequence, bytes, count);
+    let done = write_anchor(flash, bad, geometry, anchor, sequence, bytes, count, page)?;
+    if done { Ok(Some(found)) } else { Ok(None) }
+}
+
+/// Commits a record on an anchor of which all pages from a place on are erased, with the list as it
+/// is, and answers where. None where the anchor is in the list, or has no room from there on; it is
+/// put into the list where an operation failed.
+pub(crate) fn commit_after<F: Flash>(
+    flash: &mut F,
+    bad: &mut BadBlocks,
+    anchor: u32,
+    place: u32,
+    sequence: u64,
+    saved: &Record,
+    page: &mut Vec<u8>,
+) -> Result<Option<Found>, Fault>
+    requires same { (F.device flash.old).geometry ≡ saved.now.geometry }
+    requires lawful { IsGeometry saved.now.geometry }
+    requires is_lawful { is_record (record saved.now { bad = [] }) ≡ true }
+    requires on_flash { (b : ℕ) → set.contains bad.old b ≡ true → b < saved.now.geometry.blocks }
+    requires anchor { anchor < first_data }
+    requires in_block { set.contains bad.old anchor ≡ false → place ≤ saved.now.geometry.pages }
+    requires blank { set.contains bad.old anchor ≡ false → (m : ℕ) → place ≤ m → m < saved.now.geometry.pages → (F.device flash.old).pages (anchor * saved.now.geometry.pages + m) ≡ erased }
+    requires older { AreOlder saved.now.geometry (F.device flash.old).pages sequence }
+    requires open { spec.is_read_only bad.old ≡ false }
+    requires room { saved.now.geometry.page ≤ vec_capacity page.old }
+    ensures attempts { spec.Attempts (F.device flash.old).pages (F.device flash.new).pages saved.now sequence bad.new result }
+    ensures place { spec.IfPlaced result (λ found. found.page ≡ anchor * saved.now.geometry.pages + place) }
+    ensures list { spec.IfPlaced result (λ found. bad.new ≡ bad.old) }
+    ensures good { spec.IfPlaced result (λ found. set.contains bad.old anchor ≡ false) }
+    ensures refused { spec.OnNone result ((set.contains bad.new anchor ≡ true) ⊎ spec.LacksRoom saved.now bad.old place) }
+    ensures untouched { spec.OnNone result (spec.Untouched (F.device flash.old) bad.new (F.device flash.new)) }
+    ensures only_anchors { OnlyAnchors (F.device flash.old) bad.old (F.device flash.new) bad.new }
+    ensures why { IfErr result (λ fault. (fault ≡ Fault.PowerCut) × ((F.device flash.new).powered ≡ false)) }
+    ensures room { saved.now.geometry.page ≤ vec_capacity page.new }
+{
+    if bad.contains(anchor) {
+        return Ok(None);
+    }
+    let geometry = saved.geometry;
+    let payload = payload_with(saved, bad);
+    let bytes = payload.as_slice();
+    let count = pages_for(geometry, bytes);
+    if geometry.pages < place + count as u32 {
+        return Ok(None);
+    }
+    let found = first_page(geometry, anchor, place, sequence, bytes, count);
+    let done = place_record(
+        flash, bad, geometry, anchor, place, sequence, bytes, count, page,
+    )?;
+    if done { Ok(Some(found)) } else { Ok(None) }
 }

@@ -1,6 +1,7 @@
 //! The laws of the newest record, as the contract of a function that does nothing.
 ghost use Rattle.commit_pair.specs.Laws.{FoundIsNewest, NewestIsFound, OnlyAnchorsMatter};
 ghost use Rattle.commit_pair.specs.Writing.{HalfChangesNothing, WholeIsNewest};
+ghost use Rattle.commit_pair.specs.Following.{StillMayCommit, CommittedIsNewest};
 
 /// At most one valid record is the newest: every other one is older. Pages of other blocks than
 /// the anchors do not matter.
@@ -15,4 +16,11 @@ pub fn newest_laws()
 pub fn writing_laws()
     ensures half { HalfChangesNothing }
     ensures whole { WholeIsNewest }
+{}
+
+/// What is remembered serves a later commit as long as the anchors stay as they are. A record that
+/// was committed is what the newest one means.
+pub fn commit_laws()
+    ensures follows { StillMayCommit }
+    ensures newest { CommittedIsNewest }
 {}

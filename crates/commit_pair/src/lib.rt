@@ -1,15 +1,18 @@
-//! The newest commit record on the anchors of a flash: where it is, and what it says.
+//! The newest commit record on the anchors of a flash: where it is, what it says, and the next one.
 #![tactic(auto)]
 
 mod anchors;
 mod best;
 mod clearing;
+mod commits;
 mod committing;
 mod laws;
+mod left;
 mod parts;
 mod payloads;
 mod programming;
+mod ring;
 mod scan;
 
 pub use anchors::Anchors;
-pub use laws::{newest_laws, writing_laws};
+pub use laws::{commit_laws, newest_laws, writing_laws};

@@ -1,11 +1,12 @@
 //! The pages of a record, programmed on an anchor.
-ghost use Rattle.std.specs.Prelude.{◌≡◌, ◌≢◌, ℕ, ◌+◌, ◌*◌, ◌^◌, ◌<◌, ◌≤◌, false, length, vec_len, vec_capacity, IfOk, OnErr, IfErr, if◌then◌else◌};
+ghost use Rattle.std.specs.Prelude.{◌≡◌, ◌≢◌, ℕ, ◌+◌, ◌*◌, ◌^◌, ◌<◌, ◌≤◌, true, false, length, vec_len, vec_capacity, IfOk, OnErr, IfErr, if◌then◌else◌};
 ghost use Rattle.std.specs.FinSet as set;
 ghost use Rattle.flash_model.specs.Device.{block_of, erased};
 ghost use Rattle.flash_model.specs.Geometry.{IsGeometry};
 ghost use Rattle.commit_pair.specs.Parts.{first_data, room};
 ghost use Rattle.commit_pair.specs.Anchored.{OnlyAnchors, Touches};
 ghost use Rattle.commit_pair.specs.Keeping.{AreOlder, Placed, Spares};
+ghost use Rattle.commit_pair.specs.Reading.{IsEnd};
 ghost use Rattle.commit_pair.specs.Programming as spec;
 
 use crate::clearing::erase_anchor;
@@ -27,7 +28,7 @@ pub(crate) fn pages_for(geometry: Geometry, payload: &[u8]) -> u16
 }
 
 /// The piece of a payload that the n-th page of its record holds.
-fn piece_of(geometry: Geometry, payload: &[u8], n: u16) -> &[u8]
+pub(crate) fn piece_of(geometry: Geometry, payload: &[u8], n: u16) -> &[u8]
     requires lawful { IsGeometry geometry }
     requires inside { n * room geometry ≤ length payload.now }
     ensures { result.now ≡ spec.piece geometry payload.now n }
@@ -78,7 +79,7 @@ pub(crate) fn program_record<F: Flash>(
     Ok(())
 }
 
-/// Writes a record to erased pages of an anchor, and answers whether that was done. Where it failed,
+/// Writes a record to an anchor, of which all pages from a place on are erased, and answers whether that was done. Where it failed,
 /// the anchor is put into the list, which has room for it.
 pub(crate) fn place_record<F: Flash>(
     flash: &mut F,
@@ -96,12 +97,13 @@ pub(crate) fn place_record<F: Flash>(
     requires anchor { anchor < first_data }
     requires in_block { place + count ≤ geometry.pages }
     requires fills { spec.Fills geometry payload.now count }
-    requires blank { (m : ℕ) → m < count → (F.device flash.old).pages (anchor * geometry.pages + place + m) ≡ erased }
+    requires blank { (m : ℕ) → place ≤ m → m < geometry.pages → (F.device flash.old).pages (anchor * geometry.pages + m) ≡ erased }
     requires room { geometry.page ≤ vec_capacity page.old }
     requires older { AreOlder geometry (F.device flash.old).pages sequence }
     requires good { set.contains bad.old anchor ≡ false }
     requires room_in_list { set.len bad.old < 256 }
     ensures placed { Placed geometry (F.device flash.old).pages (F.device flash.new).pages (record { page = anchor * geometry.pages + place; head = spec.head_for geometry sequence payload.now count 0 }) (record { sequence = sequence; payload = payload.now }) result }
+    ensures end { IfOk result (λ done. done ≡ true → IsEnd geometry (F.device flash.new).pages anchor geometry.pages (place + count)) }
     ensures list { IfOk result (λ done. bad.new ≡ (if done then bad.old else set.insert bad.old anchor)) }
     ensures list_stays { OnErr result (bad.new ≡ bad.old) }
     ensures others { (p : ℕ) → block_of (F.device flash.old) p ≢ anchor → (F.device flash.new).pages p ≡ (F.device flash.old).pages p }
@@ -145,6 +147,7 @@ pub(crate) fn write_anchor<F: Flash>(
     requires good { set.contains bad.old anchor ≡ false }
     requires room_in_list { set.len bad.old < 256 }
     ensures placed { Placed geometry (F.device flash.old).pages (F.device flash.new).pages (record { page = anchor * geometry.pages + 0; head = spec.head_for geometry sequence payload.now count 0 }) (record { sequence = sequence; payload = payload.now }) result }
+    ensures end { IfOk result (λ done. done ≡ true → IsEnd geometry (F.device flash.new).pages anchor geometry.pages (0 + count)) }
     ensures list { IfOk result (λ done. bad.new ≡ (if done then bad.old else set.insert bad.old anchor)) }
     ensures list_stays { OnErr result (bad.new ≡ bad.old) }
     ensures others { (p : ℕ) → block_of (F.device flash.old) p ≢ anchor → (F.device flash.new).pages p ≡ (F.device flash.old).pages p }

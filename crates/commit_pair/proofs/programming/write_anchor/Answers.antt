@@ -1,4 +1,4 @@
-use Rattle.std.proofs.Common.{◌≡◌, ◌+◌, ◌*◌, ◌/◌, ◌<◌, sym, ap, ◌∙◌, inl, arith}
+use Rattle.std.proofs.Common.{◌+◌, ◌*◌, ◌/◌, sym, ap, ◌∙◌, inl}
 use Rattle.std.proofs.lemmas.Result.{err_from_is_err_and}
 use Rattle.std.proofs.lemmas.Nat.{div-mul-add}
 use Rattle.flash_model.specs.declared.sizes.Geometry.{Geometry}
@@ -24,12 +24,9 @@ pub returns-then-not-branch-clause-placed : goal.returns-then-not-branch-clause-
 returns-then-not-branch-clause-placed g c = keeps g (goal.at.returns-then-not-branch-clause-placed g c).After-erase_anchor
 
 pub place_record-requires-clause-blank : goal.place_record-requires-clause-blank
-place_record-requires-clause-blank g c = λ m below.
-    let old = g.F.Flash.device c.args.flash.now in
-    let fits : m < c.args.geometry.pages = let h = c.requires.in_block in omega arith in
-    let at : c.args.anchor * c.args.geometry.pages + 0 + m ≡ c.args.anchor * c.args.geometry.pages + m = omega arith in
-    c.in_ok-erase_anchor.ensures.erased c.if-not-branch.false (c.args.anchor * c.args.geometry.pages + 0 + m)
-    (ap (λ (h : Geometry). (c.args.anchor * c.args.geometry.pages + 0 + m) / h.pages) c.requires.same ∙ ap (λ q. q / c.args.geometry.pages) at ∙ div-mul-add c.args.anchor c.args.geometry.pages m fits)
+place_record-requires-clause-blank g c = λ m from below.
+    c.in_ok-erase_anchor.ensures.erased c.if-not-branch.false (c.args.anchor * c.args.geometry.pages + m)
+    (ap (λ (h : Geometry). (c.args.anchor * c.args.geometry.pages + m) / h.pages) c.requires.same ∙ div-mul-add c.args.anchor c.args.geometry.pages m below)
 
 pub place_record-requires-clause-older : goal.place_record-requires-clause-older
 place_record-requires-clause-older g c = λ q head lt valid. c.requires.older q head lt ((keeps g (goal.at.place_record-requires-clause-older g c).After-erase_anchor).heads q head valid)

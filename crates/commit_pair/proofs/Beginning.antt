@@ -1,0 +1,170 @@
+-- Where a commit begins, and what is remembered after one that was refused.
+use Rattle.std.proofs.Common.{◌≡◌, ◌≢◌, ℕ, ◌+◌, ◌*◌, ◌/◌, ◌<◌, ◌≤◌, false, Option, Some, None, Result, Err, refl, sym, ap, subst, ◌∙◌, inl, inr, arith}
+use Rattle.std.specs.FinSet as set
+use Rattle.std.specs.Ordering.{nat_cmp}
+use Rattle.std.proofs.lemmas.Bool.{both_ways}
+use Rattle.std.proofs.lemmas.Nat.{div-mul-add, div_below}
+use Rattle.std.specs.Option.{option_map}
+use Rattle.record_format.specs.Payloads.{payload_at}
+use Rattle.fs_types.specs.declared.faults.Fault.{Fault}
+use Rattle.fs_types.specs.declared.faults.Fault.TheVariants.{PowerCut}
+use Rattle.flash_model.specs.declared.sizes.Geometry.{Geometry}
+use Rattle.flash_model.specs.Geometry.{IsGeometry}
+use Rattle.flash_model.specs.Device.{Device, Page, erased, block_of}
+use Rattle.record_format.specs.declared.records.Record.{Record}
+use Rattle.commit_pair.specs.declared.best.Found.{Found}
+use Rattle.commit_pair.specs.declared.anchors.Anchors.{Anchors}
+use Rattle.commit_pair.specs.Parts.{first_data, Entry, part_of, parts_on, newest_at, newest_on, greatest_on}
+use Rattle.commit_pair.specs.Reading.{OnlyReads, IsEnd}
+use Rattle.commit_pair.specs.Anchored.{OnlyAnchors}
+use Rattle.commit_pair.specs.Keeping.{Keeps, AreOlder, Spares}
+use Rattle.commit_pair.specs.Committing.{IsLowest, Commits, Untouched}
+use Rattle.commit_pair.specs.Remembering.{KnowsNewest, KnowsErased, MayCommit, begins, BeginsAt}
+use Rattle.commit_pair.specs.Following.{StillMayCommit, CommittedIsNewest}
+use Rattle.commit_pair.proofs.Following.{was_good}
+use Rattle.commit_pair.proofs.NewestLaws.{found_is_newest, greatest_most, same_place}
+use Rattle.commit_pair.proofs.Places.{anchor_below}
+
+at_newest : (g : Geometry) (bad : set.FinSet nat_cmp) (end : ℕ) (o : Option Found) (home place : ℕ) (found : Found) → o ≡ Some found → begins g bad end o home place → (home ≡ found.page / g.pages) × (place ≡ end)
+at_newest g bad end o home place found is b = subst (λ (o : Option Found). begins g bad end o home place) is b
+
+at_lowest : (g : Geometry) (bad : set.FinSet nat_cmp) (end : ℕ) (o : Option Found) (home place : ℕ) → o ≡ None → begins g bad end o home place → IsLowest bad home × (place ≡ 0)
+at_lowest g bad end o home place is b = subst (λ (o : Option Found). begins g bad end o home place) is b
+
+module _ (d : Device) (g : Geometry) (bad : set.FinSet nat_cmp) (anchors : Anchors) (home place : ℕ) (same : d.geometry ≡ g) (lawful : IsGeometry g) (ready : MayCommit d bad anchors) (at : BeginsAt g bad anchors home place) where
+  place_on : (k : KnowsNewest d bad anchors) → newest_at g (parts_on g d.pages) ≡ Some k.found
+  place_on k = subst (λ (h : Geometry). newest_at h (parts_on h d.pages) ≡ Some k.found) same k.place
+
+  end_on : (k : KnowsNewest d bad anchors) → set.contains bad (k.found.page / g.pages) ≡ false → IsEnd g d.pages (k.found.page / g.pages) g.pages anchors.end
+  end_on k = subst (λ (h : Geometry). set.contains bad (k.found.page / h.pages) ≡ false → IsEnd h d.pages (k.found.page / h.pages) h.pages anchors.end) same k.end
+
+  erased_on : KnowsErased d bad anchors → (p : ℕ) → p / g.pages < first_data → set.contains bad (p / g.pages) ≡ false → d.pages p ≡ erased
+  erased_on k p = subst (λ (h : Geometry). p / h.pages < first_data → set.contains bad (p / h.pages) ≡ false → d.pages p ≡ erased) same (k.erased p)
+
+  pub begins_below : home < first_data
+  begins_below = elim ready [
+    | inl k ↦
+        let is = at_newest g bad anchors.end anchors.newest home place k.found k.here at in
+        subst (λ b. b < first_data) (sym is.0) (anchor_below g k.found.page lawful (found_is_newest g (parts_on g d.pages) k.found (place_on k)).within)
+    | inr k ↦ (at_lowest g bad anchors.end anchors.newest home place k.none at).0.below
+  ]
+
+  pub begins_blank : set.contains bad home ≡ false → (m : ℕ) → place ≤ m → m < g.pages → d.pages (home * g.pages + m) ≡ erased
+  begins_blank good m from below = elim ready [
+    | inl k ↦
+        let is = at_newest g bad anchors.end anchors.newest home place k.found k.here at in
+        let end = end_on k (ap (set.contains bad) (sym is.0) ∙ good) in
+        let after : anchors.end ≤ m = let e = is.1 in omega arith in
+        ap (λ b. d.pages (b * g.pages + m)) is.0 ∙ end.blank m after below
+    | inr k ↦
+        let block : (home * g.pages + m) / g.pages ≡ home = div-mul-add home g.pages m below in
+        erased_on k (home * g.pages + m) (subst (λ b. b < first_data) (sym block) begins_below) (ap (set.contains bad) block ∙ good)
+  ]
+
+  pub begins_spares : (b : ℕ) → b < first_data → b ≢ home → set.contains bad b ≡ false → Spares g d.pages b
+  begins_spares b lt apart good = elim ready [
+    | inl k ↦
+        let is = at_newest g bad anchors.end anchors.newest home place k.found k.here at in
+        inl (k.found, place_on k, λ here. apart (sym here ∙ sym is.0))
+    | inr k ↦ inr (λ p here. ap part_of (erased_on k p (subst (λ c. c < first_data) (sym here) lt) (ap (set.contains bad) here ∙ good)))
+  ]
+
+-- a sequence above the greatest is above all
+pub above_all : (g : Geometry) (old mid : ℕ → Page) (n : ℕ) → mid ≡ old → n ≡ greatest_on g old → AreOlder g mid (n + 1)
+above_all g old mid n same is = subst (λ (pages : ℕ → Page). AreOlder g pages (n + 1)) (sym same) (λ q head lt valid. let most = greatest_most g old q head lt valid in omega arith)
+
+-- reads alone
+pub reads_only_anchors : (d e : Device) (bad : set.FinSet nat_cmp) → OnlyReads d e → OnlyAnchors d bad e bad
+reads_only_anchors d e bad reads = record {
+  geometry = reads.geometry;
+  data_pages = λ p from i. (reads.pages i) p;
+  stays_bad = λ b is. is;
+  bad_anchor = λ b is good. absurd (both_ways (set.contains bad b) good is);
+  bad_worn = λ b is good. absurd (both_ways (set.contains bad b) good is);
+  worn = λ b was. reads.worn b ∙ was;
+  failures = let h = reads.failures in omega arith;
+  failed_reads = reads.failed_reads;
+  cuts = reads.cuts;
+  was_on = reads.was_on;
+  stays_off = reads.stays_off;
+  list_off = λ off. refl;
+}
+
+pub reads_untouched : (d e : Device) (bad : set.FinSet nat_cmp) → OnlyReads d e → Untouched d bad e
+reads_untouched d e bad reads p good = λ i. (reads.pages i) p
+
+-- ---- after a refusal
+
+ends_still : (g : Geometry) (was now : ℕ → Page) (anchor end : ℕ) → ((m : ℕ) → m < g.pages → now (anchor * g.pages + m) ≡ was (anchor * g.pages + m)) → IsEnd g was anchor g.pages end → IsEnd g now anchor g.pages end
+ends_still g was now anchor end same is = record {
+  within = is.within;
+  blank = λ m from below. same m below ∙ is.blank m from below;
+  last = λ m at blank. is.last m at (sym (same m (let w = is.within in omega arith)) ∙ blank);
+}
+
+kept : (was now : ℕ → Page) (r : Record) (sequence : ℕ) (bad : set.FinSet nat_cmp) (fault : Fault) → fault ≢ PowerCut → Commits {T = Found} was now r sequence bad (Err fault) → Keeps r.geometry was now
+kept was now r sequence bad PowerCut on is = absurd (on refl)
+kept was now r sequence bad _ on is = is
+
+-- a commit may follow one that was refused while power is on
+pub may_follow : (old new : Device) (was now : set.FinSet nat_cmp) (anchors : Anchors) (r : Record) (sequence : ℕ) (fault : Fault) → old.geometry ≡ r.geometry → OnlyAnchors old was new now
+    → fault ≢ PowerCut → Commits {T = Found} old.pages new.pages r sequence now (Err fault) → Untouched old now new → MayCommit old was anchors → MayCommit new now anchors
+may_follow old new was now anchors r sequence fault same only on is untouched ready =
+    let keeps : Keeps old.geometry old.pages new.pages = subst (λ (h : Geometry). Keeps h old.pages new.pages) (sym same) (kept old.pages new.pages r sequence now fault on is) in
+    elim ready [
+      | inl k ↦ inl (record {
+        found = k.found;
+        here = k.here;
+        place = subst (λ (h : Geometry). newest_at h (parts_on h new.pages) ≡ Some k.found) (sym only.geometry) (keeps.place ∙ k.place);
+        end = subst (λ (h : Geometry). set.contains now (k.found.page / h.pages) ≡ false → IsEnd h new.pages (k.found.page / h.pages) h.pages anchors.end) (sym only.geometry) (λ good.
+            ends_still old.geometry old.pages new.pages (k.found.page / old.geometry.pages) anchors.end
+            (λ m below. untouched (k.found.page / old.geometry.pages * old.geometry.pages + m) (ap (set.contains now) (div-mul-add (k.found.page / old.geometry.pages) old.geometry.pages m below) ∙ good))
+            (k.end (was_good was now (k.found.page / old.geometry.pages) only.stays_bad good)));
+      })
+      | inr k ↦ inr (record {
+        none = k.none;
+        cleared = k.cleared;
+        erased = λ p lt good.
+            let block : block_of old p ≡ block_of new p = sym (ap (λ (h : Geometry). p / h.pages) only.geometry) in
+            let still : set.contains now (block_of old p) ≡ false = ap (set.contains now) block ∙ good in
+            untouched p still ∙ k.erased p (subst (λ b. b < first_data) (sym block) lt) (was_good was now (block_of old p) only.stays_bad still);
+      })
+    ]
+
+-- ---- the laws
+
+pub still_may_commit : StillMayCommit
+still_may_commit old new was now anchors same pages stays ready = elim ready [
+  | inl k ↦
+      let g = old.geometry in
+      let home = k.found.page / old.geometry.pages in
+      let within : k.found.page < first_data * g.pages = (found_is_newest g (parts_on g old.pages) k.found k.place).within in
+      let anchor : home < first_data = div_below k.found.page g.pages first_data (omega arith) within in
+      let still : (m : ℕ) → m < g.pages → new.pages (home * g.pages + m) ≡ old.pages (home * g.pages + m) =
+      λ m below. pages (home * g.pages + m) (subst (λ b. b < first_data) (sym (div-mul-add home g.pages m below)) anchor) in
+      inl (record {
+        found = k.found;
+        here = k.here;
+        place = subst (λ (h : Geometry). newest_at h (parts_on h new.pages) ≡ Some k.found) (sym same) (same_place g old.pages new.pages pages ∙ k.place);
+        end = subst (λ (h : Geometry). set.contains now (k.found.page / h.pages) ≡ false → IsEnd h new.pages (k.found.page / h.pages) h.pages anchors.end) (sym same) (λ good.
+            ends_still g old.pages new.pages home anchors.end still (k.end (was_good was now home stays good)));
+      })
+  | inr k ↦ inr (record {
+    none = k.none;
+    cleared = k.cleared;
+    erased = λ p lt good.
+        let block : block_of old p ≡ block_of new p = sym (ap (λ (h : Geometry). p / h.pages) same) in
+        let lt_old : block_of old p < first_data = subst (λ b. b < first_data) (sym block) lt in
+        pages p lt_old ∙ k.erased p lt_old (was_good was now (block_of old p) stays (ap (set.contains now) block ∙ good));
+  })
+]
+
+pub committed_is_newest : CommittedIsNewest
+committed_is_newest d r sequence bad same is = (
+  is.means.list,
+  is.means.ascends,
+  is.means.listed,
+  ap (λ (h : Geometry). option_map (λ (entry : Entry). payload_at h entry.sequence entry.payload) (newest_on h d.pages)) same
+      ∙ ap (option_map (λ (entry : Entry). payload_at r.geometry entry.sequence entry.payload)) is.newest
+      ∙ ap (λ (x : Result Record Fault). Some x) is.means.means,
+)

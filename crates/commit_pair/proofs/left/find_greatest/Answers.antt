@@ -1,0 +1,22 @@
+use Rattle.std.proofs.Common.{ℕ, ap, ◌∙◌}
+use Rattle.flash_model.specs.Device.{Page}
+use Rattle.commit_pair.specs.Parts.{parts_on, record_head}
+use Rattle.commit_pair.specs.Reading.{OnlyReads_itself, OnlyReads_on}
+use Rattle.commit_pair.proofs.ReadParts.{best_none, best_more}
+use Rattle.commit_pair.proofs.left.find_greatest.Goals as goal
+
+pub loop-page-init : goal.loop-page-init
+loop-page-init g c = record {
+  only_reads = OnlyReads_itself (g.F.Flash.device c.args.flash.now);
+  best = best_none c.args.geometry (parts_on c.args.geometry (g.F.Flash.device c.args.flash.now).pages);
+}
+
+pub loop-page-preserved : goal.loop-page-preserved
+loop-page-preserved g c =
+    let old = g.F.Flash.device c.args.flash.now in
+    let mid = g.F.Flash.device c.loop-page.flash in
+    record {
+      only_reads = OnlyReads_on old mid (g.F.Flash.device c.read_left_head.new.flash) c.loop-page.invariant.only_reads c.in_ok-head.ensures.only_reads;
+      best = best_more c.args.geometry (parts_on c.args.geometry old.pages) c.loop-page.page c.loop-page.best c.considered-best.result c.in_ok-head.head c.loop-page.invariant.best
+          (c.in_ok-head.ensures.head ∙ ap (λ (pages : ℕ → Page). record_head c.args.geometry (parts_on c.args.geometry pages) c.loop-page.page) c.loop-page.invariant.only_reads.pages) c.considered-best.ensures;
+    }

@@ -1,0 +1,31 @@
+use Rattle.commit_pair.proofs.Anchoring.{OnlyAnchors_on}
+use Rattle.commit_pair.proofs.Following.{spared, older_on, Commits_on, refused_on}
+use Rattle.commit_pair.proofs.ring.commit_from.Goals as goal
+
+pub commit_next-requires-clause-spares : goal.commit_next-requires-clause-spares
+commit_next-requires-clause-spares g c = λ b lt apart.
+    let old = g.F.Flash.device c.args.flash.now in
+    let mid = g.F.Flash.device c.commit_after.new.flash in
+    let first = c.in_ok-tried.ensures in
+    spared old mid c.args.bad.now c.commit_after.new.bad c.args.saved.now.geometry b c.requires.same first.only_anchors (rw c.in_default.is at first.attempts) (rw c.in_default.is at first.untouched)
+    (c.requires.spares b lt apart)
+
+pub commit_next-requires-clause-older : goal.commit_next-requires-clause-older
+commit_next-requires-clause-older g c =
+    older_on c.args.saved.now.geometry (g.F.Flash.device c.args.flash.now).pages (g.F.Flash.device c.commit_after.new.flash).pages c.args.sequence (rw c.in_default.is at c.in_ok-tried.ensures.attempts) c.requires.older
+
+pub returns-clause-commits : goal.returns-clause-commits
+returns-clause-commits g c =
+    Commits_on (g.F.Flash.device c.args.flash.now).pages (g.F.Flash.device c.commit_after.new.flash).pages (g.F.Flash.device c.commit_next.new.flash).pages c.args.saved.now c.args.sequence c.commit_next.new.bad c.commit_next.result
+    (rw c.in_default.is at c.in_ok-tried.ensures.attempts) c.commit_next.ensures.commits
+
+pub returns-clause-only_anchors : goal.returns-clause-only_anchors
+returns-clause-only_anchors g c =
+    OnlyAnchors_on (g.F.Flash.device c.args.flash.now) (g.F.Flash.device c.commit_after.new.flash) (g.F.Flash.device c.commit_next.new.flash) c.args.bad.now c.commit_after.new.bad c.commit_next.new.bad
+    c.in_ok-tried.ensures.only_anchors c.commit_next.ensures.only_anchors
+
+pub returns-clause-untouched : goal.returns-clause-untouched
+returns-clause-untouched g c =
+    let first = c.in_ok-tried.ensures in
+    refused_on (g.F.Flash.device c.args.flash.now) (g.F.Flash.device c.commit_after.new.flash) (g.F.Flash.device c.commit_next.new.flash) c.args.bad.now c.commit_after.new.bad c.commit_next.new.bad c.commit_next.result
+    first.only_anchors c.commit_next.ensures.only_anchors (rw c.in_default.is at first.untouched) c.commit_next.ensures.untouched

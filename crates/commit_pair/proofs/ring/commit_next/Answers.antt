@@ -1,0 +1,65 @@
+use Rattle.std.proofs.Common.{◌+◌, ◌%◌, arith}
+use Rattle.std.proofs.lemmas.Result.{err_from_is_err_and}
+use Rattle.commit_pair.proofs.Anchoring.{OnlyAnchors_on}
+use Rattle.commit_pair.proofs.Sparing.{Keeps_on}
+use Rattle.commit_pair.proofs.Following.{Untouched_on, spared, older_on, cut_attempt, either_on, one_more_tried, next_is, all_tried}
+use Rattle.commit_pair.proofs.ring.commit_next.Goals as goal
+
+pub commit_anew-requires-clause-spares : goal.commit_anew-requires-clause-spares
+commit_anew-requires-clause-spares g c =
+    let old = g.F.Flash.device c.args.flash.now in
+    let mid = g.F.Flash.device c.loop-step.flash in
+    let so_far = c.loop-step.invariant in
+    let anchor = (c.args.home + c.loop-step.step) % 8 in
+    spared old mid c.args.bad.now c.loop-step.bad c.args.saved.now.geometry anchor c.requires.same so_far.only_anchors so_far.keeps so_far.untouched
+    (c.requires.spares anchor (omega arith) (λ e. absurd (let t = c.loop-step-test.true in let s = c.loop-step.auto.step in let h = c.requires.home in omega arith)))
+
+pub commit_anew-requires-clause-older : goal.commit_anew-requires-clause-older
+commit_anew-requires-clause-older g c =
+    older_on c.args.saved.now.geometry (g.F.Flash.device c.args.flash.now).pages (g.F.Flash.device c.loop-step.flash).pages c.args.sequence c.loop-step.invariant.keeps c.requires.older
+
+pub returns-in_err-tried-clause-commits : goal.returns-in_err-tried-clause-commits
+returns-in_err-tried-clause-commits g c =
+    let p = err_from_is_err_and c.from_residual.result c.from_residual.ensures.1 in
+    let old = g.F.Flash.device c.args.flash.now in
+    let mid = g.F.Flash.device c.loop-step.flash in
+    let new = g.F.Flash.device c.commit_anew.new.flash in
+    rw (p.1, p.2, c.in_err-tried.ensures.why.0) (either_on old.pages mid.pages new.pages c.args.saved.now c.args.sequence c.commit_anew.new.bad c.loop-step.invariant.keeps
+    (cut_attempt mid.pages new.pages c.args.saved.now c.args.sequence c.commit_anew.new.bad c.in_err-tried.field-0.0 c.in_err-tried.ensures.attempts))
+
+pub returns-in_err-tried-clause-only_anchors : goal.returns-in_err-tried-clause-only_anchors
+returns-in_err-tried-clause-only_anchors g c =
+    OnlyAnchors_on (g.F.Flash.device c.args.flash.now) (g.F.Flash.device c.loop-step.flash) (g.F.Flash.device c.commit_anew.new.flash) c.args.bad.now c.loop-step.bad c.commit_anew.new.bad
+    c.loop-step.invariant.only_anchors c.in_err-tried.ensures.only_anchors
+
+pub returns-in-Some-clause-next : goal.returns-in-Some-clause-next
+returns-in-Some-clause-next g c = (
+  (c.args.home + c.loop-step.step) % 8,
+  rw c.in-Some.is at c.in_ok-tried.ensures.place,
+  next_is c.loop-step.bad c.commit_anew.new.bad c.args.home c.loop-step.step (rw c.in-Some.is at c.in_ok-tried.ensures.list) (let s = c.loop-step.auto.step in omega arith) c.loop-step-test.true
+      (rw c.in-Some.is at c.in_ok-tried.ensures.good) c.loop-step.invariant.tried,
+)
+
+pub returns-in-Some-clause-only_anchors : goal.returns-in-Some-clause-only_anchors
+returns-in-Some-clause-only_anchors g c =
+    OnlyAnchors_on (g.F.Flash.device c.args.flash.now) (g.F.Flash.device c.loop-step.flash) (g.F.Flash.device c.commit_anew.new.flash) c.args.bad.now c.loop-step.bad c.commit_anew.new.bad
+    c.loop-step.invariant.only_anchors c.in_ok-tried.ensures.only_anchors
+
+pub loop-step-preserved : goal.loop-step-preserved
+loop-step-preserved g c =
+    let old = g.F.Flash.device c.args.flash.now in
+    let mid = g.F.Flash.device c.loop-step.flash in
+    let new = g.F.Flash.device c.commit_anew.new.flash in
+    let so_far = c.loop-step.invariant in
+    let now = c.in_ok-tried.ensures in
+    record {
+      only_anchors = OnlyAnchors_on old mid new c.args.bad.now c.loop-step.bad c.commit_anew.new.bad so_far.only_anchors now.only_anchors;
+      keeps = Keeps_on c.args.saved.now.geometry old.pages mid.pages new.pages so_far.keeps (rw c.in_default.is at now.attempts);
+      untouched = Untouched_on old mid new c.args.bad.now c.loop-step.bad c.commit_anew.new.bad so_far.only_anchors now.only_anchors so_far.untouched (rw c.in_default.is at now.untouched);
+      tried = one_more_tried c.loop-step.bad c.commit_anew.new.bad c.args.home c.loop-step.step now.only_anchors.stays_bad so_far.tried (rw c.in_default.is at now.refused);
+      room = now.room;
+    }
+
+pub returns-clause-why : goal.returns-clause-why
+returns-clause-why g c =
+    all_tried c.loop-step.bad c.args.home c.requires.home (λ k some lt. c.loop-step.invariant.tried k some (let h = c.loop-step-test.false in omega arith))

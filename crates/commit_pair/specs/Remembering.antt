@@ -1,0 +1,59 @@
+-- What is remembered of the anchors from call to call, and what a commit makes of it.
+use Rattle.std.specs.Prelude.{◌≡◌, ◌⊎◌, ℕ, ◌/◌, ◌-◌, ◌^◌, ◌<◌, true, false, Option, Some, None}
+use Rattle.std.specs.FinSet as set
+use Rattle.std.specs.Ordering.{nat_cmp}
+use Rattle.fs_types.specs.declared.faults.Fault.{Fault}
+use Rattle.fs_types.specs.declared.faults.Fault.TheVariants.{ReadOnly, Overflow, ReadFailed, PowerCut, NoMemory}
+use Rattle.flash_model.specs.declared.sizes.Geometry.{Geometry}
+use Rattle.flash_model.specs.Device.{Device}
+use Rattle.record_format.specs.declared.records.Record.{Record}
+use Rattle.commit_pair.specs.declared.best.Found.{Found}
+use Rattle.commit_pair.specs.declared.anchors.Anchors.{Anchors}
+use Rattle.commit_pair.specs.Parts.{first_data, parts_on, newest_at, greatest_on}
+use Rattle.commit_pair.specs.Reading.{IsEnd}
+use Rattle.commit_pair.specs.Anchored.{AreErased}
+use Rattle.commit_pair.specs.Newest.{remembered, IsCleared}
+use Rattle.commit_pair.specs.Committing.{is_read_only, IsLowest, GoesTo}
+
+-- the place of the newest record is remembered, and, while its anchor is not bad, where that ends
+pub record KnowsNewest (d : Device) (bad : set.FinSet nat_cmp) (anchors : Anchors) : Type 0 where
+  pub found : Found
+  pub here : remembered anchors ≡ Some found
+  pub place : newest_at d.geometry (parts_on d.geometry d.pages) ≡ Some found
+  pub end : set.contains bad (found.page / d.geometry.pages) ≡ false → IsEnd d.geometry d.pages (found.page / d.geometry.pages) d.geometry.pages anchors.end
+
+-- no record was committed since the anchors were cleared: those that are not bad are erased
+pub record KnowsErased (d : Device) (bad : set.FinSet nat_cmp) (anchors : Anchors) : Type 0 where
+  pub none : remembered anchors ≡ None
+  pub cleared : IsCleared anchors
+  pub erased : AreErased d bad first_data
+
+-- a commit may follow
+abbrev pub MayCommit : Device → set.FinSet nat_cmp → Anchors → Type 0
+MayCommit d bad anchors = KnowsNewest d bad anchors ⊎ KnowsErased d bad anchors
+
+-- a commit begins at the end of the newest record's anchor, or, after the anchors were cleared, on the first page of the lowest that is not bad
+abbrev pub begins : Geometry → set.FinSet nat_cmp → ℕ → Option Found → ℕ → ℕ → Type 0
+begins g bad end None home place = IsLowest bad home × (place ≡ 0)
+begins g bad end (Some found) home place = (home ≡ found.page / g.pages) × (place ≡ end)
+
+abbrev pub BeginsAt : Geometry → set.FinSet nat_cmp → Anchors → ℕ → ℕ → Type 0
+BeginsAt g bad anchors home place = begins g bad anchors.end anchors.newest home place
+
+-- the newest record is where a commit from there puts it
+pub record IsPlaced (old : Device) (was : set.FinSet nat_cmp) (anchors : Anchors) (r : Record) (new : Device) (now : set.FinSet nat_cmp) : Type 0 where
+  pub home : ℕ
+  pub place : ℕ
+  pub found : Found
+  pub begins_at : BeginsAt old.geometry was anchors home place
+  pub newest : newest_at new.geometry (parts_on new.geometry new.pages) ≡ Some found
+  pub goes : GoesTo r was now home place found.page
+
+-- why a commit is refused. All but the first come only where the list was short enough on entry; of the others power alone may go once something was written
+abbrev pub CommitCause : Device → set.FinSet nat_cmp → Anchors → Device → set.FinSet nat_cmp → Fault → Type 0
+CommitCause old was anchors new now ReadOnly = is_read_only now ≡ true
+CommitCause old was anchors new now PowerCut = new.powered ≡ false
+CommitCause old was anchors new now Overflow = (greatest_on old.geometry old.pages ≡ 2 ^ 64 - 1) × (new.pages ≡ old.pages) × (now ≡ was)
+CommitCause old was anchors new now ReadFailed = (remembered anchors ≡ None) × (old.failed_reads < new.failed_reads) × (new.pages ≡ old.pages) × (now ≡ was)
+CommitCause old was anchors new now NoMemory = (new ≡ old) × (now ≡ was)
+CommitCause old was anchors new now _ = ⊥

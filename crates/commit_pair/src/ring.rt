@@ -1,0 +1,98 @@
+//! Attempts to commit a record on one anchor after the other.
+ghost use Rattle.std.specs.Prelude.{◌≡◌, ◌≢◌, ◌⊎◌, ℕ, ◌+◌, ◌*◌, ◌<◌, ◌≤◌, [], true, false, OnOk, IfOk, IfErr, vec_capacity};
+ghost use Rattle.std.specs.FinSet as set;
+ghost use Rattle.flash_model.specs.Device.{erased};
+ghost use Rattle.flash_model.specs.Geometry.{IsGeometry};
+ghost use Rattle.record_format.specs.Payloads.{is_record};
+ghost use Rattle.commit_pair.specs.Parts.{first_data};
+ghost use Rattle.commit_pair.specs.Anchored.{OnlyAnchors};
+ghost use Rattle.commit_pair.specs.Keeping.{AreOlder, Spares};
+ghost use Rattle.commit_pair.specs.Committing as spec;
+
+use crate::best::Found;
+use crate::committing::{commit_after, commit_anew, is_read_only};
+use crate::parts::FIRST_DATA;
+use bad_blocks::BadBlocks;
+use flash_model::Flash;
+use fs_types::Fault;
+use record_format::Record;
+
+/// Commits a record on the first anchor after `home`, in ring order, that is not bad and does not
+/// fail, and answers where. It is erased first. Those that fail enter the list.
+///
+/// `ReadOnly` as soon as seven anchors or 256 blocks are in the list, `PowerCut` where power is off.
+pub(crate) fn commit_next<F: Flash>(
+    flash: &mut F,
+    bad: &mut BadBlocks,
+    home: u32,
+    sequence: u64,
+    saved: &Record,
+    page: &mut Vec<u8>,
+) -> Result<Found, Fault>
+    requires same { (F.device flash.old).geometry ≡ saved.now.geometry }
+    requires lawful { IsGeometry saved.now.geometry }
+    requires is_lawful { is_record (record saved.now { bad = [] }) ≡ true }
+    requires on_flash { (b : ℕ) → set.contains bad.old b ≡ true → b < saved.now.geometry.blocks }
+    requires home { home < first_data }
+    requires spares { (b : ℕ) → b < first_data → b ≢ home → set.contains bad.old b ≡ false → Spares saved.now.geometry (F.device flash.old).pages b }
+    requires older { AreOlder saved.now.geometry (F.device flash.old).pages sequence }
+    requires room { saved.now.geometry.page ≤ vec_capacity page.old }
+    ensures commits { spec.Commits (F.device flash.old).pages (F.device flash.new).pages saved.now sequence bad.new result }
+    ensures stands { IfOk result (spec.Stands (F.device flash.new).pages saved.now) }
+    ensures next { IfOk result (λ found. (anchor : ℕ) × (found.page ≡ anchor * saved.now.geometry.pages) × spec.IsNext bad.new home anchor) }
+    ensures open { OnOk result (spec.is_read_only bad.new ≡ false) }
+    ensures untouched { IfErr result (λ fault. fault ≢ Fault.PowerCut → spec.Untouched (F.device flash.old) bad.new (F.device flash.new)) }
+    ensures only_anchors { OnlyAnchors (F.device flash.old) bad.old (F.device flash.new) bad.new }
+    ensures why { IfErr result (spec.TryCause (F.device flash.new) bad.new) }
+{
+    for step in 1..FIRST_DATA {
+        if is_read_only(bad) {
+            return Err(Fault::ReadOnly);
+        }
+        let anchor = (home + step) % FIRST_DATA;
+        let tried = commit_anew(flash, bad, anchor, sequence, saved, page)?;
+        if let Some(found) = tried {
+            return Ok(found);
+        }
+    }
+    Err(Fault::ReadOnly)
+}
+
+/// Commits a record after the end of its home, where that is not bad and has room; else on the next
+/// anchor that is not bad, which is erased first. Answers where; those that fail enter the list.
+///
+/// `ReadOnly` as soon as seven anchors or 256 blocks are in the list, `PowerCut` where power is off.
+pub(crate) fn commit_from<F: Flash>(
+    flash: &mut F,
+    bad: &mut BadBlocks,
+    home: u32,
+    place: u32,
+    sequence: u64,
+    saved: &Record,
+    page: &mut Vec<u8>,
+) -> Result<Found, Fault>
+    requires same { (F.device flash.old).geometry ≡ saved.now.geometry }
+    requires lawful { IsGeometry saved.now.geometry }
+    requires is_lawful { is_record (record saved.now { bad = [] }) ≡ true }
+    requires on_flash { (b : ℕ) → set.contains bad.old b ≡ true → b < saved.now.geometry.blocks }
+    requires home { home < first_data }
+    requires in_block { set.contains bad.old home ≡ false → place ≤ saved.now.geometry.pages }
+    requires blank { set.contains bad.old home ≡ false → (m : ℕ) → place ≤ m → m < saved.now.geometry.pages → (F.device flash.old).pages (home * saved.now.geometry.pages + m) ≡ erased }
+    requires spares { (b : ℕ) → b < first_data → b ≢ home → set.contains bad.old b ≡ false → Spares saved.now.geometry (F.device flash.old).pages b }
+    requires older { AreOlder saved.now.geometry (F.device flash.old).pages sequence }
+    requires open { spec.is_read_only bad.old ≡ false }
+    requires room { saved.now.geometry.page ≤ vec_capacity page.old }
+    ensures commits { spec.Commits (F.device flash.old).pages (F.device flash.new).pages saved.now sequence bad.new result }
+    ensures stands { IfOk result (spec.Stands (F.device flash.new).pages saved.now) }
+    ensures goes { IfOk result (λ found. spec.GoesTo saved.now bad.old bad.new home place found.page) }
+    ensures open { OnOk result (spec.is_read_only bad.new ≡ false) }
+    ensures untouched { IfErr result (λ fault. fault ≢ Fault.PowerCut → spec.Untouched (F.device flash.old) bad.new (F.device flash.new)) }
+    ensures only_anchors { OnlyAnchors (F.device flash.old) bad.old (F.device flash.new) bad.new }
+    ensures why { IfErr result (spec.TryCause (F.device flash.new) bad.new) }
+{
+    let tried = commit_after(flash, bad, home, place, sequence, saved, page)?;
+    if let Some(found) = tried {
+        return Ok(found);
+    }
+    commit_next(flash, bad, home, sequence, saved, page)
+}

@@ -14,6 +14,7 @@ use Rattle.allocator.specs.Ring.{Ring}
 use Rattle.node_format.specs.Headers.{body_front}
 use Rattle.node_format.specs.declared.places.Place.TheVariants.{Dir}
 use Rattle.node_store.specs.NodePages.{node_of}
+use Rattle.node_store.specs.declared.storage.Storage as parts
 use Rattle.node_store.specs.Storage.{Storage, is_kept, Evolved}
 use Rattle.node_store.specs.StorageLaws.{Evolved_itself, Evolved_on, Untouched_evolved, Untouched_on}
 use Rattle.node_store.specs.StoreLaws.{Evolved_node}
@@ -21,6 +22,7 @@ use Rattle.block_trees.specs.Laws.{FrameLaw}
 use Rattle.block_trees.specs.Reached.{Keeps}
 use Rattle.block_trees.specs.Trees.{IsRoot, root_tree}
 use Rattle.block_trees.proofs.Frames.{frame_law}
+use Rattle.undofs.specs.Changes.{HasLooked}
 use Rattle.undofs.specs.Seen.{room_of, tree_on, seen_on, machine_on}
 use Rattle.undofs.specs.Steps.{IsLater}
 use Rattle.undofs.specs.Mounted.{IsStanding, IsMounted, HasRoot, KeepsPages}
@@ -79,6 +81,10 @@ root_stands d ring h root all (inl has) = All-contains (IsStanding d ring) (map 
 root_stands d ring h root all (inr has) = All-contains (IsStanding d ring) (map (λ x. x.1) h.checkpoints) root (All-map (IsStanding d ring) (λ (x : Name × ℕ). x.1) h.checkpoints all.checkpoints) has
 
 -- States.
+
+-- a look at nodes leaves the rest of the state
+pub looked_at : (d : Device) (s : State) (e : Device) (st : parts.Storage) → HasLooked d s.storage e st → IsLooked d s e (record s { storage = st })
+looked_at d s e st l = record { untouched = l.untouched; rest = record { page_len = l.page_len; node_room = l.node_room; history = refl; files = refl; is_off = refl } }
 
 pub looked_worked : (d : Device) (s : State) (e : Device) (t : State) → IsLooked d s e t → IsWorked d s e t
 looked_worked d s e t l = record { evolved = Untouched_evolved (storage_on d s) (storage_on e t) l.untouched; rest = l.rest }

@@ -25,6 +25,12 @@ pub record IsReady (device : Device) (storage : Storage) : Type 0 where
   pub page_len : vec_len storage.page ≡ device.geometry.page
   pub node_room : block_bytes device.geometry ≤ vec_capacity storage.node
 
+-- nodes were read: all that is kept is as it was
+pub record HasLooked (old : Device) (s : Storage) (new : Device) (t : Storage) : Type 0 where
+  pub untouched : parts.IsUntouched (parts.storage old s.bad s.ring) (parts.storage new t.bad t.ring)
+  pub page_len : vec_len t.page ≡ vec_len s.page
+  pub node_room : vec_capacity s.node ≤ vec_capacity t.node
+
 -- so many nodes were written at most: kept blocks stay, anchors and kept blocks keep their pages, and a block was taken
 -- for each node at most, and one for each that went bad
 pub record HasWritten (old : Device) (s : Storage) (most : ℕ) (new : Device) (t : Storage) : Type 0 where

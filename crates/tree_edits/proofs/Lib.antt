@@ -1,3 +1,4 @@
 pub mod Lookups
 pub mod NewRoots
 pub mod NewBytes
+pub mod Needs

@@ -1,5 +1,5 @@
 //! Edits carried out.
-ghost use Rattle.std.specs.Prelude.{◌≡◌, ℕ, ◌+◌, ◌-◌, ◌≤◌, IfOk, IfErr};
+ghost use Rattle.std.specs.Prelude.{◌≡◌, ℕ, ◌+◌, ◌-◌, ◌≤◌, Ok, IfOk, IfErr};
 ghost use Rattle.node_format.specs.Headers.{body_front};
 ghost use Rattle.node_format.specs.declared.places.Place.TheVariants.{Dir};
 ghost use Rattle.block_trees.specs.Reached.{IsHeld, Keeps};
@@ -19,7 +19,8 @@ use std::alloc::Global;
 /// writes exactly as many nodes as the edit needs, and reads each directory that is written anew once
 /// more. The old root stays as it was, whatever is answered.
 ///
-/// Refused only with what reads and writes are refused with, and with `NoMemory`.
+/// Refused only with what reads and writes are refused with, and with `NoMemory`. An edit that needs
+/// no node is not refused, and leaves the nodes as they were.
 pub fn apply<N: Nodes>(
     alloc: Global,
     nodes: &mut N,
@@ -34,6 +35,7 @@ pub fn apply<N: Nodes>(
     ensures keeps { Keeps (N.kept nodes.old) (N.node nodes.old) (N.kept nodes.new) (N.node nodes.new) }
     ensures why { IfErr result (λ fault. N.causes nodes.old nodes.new fault) }
     ensures faults { IfErr result IsChangeFault }
+    ensures still { need (N.limit nodes.old - body_front) edit.entry ≡ 0 → (nodes.new ≡ nodes.old) × (result ≡ Ok (source root edit.entry)) }
     ensures written { IfOk result (λ _. N.writes nodes.new ≡ N.writes nodes.old + need (N.limit nodes.old - body_front) edit.entry) }
     ensures writes { N.writes nodes.new ≤ N.writes nodes.old + need (N.limit nodes.old - body_front) edit.entry }
     ensures reads { ReadsFew (N.limit nodes.old - body_front) edit.entry (N.reads nodes.old) (N.reads nodes.new) }

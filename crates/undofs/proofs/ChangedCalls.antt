@@ -1,5 +1,5 @@
 -- What a change leaves: each answer of a call that is a change by an edit.
-use Rattle.std.proofs.Common.{◌≡◌, ℕ, ◌+◌, ◌<◌, ◌≤◌, true, false, Some, None, Result, Ok, Err, refl, sym, ap, subst, ◌∙◌, inl, inr, arith}
+use Rattle.std.proofs.Common.{◌≡◌, ℕ, zero, suc, ◌+◌, ◌<◌, ◌≤◌, true, false, Some, None, Result, Ok, Err, refl, sym, ap, subst, ◌∙◌, inl, inr, arith}
 use Rattle.std.specs.Prelude.{is_some, nat_le, ◌||◌, IfOk, IfErr}
 use Rattle.std.specs.FinSet as set
 use Rattle.history_machine.specs.History.{Past, present_root}
@@ -19,8 +19,10 @@ use Rattle.node_store.specs.Stores.{Follows, Causes}
 use Rattle.node_store.specs.StorageLaws.{Evolved_itself}
 use Rattle.block_trees.specs.Trees.{IsRoot, root_tree}
 use Rattle.tree_edits.specs.declared.edits.Edit.{Edit}
+use Rattle.tree_edits.specs.Edits.{need, source}
 use Rattle.tree_edits.specs.Roots.{IsNewRoot}
-use Rattle.undofs.specs.Changes.{IsReady, HasWritten, edited_tree, IsPushed, ChangeCause, IsChanged}
+use Rattle.directory.specs.Trails.{IsChangeFault}
+use Rattle.undofs.specs.Changes.{IsReady, HasWritten, edited_tree, WorkRefuses, IsPushed, ChangeCause, IsChanged}
 use Rattle.undofs.specs.Mounted.{IsStanding, IsMounted}
 use Rattle.undofs.specs.Opening.{IsAnswered}
 use Rattle.undofs.specs.Seen.{room_of, tree_on, seen_of, seen_on, machine_on, bad_anchors}
@@ -29,7 +31,8 @@ use Rattle.undofs.specs.Worked.{IsWorked, IsLooked, WorkCause}
 use Rattle.undofs.specs.declared.state.State.{State}
 use Rattle.undofs.proofs.ChangeSteps.{makes, later_stands, writing_refuses, HasNewTree, changed_step, changed_mounted}
 use Rattle.undofs.proofs.OpenCalls.{refused_answer}
-use Rattle.undofs.proofs.Standing.{same_room, looked_worked, worked_on, worked_mounted, worked_pages}
+use Rattle.undofs.proofs.Standing.{same_room, looked_worked, worked_on, worked_later, worked_mounted, worked_pages}
+use Rattle.undofs.proofs.Steps.{writes-version}
 
 -- ---- the state as it was
 
@@ -105,9 +108,22 @@ module _ {F : Type 0} (device : F → Device) where
   cause_work s t NoMemory c = tt
   cause_work s t _ c = absurd c.reason
 
-  pub why_result : (s t : Store F) (result : Result ℕ Fault) → IfErr result (λ fault. Causes device s t fault) → IfErr result (λ fault. WorkCause (seen_of (device s.flash.now) s.storage.now) fault (seen_of (device t.flash.now) t.storage.now))
-  why_result s t (Ok to) why = tt
-  why_result s t (Err fault) why = cause_work s t fault why
+  -- what an edit of a store's nodes answers where it needs none
+  abbrev NeedsNone : Store F → Store F → Edit → ℕ → Result ℕ Fault → Type 0
+  NeedsNone s t edit root result = need (room_of (device s.flash.now)) edit ≡ 0 → (t ≡ s) × (result ≡ Ok (source root edit))
+
+  pub refused_result : (s t : Store F) (edit : Edit) (root : ℕ) (result : Result ℕ Fault) → NeedsNone s t edit root result → IfErr result IsChangeFault → IfErr result (λ fault. Causes device s t fault)
+      → IfErr result (λ fault. WorkRefuses (device s.flash.now) s.storage.now edit fault (device t.flash.now) t.storage.now)
+  refused_result s t edit root (Ok to) none faults why = tt
+  refused_result s t edit root (Err fault) none faults why = record { needs = some (need (room_of (device s.flash.now)) edit) none; kind = faults; why = cause_work s t fault why }
+    where
+      some : (n : ℕ) → (n ≡ 0 → (t ≡ s) × (Err fault ≡ Ok (source root edit))) → 0 < n
+      some zero none = let wrong = (none refl).1 in absurd cc
+      some (suc n) none = omega arith
+
+  pub still_result : (s t : Store F) (edit : Edit) (root : ℕ) (result : Result ℕ Fault) → NeedsNone s t edit root result
+      → need (room_of (device s.flash.now)) edit ≡ 0 → (device t.flash.now ≡ device s.flash.now) × (t.storage.now ≡ s.storage.now)
+  still_result s t edit root result none is = (ap (λ (x : Store F). device x.flash.now) (none is).0, ap (λ (x : Store F). x.storage.now) (none is).0)
 
 -- ---- a call that is a change
 
@@ -142,22 +158,25 @@ pushed_answer d s e t f st h files call edit reply most m l by written pushed op
       pages = worked_pages d s f u m all;
     }
 
-cause_refuses : (d : Device) (s : State) (e : Device) (t : State) (f : Device) (st : Storage) (root : ℕ) (call : Call) (made : ℕ → Tree) (reply : Reply) (fault : Fault) → present_root s.history ≡ Some root → IsLooked d s e t
-    → IsChangeBy d s call made reply → ChangeCause e t.history t.storage fault f st → Refuses (seen_on d s) (machine_on d s) call fault (seen_on f (record t { storage = st }))
-cause_refuses d s e t f st root call made reply fault is l by (inl over) =
+cause_refuses : (d : Device) (s : State) (e : Device) (t : State) (f : Device) (st : Storage) (root : ℕ) (call : Call) {edit : Edit} (made : ℕ → Tree) (reply : Reply) (most : ℕ) (fault : Fault) → present_root s.history ≡ Some root → IsLooked d s e t
+    → IsChangeBy d s call made reply → HasWritten e t.storage most f st → ChangeCause e t.history t.storage edit fault f st → Refuses (seen_on d s) (machine_on d s) call fault (seen_on f (record t { storage = st }))
+cause_refuses d s e t f st root call made reply most fault is l by written (inl (inl only)) =
+    inr (subst (λ x. MayRefuse (seen_on d s) (machine_on d s) call x (seen_on f (record t { storage = st }))) (sym only.0)
+    (writes-version (machine_on d s) call (makes (machine_on d s) call by.fine (ap is_some (by.after root is))), (worked_later e t f (record t { storage = st }) (written_worked e t f st most written)).stays_read_only only.1))
+cause_refuses d s e t f st root call made reply most fault is l by written (inl (inr over)) =
     inr (subst (λ x. MayRefuse (seen_on d s) (machine_on d s) call x (seen_on f (record t { storage = st }))) (sym over.0)
     (makes (machine_on d s) call by.fine (ap is_some (by.after root is)), ap (λ (h : Past ℕ). h.next) (sym l.rest.history) ∙ over.1))
-cause_refuses d s e t f st root call made reply fault is l by (inr why) =
-    writing_refuses d s e t f (record t { storage = st }) call fault l by.heavy (makes (machine_on d s) call by.fine (ap is_some (by.after root is))) (by.more (room_of d)) why.0 why.1
+cause_refuses d s e t f st root call made reply most fault is l by written (inr work) =
+    writing_refuses d s e t f (record t { storage = st }) call fault l by.heavy (makes (machine_on d s) call by.fine (ap is_some (by.after root is))) (by.more (room_of d)) work.kind work.why
 
-pub refused_change : (d : Device) (s : State) (e : Device) (t : State) (f : Device) (st : Storage) (h : Past ℕ) (root : ℕ) (call : Call) (made : ℕ → Tree) (reply : Reply) (most : ℕ) (fault : Fault) → IsMounted d s → present_root s.history ≡ Some root
-    → IsLooked d s e t → IsChangeBy d s call made reply → HasWritten e t.storage most f st → (h ≡ t.history) × ChangeCause e t.history t.storage fault f st
+pub refused_change : (d : Device) (s : State) (e : Device) (t : State) (f : Device) (st : Storage) (h : Past ℕ) (root : ℕ) (call : Call) {edit : Edit} (made : ℕ → Tree) (reply : Reply) (most : ℕ) (fault : Fault) → IsMounted d s → present_root s.history ≡ Some root
+    → IsLooked d s e t → IsChangeBy d s call made reply → HasWritten e t.storage most f st → (h ≡ t.history) × ChangeCause e t.history t.storage edit fault f st
     → IsAnswered d s call (Err fault) f (record t { storage = st; history = h }) (is_cut fault)
-refused_change d s e t f st h root call made reply most fault m is l by written ends =
+refused_change d s e t f st h root call {edit} made reply most fault m is l by written ends =
     let u : State = record t { storage = st } in
     let all = worked_on d s e t f u (looked_worked d s e t l) (written_worked e t f st most written) in
     subst (λ (i : Past ℕ). IsAnswered d s call (Err fault) f (record t { storage = st; history = i }) (is_cut fault)) (sym ends.0)
-    (refused_answer d s f u call fault m all (cause_refuses d s e t f st root call made reply fault is l by ends.1))
+    (refused_answer d s f u call fault m all (cause_refuses d s e t f st root call {edit = edit} made reply most fault is l by written ends.1))
 
 -- a change that answers nothing, and leaves the open files
 pub change_answer : (d : Device) (s : State) (e : Device) (t : State) (f : Device) (st : Storage) (h : Past ℕ) (root : ℕ) (call : Call) (edit : Edit) (result : Result (Unit {0}) Fault) → IsMounted d s → present_root s.history ≡ Some root

@@ -12,6 +12,7 @@ pub mod OpenChanges
 pub mod PathCalls
 pub mod Refusals
 pub mod RenameSteps
+pub mod Rollbacks
 pub mod Roots
 pub mod RunLaws
 pub mod Standing

@@ -1,10 +1,10 @@
 -- Changes: an edit of the present tree is written, and its root becomes the present version.
-use Rattle.std.specs.Prelude.{◌≡◌, ◌⊎◌, ℕ, ◌+◌, ◌<◌, ◌≤◌, false, Some, Result, Ok, Err, IfOk, IfErr, vec_len, vec_capacity}
+use Rattle.std.specs.Prelude.{◌≡◌, ◌⊎◌, ℕ, ◌+◌, ◌<◌, ◌≤◌, true, false, Some, Result, Ok, Err, IfOk, IfErr, vec_len, vec_capacity}
 use Rattle.std.specs.FinSet as set
 use Rattle.history_machine.specs.History.{Past, present_root, changed}
 use Rattle.plain_trees.specs.Trees.{Tree}
 use Rattle.fs_types.specs.declared.faults.Fault.{Fault}
-use Rattle.fs_types.specs.declared.faults.Fault.TheVariants.{Overflow}
+use Rattle.fs_types.specs.declared.faults.Fault.TheVariants.{ReadOnly, Overflow}
 use Rattle.flash_model.specs.Device.{Device}
 use Rattle.flash_model.specs.Geometry.{IsGeometry, block_bytes}
 use Rattle.node_store.specs.declared.storage.Storage.{Storage}
@@ -47,14 +47,20 @@ CanApply device storage root edit = IsEditable (room_of device) (node_of device)
 abbrev pub edited_tree : Device → Edit → ℕ → Tree
 edited_tree device edit root = effect (tree_on device) edit (tree_on device root)
 
+-- why the nodes of an edit are not written, of which there is one at least: for what reads and writes are refused
+pub record WorkRefuses (old : Device) (s : Storage) (edit : Edit) (fault : Fault) (new : Device) (t : Storage) : Type 0 where
+  pub needs : 0 < need (room_of old) edit
+  pub kind : IsChangeFault fault
+  pub why : WorkCause (seen_of old s) fault (seen_of new t)
+
 -- an edit of the tree of a root was written, so many nodes at most: the new root stands and has the edited tree, or a
--- read or write was refused for its cause
+-- read or write was refused for its cause; where no node is needed, flash and storage are as they were
 pub record IsTried (old : Device) (s : Storage) (edit : Edit) (root : ℕ) (result : Result ℕ Fault) (new : Device) (t : Storage) : Type 0 where
   pub written : HasWritten old s (need (room_of old) edit) new t
   pub stands : IfOk result (IsStanding new t.ring)
   pub shows : IfOk result (λ to. tree_on new to ≡ edited_tree old edit root)
-  pub why : IfErr result (λ fault. WorkCause (seen_of old s) fault (seen_of new t))
-  pub faults : IfErr result IsChangeFault
+  pub refused : IfErr result (λ fault. WorkRefuses old s edit fault new t)
+  pub still : need (room_of old) edit ≡ 0 → (new ≡ old) × (t ≡ s)
 
 -- a root stands that has the edited tree of the present root, and is the present root now; where read-only mode was on,
 -- or no serial was left, it is not
@@ -68,16 +74,18 @@ pub record IsPushed (old : Device) (h : Past ℕ) (s : Storage) (edit : Edit) (n
   pub writable : is_read_only s.bad ≡ false
   pub serial_left : h.next < last_serial
 
--- why a change is refused: no serial is left, or for what reads and writes of nodes are refused
-abbrev pub ChangeCause : Device → Past ℕ → Storage → Fault → Device → Storage → Type 0
-ChangeCause old h s fault new t = ((fault ≡ Overflow) × (h.next ≡ last_serial)) ⊎ (IsChangeFault fault × WorkCause (seen_of old s) fault (seen_of new t))
+-- why a change is refused: read-only mode is on, no serial is left, or its nodes are not written
+abbrev pub ChangeCause : Device → Past ℕ → Storage → Edit → Fault → Device → Storage → Type 0
+ChangeCause old h s edit fault new t =
+    (((fault ≡ ReadOnly) × (is_read_only s.bad ≡ true)) ⊎ ((fault ≡ Overflow) × (h.next ≡ last_serial))) ⊎ WorkRefuses old s edit fault new t
 
 -- how a change ends: one version more, or the same history
 abbrev pub ChangeEnds : Device → Past ℕ → Storage → Edit → Result (Unit {0}) Fault → Device → Past ℕ → Storage → Type 0
 ChangeEnds old h s edit (Ok x) new i t = IsPushed old h s edit new i t
-ChangeEnds old h s edit (Err fault) new i t = (i ≡ h) × ChangeCause old h s fault new t
+ChangeEnds old h s edit (Err fault) new i t = (i ≡ h) × ChangeCause old h s edit fault new t
 
--- what a change leaves, whatever it answers
+-- what a change leaves, whatever it answers; one that needs no node leaves flash and storage as they were
 pub record IsChanged (old : Device) (h : Past ℕ) (s : Storage) (edit : Edit) (result : Result (Unit {0}) Fault) (new : Device) (i : Past ℕ) (t : Storage) : Type 0 where
   pub written : HasWritten old s (need (room_of old) edit) new t
   pub ends : ChangeEnds old h s edit result new i t
+  pub still : need (room_of old) edit ≡ 0 → (new ≡ old) × (t ≡ s)

@@ -1,5 +1,5 @@
 -- What holds of a flash and the working state on it between calls.
-use Rattle.std.specs.Prelude.{◌≡◌, ◌⊎◌, ◌≤◌, ℕ, false, Result, vec_len, vec_capacity, All, Contains, map, [], ◌∷◌}
+use Rattle.std.specs.Prelude.{◌≡◌, ◌⊎◌, ◌≤◌, ℕ, Result, vec_len, vec_capacity, All, Contains, map, [], ◌∷◌}
 use Rattle.std.specs.FinSet as set
 use Rattle.history_machine.specs.History.{Past}
 use Rattle.history_machine.specs.Machine.{IsMachine}
@@ -14,7 +14,7 @@ use Rattle.node_store.specs.NodePages.{node_of}
 use Rattle.block_trees.specs.Trees.{IsRoot}
 use Rattle.block_trees.specs.Reached.{Reached, IsHeld}
 use Rattle.undofs.specs.Seen.{room_of, seen_on, machine_on}
-use Rattle.undofs.specs.Steps.{replied, is_cut_answer, CallStep}
+use Rattle.undofs.specs.Steps.{CallStep}
 use Rattle.undofs.specs.declared.state.State.{State}
 
 -- a root has a tree, and the ring has all that it reaches as used
@@ -44,11 +44,3 @@ HasRoot h root = Contains (map (λ v. v.root) h.versions) root ⊎ Contains (map
 -- no page changed of a block that a version or a checkpoint reaches
 abbrev pub KeepsPages : Device → Past ℕ → Device → Type 0
 KeepsPages old h new = (root p : ℕ) → HasRoot h root → Reached (node_of old) (root ∷ []) (block_of old p) → new.pages p ≡ old.pages p
-
--- what a call leaves that reads and writes, where none answered before that the power is off: the system is mounted, the
--- call took its step, and no page changed that a version or a checkpoint reaches
-pub record IsCalled (T : Type 0) (old : Device) (s : State) (call : Call) (reply : T → Reply) (result : Result T Fault) (new : Device) (t : State) : Type 0 where
-  pub mounted : IsMounted new t
-  pub step : CallStep (seen_on old s) (machine_on old s) false call (replied reply result) (seen_on new t) (machine_on new t) (is_cut_answer result)
-  pub is_off : t.is_off ≡ s.is_off
-  pub pages : KeepsPages old s.history new

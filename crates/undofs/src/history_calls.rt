@@ -8,12 +8,15 @@ ghost use Rattle.flash_model.specs.Device.{Device};
 ghost use Rattle.undofs.specs.Mounted.{IsMounted, StateStep};
 ghost use Rattle.undofs.specs.Steps.{replied, empty};
 
-use crate::checks::{check_change, check_writable};
+use crate::changes::change;
+use crate::checks::check_writable;
 use crate::state::State;
+use flash_model::Flash;
 use fs_types::{CpName, Fault, Reply, Sequence, Version};
 use history::MAX_CHECKPOINTS;
 use std::alloc::{AllocError, Global};
 use std::collections::BTreeMap;
+use tree_edits::Edit;
 
 impl State {
     /// The version before becomes the present one.
@@ -46,17 +49,24 @@ impl State {
         self.history.goto(serial)
     }
 
-    /// A change to the tree of a checkpoint.
-    pub(crate) fn rollback(&mut self, name: &CpName) -> Result<(), Fault>
-        ensures mounted { (device : Device) → IsMounted device self.old → IsMounted device self.new }
-        ensures step { (device : Device) → StateStep device self.old (Call.Rollback name.now) (replied empty result) device self.new }
+    /// A change to the tree of a checkpoint, which writes no node.
+    pub(crate) fn rollback<F: Flash>(
+        &mut self,
+        alloc: Global,
+        flash: &mut F,
+        name: &CpName,
+    ) -> Result<(), Fault>
+        requires { IsMounted (F.device flash.old) self.old }
+        ensures mounted { IsMounted (F.device flash.new) self.new }
+        ensures step { StateStep (F.device flash.old) self.old (Call.Rollback name.now) (replied empty result) (F.device flash.new) self.new }
+        ensures still { F.device flash.new ≡ F.device flash.old }
+        ensures storage { self.new.storage ≡ self.old.storage }
     {
         self.check_power()?;
         self.check_none_open()?;
         let root = self.history.checkpoint_root(name)?;
-        check_change(&self.history, &self.storage)?;
-        self.history.push(root);
-        Ok(())
+        let edit = Edit::Restore { root };
+        change(alloc, flash, &mut self.history, &mut self.storage, edit)
     }
 
     /// The oldest versions before the present one are dropped.

@@ -10,9 +10,10 @@ ghost use Rattle.node_format.specs.Headers.{body_front};
 ghost use Rattle.node_store.specs.NodePages.{node_of};
 ghost use Rattle.block_trees.specs.Trees.{root_tree, IsRoot};
 ghost use Rattle.skip_list_file.specs.Reading.{is_body_fault};
+ghost use Rattle.undofs.specs.Changes.{IsReady, HasLooked};
 ghost use Rattle.undofs.specs.Mounted.{IsMounted, StateStep};
 ghost use Rattle.undofs.specs.Reading.{file_refusal, IsRead};
-ghost use Rattle.undofs.specs.Seen.{room_of, tree_on, seen_on, machine_on};
+ghost use Rattle.undofs.specs.Seen.{room_of, tree_on, seen_of, seen_on, machine_on};
 ghost use Rattle.undofs.specs.Steps.{replied, is_cut_answer, CallStep};
 ghost use Rattle.undofs.specs.Worked.{IsLooked, WorkCause};
 
@@ -21,7 +22,7 @@ use bitflags::Flags;
 use directory::{Found, lookup};
 use flash_model::Flash;
 use fs_types::{Bytes, Fault, OpenFlags, Path, View};
-use node_store::{Nodes, Store};
+use node_store::{Nodes, Storage, Store};
 use open_files::OpenFiles;
 use skip_list_file::{Body, read_range};
 use std::alloc::Global;
@@ -62,7 +63,7 @@ impl State {
         ensures step { CallStep (seen_on (F.device flash.old) self.old) (machine_on (F.device flash.old) self.old) false (Call.ReadAt view.now path.now offset count) (replied Reply.Bytes result) (seen_on (F.device flash.new) self.new) (machine_on (F.device flash.new) self.new) (is_cut_answer result) }
     {
         let root = self.history.find(view)?;
-        self.read_below(alloc, flash, root, path, offset, count)
+        read_below(alloc, flash, &mut self.storage, root, path, offset, count)
     }
 
     /// The bytes of an open file, from `offset` on, at most `count`.
@@ -97,30 +98,9 @@ impl State {
         ensures looked { IsLooked (F.device flash.old) self.old (F.device flash.new) self.new }
         ensures step { CallStep (seen_on (F.device flash.old) self.old) (machine_on (F.device flash.old) self.old) false (Call.Pread descriptor offset count) (replied Reply.Bytes result) (seen_on (F.device flash.new) self.new) (machine_on (F.device flash.new) self.new) (is_cut_answer result) }
     {
-        let path = readable(&self.files, descriptor)?.clone()?;
+        let path = readable(&self.files, descriptor)?;
         let root = self.history.root();
-        self.read_below(alloc, flash, root, &path, offset, count)
-    }
-
-    /// The bytes of the file that a path below a root leads to, from `offset` on, at most `count`.
-    fn read_below<F: Flash>(
-        &mut self,
-        alloc: Global,
-        flash: &mut F,
-        root: u32,
-        path: &Path,
-        offset: u64,
-        count: u64,
-    ) -> Result<Bytes, Fault>
-        requires mounted { IsMounted (F.device flash.old) self.old }
-        requires rooted { IsRoot (room_of (F.device flash.old)) (node_of (F.device flash.old)) root }
-        ensures looked { IsLooked (F.device flash.old) self.old (F.device flash.new) self.new }
-        ensures read { IfOk result (IsRead (tree_on (F.device flash.old) root) path.now offset count) }
-        ensures refused { IfErr result (λ fault. is_body_fault fault ≡ false → file_refusal (tree_on (F.device flash.old) root) path.now ≡ Some fault) }
-        ensures why { IfErr result (λ fault. is_body_fault fault ≡ true → WorkCause (seen_on (F.device flash.old) self.old) fault (seen_on (F.device flash.new) self.new)) }
-    {
-        let mut store = Store::new(flash, &mut self.storage);
-        read_file(alloc, &mut store, root, path, offset, count)
+        read_below(alloc, flash, &mut self.storage, root, path, offset, count)
     }
 }
 
@@ -136,6 +116,27 @@ fn readable(files: &OpenFiles, descriptor: u64) -> Result<&Path, Fault>
 }
 
 /// The bytes of the file that a path below a root leads to, from `offset` on, at most `count`.
+fn read_below<F: Flash>(
+    alloc: Global,
+    flash: &mut F,
+    storage: &mut Storage,
+    root: u32,
+    path: &Path,
+    offset: u64,
+    count: u64,
+) -> Result<Bytes, Fault>
+    requires ready { IsReady (F.device flash.old) storage.old }
+    requires rooted { IsRoot (room_of (F.device flash.old)) (node_of (F.device flash.old)) root }
+    ensures looked { HasLooked (F.device flash.old) storage.old (F.device flash.new) storage.new }
+    ensures read { IfOk result (IsRead (tree_on (F.device flash.old) root) path.now offset count) }
+    ensures refused { IfErr result (λ fault. is_body_fault fault ≡ false → file_refusal (tree_on (F.device flash.old) root) path.now ≡ Some fault) }
+    ensures why { IfErr result (λ fault. is_body_fault fault ≡ true → WorkCause (seen_of (F.device flash.old) storage.old) fault (seen_of (F.device flash.new) storage.new)) }
+{
+    let mut store = Store::new(flash, storage);
+    read_file(alloc, &mut store, root, path, offset, count)
+}
+
+/// The same, of any nodes.
 fn read_file<N: Nodes>(
     alloc: Global,
     nodes: &mut N,

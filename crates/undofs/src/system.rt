@@ -252,13 +252,13 @@ impl<'f, F: Flash> Fs<'f, F> {
         self.state.goto(serial)
     }
 
-    /// A change to the tree of a checkpoint.
-    pub fn rollback(&mut self, name: &CpName) -> Result<(), Fault>
+    /// A change to the tree of a checkpoint. It asks nothing of the flash.
+    pub fn rollback(&mut self, alloc: Global, name: &CpName) -> Result<(), Fault>
         ensures step { CallStep (seen self.old) (machine self.old) (is_off self.old) (Call.Rollback name.now) (replied empty result) (seen self.new) (machine self.new) (is_off self.new) }
         ensures still { F.device self.new.flash.now ≡ F.device self.old.flash.now }
         ensures same_flash { flash_name self.new ≡ flash_name self.old }
     {
-        self.state.rollback(name)
+        self.state.rollback(alloc, self.flash, name)
     }
 
     /// The `count` oldest versions before the present one are dropped.
@@ -334,7 +334,7 @@ impl<'f, F: Flash> Fs<'f, F> {
             Call::Undo => empty_reply(self.undo()),
             Call::Redo => empty_reply(self.redo()),
             Call::Goto { serial } => empty_reply(self.goto(*serial)),
-            Call::Rollback { name } => empty_reply(self.rollback(name)),
+            Call::Rollback { name } => empty_reply(self.rollback(alloc, name)),
             Call::Forget { count } => empty_reply(self.forget(*count)),
             Call::Checkpoint { name } => empty_reply(self.checkpoint(name)),
             Call::RemoveCheckpoint { name } => empty_reply(self.remove_checkpoint(name)),

@@ -5,7 +5,7 @@ use Rattle.block_trees.specs.Trees.{IsRoot}
 use Rattle.skip_list_file.specs.Reading.{is_body_fault}
 use Rattle.undofs.specs.Reading.{file_refusal, IsRead}
 use Rattle.undofs.specs.Seen.{room_of, tree_on}
-use Rattle.undofs.proofs.state.State.read_below.Goals as goal
+use Rattle.undofs.proofs.reads.read_below.Goals as goal
 
 pub read_file-requires-clause-rooted : goal.read_file-requires-clause-rooted
 read_file-requires-clause-rooted g c = subst (λ b. IsRoot (room_of (g.F.Flash.device b.now)) (node_of (g.F.Flash.device b.now)) c.args.root) (sym c.new-store.ensures.flash) c.requires.rooted

@@ -1,186 +1,177 @@
 -- Turns of a script, one after the other.
-use Rattle.std.proofs.Common.{◌≡◌, ◌≢◌, ◌⊎◌, ℕ, zero, suc, Bool, false, List, [], ◌∷◌, ◌++◌, take, Option, Some, None, Result, Ok, Err, inl, inr, refl, sym, ap, ◌∙◌, subst, append-nil, append_assoc, arith}
+use Rattle.std.proofs.Common.{◌≡◌, ◌≢◌, ℕ, zero, suc, true, false, List, [], ◌∷◌, ◌++◌, take, Option, Some, None, Result, Ok, Err, inl, inr, refl, sym, ap, ◌∙◌, subst, append-nil, append_assoc, arith}
 use Rattle.std.proofs.KnownBytes.{Appends-nil, Appends-trans, Consumes-nil}
+use Rattle.std.proofs.lemmas.Bool.{true≢false}
 use Rattle.std.specs.Io.KnownBytes.{Appends}
-use Rattle.history_machine.specs.History.{fresh}
-use Rattle.plain_trees.specs.Trees.{bare}
-use Rattle.history_machine.specs.Machine.{Machine, mounted}
-use Rattle.fs_types.specs.declared.calls.Reply.{Reply}
+use Rattle.history_machine.specs.History.{Past}
+use Rattle.plain_trees.specs.Trees.{Tree}
 use Rattle.fs_types.specs.declared.faults.Fault.{Fault}
-use Rattle.flash_model.specs.Device.{Device}
+use Rattle.flash_model.specs.Plan.{Schedule}
+use Rattle.flash_model.specs.Simulation.{device_of, plan_of}
 use Rattle.flash_model.specs.declared.plans.FaultKind.{FaultKind}
+use Rattle.flash_model.specs.declared.simulation.SimFlash.{SimFlash}
 use Rattle.script.specs.Lines.{line_of}
 use Rattle.script.specs.declared.lines.Line.{Line}
 use Rattle.script.specs.declared.answers.Answer.{Answer}
-use Rattle.undofs.specs.Seen.{Seen, IsFrom}
-use Rattle.undofs.specs.Steps.{CallStep}
-use Rattle.undofs.specs.Runs.{World, found_after, IsSeenOn}
+use Rattle.undofs.specs.Fresh.{IsFresh, FreshCause}
+use Rattle.undofs.specs.Moments.{Moment, machine_at, IsMountedAt}
+use Rattle.undofs.specs.Runs.{world_at, found_after}
 use Rattle.undofs.specs.declared.events.Event.{Event}
 use Rattle.undofs.specs.declared.events.Answer.{Answer as EventAnswer}
-use Rattle.shell.specs.Scripts.{event_of, RepliesBy, Replies, CarriesOut, answer_text, answer_texts, HasTaken, EndsBy, Session, Ends}
-use Rattle.shell.specs.Turns.{Gets, DoesBy, Does, Writes, world_of, Carried, LinesEnd}
+use Rattle.undofs.proofs.CutCalls.{stays_off}
+use Rattle.shell.specs.Scripts.{Scene, event_of, Plans, RepliesBy, Replies, CarriesOut, scene_at, kept_versions, answer_text, answer_texts, HasTaken, EndsBy, Session, Ends}
+use Rattle.shell.specs.Turns.{Gets, DoesBy, Does, Writes, Carried, LinesEnd}
 use Rattle.shell.specs.declared.scripts.ScriptFault.{ScriptFault}
 use Rattle.shell.proofs.TakenLines.{taken_all, taken_more}
 
--- a fault that is planned changes nothing else
-pub plans : (k : ℕ) (kind : FaultKind) (answer : Answer) (s : Seen) (m : Machine) (off : Bool) (t : Seen) (n : Machine) (off' : Bool) → k ≢ 0
-    → (answer ≡ Answer.Done Reply.Empty) ⊎ (answer ≡ Answer.Refused Fault.Invalid) → t ≡ s → n ≡ m → off' ≡ off
-    → Does (Line.PlanFault k kind) s m off answer t n off'
-plans zero kind answer s m off t n off' some told seen machine same = absurd (some refl)
-plans (suc k) kind answer s m off t n off' some told seen machine same = (told, seen, machine, same)
+-- a line that plans a fault changes nothing else
+pub plans : (k : ℕ) (kind : FaultKind) (m : Moment) (plan : Schedule) (answer : Answer) (n : Moment) (plan' : Schedule) → k ≢ 0 → n ≡ m → Plans plan k kind answer plan' → Does (Line.PlanFault k kind) m plan answer n plan'
+plans zero kind m plan answer n plan' some same told = absurd (some refl)
+plans (suc k) kind m plan answer n plan' some same told = (same, told)
 
--- of the same flash and the same state the same is seen
-pub same_of : {D S A : Type 0} → (f : D → S → A) (d e : D) (s t : S) → e ≡ d → t ≡ s → f e t ≡ f d s
-same_of f d e s t flash state = ap (λ (x : _). f x t) flash ∙ ap (f d) state
+-- where a call has answered that the power is off, the device is off
+abbrev pub KnowsOff : Moment → Type 0
+KnowsOff m = m.state.is_off ≡ true → m.device.powered ≡ false
 
--- what a line does to a mounted system is what it does to each world with that machine
-replies_by : (e : Option Event) (line : Line) (s : Seen) (m : Machine) (off : Bool) (answer : Answer) (t : Seen) (n : Machine) (off' : Bool) → DoesBy e line s m off answer t n off'
-    → (w : World) → w.machine ≡ Some m → w.off ≡ off → (v : World) × RepliesBy e line s w answer t v × (v.machine ≡ Some n) × (v.off ≡ off')
-replies_by None line s m off answer t n off' h w is same =
-    (w, (h.0, h.1, refl), is ∙ ap (λ (x : Machine). Some x) (sym h.2), same ∙ sym h.3)
-replies_by (Some (Event.Call call)) line s m off (Answer.Done reply) t n off' h w is same =
-    let v : World = record { machine = Some n; off = off'; found = found_after call w.found n.history } in
-    let step : CallStep s m w.off call (Ok reply) t n off' = subst (λ (x : Bool). CallStep s m x call (Ok reply) t n off') (sym same) h in
-    (v, (EventAnswer.Done reply, (m, n, is, step, refl, refl), refl), refl, refl)
-replies_by (Some (Event.Call call)) line s m off (Answer.Refused fault) t n off' h w is same =
-    let v : World = record { machine = Some n; off = off'; found = w.found } in
-    let step : CallStep s m w.off call (Err fault) t n off' = subst (λ (x : Bool). CallStep s m x call (Err fault) t n off') (sym same) h in
-    (v, (EventAnswer.Refused fault, (m, n, is, step, refl, refl), refl), refl, refl)
-replies_by (Some (Event.Call call)) line s m off Answer.Mounted t n off' h w is same = absurd h
-replies_by (Some (Event.Call call)) line s m off Answer.Unmounted t n off' h w is same = absurd h
-replies_by (Some (Event.Call call)) line s m off Answer.Syntax t n off' h w is same = absurd h
-replies_by (Some (Event.ReclaimStep budget)) line s m off answer t n off' h w is same = absurd h
-replies_by (Some Event.Restart) line s m off answer t n off' h w is same = absurd h
+does_off : (e : Option Event) (line : Line) (m : Moment) (plan : Schedule) (answer : Answer) (n : Moment) (plan' : Schedule) → DoesBy e line m plan answer n plan' → KnowsOff m → KnowsOff n
+does_off None line m plan answer n plan' h off = subst KnowsOff (sym h.0) off
+does_off (Some (Event.Call call)) line m plan (Answer.Done reply) n plan' h off = stays_off m.device m.state call (Ok reply) n.device n.state h off
+does_off (Some (Event.Call call)) line m plan (Answer.Refused fault) n plan' h off = stays_off m.device m.state call (Err fault) n.device n.state h off
+does_off (Some (Event.Call call)) line m plan Answer.Mounted n plan' h off = absurd h
+does_off (Some (Event.Call call)) line m plan Answer.Unmounted n plan' h off = absurd h
+does_off (Some (Event.Call call)) line m plan Answer.Syntax n plan' h off = absurd h
+does_off (Some Event.Restart) line m plan answer n plan' h off = absurd h
 
-carries_more : (s : Seen) (w : World) (lines : List (List ℕ)) (answers : List Answer) (t : Seen) (v : World) (line : List ℕ) (answer : Answer) (t' : Seen) (v' : World)
-    → CarriesOut s w lines answers t v → Replies (line_of line) t v answer t' v'
-    → CarriesOut s w (lines ++ line ∷ []) (answers ++ answer ∷ []) t' v'
-carries_more s w [] [] t v line answer t' v' h more =
-    let first : Replies (line_of line) s w answer t' v' =
-    subst (λ (x : Seen). Replies (line_of line) x w answer t' v') h.0 (subst (λ (x : World). Replies (line_of line) t x answer t' v') h.1 more) in
-    (t', v', first, (refl, refl))
-carries_more s w [] (one ∷ answers) t v line answer t' v' h more = absurd h
-carries_more s w (one ∷ lines) [] t v line answer t' v' h more = absurd h
-carries_more s w (one ∷ lines) (other ∷ answers) t v line answer t' v' h more =
-    (h.0, h.1, h.2, carries_more h.0 h.1 lines answers t v line answer t' v' h.3 more)
+-- what a line does to a mounted system is what it does to each world with that system
+replies_by : (e : Option Event) (line : Line) (m : Moment) (plan : Schedule) (answer : Answer) (n : Moment) (plan' : Schedule) → DoesBy e line m plan answer n plan' → IsMountedAt n → KnowsOff n
+    → (found : List (Past Tree)) → (more : List (Past Tree)) × RepliesBy e line (scene_at m found plan) answer (scene_at n more plan')
+replies_by None line m plan answer n plan' h mounted off found = (found, (ap (λ (x : Moment). world_at x found) h.0, h.1))
+replies_by (Some (Event.Call call)) line m plan (Answer.Done reply) n plan' h mounted off found =
+    (found_after call (Ok reply) found (machine_at n).history, (EventAnswer.Done reply, record { before = m.state; after = n.state; was = refl; is = refl; step = h; mounted = mounted; off = off; found = refl }, refl))
+replies_by (Some (Event.Call call)) line m plan (Answer.Refused fault) n plan' h mounted off found =
+    (found, (EventAnswer.Refused fault, record { before = m.state; after = n.state; was = refl; is = refl; step = h; mounted = mounted; off = off; found = refl }, refl))
+replies_by (Some (Event.Call call)) line m plan Answer.Mounted n plan' h mounted off found = absurd h
+replies_by (Some (Event.Call call)) line m plan Answer.Unmounted n plan' h mounted off found = absurd h
+replies_by (Some (Event.Call call)) line m plan Answer.Syntax n plan' h mounted off found = absurd h
+replies_by (Some Event.Restart) line m plan answer n plan' h mounted off found = absurd h
+
+carries_more : (s : Scene) (lines : List (List ℕ)) (answers : List Answer) (t : Scene) (line : List ℕ) (answer : Answer) (u : Scene)
+    → CarriesOut s lines answers t → Replies (line_of line) t answer u → CarriesOut s (lines ++ line ∷ []) (answers ++ answer ∷ []) u
+carries_more s [] [] t line answer u h more = (u, subst (λ (x : Scene). Replies (line_of line) x answer u) h more, refl)
+carries_more s [] (one ∷ answers) t line answer u h more = absurd h
+carries_more s (one ∷ lines) [] t line answer u h more = absurd h
+carries_more s (one ∷ lines) (other ∷ answers) t line answer u h more = (h.0, h.1, carries_more h.0 lines answers t line answer u h.2 more)
 
 -- one more line was carried out
-carried_more : (s : Seen) (m : Machine) (off : Bool) (t : Seen) (n : Machine) (off' : Bool) (lines : List (List ℕ)) (answers : List Answer) (line : List ℕ) (answer : Answer) (u : Seen) (o : Machine) (off'' : Bool)
-    → Carried s m off t n off' lines answers → Does (line_of line) t n off' answer u o off''
-    → Carried s m off u o off'' (lines ++ line ∷ []) (answers ++ answer ∷ [])
-carried_more s m off t n off' lines answers line answer u o off'' (v, carried, is, same) more =
-    let reply = replies_by (event_of (line_of line)) (line_of line) t n off' answer u o off'' more v is same in
-    (reply.0, carries_more s (world_of m off) lines answers t v line answer u reply.0 carried reply.1, reply.2, reply.3)
+carried_more : (m : Moment) (plan : Schedule) (n : Moment) (plan' : Schedule) (lines : List (List ℕ)) (answers : List Answer) (line : List ℕ) (answer : Answer) (o : Moment) (plan'' : Schedule)
+    → Carried m plan n plan' lines answers → Does (line_of line) n plan' answer o plan'' → IsMountedAt o → KnowsOff o → Carried m plan o plan'' (lines ++ line ∷ []) (answers ++ answer ∷ [])
+carried_more m plan n plan' lines answers line answer o plan'' (found, carried) more mounted off =
+    let reply = replies_by (event_of (line_of line)) (line_of line) n plan' answer o plan'' more mounted off found in
+    (reply.0, carries_more (scene_at m ((machine_at m).history ∷ []) plan) lines answers (scene_at n found plan') line answer (scene_at o reply.0 plan'') carried reply.1)
 
 texts_more : (answers : List Answer) (answer : Answer) → answer_texts (answers ++ answer ∷ []) ≡ answer_texts answers ++ answer_text answer
 texts_more [] answer = append-nil (answer_text answer)
 texts_more (one ∷ answers) answer = ap (λ (x : List ℕ). answer_text one ++ x) (texts_more answers answer) ∙ sym (append_assoc (answer_text one) (answer_texts answers) (answer_text answer))
 
 -- the lines so far were carried out, and their answers are written
-pub record IsRunning (s : Seen) (m : Machine) (off : Bool) (input left old new : Option (List ℕ)) (t : Seen) (n : Machine) (off' : Bool) : Type 0 where
+pub record IsRunning (m : Moment) (plan : Schedule) (input left old new : Option (List ℕ)) (n : Moment) (plan' : Schedule) : Type 0 where
   pub lines : List (List ℕ)
   pub answers : List Answer
-  pub carried : Carried s m off t n off' lines answers
+  pub carried : Carried m plan n plan' lines answers
   pub taken : HasTaken input lines left
   pub written : Appends old new (answer_texts answers)
+  pub off : KnowsOff n
 
-pub starts : (s : Seen) (m : Machine) (off : Bool) (input old : Option (List ℕ)) → IsRunning s m off input input old old s m off
-starts s m off input old = record {
+pub starts : (m : Moment) (plan : Schedule) (input old : Option (List ℕ)) → m.state.is_off ≡ false → IsRunning m plan input input old old m plan
+starts m plan input old on = record {
   lines = [];
   answers = [];
-  carried = (world_of m off, (refl, refl), refl, refl);
+  carried = ((machine_at m).history ∷ [], refl);
   taken = refl;
   written = Appends-nil old;
+  off = λ off. absurd (true≢false (sym off ∙ on));
 }
 
-pub turns : (s : Seen) (m : Machine) (off : Bool) (input left old new : Option (List ℕ)) (t : Seen) (n : Machine) (off' : Bool) (line : Line) (rest written : Option (List ℕ)) (answer : Answer) (u : Seen) (o : Machine) (off'' : Bool)
-    → IsRunning s m off input left old new t n off' → Gets left rest (Ok (Some line)) → Does line t n off' answer u o off'' → Writes new written answer (Ok tt)
-    → IsRunning s m off input rest old written u o off''
-turns s m off input left old new t n off' line rest written answer u o off'' running (bytes, takes, is) does writes =
-    let step : Does (line_of bytes) t n off' answer u o off'' = subst (λ (x : Line). Does x t n off' answer u o off'') is does in
+pub turns : (m : Moment) (plan : Schedule) (input left old new : Option (List ℕ)) (n : Moment) (plan' : Schedule) (line : Line) (rest written : Option (List ℕ)) (answer : Answer) (o : Moment) (plan'' : Schedule)
+    → IsRunning m plan input left old new n plan' → Gets left rest (Ok (Some line)) → Does line n plan' answer o plan'' → IsMountedAt o → Writes new written answer (Ok tt)
+    → IsRunning m plan input rest old written o plan''
+turns m plan input left old new n plan' line rest written answer o plan'' running (bytes, takes, is) does mounted writes =
+    let step : Does (line_of bytes) n plan' answer o plan'' = subst (λ (x : Line). Does x n plan' answer o plan'') is does in
+    let off : KnowsOff o = does_off (event_of (line_of bytes)) (line_of bytes) n plan' answer o plan'' step running.off in
     let texts : Appends old written (answer_texts running.answers ++ answer_text answer) = Appends-trans old new written (answer_texts running.answers) (answer_text answer) running.written writes in
     record {
       lines = running.lines ++ bytes ∷ [];
       answers = running.answers ++ answer ∷ [];
-      carried = carried_more s m off t n off' running.lines running.answers bytes answer u o off'' running.carried step;
+      carried = carried_more m plan n plan' running.lines running.answers bytes answer o plan'' running.carried step mounted off;
       taken = taken_more input running.lines left bytes rest running.taken takes;
       written = subst (Appends old written) (sym (texts_more running.answers answer)) texts;
+      off = off;
     }
 
-pub ends_at_end : (s : Seen) (m : Machine) (off : Bool) (input left old new : Option (List ℕ)) (t : Seen) (n : Machine) (off' : Bool) (rest : Option (List ℕ))
-    → IsRunning s m off input left old new t n off' → Gets left rest (Ok None) → LinesEnd s m off input rest (Ok tt) old new t n off'
-ends_at_end s m off input left old new t n off' rest running gets =
+pub ends_at_end : (m : Moment) (plan : Schedule) (input left old new : Option (List ℕ)) (n : Moment) (plan' : Schedule) (rest : Option (List ℕ))
+    → IsRunning m plan input left old new n plan' → Gets left rest (Ok None) → LinesEnd m plan input rest (Ok tt) old new n plan'
+ends_at_end m plan input left old new n plan' rest running gets =
     (running.lines, running.answers, running.carried, taken_all input running.lines left rest running.taken gets.0 gets.1, running.written)
 
-pub ends_unread : (s : Seen) (m : Machine) (off : Bool) (input left old new : Option (List ℕ)) (t : Seen) (n : Machine) (off' : Bool) (rest : Option (List ℕ)) (fault : ScriptFault)
-    → IsRunning s m off input left old new t n off' → Gets left rest (Err fault) → LinesEnd s m off input rest (Err fault) old new t n off'
-ends_unread s m off input left old new t n off' rest (ScriptFault.Mount fault) running gets = absurd gets
-ends_unread s m off input left old new t n off' rest ScriptFault.Read running gets = (running.lines, running.answers, running.carried, (left, running.taken, gets), running.written)
-ends_unread s m off input left old new t n off' rest ScriptFault.Write running gets = absurd gets
-ends_unread s m off input left old new t n off' rest ScriptFault.Memory running gets =
+pub ends_unread : (m : Moment) (plan : Schedule) (input left old new : Option (List ℕ)) (n : Moment) (plan' : Schedule) (rest : Option (List ℕ)) (fault : ScriptFault)
+    → IsRunning m plan input left old new n plan' → Gets left rest (Err fault) → LinesEnd m plan input rest (Err fault) old new n plan'
+ends_unread m plan input left old new n plan' rest (ScriptFault.Mount fault) running gets = absurd gets
+ends_unread m plan input left old new n plan' rest ScriptFault.Read running gets = (running.lines, running.answers, running.carried, (left, running.taken, gets), running.written)
+ends_unread m plan input left old new n plan' rest ScriptFault.Write running gets = absurd gets
+ends_unread m plan input left old new n plan' rest ScriptFault.Memory running gets =
     inl (running.lines, running.answers, running.carried, inr (gets.0, taken_more input running.lines left gets.0 rest running.taken gets.1), running.written)
 
 -- so many lines were carried out that no more are taken
-pub ends_after_all : (s : Seen) (m : Machine) (off : Bool) (input left old new : Option (List ℕ)) (t : Seen) (n : Machine) (off' : Bool)
-    → IsRunning s m off input left old new t n off' → LinesEnd s m off input left (Err ScriptFault.Read) old new t n off'
-ends_after_all s m off input left old new t n off' running =
+pub ends_after_all : (m : Moment) (plan : Schedule) (input left old new : Option (List ℕ)) (n : Moment) (plan' : Schedule)
+    → IsRunning m plan input left old new n plan' → LinesEnd m plan input left (Err ScriptFault.Read) old new n plan'
+ends_after_all m plan input left old new n plan' running =
     (running.lines, running.answers, running.carried, (left, running.taken, ([], λ k d within. absurd (omega arith), Consumes-nil left)), running.written)
 
-pub ends_at_once : (s : Seen) (m : Machine) (off : Bool) (input old : Option (List ℕ)) → LinesEnd s m off input input (Err ScriptFault.Memory) old old s m off
-ends_at_once s m off input old = inl ([], [], (world_of m off, (refl, refl), refl, refl), inl refl, Appends-nil old)
+pub ends_at_once : (m : Moment) (plan : Schedule) (input old : Option (List ℕ)) → LinesEnd m plan input input (Err ScriptFault.Memory) old old m plan
+ends_at_once m plan input old = inl ([], [], ((machine_at m).history ∷ [], refl), inl refl, Appends-nil old)
 
-pub ends_unwritten : (s : Seen) (m : Machine) (off : Bool) (input left old new : Option (List ℕ)) (t : Seen) (n : Machine) (off' : Bool) (line : Line) (rest written : Option (List ℕ)) (answer : Answer) (u : Seen) (o : Machine) (off'' : Bool) (fault : ScriptFault)
-    → IsRunning s m off input left old new t n off' → Gets left rest (Ok (Some line)) → Does line t n off' answer u o off'' → Writes new written answer (Err fault)
-    → LinesEnd s m off input rest (Err fault) old written u o off''
-ends_unwritten s m off input left old new t n off' line rest written answer u o off'' (ScriptFault.Mount fault) running gets does writes = absurd writes
-ends_unwritten s m off input left old new t n off' line rest written answer u o off'' ScriptFault.Read running gets does writes = absurd writes
-ends_unwritten s m off input left old new t n off' line rest written answer u o off'' ScriptFault.Write running gets does writes =
-    let step : Does (line_of gets.0) t n off' answer u o off'' = subst (λ (x : Line). Does x t n off' answer u o off'') gets.2 does in (
+pub ends_unwritten : (m : Moment) (plan : Schedule) (input left old new : Option (List ℕ)) (n : Moment) (plan' : Schedule) (line : Line) (rest written : Option (List ℕ)) (answer : Answer) (o : Moment) (plan'' : Schedule) (fault : ScriptFault)
+    → IsRunning m plan input left old new n plan' → Gets left rest (Ok (Some line)) → Does line n plan' answer o plan'' → IsMountedAt o → Writes new written answer (Err fault)
+    → LinesEnd m plan input rest (Err fault) old written o plan''
+ends_unwritten m plan input left old new n plan' line rest written answer o plan'' (ScriptFault.Mount fault) running gets does mounted writes = absurd writes
+ends_unwritten m plan input left old new n plan' line rest written answer o plan'' ScriptFault.Read running gets does mounted writes = absurd writes
+ends_unwritten m plan input left old new n plan' line rest written answer o plan'' ScriptFault.Write running gets does mounted writes =
+    let step : Does (line_of gets.0) n plan' answer o plan'' = subst (λ (x : Line). Does x n plan' answer o plan'') gets.2 does in
+    let off : KnowsOff o = does_off (event_of (line_of gets.0)) (line_of gets.0) n plan' answer o plan'' step running.off in (
       running.lines ++ gets.0 ∷ [],
       running.answers,
       answer,
       writes.0,
-      carried_more s m off t n off' running.lines running.answers gets.0 answer u o off'' running.carried step,
+      carried_more m plan n plan' running.lines running.answers gets.0 answer o plan'' running.carried step mounted off,
       taken_more input running.lines left gets.0 rest running.taken gets.1,
       Appends-trans old new written (answer_texts running.answers) (take writes.0 (answer_text answer)) running.written writes.1,
     )
-ends_unwritten s m off input left old new t n off' line rest written answer u o off'' ScriptFault.Memory running gets does writes =
-    let step : Does (line_of gets.0) t n off' answer u o off'' = subst (λ (x : Line). Does x t n off' answer u o off'') gets.2 does in
+ends_unwritten m plan input left old new n plan' line rest written answer o plan'' ScriptFault.Memory running gets does mounted writes =
+    let step : Does (line_of gets.0) n plan' answer o plan'' = subst (λ (x : Line). Does x n plan' answer o plan'') gets.2 does in
+    let off : KnowsOff o = does_off (event_of (line_of gets.0)) (line_of gets.0) n plan' answer o plan'' step running.off in
     inr (
       running.lines ++ gets.0 ∷ [],
       running.answers,
       answer,
-      carried_more s m off t n off' running.lines running.answers gets.0 answer u o off'' running.carried step,
+      carried_more m plan n plan' running.lines running.answers gets.0 answer o plan'' running.carried step mounted off,
       taken_more input running.lines left gets.0 rest running.taken gets.1,
       subst (λ (x : Option (List ℕ)). Appends old x (answer_texts running.answers)) (sym writes) running.written,
     )
 
 -- where one account of what was carried out gives another, so does the end of a script
-ends_map : (P Q : List (List ℕ) → List Answer → Type 0) → ((lines : List (List ℕ)) (answers : List Answer) → P lines answers → Q lines answers)
-    → (input left : Option (List ℕ)) (result : Result (Unit {0}) ScriptFault) (old new : Option (List ℕ)) → EndsBy P input left result old new → EndsBy Q input left result old new
-ends_map P Q f input left (Ok done) old new h = (h.0, h.1, f h.0 h.1 h.2, h.3, h.4)
-ends_map P Q f input left (Err (ScriptFault.Mount fault)) old new h = h
-ends_map P Q f input left (Err ScriptFault.Read) old new h = (h.0, h.1, f h.0 h.1 h.2, h.3, h.4)
-ends_map P Q f input left (Err ScriptFault.Write) old new h = (h.0, h.1, h.2, h.3, f h.0 (h.1 ++ h.2 ∷ []) h.4, h.5, h.6)
-ends_map P Q f input left (Err ScriptFault.Memory) old new (inl h) = inl (h.0, h.1, f h.0 h.1 h.2, h.3, h.4)
-ends_map P Q f input left (Err ScriptFault.Memory) old new (inr h) = inr (h.0, h.1, h.2, f h.0 (h.1 ++ h.2 ∷ []) h.3, h.4, h.5)
-
-session : (s : Seen) (m : Machine) (off : Bool) (t : Seen) (n : Machine) (off' : Bool) (start d : Device) → IsFrom start s → m ≡ mounted (fresh 8 bare) → off ≡ false → IsSeenOn d t n
-    → (lines : List (List ℕ)) (answers : List Answer) → Carried s m off t n off' lines answers → Session start d lines answers
-session s m off t n off' start d begins is on stands lines answers (v, carried, mounted_is, same) =
-    record {
-      first = s;
-      last = t;
-      world = v;
-      machine = n;
-      begins = begins;
-      carried = subst (λ (x : Machine). CarriesOut s (world_of x false) lines answers t v) is (subst (λ (x : Bool). CarriesOut s (world_of m x) lines answers t v) on carried);
-      is_mounted = mounted_is;
-      stands = stands;
-    }
+pub ends_map : (P Q : List (List ℕ) → List Answer → Type 0) (C D : Fault → Type 0) → ((lines : List (List ℕ)) (answers : List Answer) → P lines answers → Q lines answers) → ((fault : Fault) → C fault → D fault)
+    → (input left : Option (List ℕ)) (result : Result (Unit {0}) ScriptFault) (old new : Option (List ℕ)) → EndsBy P C input left result old new → EndsBy Q D input left result old new
+ends_map P Q C D f g input left (Ok done) old new h = (h.0, h.1, f h.0 h.1 h.2, h.3, h.4)
+ends_map P Q C D f g input left (Err (ScriptFault.Mount fault)) old new h = (g fault h.0, h.1, h.2)
+ends_map P Q C D f g input left (Err ScriptFault.Read) old new h = (h.0, h.1, f h.0 h.1 h.2, h.3, h.4)
+ends_map P Q C D f g input left (Err ScriptFault.Write) old new h = (h.0, h.1, h.2, h.3, f h.0 (h.1 ++ h.2 ∷ []) h.4, h.5, h.6)
+ends_map P Q C D f g input left (Err ScriptFault.Memory) old new (inl h) = inl (h.0, h.1, f h.0 h.1 h.2, h.3, h.4)
+ends_map P Q C D f g input left (Err ScriptFault.Memory) old new (inr h) = inr (h.0, h.1, h.2, f h.0 (h.1 ++ h.2 ∷ []) h.3, h.4, h.5)
 
 -- the lines of a reader on a fresh system, whose flash this is at the end
-pub script_ends : (s : Seen) (m : Machine) (off : Bool) (input left : Option (List ℕ)) (result : Result (Unit {0}) ScriptFault) (old new : Option (List ℕ)) (t : Seen) (n : Machine) (off' : Bool) (start d : Device)
-    → IsFrom start s → (m ≡ mounted (fresh 8 bare)) × (off ≡ false) → IsSeenOn d t n → LinesEnd s m off input left result old new t n off' → Ends start d input left result old new
-script_ends s m off input left result old new t n off' start d begins begun stands h =
-    ends_map (Carried s m off t n off') (Session start d) (session s m off t n off' start d begins begun.0 begun.1 stands) input left result old new h
+pub script_ends : (start end : SimFlash) (m : Moment) (plan : Schedule) (n : Moment) (input left : Option (List ℕ)) (result : Result (Unit {0}) ScriptFault) (old new : Option (List ℕ))
+    → IsFresh (device_of start) kept_versions m → IsMountedAt n → n.device ≡ device_of end → LinesEnd m plan input left result old new n (plan_of end) → Ends start end input left result old new
+script_ends start end m plan n input left result old new begins mounted ends h =
+    ends_map (Carried m plan n (plan_of end)) (Session start end) (λ fault. ⊥) (λ fault. FreshCause (device_of start) kept_versions fault (device_of end))
+    (λ lines answers carried. record { first = m; last = n; plan = plan; found = carried.0; begins = begins; carried = carried.1; mounted = mounted; ends = ends })
+    (λ fault none. absurd none) input left result old new h

@@ -2,20 +2,23 @@
 use Rattle.std.specs.Prelude.{◌≡◌, ℕ, suc, Option, Some, None, is_some, Result, Ok, Err, IfSome, List, [], ◌∷◌, ◌++◌, take, map, ◌⊎◌, if◌then◌else◌}
 use Rattle.std.specs.List.{flat_map}
 use Rattle.std.specs.Io.KnownBytes.{Consumes, IsAtEnd, Appends}
-use Rattle.history_machine.specs.History.{fresh}
-use Rattle.plain_trees.specs.Trees.{bare}
-use Rattle.history_machine.specs.Machine.{Machine}
+use Rattle.history_machine.specs.History.{Past}
+use Rattle.plain_trees.specs.Trees.{Tree}
 use Rattle.fs_types.specs.declared.calls.Reply.{Reply}
 use Rattle.fs_types.specs.declared.faults.Fault.{Fault}
-use Rattle.flash_model.specs.Device.{Device}
+use Rattle.flash_model.specs.Plan.{Schedule, planned, IsFull}
+use Rattle.flash_model.specs.Simulation.{device_of, plan_of}
+use Rattle.flash_model.specs.declared.plans.FaultKind.{FaultKind}
+use Rattle.flash_model.specs.declared.simulation.SimFlash.{SimFlash}
 use Rattle.script.specs.Lines.{line_of}
 use Rattle.script.specs.Replies.{text_of}
 use Rattle.script.specs.Streams.{TakesLine, TakesPart, lines_of}
 use Rattle.script.specs.declared.lines.Line.{Line}
 use Rattle.script.specs.declared.answers.Answer.{Answer}
 use Rattle.undofs.specs.Built.{is_built}
-use Rattle.undofs.specs.Seen.{Seen, IsFrom}
-use Rattle.undofs.specs.Runs.{World, mounted_world, Happens, Run, IsSeenOn}
+use Rattle.undofs.specs.Fresh.{IsFresh, FreshCause}
+use Rattle.undofs.specs.Moments.{Moment, machine_at, IsMountedAt}
+use Rattle.undofs.specs.Runs.{World, world_at, Happens, Run}
 use Rattle.undofs.specs.declared.events.Event.{Event}
 use Rattle.undofs.specs.declared.events.Answer.{Answer as EventAnswer}
 use Rattle.shell.specs.declared.scripts.ScriptFault.{ScriptFault}
@@ -32,27 +35,39 @@ said (EventAnswer.Refused fault) = Answer.Refused fault
 said EventAnswer.Mounted = Answer.Mounted
 said EventAnswer.Unmounted = Answer.Unmounted
 
--- the answer to a line that asks for no event: a refused path or name is refused; a fault is planned, or no room is left
--- for it; and what has no form of a line, or is not built, is told so
-abbrev pub IsStillAnswer : Line → Answer → Type 0
-IsStillAnswer (Line.Refused fault) answer = answer ≡ Answer.Refused fault
-IsStillAnswer (Line.PlanFault (suc k) kind) answer = (answer ≡ Answer.Done Reply.Empty) ⊎ (answer ≡ Answer.Refused Fault.Invalid)
-IsStillAnswer _ answer = answer ≡ Answer.Syntax
+-- a world, and the faults that are planned for its flash
+pub record Scene : Type 0 where
+  pub world : World
+  pub plan : Schedule
 
--- by the event that a line asks for, if any: without one nothing changes
-abbrev pub RepliesBy : Option Event → Line → Seen → World → Answer → Seen → World → Type 0
-RepliesBy (Some event) line s w answer t v = (here : EventAnswer) × Happens s w event here t v × (answer ≡ said here)
-RepliesBy None line s w answer t v = IsStillAnswer line answer × (t ≡ s) × (v ≡ w)
+-- a fault is planned, or no room is left for it
+abbrev pub Plans : Schedule → ℕ → FaultKind → Answer → Schedule → Type 0
+Plans old k kind answer new =
+    ((answer ≡ Answer.Done Reply.Empty) × (IsFull old k kind → ⊥) × (new ≡ planned old k kind))
+    ⊎ ((answer ≡ Answer.Refused Fault.Invalid) × IsFull old k kind × (new ≡ old))
+
+-- the answer to a line that asks for no event: a refused path or name is refused; a fault is planned as the line says; and
+-- what has no form of a line, or is not built, is told so
+abbrev pub IsStillAnswer : Line → Schedule → Answer → Schedule → Type 0
+IsStillAnswer (Line.Refused fault) old answer new = (answer ≡ Answer.Refused fault) × (new ≡ old)
+IsStillAnswer (Line.PlanFault (suc k) kind) old answer new = Plans old (suc k) kind answer new
+IsStillAnswer _ old answer new = (answer ≡ Answer.Syntax) × (new ≡ old)
+
+-- by the event that a line asks for, if any: without one the world stays. Of the plan nothing is said where an event is
+-- carried out: its operations take from it what has come due
+abbrev pub RepliesBy : Option Event → Line → Scene → Answer → Scene → Type 0
+RepliesBy (Some event) line s answer t = (here : EventAnswer) × Happens s.world event here t.world × (answer ≡ said here)
+RepliesBy None line s answer t = (t.world ≡ s.world) × IsStillAnswer line s.plan answer t.plan
 
 -- a line is carried out, and so answered
-abbrev pub Replies : Line → Seen → World → Answer → Seen → World → Type 0
+abbrev pub Replies : Line → Scene → Answer → Scene → Type 0
 Replies line = RepliesBy (event_of line) line
 
--- lines are carried out in order, each from its bytes, and each is answered
-abbrev pub CarriesOut : Seen → World → List (List ℕ) → List Answer → Seen → World → Type 0
-CarriesOut s w [] [] t v = (t ≡ s) × (v ≡ w)
-CarriesOut s w (line ∷ lines) (answer ∷ answers) t v = (between : Seen) × (world : World) × Replies (line_of line) s w answer between world × CarriesOut between world lines answers t v
-CarriesOut s w _ _ t v = ⊥
+-- lines are carried out in order, each from its bytes, and each is answered: from the first scene to the last
+abbrev pub CarriesOut : Scene → List (List ℕ) → List Answer → Scene → Type 0
+CarriesOut s [] [] t = t ≡ s
+CarriesOut s (line ∷ lines) (answer ∷ answers) t = (between : Scene) × Replies (line_of line) s answer between × CarriesOut between lines answers t
+CarriesOut s _ _ t = ⊥
 
 -- what is written for an answer, and for answers in order
 abbrev pub answer_text : Answer → List ℕ
@@ -78,33 +93,42 @@ HasTakenPart old lines new = (rest : Option (List ℕ)) × HasTaken old lines re
 abbrev pub HasTakenMore : Option (List ℕ) → List (List ℕ) → Option (List ℕ) → Type 0
 HasTakenMore old lines new = HasTaken old lines new ⊎ ((line : List ℕ) × HasTaken old (lines ++ line ∷ []) new)
 
--- how a script ends, where Session says which lines were carried out with which answers: all of the input was read and
--- answered; or the reader failed after these lines; or the writer failed in the last answer; or memory was wanted, before
--- a line was carried out or before its answer was written; or there was no system, and nothing was read or written
-abbrev pub EndsBy : (List (List ℕ) → List Answer → Type 0) → Option (List ℕ) → Option (List ℕ) → Result (Unit {0}) ScriptFault → Option (List ℕ) → Option (List ℕ) → Type 0
-EndsBy Session input left (Ok done) old new = (lines : List (List ℕ)) × (answers : List Answer) × Session lines answers × HasTakenAll input lines left × Appends old new (answer_texts answers)
-EndsBy Session input left (Err ScriptFault.Read) old new = (lines : List (List ℕ)) × (answers : List Answer) × Session lines answers × HasTakenPart input lines left × Appends old new (answer_texts answers)
-EndsBy Session input left (Err ScriptFault.Write) old new = (lines : List (List ℕ)) × (earlier : List Answer) × (last : Answer) × (n : ℕ) × Session lines (earlier ++ last ∷ []) × HasTaken input lines left × Appends old new (answer_texts earlier ++ take n (answer_text last))
-EndsBy Session input left (Err ScriptFault.Memory) old new =
+-- how a script ends, where Session says which lines were carried out with which answers, and Cause why no system was made:
+-- all of the input was read and answered; or the reader failed after these lines; or the writer failed in the last answer;
+-- or memory was wanted, before a line was carried out or before its answer was written; or there was no system for its
+-- cause, and nothing was read or written
+abbrev pub EndsBy : (List (List ℕ) → List Answer → Type 0) → (Fault → Type 0) → Option (List ℕ) → Option (List ℕ) → Result (Unit {0}) ScriptFault → Option (List ℕ) → Option (List ℕ) → Type 0
+EndsBy Session Cause input left (Ok done) old new = (lines : List (List ℕ)) × (answers : List Answer) × Session lines answers × HasTakenAll input lines left × Appends old new (answer_texts answers)
+EndsBy Session Cause input left (Err ScriptFault.Read) old new = (lines : List (List ℕ)) × (answers : List Answer) × Session lines answers × HasTakenPart input lines left × Appends old new (answer_texts answers)
+EndsBy Session Cause input left (Err ScriptFault.Write) old new = (lines : List (List ℕ)) × (earlier : List Answer) × (last : Answer) × (n : ℕ) × Session lines (earlier ++ last ∷ []) × HasTaken input lines left × Appends old new (answer_texts earlier ++ take n (answer_text last))
+EndsBy Session Cause input left (Err ScriptFault.Memory) old new =
     ((lines : List (List ℕ)) × (answers : List Answer) × Session lines answers × HasTakenMore input lines left × Appends old new (answer_texts answers))
     ⊎ ((lines : List (List ℕ)) × (earlier : List Answer) × (last : Answer) × Session lines (earlier ++ last ∷ []) × HasTaken input lines left × Appends old new (answer_texts earlier))
-EndsBy Session input left (Err (ScriptFault.Mount fault)) old new = (left ≡ input) × (new ≡ old)
+EndsBy Session Cause input left (Err (ScriptFault.Mount fault)) old new = Cause fault × (left ≡ input) × (new ≡ old)
 
--- lines that were carried out on a fresh system on a flash, which keeps 8 versions, and whose state is that of the flash
--- at the end
-pub record Session (start end : Device) (lines : List (List ℕ)) (answers : List Answer) : Type 0 where
-  pub first : Seen
-  pub last : Seen
-  pub world : World
-  pub machine : Machine
-  pub begins : IsFrom start first
-  pub carried : CarriesOut first (mounted_world (fresh 8 bare)) lines answers last world
-  pub is_mounted : world.machine ≡ Some machine
-  pub stands : IsSeenOn end last machine
+-- how many versions the system of a script keeps
+abbrev pub kept_versions : ℕ
+kept_versions = 8
+
+-- a mounted system, the histories that a restart may find, and the plan of its flash
+abbrev pub scene_at : Moment → List (Past Tree) → Schedule → Scene
+scene_at m found plan = record { world = world_at m found; plan = plan }
+
+-- lines that were carried out on a fresh system on a flash: the first moment is that of the fresh system, and the last one
+-- stands on the flash at the end, with a tree at each root of its history
+pub record Session (start end : SimFlash) (lines : List (List ℕ)) (answers : List Answer) : Type 0 where
+  pub first : Moment
+  pub last : Moment
+  pub plan : Schedule
+  pub found : List (Past Tree)
+  pub begins : IsFresh (device_of start) kept_versions first
+  pub carried : CarriesOut (scene_at first ((machine_at first).history ∷ []) plan) lines answers (scene_at last found (plan_of end))
+  pub mounted : IsMountedAt last
+  pub ends : last.device ≡ device_of end
 
 -- how a script ends that found and leaves these flashes
-abbrev pub Ends : Device → Device → Option (List ℕ) → Option (List ℕ) → Result (Unit {0}) ScriptFault → Option (List ℕ) → Option (List ℕ) → Type 0
-Ends start end input left result old new = EndsBy (Session start end) input left result old new
+abbrev pub Ends : SimFlash → SimFlash → Option (List ℕ) → Option (List ℕ) → Result (Unit {0}) ScriptFault → Option (List ℕ) → Option (List ℕ) → Type 0
+Ends start end input left result old new = EndsBy (Session start end) (λ fault. FreshCause (device_of start) kept_versions fault (device_of end)) input left result old new
 
 -- the events that lines ask for
 abbrev pub with_first : {A : Type 0} → Option A → List A → List A
@@ -122,5 +146,5 @@ event_replies _ _ = []
 
 -- lines that were carried out are a run of the events that they ask for, and are answered as it is
 abbrev pub ScriptLaw : Type 0
-ScriptLaw = (s t : Seen) (w v : World) (lines : List (List ℕ)) (answers : List Answer) → CarriesOut s w lines answers t v
-    → (here : List EventAnswer) × Run s w (events_of lines) here t v × (event_replies lines answers ≡ map said here)
+ScriptLaw = (s t : Scene) (lines : List (List ℕ)) (answers : List Answer) → CarriesOut s lines answers t
+    → (here : List EventAnswer) × Run s.world (events_of lines) here t.world × (event_replies lines answers ≡ map said here)

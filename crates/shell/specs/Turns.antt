@@ -1,17 +1,17 @@
 -- One turn of a script: a line is taken, carried out on the system, and its answer written.
-use Rattle.std.specs.Prelude.{◌≡◌, ℕ, Bool, Option, Some, None, Result, Ok, Err, List, [], ◌∷◌, take}
+use Rattle.std.specs.Prelude.{◌≡◌, ℕ, Option, Some, None, Result, Ok, Err, List, [], ◌∷◌, take}
 use Rattle.std.specs.Io.KnownBytes.{Consumes, IsAtEnd, Appends}
-use Rattle.history_machine.specs.Machine.{Machine}
+use Rattle.history_machine.specs.History.{Past}
+use Rattle.plain_trees.specs.Trees.{Tree}
 use Rattle.fs_types.specs.declared.calls.Call.{Call}
+use Rattle.flash_model.specs.Plan.{Schedule}
 use Rattle.script.specs.Lines.{line_of}
 use Rattle.script.specs.Streams.{TakesLine, TakesPart}
 use Rattle.script.specs.declared.lines.Line.{Line}
 use Rattle.script.specs.declared.answers.Answer.{Answer}
-use Rattle.undofs.specs.Seen.{Seen}
-use Rattle.undofs.specs.Steps.{CallStep}
-use Rattle.undofs.specs.Runs.{World}
+use Rattle.undofs.specs.Moments.{Moment, machine_at, Steps}
 use Rattle.undofs.specs.declared.events.Event.{Event}
-use Rattle.shell.specs.Scripts.{event_of, IsStillAnswer, CarriesOut, EndsBy, answer_text}
+use Rattle.shell.specs.Scripts.{event_of, IsStillAnswer, CarriesOut, EndsBy, scene_at, answer_text}
 use Rattle.shell.specs.declared.scripts.ScriptFault.{ScriptFault}
 
 -- what was taken from a reader, and what it asks
@@ -23,18 +23,18 @@ Gets old new (Err ScriptFault.Memory) = (bytes : List ℕ) × TakesLine old new 
 Gets old new (Err _) = ⊥
 
 -- a call's step, by the answer to its line
-abbrev pub Calls : Seen → Machine → Bool → Call → Answer → Seen → Machine → Bool → Type 0
-Calls s m off call (Answer.Done reply) t n off' = CallStep s m off call (Ok reply) t n off'
-Calls s m off call (Answer.Refused fault) t n off' = CallStep s m off call (Err fault) t n off'
-Calls s m off call _ t n off' = ⊥
+abbrev pub StepsTo : Moment → Call → Answer → Moment → Type 0
+StepsTo m call (Answer.Done reply) n = Steps m call (Ok reply) n
+StepsTo m call (Answer.Refused fault) n = Steps m call (Err fault) n
+StepsTo m call _ n = ⊥
 
-abbrev pub DoesBy : Option Event → Line → Seen → Machine → Bool → Answer → Seen → Machine → Bool → Type 0
-DoesBy (Some (Event.Call call)) line s m off answer t n off' = Calls s m off call answer t n off'
-DoesBy (Some _) line s m off answer t n off' = ⊥
-DoesBy None line s m off answer t n off' = IsStillAnswer line answer × (t ≡ s) × (n ≡ m) × (off' ≡ off)
+abbrev pub DoesBy : Option Event → Line → Moment → Schedule → Answer → Moment → Schedule → Type 0
+DoesBy (Some (Event.Call call)) line m plan answer n plan' = StepsTo m call answer n
+DoesBy (Some _) line m plan answer n plan' = ⊥
+DoesBy None line m plan answer n plan' = (n ≡ m) × IsStillAnswer line plan answer plan'
 
--- what a line does to a mounted system, and its answer
-abbrev pub Does : Line → Seen → Machine → Bool → Answer → Seen → Machine → Bool → Type 0
+-- what a line does to a mounted system and to the plan of faults, and its answer
+abbrev pub Does : Line → Moment → Schedule → Answer → Moment → Schedule → Type 0
 Does line = DoesBy (event_of line) line
 
 -- what was written of an answer
@@ -44,14 +44,10 @@ Writes old new answer (Err ScriptFault.Memory) = new ≡ old
 Writes old new answer (Err ScriptFault.Write) = (n : ℕ) × Appends old new (take n (answer_text answer))
 Writes old new answer (Err _) = ⊥
 
--- the world of a mounted system of which nothing earlier is told
-abbrev pub world_of : Machine → Bool → World
-world_of m off = record { machine = Some m; off = off; found = m.history ∷ [] }
-
--- lines that were carried out on a mounted system
-abbrev pub Carried : Seen → Machine → Bool → Seen → Machine → Bool → List (List ℕ) → List Answer → Type 0
-Carried s m off t n off' lines answers = (v : World) × CarriesOut s (world_of m off) lines answers t v × (v.machine ≡ Some n) × (v.off ≡ off')
+-- lines that were carried out on a mounted system of which nothing earlier is told
+abbrev pub Carried : Moment → Schedule → Moment → Schedule → List (List ℕ) → List Answer → Type 0
+Carried m plan n plan' lines answers = (found : List (Past Tree)) × CarriesOut (scene_at m ((machine_at m).history ∷ []) plan) lines answers (scene_at n found plan')
 
 -- how the lines of a reader end on a mounted system
-abbrev pub LinesEnd : Seen → Machine → Bool → Option (List ℕ) → Option (List ℕ) → Result (Unit {0}) ScriptFault → Option (List ℕ) → Option (List ℕ) → Seen → Machine → Bool → Type 0
-LinesEnd s m off input left result old new t n off' = EndsBy (Carried s m off t n off') input left result old new
+abbrev pub LinesEnd : Moment → Schedule → Option (List ℕ) → Option (List ℕ) → Result (Unit {0}) ScriptFault → Option (List ℕ) → Option (List ℕ) → Moment → Schedule → Type 0
+LinesEnd m plan input left result old new n plan' = EndsBy (Carried m plan n plan') (λ fault. ⊥) input left result old new

@@ -1,11 +1,14 @@
 -- What the program's words lead to.
-use Rattle.std.specs.Prelude.{◌≡◌, ℕ, Bool, true, false, Option, Result, Ok, Err, List, [], ◌∷◌, codes}
+use Rattle.std.specs.Prelude.{◌≡◌, ◌⊎◌, ℕ, Bool, true, false, Option, Result, Ok, Err, List, [], ◌∷◌, codes}
 use Rattle.std.specs.Str.{bytes_eq}
 use Rattle.fs_types.specs.declared.faults.Fault.{Fault}
-use Rattle.flash_model.specs.Device.{Device}
-use Rattle.flash_model.specs.Simulation.{IsNew}
+use Rattle.flash_model.specs.Simulation.{device_of, plan_of, IsNew}
+use Rattle.flash_model.specs.Plan.{plan_of_entries}
+use Rattle.flash_model.specs.declared.simulation.SimFlash.{SimFlash}
 use Rattle.flash_model.specs.declared.sizes.Geometry.{Geometry}
-use Rattle.shell.specs.Scripts.{EndsBy, Session}
+use Rattle.undofs.specs.Fresh.{FreshCause}
+use Rattle.shell.specs.Scripts.{EndsBy, kept_versions, Session}
+use Rattle.script.specs.declared.answers.Answer.{Answer}
 use Rattle.shell.specs.declared.scripts.ScriptFault.{ScriptFault}
 
 -- `memory` alone
@@ -23,9 +26,22 @@ abbrev pub status_of : Result (Unit {0}) ScriptFault → ℕ
 status_of (Ok done) = 0
 status_of (Err fault) = fault_status fault
 
+-- a new flash of these sizes, for which no fault is planned
+pub record IsNewFlash (sizes : Geometry) (flash : SimFlash) : Type 0 where
+  pub new : IsNew sizes (device_of flash)
+  pub plan : plan_of flash ≡ plan_of_entries []
+
+-- lines that were carried out on a new flash
+abbrev pub NewSession : Geometry → List (List ℕ) → List Answer → Type 0
+NewSession sizes lines answers = (start : SimFlash) × (end : SimFlash) × IsNewFlash sizes start × Session start end lines answers
+
+-- why no system was made: for want of memory for the flash, or for a fresh system's cause
+abbrev pub NewCause : Geometry → Fault → Type 0
+NewCause sizes fault = (fault ≡ Fault.NoMemory) ⊎ ((start : SimFlash) × (end : SimFlash) × IsNewFlash sizes start × FreshCause (device_of start) kept_versions fault (device_of end))
+
 -- how a script ends on a new flash of its own
 abbrev pub EndsInMemory : Geometry → Option (List ℕ) → Option (List ℕ) → Result (Unit {0}) ScriptFault → Option (List ℕ) → Option (List ℕ) → Type 0
-EndsInMemory sizes input left result old new = EndsBy (λ lines answers. (start : Device) × (end : Device) × IsNew sizes start × Session start end lines answers) input left result old new
+EndsInMemory sizes input left result old new = EndsBy (NewSession sizes) (NewCause sizes) input left result old new
 
 -- by whether the words are understood: the script of the input ended with this status; or nothing was read or written
 abbrev pub ToolBy : Geometry → Bool → Option (List ℕ) → Option (List ℕ) → ℕ → Option (List ℕ) → Option (List ℕ) → Type 0

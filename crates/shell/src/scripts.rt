@@ -1,7 +1,7 @@
 //! A script run on a flash in memory.
-ghost use Rattle.std.specs.Prelude.{◌≡◌};
-ghost use Rattle.flash_model.specs.Simulation.{device_of};
-ghost use Rattle.undofs.specs.Systems.{seen, machine, is_off, flash_name};
+ghost use Rattle.std.specs.Prelude.{◌≡◌, false};
+ghost use Rattle.flash_model.specs.Simulation.{plan_of};
+ghost use Rattle.undofs.specs.Systems.{moment_of, flash_name};
 ghost use Rattle.shell.specs.Scripts.{Ends};
 ghost use Rattle.shell.specs.Turns.{Gets, Does, Writes, LinesEnd};
 
@@ -11,7 +11,7 @@ use script::{Answer, Line, LineReader, Taken, print_answer, read_line, write_out
 use std::alloc::Global;
 use std::io::{Read, Write};
 use thiserror::Error;
-use undofs::{Fs, is_built};
+use undofs::{Fs, State, is_built};
 
 /// How many versions a script's system keeps.
 const HISTORY: u32 = 8;
@@ -44,10 +44,11 @@ pub fn run_script<R: Read, W: Write>(
     writer: &mut W,
     flash: &mut SimFlash,
 ) -> Result<(), ScriptFault>
-    ensures { Ends (device_of flash.old) (device_of flash.new) (R.remaining reader.old) (R.remaining reader.new) result (W.contents writer.old) (W.contents writer.new) }
+    ensures ends { Ends flash.old flash.new (R.remaining reader.old) (R.remaining reader.new) result (W.contents writer.old) (W.contents writer.new) }
 {
-    match Fs::fresh(alloc, flash, HISTORY) {
-        Ok(mut system) => {
+    match State::fresh(alloc, flash, HISTORY) {
+        Ok(state) => {
+            let mut system = Fs::on(flash, state);
             let ended = run_lines(alloc, reader, writer, &mut system);
             system.into_flash();
             ended
@@ -63,7 +64,8 @@ fn run_lines<R: Read, W: Write>(
     writer: &mut W,
     system: &mut Fs<'_, SimFlash>,
 ) -> Result<(), ScriptFault>
-    ensures ends { LinesEnd (seen system.old) (machine system.old) (is_off system.old) (R.remaining reader.old) (R.remaining reader.new) result (W.contents writer.old) (W.contents writer.new) (seen system.new) (machine system.new) (is_off system.new) }
+    requires { (moment_of system.old).state.is_off ≡ false }
+    ensures ends { LinesEnd (moment_of system.old) (plan_of system.old.flash.now) (R.remaining reader.old) (R.remaining reader.new) result (W.contents writer.old) (W.contents writer.new) (moment_of system.new) (plan_of system.new.flash.now) }
     ensures same_flash { flash_name system.new ≡ flash_name system.old }
 {
     let mut lines = match LineReader::new(alloc) {
@@ -107,7 +109,7 @@ fn next<R: Read>(
 
 /// Carries out what a line asks. What is not built yet has no form of a line.
 fn carry_out(alloc: Global, system: &mut Fs<'_, SimFlash>, line: Line) -> Answer
-    ensures does { Does line (seen system.old) (machine system.old) (is_off system.old) result (seen system.new) (machine system.new) (is_off system.new) }
+    ensures does { Does line (moment_of system.old) (plan_of system.old.flash.now) result (moment_of system.new) (plan_of system.new.flash.now) }
     ensures same_flash { flash_name system.new ≡ flash_name system.old }
 {
     match line {

@@ -1,6 +1,7 @@
 pub mod BadCounts
 pub mod ChangeSteps
 pub mod ChangedCalls
+pub mod CutCalls
 pub mod FileChanges
 pub mod FileReads
 pub mod FreshSystems

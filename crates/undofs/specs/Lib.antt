@@ -1,6 +1,8 @@
 pub mod Built
 pub mod Changes
 pub mod Changing
+pub mod Fresh
+pub mod Moments
 pub mod Mounted
 pub mod Opening
 pub mod Props

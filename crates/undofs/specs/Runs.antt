@@ -1,6 +1,6 @@
--- Runs of calls, reclaiming steps and restarts: what each event answers, and the world that it leaves.
+-- Runs of calls and restarts: what each event answers, and the world that it leaves.
 use Rattle.std.specs.Prelude.{◌≡◌, ℕ, ◌<◌, ◌≤◌, Bool, true, false, Option, Some, None, Result, Ok, Err, List, [], ◌∷◌, ◌++◌, length, take, Contains, ⊤, if◌then◌else◌}
-use Rattle.history_machine.specs.History.{Past, map_roots}
+use Rattle.history_machine.specs.History.{Past}
 use Rattle.plain_trees.specs.Trees.{Tree}
 use Rattle.history_machine.specs.Machine.{Machine, mounted, after}
 use Rattle.fs_types.specs.declared.calls.Call.{Call}
@@ -8,33 +8,28 @@ use Rattle.fs_types.specs.declared.calls.Reply.{Reply}
 use Rattle.fs_types.specs.declared.faults.Fault.{Fault}
 use Rattle.fs_types.specs.declared.faults.Fault.TheVariants.{ReadFailed, PowerCut, NoMemory}
 use Rattle.flash_model.specs.Device.{Device}
-use Rattle.undofs.specs.Seen.{Seen, room_of, tree_on}
-use Rattle.undofs.specs.Steps.{CallStep, IsLater, is_cut}
+use Rattle.flash_model.specs.Reading.{OnlyReads}
+use Rattle.undofs.specs.Seen.{machine_on}
+use Rattle.undofs.specs.Mounted.{IsMounted, StateStep}
+use Rattle.undofs.specs.Moments.{Moment}
+use Rattle.undofs.specs.declared.state.State.{State}
 use Rattle.undofs.specs.declared.events.Event.{Event}
 use Rattle.undofs.specs.declared.events.Answer.{Answer}
 
--- the machine, where one is mounted; whether a call answered that the power is off; and the histories that a restart
--- may find, oldest first: the one that was mounted or synced last, and those after each call that was accepted since
+-- a flash; the working state of the system on it, where one is mounted; and the histories that a restart may find, oldest
+-- first: the one that was mounted or synced last, and those after each call that was accepted since
 pub record World : Type 0 where
-  pub machine : Option Machine
-  pub off : Bool
+  pub device : Device
+  pub state : Option State
   pub found : List (Past Tree)
 
--- what is seen is of this flash, and the machine's history is one of block numbers, with the tree that is read off the
--- flash's pages in the place of each
-pub record IsSeenOn (d : Device) (s : Seen) (m : Machine) : Type 0 where
-  pub powered : s.powered ≡ d.powered
-  pub failed_reads : s.failed_reads ≡ d.failed_reads
-  pub room : s.room ≡ room_of d
-  pub history : (roots : Past ℕ) × (m.history ≡ map_roots (tree_on d) roots)
+-- a system is mounted, and this is the world's moment
+abbrev pub world_at : Moment → List (Past Tree) → World
+world_at m found = record { device = m.device; state = Some m.state; found = found }
 
--- before the first mount of a flash that holds this history
-abbrev pub before_mount : Past Tree → World
-before_mount h = record { machine = None; off = false; found = h ∷ [] }
-
--- just mounted with this history
-abbrev pub mounted_world : Past Tree → World
-mounted_world h = record { machine = Some (mounted h); off = false; found = h ∷ [] }
+-- a system is mounted, and shows this machine
+abbrev pub Shows : World → Machine → Type 0
+Shows w m = (s : State) × (w.state ≡ Some s) × (machine_on w.device s ≡ m)
 
 -- calls that commit the history
 abbrev pub is_sync : Call → Bool
@@ -42,53 +37,67 @@ is_sync (Call.Fsync number) = true
 is_sync Call.Sync = true
 is_sync _ = false
 
--- what a restart may find after an accepted call that left this history
-abbrev pub found_after : Call → List (Past Tree) → Past Tree → List (Past Tree)
-found_after call found h = if is_sync call then h ∷ [] else found ++ h ∷ []
+-- what a restart may find after a call that was answered so and left this history: an accepted one adds it, and a sync
+-- leaves it alone
+abbrev pub found_after : Call → Result Reply Fault → List (Past Tree) → Past Tree → List (Past Tree)
+found_after call (Ok reply) found h = if is_sync call then h ∷ [] else found ++ h ∷ []
+found_after call (Err fault) found h = found
 
--- a refusal of what only reads, with its cause: a read failed; the device is off; memory was wanted
-abbrev pub MayRefuseReading : Seen → Fault → Seen → Type 0
-MayRefuseReading old ReadFailed new = old.failed_reads < new.failed_reads
-MayRefuseReading old PowerCut new = new.powered ≡ false
-MayRefuseReading old NoMemory new = ⊤
-MayRefuseReading old _ new = ⊥
+-- a call on a mounted system takes its step from the flash and the state to the next ones, on which the system is mounted.
+-- Once a call has answered that the power is off, it is
+pub record Calls (w : World) (call : Call) (result : Result Reply Fault) (v : World) : Type 0 where
+  pub before : State
+  pub after : State
+  pub was : w.state ≡ Some before
+  pub is : v.state ≡ Some after
+  pub step : StateStep w.device before call result v.device after
+  pub mounted : IsMounted v.device after
+  pub off : after.is_off ≡ true → v.device.powered ≡ false
+  pub found : v.found ≡ found_after call result w.found (machine_on v.device after).history
 
--- a reclaiming step, by whether a call or step answered before that the power is off, and now
-abbrev pub StepAnswers : Seen → Bool → Result Reply Fault → Seen → Bool → Type 0
-StepAnswers old off (Ok reply) new off' = (is_last : Bool) × (reply ≡ Reply.Step is_last) × (off ≡ false) × (off' ≡ false)
-StepAnswers old true (Err fault) new off' = (fault ≡ PowerCut) × (new ≡ old) × (off' ≡ true)
-StepAnswers old false (Err fault) new off' = MayRefuseReading old fault new × (off' ≡ is_cut fault)
+-- the same flash with the power on
+abbrev pub put_on : Device → Device
+put_on d = record d { powered = true }
 
--- a reclaiming step that a mounted system carried out or refused; the machine and what a restart may find stay
-abbrev pub Reclaims : Seen → World → Result Reply Fault → Seen → World → Type 0
-Reclaims s w result t v = (m : Machine) × (w.machine ≡ Some m) × IsLater s t × StepAnswers s w.off result t v.off × (v.machine ≡ w.machine) × (v.found ≡ w.found)
+-- why a mount is refused that only reads: a read failed; the device is off; memory was wanted
+abbrev pub MayRefuseMount : Device → Fault → Device → Type 0
+MayRefuseMount old ReadFailed new = old.failed_reads < new.failed_reads
+MayRefuseMount old PowerCut new = new.powered ≡ false
+MayRefuseMount old NoMemory new = ⊤
+MayRefuseMount old _ new = ⊥
 
--- the same flash after a restart, which puts the power on and finds the bad blocks anew
-pub record IsRestarted (old new : Seen) : Type 0 where
-  pub room : new.room ≡ old.room
-  pub failed_reads : old.failed_reads ≤ new.failed_reads
+-- a system is mounted that shows one of these histories, and no file is open
+pub record IsMount (found : List (Past Tree)) (v : World) : Type 0 where
+  pub history : Past Tree
+  pub state : State
+  pub among : Contains found history
+  pub is : v.state ≡ Some state
+  pub machine : machine_on v.device state ≡ mounted history
+  pub mounted : IsMounted v.device state
+  pub is_on : state.is_off ≡ false
+  pub alone : v.found ≡ history ∷ []
 
--- what an event answers, and the world that it leaves. An accepted call adds the history after it to those that a
--- restart may find, and a sync leaves that one alone. A restart that mounts finds any one of them, and no file is open
-abbrev pub Happens : Seen → World → Event → Answer → Seen → World → Type 0
-Happens s w (Event.Call call) (Answer.Done reply) t v = (m n : Machine) × (w.machine ≡ Some m) × CallStep s m w.off call (Ok reply) t n v.off × (v.machine ≡ Some n) × (v.found ≡ found_after call w.found n.history)
-Happens s w (Event.Call call) (Answer.Refused fault) t v = (m n : Machine) × (w.machine ≡ Some m) × CallStep s m w.off call (Err fault) t n v.off × (v.machine ≡ Some n) × (v.found ≡ w.found)
-Happens s w (Event.Call call) Answer.Mounted t v = ⊥
-Happens s w (Event.Call call) Answer.Unmounted t v = (w.machine ≡ None) × (t ≡ s) × (v ≡ w)
-Happens s w (Event.ReclaimStep budget) (Answer.Done reply) t v = Reclaims s w (Ok reply) t v
-Happens s w (Event.ReclaimStep budget) (Answer.Refused fault) t v = Reclaims s w (Err fault) t v
-Happens s w (Event.ReclaimStep budget) Answer.Mounted t v = ⊥
-Happens s w (Event.ReclaimStep budget) Answer.Unmounted t v = (w.machine ≡ None) × (t ≡ s) × (v ≡ w)
-Happens s w Event.Restart Answer.Mounted t v = (h : Past Tree) × Contains w.found h × IsRestarted s t × (v ≡ mounted_world h)
-Happens s w Event.Restart (Answer.Refused fault) t v = MayRefuseReading s fault t × IsRestarted s t × (v ≡ record w { machine = None; off = false })
-Happens s w Event.Restart (Answer.Done reply) t v = ⊥
-Happens s w Event.Restart Answer.Unmounted t v = ⊥
+-- a mount reads the flash and does nothing else to it: it mounts one of these histories, or is refused
+abbrev pub Mounts : Device → List (Past Tree) → Answer → World → Type 0
+Mounts d found Answer.Mounted v = IsMount found v × OnlyReads d v.device
+Mounts d found (Answer.Refused fault) v = (v.state ≡ None) × (v.found ≡ found) × MayRefuseMount d fault v.device × OnlyReads d v.device
+Mounts d found (Answer.Done reply) v = ⊥
+Mounts d found Answer.Unmounted v = ⊥
 
--- events in order, each with its answer
-abbrev pub Run : Seen → World → List Event → List Answer → Seen → World → Type 0
-Run s w [] [] t v = (t ≡ s) × (v ≡ w)
-Run s w (event ∷ events) (answer ∷ answers) t v = (between : Seen) × (world : World) × Happens s w event answer between world × Run between world events answers t v
-Run s w _ _ t v = ⊥
+-- what an event answers, and the world that it leaves. A restart alone puts the power on: it mounts one of the histories
+-- that it may find
+abbrev pub Happens : World → Event → Answer → World → Type 0
+Happens w (Event.Call call) (Answer.Done reply) v = Calls w call (Ok reply) v
+Happens w (Event.Call call) (Answer.Refused fault) v = Calls w call (Err fault) v
+Happens w (Event.Call call) Answer.Mounted v = ⊥
+Happens w (Event.Call call) Answer.Unmounted v = (w.state ≡ None) × (v ≡ w)
+Happens w Event.Restart answer v = Mounts (put_on w.device) w.found answer v
+
+-- events in order, each with its answer: from the first world to the last
+abbrev pub Run : World → List Event → List Answer → World → Type 0
+Run w [] [] v = v ≡ w
+Run w (event ∷ events) (answer ∷ answers) v = (between : World) × Happens w event answer between × Run between events answers v
+Run w _ _ v = ⊥
 
 -- the calls that were carried out
 abbrev pub accepted : List Event → List Answer → List Call
@@ -108,13 +117,13 @@ NoneCommits _ _ = ⊤
 
 -- after an accepted sync, and after a mount, a restart finds the present history
 abbrev pub CommitLaw : Type 0
-CommitLaw = (s t : Seen) (w v : World) (event : Event) (answer : Answer)
-    → Happens s w event answer t v → commits event answer ≡ true
-    → (m : Machine) × (v.machine ≡ Some m) × (v.found ≡ m.history ∷ [])
+CommitLaw = (w v : World) (event : Event) (answer : Answer)
+    → Happens w event answer v → commits event answer ≡ true
+    → (m : Machine) × Shows v m × (v.found ≡ m.history ∷ [])
 
 -- from there on, until the next one, a restart that mounts finds the history after some first ones of the accepted calls
 abbrev pub PrefixLaw : Type 0
-PrefixLaw = (s between t : Seen) (w v u : World) (m : Machine) (events : List Event) (answers : List Answer)
-    → w.machine ≡ Some m → w.found ≡ m.history ∷ []
-    → Run s w events answers between v → NoneCommits events answers → Happens between v Event.Restart Answer.Mounted t u
-    → (n : ℕ) × (n ≤ length (accepted events answers)) × (u ≡ mounted_world (after m (take n (accepted events answers))).history)
+PrefixLaw = (w v u : World) (m : Machine) (events : List Event) (answers : List Answer)
+    → Shows w m → w.found ≡ m.history ∷ []
+    → Run w events answers v → NoneCommits events answers → Happens v Event.Restart Answer.Mounted u
+    → (n : ℕ) × (n ≤ length (accepted events answers)) × Shows u (mounted (after m (take n (accepted events answers))).history)

@@ -62,9 +62,3 @@ pub record IsLaterFlash (old new : Device) : Type 0 where
   pub geometry : new.geometry ≡ old.geometry
   pub failed_reads : old.failed_reads ≤ new.failed_reads
   pub was_on : new.powered ≡ true → old.powered ≡ true
-
--- what is seen is of a flash that came of this one by operations
-pub record IsFrom (d : Device) (s : Seen) : Type 0 where
-  pub room : s.room ≡ room_of d
-  pub failed_reads : d.failed_reads ≤ s.failed_reads
-  pub was_on : s.powered ≡ true → d.powered ≡ true

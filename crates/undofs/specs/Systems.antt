@@ -1,22 +1,23 @@
--- What contracts see of a mounted system: what its flash and its working state show.
-use Rattle.std.specs.Prelude.{Bool}
+-- What contracts see of a mounted system: its moment, and the step that a call takes.
+use Rattle.std.specs.Prelude.{Result}
 use Rattle.std.specs.Borrow.{GName}
-use Rattle.history_machine.specs.Machine.{Machine}
+use Rattle.fs_types.specs.declared.calls.Call.{Call}
+use Rattle.fs_types.specs.declared.calls.Reply.{Reply}
+use Rattle.fs_types.specs.declared.faults.Fault.{Fault}
 use Rattle.flash_model.specs.declared.device.Flash.{Ghosts}
-use Rattle.undofs.specs.Seen.{Seen, seen_on, machine_on}
+use Rattle.undofs.specs.Moments.{Moment}
+use Rattle.undofs.specs.Moments as moments
 use Rattle.undofs.specs.Mounted.{KeepsPages}
 use Rattle.undofs.specs.declared.system.Fs.{Fs}
 
 module _ {F : Type 0} {flash : Ghosts F} where
-  abbrev pub seen : Fs F flash → Seen
-  seen fs = seen_on (flash.device fs.flash.now) fs.state
+  -- its flash and its working state
+  abbrev pub moment_of : Fs F flash → Moment
+  moment_of fs = record { device = flash.device fs.flash.now; state = fs.state }
 
-  abbrev pub machine : Fs F flash → Machine
-  machine fs = machine_on (flash.device fs.flash.now) fs.state
-
-  -- a call has answered that the power is off
-  abbrev pub is_off : Fs F flash → Bool
-  is_off fs = fs.state.is_off
+  -- a call takes its step from one moment of a system to another, and is answered so
+  abbrev pub Steps : Fs F flash → Call → Result Reply Fault → Fs F flash → Type 0
+  Steps before call result after = moments.Steps (moment_of before) call result (moment_of after)
 
   -- no page changed of a block that a version or a checkpoint reaches
   abbrev pub KeepsAllPages : Fs F flash → Fs F flash → Type 0

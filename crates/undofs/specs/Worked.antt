@@ -44,11 +44,3 @@ ReadCause old ReadFailed new = old.failed_reads < new.failed_reads
 ReadCause old PowerCut new = new.powered ≡ false
 ReadCause old NoMemory new = Unit {0}
 ReadCause old _ new = ⊥
-
--- what a fresh system is refused with, beside its sizes and its limit
-abbrev pub IsFreshFault : Device → Fault → Type 0
-IsFreshFault new FlashFull = Unit {0}
-IsFreshFault new ReadOnly = Unit {0}
-IsFreshFault new NoMemory = Unit {0}
-IsFreshFault new PowerCut = new.powered ≡ false
-IsFreshFault new _ = ⊥

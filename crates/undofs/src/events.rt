@@ -6,8 +6,6 @@ use fs_types::{Call, Fault, Reply};
 pub enum Event {
     /// A call.
     Call(Call),
-    /// A step of reclaiming that reads at most so many nodes.
-    ReclaimStep(u64),
     /// The power is put on, and the system is mounted anew.
     Restart,
 }
@@ -15,7 +13,7 @@ pub enum Event {
 /// The answer to an event.
 #[derive(Debug, Drop)]
 pub enum Answer {
-    /// The call or step was carried out.
+    /// The call was carried out.
     Done(Reply),
     /// It was refused, or no system could be mounted.
     Refused(Fault),

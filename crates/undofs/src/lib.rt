@@ -19,4 +19,5 @@ mod tree_calls;
 
 pub use events::{Answer, Event};
 pub use promises::laws;
+pub use state::State;
 pub use system::{Fs, is_built};

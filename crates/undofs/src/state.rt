@@ -1,20 +1,20 @@
 //! The working state: all that a mounted system keeps in memory, apart from the flash.
-ghost use Rattle.std.specs.Prelude.{◌≡◌, ◌≢◌, ◌<◌, ◌≤◌, ◌↔◌, ◌⊎◌, true, false, Some, Err, [], IfOk, IfErr, vec_len, vec_capacity};
+ghost use Rattle.std.specs.Prelude.{◌≡◌, ◌<◌, ◌≤◌, ◌↔◌, ◌⊎◌, true, Some, Err, [], IfOk, IfErr, vec_len, vec_capacity};
 ghost use Rattle.std.specs.FinSet as set;
-ghost use Rattle.history_machine.specs.History.{fresh};
-ghost use Rattle.history_machine.specs.Machine.{mounted};
-ghost use Rattle.plain_trees.specs.Trees.{bare};
 ghost use Rattle.fs_types.specs.declared.faults.Fault.{Fault};
 ghost use Rattle.flash_model.specs.Geometry.{IsGeometry, block_bytes};
 ghost use Rattle.node_store.specs.NodePages.{node_of};
+ghost use Rattle.node_store.specs.Storage as parts;
+ghost use Rattle.node_store.specs.Stores.{IsSound, Follows};
 ghost use Rattle.block_trees.specs.Trees.{entries_of};
-ghost use Rattle.undofs.specs.Mounted.{IsMounted};
-ghost use Rattle.undofs.specs.Seen.{machine_on, IsLaterFlash};
-ghost use Rattle.undofs.specs.Worked.{IsFreshFault};
+ghost use Rattle.undofs.specs.Changes.{HasWritten};
+ghost use Rattle.undofs.specs.Fresh.{unused_ring, IsFresh, FreshCause, RootCause};
+ghost use Rattle.undofs.specs.Moments.{moment};
+ghost use Rattle.undofs.specs.Seen.{IsLaterFlash};
 
 use allocator::Ring;
 use bad_blocks::BadBlocks;
-use flash_model::Flash;
+use flash_model::{Flash, Geometry};
 use fs_types::Fault;
 use history::History;
 use node_format::empty_directory;
@@ -24,7 +24,7 @@ use std::alloc::Global;
 
 /// All that a mounted system keeps in memory.
 #[derive(Drop)]
-pub(crate) struct State {
+pub struct State {
     /// The versions and checkpoints, by the blocks of their roots.
     pub(crate) history: History<u32>,
     /// What nodes are kept with: the bad and the used blocks, and room for a page and for a node.
@@ -36,14 +36,18 @@ pub(crate) struct State {
 }
 
 impl State {
-    /// Writes the empty root of a fresh system of at most `limit` kept versions.
-    pub(crate) fn fresh<F: Flash>(alloc: Global, flash: &mut F, limit: u32) -> Result<State, Fault>
+    /// The working state of a fresh system of at most `limit` kept versions: an empty root is written,
+    /// and is its version of serial 1.
+    ///
+    /// [`Fault::BadGeometry`] where the sizes are out of range, else [`Fault::Invalid`] where `limit`
+    /// is not 2 to 64, else [`Fault::FlashFull`] where an operation failed in each data block,
+    /// [`Fault::ReadOnly`] where it failed in 256, [`Fault::PowerCut`], [`Fault::NoMemory`].
+    pub fn fresh<F: Flash>(alloc: Global, flash: &mut F, limit: u32) -> Result<State, Fault>
         ensures later { IsLaterFlash (F.device flash.old) (F.device flash.new) }
-        ensures mounted { IfOk result (IsMounted (F.device flash.new)) }
-        ensures fresh { IfOk result (λ state. (machine_on (F.device flash.new) state ≡ mounted (fresh limit bare)) × (state.is_off ≡ false)) }
+        ensures fresh { IfOk result (λ state. IsFresh (F.device flash.old) limit (moment (F.device flash.new) state)) }
+        ensures why { IfErr result (λ fault. FreshCause (F.device flash.old) limit fault (F.device flash.new)) }
         ensures sizes { (result ≡ Err Fault.BadGeometry) ↔ ¬ IsGeometry (F.device flash.old).geometry }
         ensures limits { (result ≡ Err Fault.Invalid) ↔ (IsGeometry (F.device flash.old).geometry × ((limit < 2) ⊎ (64 < limit))) }
-        ensures refused { IfErr result (λ fault. fault ≢ Fault.BadGeometry → fault ≢ Fault.Invalid → IsFreshFault (F.device flash.new) fault) }
     {
         if !flash.geometry().is_lawful() {
             return Err(Fault::BadGeometry);
@@ -60,17 +64,10 @@ impl State {
         requires at_least { 2 ≤ limit }
         requires at_most { limit ≤ 64 }
         ensures later { IsLaterFlash (F.device flash.old) (F.device flash.new) }
-        ensures mounted { IfOk result (IsMounted (F.device flash.new)) }
-        ensures fresh { IfOk result (λ state. (machine_on (F.device flash.new) state ≡ mounted (fresh limit bare)) × (state.is_off ≡ false)) }
-        ensures refused { IfErr result (IsFreshFault (F.device flash.new)) }
+        ensures fresh { IfOk result (λ state. IsFresh (F.device flash.old) limit (moment (F.device flash.new) state)) }
+        ensures why { IfErr result (λ fault. FreshCause (F.device flash.old) limit fault (F.device flash.new)) }
     {
-        let geometry = flash.geometry();
-        let mut storage = Storage {
-            bad: BadBlocks::new(),
-            ring: Ring::new(alloc, geometry.blocks, geometry.blocks - 1)?,
-            page: vec![in alloc; 0; geometry.page as usize]?,
-            node: Vec::with_capacity(alloc, geometry.block_bytes())?,
-        };
+        let mut storage = unused_storage(alloc, flash.geometry())?;
         let root = write_root(flash, &mut storage)?;
         let history = History::new(alloc, limit as usize, root)?;
         Ok(State {
@@ -82,21 +79,47 @@ impl State {
     }
 }
 
+/// What nodes are kept with on a flash of these sizes that nothing was written to: no block is bad or
+/// used, and the first data block is the next one.
+fn unused_storage(alloc: Global, geometry: Geometry) -> Result<Storage, Fault>
+    requires { IsGeometry geometry }
+    ensures bad { IfOk result (λ storage. storage.bad ≡ set.empty) }
+    ensures ring { IfOk result (λ storage. storage.ring ≡ unused_ring geometry.blocks) }
+    ensures page_len { IfOk result (λ storage. vec_len storage.page ≡ geometry.page) }
+    ensures node_room { IfOk result (λ storage. block_bytes geometry ≤ vec_capacity storage.node) }
+    ensures err { IfErr result (λ fault. fault ≡ Fault.NoMemory) }
+{
+    Ok(Storage {
+        bad: BadBlocks::new(),
+        ring: Ring::new(alloc, geometry.blocks, geometry.blocks - 1)?,
+        page: vec![in alloc; 0; geometry.page as usize]?,
+        node: Vec::with_capacity(alloc, geometry.block_bytes())?,
+    })
+}
+
 /// Writes an empty directory, and answers its block.
 fn write_root<F: Flash>(flash: &mut F, storage: &mut Storage) -> Result<u32, Fault>
     requires lawful { IsGeometry (F.device flash.old).geometry }
     requires ring_blocks { storage.old.ring.blocks ≡ (F.device flash.old).geometry.blocks }
     requires page_len { vec_len storage.old.page ≡ (F.device flash.old).geometry.page }
     requires node_room { block_bytes (F.device flash.old).geometry ≤ vec_capacity storage.old.node }
-    ensures later { IsLaterFlash (F.device flash.old) (F.device flash.new) }
-    ensures lawful { IsGeometry (F.device flash.new).geometry }
-    ensures ring_blocks { storage.new.ring.blocks ≡ (F.device flash.new).geometry.blocks }
-    ensures page_len { vec_len storage.new.page ≡ (F.device flash.new).geometry.page }
-    ensures node_room { block_bytes (F.device flash.new).geometry ≤ vec_capacity storage.new.node }
+    ensures written { HasWritten (F.device flash.old) storage.old 1 (F.device flash.new) storage.new }
     ensures kept { IfOk result (λ root. set.contains storage.new.ring.used root ≡ true) }
     ensures empty { IfOk result (λ root. entries_of (node_of (F.device flash.new) root) ≡ Some []) }
-    ensures refused { IfErr result (IsFreshFault (F.device flash.new)) }
+    ensures why { IfErr result (λ fault. RootCause (parts.storage (F.device flash.old) storage.old.bad storage.old.ring) fault (parts.storage (F.device flash.new) storage.new.bad storage.new.ring)) }
 {
     let mut store = Store::new(flash, storage);
+    write_empty(&mut store)
+}
+
+/// Writes an empty directory to a store, and answers its block.
+fn write_empty<F: Flash>(store: &mut Store<'_, F>) -> Result<u32, Fault>
+    requires { IsSound F.device store.old }
+    ensures follows { Follows F.device store.old store.new }
+    ensures written { HasWritten (F.device store.old.flash.now) store.old.storage.now 1 (F.device store.new.flash.now) store.new.storage.now }
+    ensures kept { IfOk result (λ root. set.contains store.new.storage.now.ring.used root ≡ true) }
+    ensures empty { IfOk result (λ root. entries_of (node_of (F.device store.new.flash.now) root) ≡ Some []) }
+    ensures why { IfErr result (λ fault. RootCause (parts.storage (F.device store.old.flash.now) store.old.storage.now.bad store.old.storage.now.ring) fault (parts.storage (F.device store.new.flash.now) store.new.storage.now.bad store.new.storage.now.ring)) }
+{
     store.write(&empty_directory())
 }

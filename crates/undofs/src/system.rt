@@ -1,7 +1,7 @@
 //! A mounted file system.
 ghost use Rattle.std.specs.Prelude.{◌≡◌, true};
 ghost use Rattle.undofs.specs.Built.{is_built};
-ghost use Rattle.undofs.specs.Steps.{replied, empty, CallStep};
+ghost use Rattle.undofs.specs.Steps.{replied, empty};
 ghost use Rattle.undofs.specs.Mounted.{IsMounted};
 ghost use Rattle.undofs.specs.Props.{mounted-prop};
 
@@ -54,38 +54,40 @@ pub fn is_built(call: &Call) -> bool
 }
 
 impl<'f, F: Flash> Fs<'f, F> {
-    ghost use Rattle.std.specs.Prelude.{◌↔◌, ◌<◌, ◌⊎◌, ℕ, false, Err, IfOk};
-    ghost use Rattle.history_machine.specs.History.{fresh};
-    ghost use Rattle.plain_trees.specs.Trees.{bare};
-    ghost use Rattle.history_machine.specs.Machine.{mounted};
+    ghost use Rattle.std.specs.Prelude.{◌↔◌, ◌<◌, ◌⊎◌, ℕ, Err, IfOk, IfErr};
     ghost use Rattle.fs_types.specs.declared.calls.Call.{Call};
     ghost use Rattle.fs_types.specs.declared.calls.Reply.{Reply};
     ghost use Rattle.flash_model.specs.Geometry.{IsGeometry};
-    ghost use Rattle.undofs.specs.Runs.{IsSeenOn};
-    ghost use Rattle.undofs.specs.Seen.{IsFrom};
-    ghost use Rattle.undofs.specs.Systems.{seen, machine, is_off, KeepsAllPages, flash_name};
+    ghost use Rattle.undofs.specs.Fresh.{IsFresh, IsFreshFault};
+    ghost use Rattle.undofs.specs.Moments.{moment};
+    ghost use Rattle.undofs.specs.Systems.{moment_of, Steps, KeepsAllPages, flash_name};
 
     /// A fresh system with an empty root as its version of serial 1, which keeps at most `limit`
-    /// versions. It is written to the first data block that works.
-    ///
-    /// [`Fault::BadGeometry`] where the sizes are out of range, else [`Fault::Invalid`] where `limit`
-    /// is not 2 to 64, else what the work meets: [`Fault::FlashFull`], [`Fault::ReadOnly`],
-    /// [`Fault::PowerCut`], [`Fault::NoMemory`].
+    /// versions. It is refused as its working state is: [`State::fresh`].
     pub fn fresh(alloc: Global, flash: &'f mut F, limit: u32) -> Result<Fs<'f, F>, Fault>
-        ensures starts { IfOk result (λ fs. IsFrom (F.device flash.old) (seen fs)) }
-        ensures fresh { IfOk result (λ fs. (machine fs ≡ mounted (fresh limit bare)) × (is_off fs ≡ false)) }
+        ensures fresh { IfOk result (λ fs. IsFresh (F.device flash.old) limit (moment_of fs)) }
         ensures same_flash { IfOk result (λ fs. flash_name fs ≡ flash.entry.ghost_name) }
         ensures sizes { (result ≡ Err Fault.BadGeometry) ↔ ¬ IsGeometry (F.device flash.old).geometry }
         ensures limits { (result ≡ Err Fault.Invalid) ↔ (IsGeometry (F.device flash.old).geometry × ((limit < 2) ⊎ (64 < limit))) }
+        ensures faults { IfErr result IsFreshFault }
     {
         let state = State::fresh(alloc, flash, limit)?;
-        Ok(Fs { flash, state })
+        Ok(Fs::on(flash, state))
+    }
+
+    /// The system of a working state, on the flash that it was made of.
+    pub fn on(flash: &'f mut F, state: State) -> Fs<'f, F>
+        requires { IsMounted (F.device flash.old) state }
+        ensures moment { moment_of result ≡ moment (F.device flash.old) state }
+        ensures same_flash { flash_name result ≡ flash.entry.ghost_name }
+    {
+        Fs { flash, state }
     }
 
     /// Opens the file at a path, and answers its number, the least that is free (POSIX.1-2017 `open`,
     /// without a mode; a directory is refused for reading too).
     pub fn open(&mut self, alloc: Global, path: &Path, flags: OpenFlags) -> Result<u8, Fault>
-        ensures step { CallStep (seen self.old) (machine self.old) (is_off self.old) (Call.Open path.now flags) (replied Reply.Fd result) (seen self.new) (machine self.new) (is_off self.new) }
+        ensures step { Steps self.old (Call.Open path.now flags) (replied Reply.Fd result) self.new }
         ensures pages { KeepsAllPages self.old self.new }
         ensures same_flash { flash_name self.new ≡ flash_name self.old }
     {
@@ -94,7 +96,7 @@ impl<'f, F: Flash> Fs<'f, F> {
 
     /// Closes the open file of a number, which is free then.
     pub fn close(&mut self, number: u64) -> Result<(), Fault>
-        ensures step { CallStep (seen self.old) (machine self.old) (is_off self.old) (Call.Close number) (replied empty result) (seen self.new) (machine self.new) (is_off self.new) }
+        ensures step { Steps self.old (Call.Close number) (replied empty result) self.new }
         ensures still { F.device self.new.flash.now ≡ F.device self.old.flash.now }
         ensures same_flash { flash_name self.new ≡ flash_name self.old }
     {
@@ -110,7 +112,7 @@ impl<'f, F: Flash> Fs<'f, F> {
         offset: u64,
         bytes: &[u8],
     ) -> Result<u64, Fault>
-        ensures step { CallStep (seen self.old) (machine self.old) (is_off self.old) (Call.Pwrite number offset bytes.now) (replied Reply.Count result) (seen self.new) (machine self.new) (is_off self.new) }
+        ensures step { Steps self.old (Call.Pwrite number offset bytes.now) (replied Reply.Count result) self.new }
         ensures pages { KeepsAllPages self.old self.new }
         ensures same_flash { flash_name self.new ≡ flash_name self.old }
     {
@@ -120,7 +122,7 @@ impl<'f, F: Flash> Fs<'f, F> {
     /// The length in bytes of the open file of a number becomes this (POSIX.1-2017 `ftruncate`); what is
     /// new of it is zeros. The same length makes no version, and is no refusal in read-only mode.
     pub fn ftruncate(&mut self, alloc: Global, number: u64, length: u64) -> Result<(), Fault>
-        ensures step { CallStep (seen self.old) (machine self.old) (is_off self.old) (Call.Ftruncate number length) (replied empty result) (seen self.new) (machine self.new) (is_off self.new) }
+        ensures step { Steps self.old (Call.Ftruncate number length) (replied empty result) self.new }
         ensures pages { KeepsAllPages self.old self.new }
         ensures same_flash { flash_name self.new ≡ flash_name self.old }
     {
@@ -130,7 +132,7 @@ impl<'f, F: Flash> Fs<'f, F> {
     /// What stands at a path of the tree that a view shows: a directory, with its number of entries, or
     /// a file, with its length in bytes (POSIX.1-2017 `stat`, which tells more).
     pub fn stat(&mut self, view: &View, path: &Path) -> Result<Stat, Fault>
-        ensures step { CallStep (seen self.old) (machine self.old) (is_off self.old) (Call.Stat view.now path.now) (replied Reply.Stat result) (seen self.new) (machine self.new) (is_off self.new) }
+        ensures step { Steps self.old (Call.Stat view.now path.now) (replied Reply.Stat result) self.new }
         ensures pages { (p : ℕ) → (F.device self.new.flash.now).pages p ≡ (F.device self.old.flash.now).pages p }
         ensures same_flash { flash_name self.new ≡ flash_name self.old }
     {
@@ -144,7 +146,7 @@ impl<'f, F: Flash> Fs<'f, F> {
         view: &View,
         path: &Path,
     ) -> Result<Sequence<(Name, bool)>, Fault>
-        ensures step { CallStep (seen self.old) (machine self.old) (is_off self.old) (Call.List view.now path.now) (replied Reply.Names result) (seen self.new) (machine self.new) (is_off self.new) }
+        ensures step { Steps self.old (Call.List view.now path.now) (replied Reply.Names result) self.new }
         ensures pages { (p : ℕ) → (F.device self.new.flash.now).pages p ≡ (F.device self.old.flash.now).pages p }
         ensures same_flash { flash_name self.new ≡ flash_name self.old }
     {
@@ -161,7 +163,7 @@ impl<'f, F: Flash> Fs<'f, F> {
         offset: u64,
         count: u64,
     ) -> Result<Bytes, Fault>
-        ensures step { CallStep (seen self.old) (machine self.old) (is_off self.old) (Call.ReadAt view.now path.now offset count) (replied Reply.Bytes result) (seen self.new) (machine self.new) (is_off self.new) }
+        ensures step { Steps self.old (Call.ReadAt view.now path.now offset count) (replied Reply.Bytes result) self.new }
         ensures pages { (p : ℕ) → (F.device self.new.flash.now).pages p ≡ (F.device self.old.flash.now).pages p }
         ensures same_flash { flash_name self.new ≡ flash_name self.old }
     {
@@ -178,7 +180,7 @@ impl<'f, F: Flash> Fs<'f, F> {
         offset: u64,
         count: u64,
     ) -> Result<Bytes, Fault>
-        ensures step { CallStep (seen self.old) (machine self.old) (is_off self.old) (Call.Pread descriptor offset count) (replied Reply.Bytes result) (seen self.new) (machine self.new) (is_off self.new) }
+        ensures step { Steps self.old (Call.Pread descriptor offset count) (replied Reply.Bytes result) self.new }
         ensures pages { (p : ℕ) → (F.device self.new.flash.now).pages p ≡ (F.device self.old.flash.now).pages p }
         ensures same_flash { flash_name self.new ≡ flash_name self.old }
     {
@@ -188,7 +190,7 @@ impl<'f, F: Flash> Fs<'f, F> {
 
     /// Makes an empty directory (POSIX.1-2017 `mkdir`, without a mode).
     pub fn mkdir(&mut self, alloc: Global, path: &Path) -> Result<(), Fault>
-        ensures step { CallStep (seen self.old) (machine self.old) (is_off self.old) (Call.Mkdir path.now) (replied empty result) (seen self.new) (machine self.new) (is_off self.new) }
+        ensures step { Steps self.old (Call.Mkdir path.now) (replied empty result) self.new }
         ensures pages { KeepsAllPages self.old self.new }
         ensures same_flash { flash_name self.new ≡ flash_name self.old }
     {
@@ -197,7 +199,7 @@ impl<'f, F: Flash> Fs<'f, F> {
 
     /// Removes an empty directory (POSIX.1-2017 `rmdir`). [`Fault::Busy`] for the root.
     pub fn rmdir(&mut self, alloc: Global, path: &Path) -> Result<(), Fault>
-        ensures step { CallStep (seen self.old) (machine self.old) (is_off self.old) (Call.Rmdir path.now) (replied empty result) (seen self.new) (machine self.new) (is_off self.new) }
+        ensures step { Steps self.old (Call.Rmdir path.now) (replied empty result) self.new }
         ensures pages { KeepsAllPages self.old self.new }
         ensures same_flash { flash_name self.new ≡ flash_name self.old }
     {
@@ -207,7 +209,7 @@ impl<'f, F: Flash> Fs<'f, F> {
     /// Removes a file (POSIX.1-2017 `unlink`). [`Fault::NotPermitted`] for a directory, [`Fault::Busy`]
     /// for a file that is open.
     pub fn unlink(&mut self, alloc: Global, path: &Path) -> Result<(), Fault>
-        ensures step { CallStep (seen self.old) (machine self.old) (is_off self.old) (Call.Unlink path.now) (replied empty result) (seen self.new) (machine self.new) (is_off self.new) }
+        ensures step { Steps self.old (Call.Unlink path.now) (replied empty result) self.new }
         ensures pages { KeepsAllPages self.old self.new }
         ensures same_flash { flash_name self.new ≡ flash_name self.old }
     {
@@ -218,7 +220,7 @@ impl<'f, F: Flash> Fs<'f, F> {
     /// stands there (POSIX.1-2017 `rename`). Nothing is done where both paths are the same, in
     /// read-only mode too. [`Fault::Busy`] where a file that would be moved or replaced is open.
     pub fn rename(&mut self, alloc: Global, old: &Path, new: &Path) -> Result<(), Fault>
-        ensures step { CallStep (seen self.old) (machine self.old) (is_off self.old) (Call.Rename old.now new.now) (replied empty result) (seen self.new) (machine self.new) (is_off self.new) }
+        ensures step { Steps self.old (Call.Rename old.now new.now) (replied empty result) self.new }
         ensures pages { KeepsAllPages self.old self.new }
         ensures same_flash { flash_name self.new ≡ flash_name self.old }
     {
@@ -227,7 +229,7 @@ impl<'f, F: Flash> Fs<'f, F> {
 
     /// The version before becomes the present one.
     pub fn undo(&mut self) -> Result<(), Fault>
-        ensures step { CallStep (seen self.old) (machine self.old) (is_off self.old) Call.Undo (replied empty result) (seen self.new) (machine self.new) (is_off self.new) }
+        ensures step { Steps self.old Call.Undo (replied empty result) self.new }
         ensures still { F.device self.new.flash.now ≡ F.device self.old.flash.now }
         ensures same_flash { flash_name self.new ≡ flash_name self.old }
     {
@@ -236,7 +238,7 @@ impl<'f, F: Flash> Fs<'f, F> {
 
     /// The version after becomes the present one.
     pub fn redo(&mut self) -> Result<(), Fault>
-        ensures step { CallStep (seen self.old) (machine self.old) (is_off self.old) Call.Redo (replied empty result) (seen self.new) (machine self.new) (is_off self.new) }
+        ensures step { Steps self.old Call.Redo (replied empty result) self.new }
         ensures still { F.device self.new.flash.now ≡ F.device self.old.flash.now }
         ensures same_flash { flash_name self.new ≡ flash_name self.old }
     {
@@ -245,7 +247,7 @@ impl<'f, F: Flash> Fs<'f, F> {
 
     /// The version with this serial becomes the present one.
     pub fn goto(&mut self, serial: u64) -> Result<(), Fault>
-        ensures step { CallStep (seen self.old) (machine self.old) (is_off self.old) (Call.Goto serial) (replied empty result) (seen self.new) (machine self.new) (is_off self.new) }
+        ensures step { Steps self.old (Call.Goto serial) (replied empty result) self.new }
         ensures still { F.device self.new.flash.now ≡ F.device self.old.flash.now }
         ensures same_flash { flash_name self.new ≡ flash_name self.old }
     {
@@ -254,7 +256,7 @@ impl<'f, F: Flash> Fs<'f, F> {
 
     /// A change to the tree of a checkpoint. It asks nothing of the flash.
     pub fn rollback(&mut self, alloc: Global, name: &CpName) -> Result<(), Fault>
-        ensures step { CallStep (seen self.old) (machine self.old) (is_off self.old) (Call.Rollback name.now) (replied empty result) (seen self.new) (machine self.new) (is_off self.new) }
+        ensures step { Steps self.old (Call.Rollback name.now) (replied empty result) self.new }
         ensures still { F.device self.new.flash.now ≡ F.device self.old.flash.now }
         ensures same_flash { flash_name self.new ≡ flash_name self.old }
     {
@@ -263,7 +265,7 @@ impl<'f, F: Flash> Fs<'f, F> {
 
     /// The `count` oldest versions before the present one are dropped.
     pub fn forget(&mut self, count: u64) -> Result<(), Fault>
-        ensures step { CallStep (seen self.old) (machine self.old) (is_off self.old) (Call.Forget count) (replied empty result) (seen self.new) (machine self.new) (is_off self.new) }
+        ensures step { Steps self.old (Call.Forget count) (replied empty result) self.new }
         ensures still { F.device self.new.flash.now ≡ F.device self.old.flash.now }
         ensures same_flash { flash_name self.new ≡ flash_name self.old }
     {
@@ -272,7 +274,7 @@ impl<'f, F: Flash> Fs<'f, F> {
 
     /// The present tree is kept under a name, until it is removed by that name.
     pub fn checkpoint(&mut self, name: &CpName) -> Result<(), Fault>
-        ensures step { CallStep (seen self.old) (machine self.old) (is_off self.old) (Call.Checkpoint name.now) (replied empty result) (seen self.new) (machine self.new) (is_off self.new) }
+        ensures step { Steps self.old (Call.Checkpoint name.now) (replied empty result) self.new }
         ensures still { F.device self.new.flash.now ≡ F.device self.old.flash.now }
         ensures same_flash { flash_name self.new ≡ flash_name self.old }
     {
@@ -281,7 +283,7 @@ impl<'f, F: Flash> Fs<'f, F> {
 
     /// The checkpoint of this name is given up.
     pub fn remove_checkpoint(&mut self, name: &CpName) -> Result<(), Fault>
-        ensures step { CallStep (seen self.old) (machine self.old) (is_off self.old) (Call.RemoveCheckpoint name.now) (replied empty result) (seen self.new) (machine self.new) (is_off self.new) }
+        ensures step { Steps self.old (Call.RemoveCheckpoint name.now) (replied empty result) self.new }
         ensures still { F.device self.new.flash.now ≡ F.device self.old.flash.now }
         ensures same_flash { flash_name self.new ≡ flash_name self.old }
     {
@@ -290,7 +292,7 @@ impl<'f, F: Flash> Fs<'f, F> {
 
     /// The history: next serial, kept serials, the present one, and the checkpoints.
     pub fn log(&self, alloc: Global) -> Result<Reply, Fault>
-        ensures { CallStep (seen self.now) (machine self.now) (is_off self.now) Call.Log result (seen self.now) (machine self.now) (is_off self.now) }
+        ensures { Steps self.now Call.Log result self.now }
     {
         self.state.log(alloc)
     }
@@ -298,7 +300,7 @@ impl<'f, F: Flash> Fs<'f, F> {
     /// Carries out a call that is built, and answers its reply.
     pub fn call(&mut self, alloc: Global, call: &Call) -> Result<Reply, Fault>
         requires { is_built call.now ≡ true }
-        ensures step { CallStep (seen self.old) (machine self.old) (is_off self.old) call.now result (seen self.new) (machine self.new) (is_off self.new) }
+        ensures step { Steps self.old call.now result self.new }
         ensures pages { KeepsAllPages self.old self.new }
         ensures same_flash { flash_name self.new ≡ flash_name self.old }
     {
@@ -342,10 +344,11 @@ impl<'f, F: Flash> Fs<'f, F> {
         }
     }
 
-    /// Ends the system, and gives its flash back.
+    /// Ends the system, and gives its very flash back, as the last call left it: all of the history
+    /// is on its pages.
     pub fn into_flash(self) -> &'f mut F
-        ensures same_flash { result.ghost_name ≡ flash_name self.entry }
-        ensures stands { IsSeenOn (F.device result.now) (seen self.entry) (machine self.entry) }
+        ensures flash { result ≡ self.entry.flash }
+        ensures mounted { IsMounted (F.device result.now) self.entry.state }
     {
         self.flash
     }

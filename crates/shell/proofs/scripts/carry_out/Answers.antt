@@ -1,15 +1,22 @@
-use Rattle.std.proofs.Common.{inl, inr, refl, ap}
+use Rattle.std.proofs.Common.{◌≡◌, Ok, Err, inl, inr, refl, ap}
+use Rattle.fs_types.specs.declared.faults.Fault.{Fault}
 use Rattle.script.specs.declared.answers.Answer.{Answer}
-use Rattle.undofs.specs.Seen.{seen_on, machine_on}
-use Rattle.shell.proofs.TurnLemmas.{plans, same_of}
+use Rattle.undofs.specs.Moments.{moment}
+use Rattle.shell.proofs.TurnLemmas.{plans}
 use Rattle.shell.proofs.scripts.carry_out.Goals as goal
+
+-- an answer is no refusal
+not_both : (x : Unit {0}) (fault : Fault) → Ok x ≡ Err fault → ⊥
+not_both x fault e = cc
 
 pub returns-in-Ok-plan_fault-clause-does : goal.returns-in-Ok-plan_fault-clause-does
 returns-in-Ok-plan_fault-clause-does c =
     let same = c.plan_fault.ensures in
-    rw c.in-PlanFault.is (plans c.in-PlanFault.k c.in-PlanFault.kind _ _ _ _ _ _ _ c.if-k-eq0.false (inl refl) (same_of seen_on _ _ _ _ same.still same.state) (same_of machine_on _ _ _ _ same.still same.state) (ap (λ state. state.is_off) same.state))
+    let told = c.in-Ok-plan_fault.ensures in
+    rw c.in-PlanFault.is (plans c.in-PlanFault.k c.in-PlanFault.kind _ _ _ _ _ c.if-k-eq0.false (λ i. moment (same.still i) (same.state i)) (inl (refl, (λ full. not_both c.in-Ok-plan_fault.field-0 Fault.Invalid (told.full.1 full)), told.ok)))
 
 pub returns-in-PlanFault-clause-does : goal.returns-in-PlanFault-clause-does
 returns-in-PlanFault-clause-does c =
     let same = c.plan_fault.ensures in
-    rw c.in-PlanFault.is (plans c.in-PlanFault.k c.in-PlanFault.kind _ _ _ _ _ _ _ c.if-k-eq0.false (inr (ap Answer.Refused c.in-Err-plan_fault.ensures.only)) (same_of seen_on _ _ _ _ same.still same.state) (same_of machine_on _ _ _ _ same.still same.state) (ap (λ state. state.is_off) same.state))
+    let told = c.in-Err-plan_fault.ensures in
+    rw c.in-PlanFault.is (plans c.in-PlanFault.k c.in-PlanFault.kind _ _ _ _ _ c.if-k-eq0.false (λ i. moment (same.still i) (same.state i)) (inr (ap Answer.Refused told.only, told.full.0 (ap Err told.only), told.err)))

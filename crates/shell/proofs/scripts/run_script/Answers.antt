@@ -1,10 +1,15 @@
-use Rattle.std.proofs.Common.{sym, subst, ◌∙◌}
-use Rattle.flash_model.specs.Simulation.{device_of}
+use Rattle.std.proofs.Common.{refl, sym, ap, subst, ◌∙◌}
+use Rattle.flash_model.specs.Simulation.{device_of, plan_of}
 use Rattle.flash_model.specs.declared.simulation.SimFlash.{SimFlash}
-use Rattle.undofs.specs.Systems.{seen, machine, is_off}
-use Rattle.shell.specs.Scripts.{Ends}
+use Rattle.undofs.specs.Fresh.{IsFresh}
+use Rattle.undofs.specs.Moments.{Moment}
+use Rattle.undofs.specs.Systems.{moment_of}
+use Rattle.shell.specs.Scripts.{Ends, kept_versions}
 use Rattle.shell.proofs.TurnLemmas.{script_ends}
 use Rattle.shell.proofs.scripts.run_script.Goals as goal
+
+pub run_lines-ended-requires : goal.run_lines-ended-requires
+run_lines-ended-requires g c = ap (λ (m : Moment). m.state.is_off) c.on-system.ensures.moment ∙ c.in-Ok.ensures.fresh.is_on
 
 pub returns-in-Ok : goal.returns-in-Ok
 returns-in-Ok g c =
@@ -13,9 +18,11 @@ returns-in-Ok g c =
     let old = g.W.Write.contents c.args.writer.now in
     let new = g.W.Write.contents c.run_lines-ended.new.writer in
     let system = c.run_lines-ended.new.system in
-    let start = device_of c.args.flash.now in
-    let ended : Ends start (device_of c.into_flash.result.now) input left c.run_lines-ended.result old new =
-    script_ends (seen c.in-Ok.system) (machine c.in-Ok.system) (is_off c.in-Ok.system) input left c.run_lines-ended.result old new (seen system) (machine system) (is_off system)
-    start (device_of c.into_flash.result.now) c.in-Ok.ensures.starts c.in-Ok.ensures.fresh c.into_flash.ensures.stands c.run_lines-ended.ensures.ends in
-    let same = sym (c.into_flash.ensures.same_flash ∙ c.run_lines-ended.ensures.same_flash ∙ c.in-Ok.ensures.same_flash) in
-    subst (λ (flash : SimFlash). Ends start (device_of flash) input left c.run_lines-ended.result old new) (sym (c.flash-1.given.1 same)) ended
+    let start = c.args.flash.now in
+    let begins : IsFresh (device_of start) kept_versions (moment_of c.on-system.result) = subst (IsFresh (device_of start) kept_versions) (sym c.on-system.ensures.moment) c.in-Ok.ensures.fresh in
+    let ended : Ends start system.flash.now input left c.run_lines-ended.result old new =
+    script_ends start system.flash.now (moment_of c.on-system.result) (plan_of c.on-system.result.flash.now) (moment_of system) input left c.run_lines-ended.result old new
+    begins system.mounted refl c.run_lines-ended.ensures.ends in
+    let back = c.into_flash.ensures.flash in
+    let same = sym (ap (λ r. r.ghost_name) back ∙ c.run_lines-ended.ensures.same_flash ∙ c.on-system.ensures.same_flash) in
+    record { ends = subst (λ (flash : SimFlash). Ends start flash input left c.run_lines-ended.result old new) (sym (c.flash-1.given.1 same ∙ ap (λ r. r.now) back)) ended }

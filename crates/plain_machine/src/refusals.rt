@@ -10,12 +10,12 @@ ghost use Rattle.fs_types.specs.declared.faults.Fault.{Fault};
 ghost use Rattle.plain_machine.specs.Plain.{machine_with, machine_at, size_refusal, emptiness_refusal};
 
 use crate::histories::History;
-use crate::names::parent;
 use crate::nodes::Node;
 use crate::trees::Tree;
 use bitflags::Flags;
 use fs_types::{Bytes, Call, Fault, Name, OpenFlags, Path, View};
-use open_files::{OpenFiles, are_lawful, is_beginning};
+use open_files::{OpenFiles, are_lawful};
+use plain_trees::{is_beginning, parent};
 
 /// The first refusal of a call, if any.
 pub fn refusal(history: &History, files: &OpenFiles, call: &Call) -> Option<Fault>

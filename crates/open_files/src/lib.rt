@@ -2,7 +2,5 @@
 #![tactic(auto)]
 
 mod files;
-mod flags;
 
 pub use files::{OpenFile, OpenFiles};
-pub use flags::are_lawful;

@@ -14,7 +14,7 @@ use crate::nodes::Node;
 use crate::trees::Tree;
 use bitflags::Flags;
 use fs_types::{Bytes, Call, Fault, Name, OpenFlags, Path, View};
-use open_files::{OpenFiles, are_lawful};
+use open_files::OpenFiles;
 use plain_trees::{is_beginning, parent};
 
 /// The first refusal of a call, if any.
@@ -70,7 +70,7 @@ fn found<'a>(tree: &'a Tree, path: &[Name]) -> Result<&'a Node, Fault>
 fn open_refusal(tree: &Tree, files: &OpenFiles, path: &Path, flags: OpenFlags) -> Option<Fault>
     ensures { result ≡ machine.refusal (machine_at tree.now files.now) (Call.Open path.now flags) }
 {
-    if !are_lawful(flags) {
+    if !flags.are_lawful() {
         return Some(Fault::Invalid);
     }
     if let Some(fault) = tree.lookup_refusal(path.names()) {

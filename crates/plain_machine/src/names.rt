@@ -5,7 +5,7 @@ ghost use Rattle.fs_types.specs.Names.{is_path};
 ghost use Rattle.plain_trees.specs.Contents.{beneath};
 ghost use Rattle.plain_machine.specs.Plain.{is_deep, only_name, path_moved};
 
-use fs_types::{Name, Path};
+use fs_types::{MAX_NAMES, Name, Path};
 use plain_trees::{is_beginning, rest_of};
 use std::alloc::{AllocError, Global};
 
@@ -31,7 +31,7 @@ pub fn is_deep(old: &[Name], depth: usize, path: &[Name]) -> bool
     ensures { result ≡ is_deep old.now depth path.now }
 {
     match rest_of(old, path) {
-        Some(rest) => depth > 16 || rest.len() > 16 - depth,
+        Some(rest) => depth > MAX_NAMES || rest.len() > MAX_NAMES - depth,
         None => false,
     }
 }

@@ -13,7 +13,7 @@ use crate::histories::History;
 use crate::nodes::Node;
 use crate::trees::Tree;
 use bitflags::Flags;
-use fs_types::{Bytes, Call, Fault, Name, OpenFlags, Path, View};
+use fs_types::{Bytes, Call, Fault, MAX_FILE_BYTES, Name, OpenFlags, Path, View};
 use open_files::OpenFiles;
 use plain_trees::{is_beginning, parent};
 
@@ -159,7 +159,7 @@ fn size_refusal(offset: u64, bytes: &[u8]) -> Option<Fault>
 }
 
 /// The greatest length of a file in bytes.
-const MAX_LENGTH: u64 = 16_777_216;
+const MAX_LENGTH: u64 = MAX_FILE_BYTES as u64;
 
 fn ftruncate_refusal(files: &OpenFiles, number: u64, length: u64) -> Option<Fault>
     ensures { result ≡ machine.refusal (machine_at bare files.now) (Call.Ftruncate number length) }

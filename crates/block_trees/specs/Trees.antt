@@ -7,6 +7,7 @@ use Rattle.fs_types.specs.Names.{Name, Path}
 use Rattle.plain_trees.specs.Contents.{Contents, Entry}
 use Rattle.plain_trees.specs.Trees.{Tree}
 use Rattle.node_format.specs.Items.{Item, named}
+pub use Rattle.node_format.specs.Items.{is_dir_place}
 use Rattle.node_format.specs.Directories.{directory_at}
 use Rattle.node_format.specs.declared.places.Place.{Place}
 use Rattle.node_format.specs.declared.places.Place.TheVariants.{Dir, File}
@@ -65,10 +66,6 @@ listed room f (suc depth) (Dir block) = ([], Entry.Dir) ∷ flat_map (λ item. m
 abbrev pub root_tree : ℕ → Blocks → ℕ → Tree
 root_tree room f root = from_entries (listed room f 16 (Dir root))
 
--- a name in a directory, with whether it is a directory itself
-abbrev pub is_dir_place : Place → Bool
-is_dir_place (Dir block) = true
-is_dir_place (File head size) = false
-
+-- the names in a directory, each with whether it is a directory itself
 abbrev pub names_of : List Item → List (Name × Bool)
 names_of items = map (λ item. (item.name, is_dir_place item.place)) items

@@ -4,22 +4,13 @@ ghost use Rattle.fs_types.specs.declared.faults.Fault.TheVariants.{NoMemory, Dam
 ghost use Rattle.node_store.specs.Faults.{IsReadFault};
 ghost use Rattle.node_store.specs.Frames.{OnlyLooks};
 ghost use Rattle.node_format.specs.Items.{Item};
-ghost use Rattle.block_trees.specs.Trees.{entries_of, is_dir_place, names_of};
+ghost use Rattle.block_trees.specs.Trees.{entries_of, names_of};
 ghost use Rattle.directory.specs.Lookups.{is_path_fault};
 
 use fs_types::{Fault, Name, Sequence};
-use node_format::{Entries, Place};
+use node_format::Entries;
 use node_store::Nodes;
 use std::alloc::{AllocError, Global};
-
-fn is_directory(place: Place) -> bool
-    ensures { result ≡ is_dir_place place }
-{
-    match place {
-        Place::Dir { .. } => true,
-        Place::File { .. } => false,
-    }
-}
 
 /// The names of entries, each with whether it is a directory.
 fn names_in(alloc: Global, entries: Entries<'_>) -> Result<Sequence<(Name, bool)>, Fault>
@@ -29,7 +20,7 @@ fn names_in(alloc: Global, entries: Entries<'_>) -> Result<Sequence<(Name, bool)
     let mut names = Sequence::new(alloc);
     for entry in entries {
         let name = Name::new(alloc, entry.name())?;
-        names.push((name, is_directory(entry.place())))?;
+        names.push((name, entry.place().is_dir()))?;
     }
     Ok(names)
 }

@@ -7,12 +7,12 @@ ghost use Rattle.block_trees.specs.Trees.{entries_of};
 ghost use Rattle.directory.specs.Lookups as spec;
 
 use crate::trails::find;
-use fs_types::{Fault, Name, Path};
+use fs_types::{Fault, MAX_ENTRIES, Name, Path};
 use node_format::{Entries, Place};
 use node_store::Nodes;
 
 /// The entries of a full directory.
-const MOST_ENTRIES: usize = 32;
+const MOST_ENTRIES: usize = MAX_ENTRIES;
 
 /// What a path leads to.
 #[derive(Clone, Copy, Debug, PartialEq, Eq)]

@@ -8,6 +8,7 @@ ghost use Rattle.std.proofs.Common.{rules};
 ghost use Rattle.fs_types.specs.Names.{is_checkpoint_name, same_name, name_cmp};
 
 use crate::faults::Fault;
+use crate::limits::MAX_CHECKPOINT_BYTES;
 use arrayvec::ArrayVec;
 use std::alloc::AllocError;
 use std::cmp::Ordering;
@@ -16,7 +17,7 @@ use std::marker::Model;
 /// The name of a checkpoint: 1 to 31 bytes from 0x21 to 0x7E. It takes no memory.
 #[derive(Debug, Drop)]
 pub struct CpName {
-    bytes: ArrayVec<u8, 31>,
+    bytes: ArrayVec<u8, MAX_CHECKPOINT_BYTES>,
 }
 
 impl Model for CpName {

@@ -4,7 +4,7 @@ ghost use Rattle.std.specs.Prelude.{⊤, ◌≡◌, [], ◌∷◌, codes, ℕ, L
 use bitflags::{Flag, Flags, bitflag_items};
 
 /// The flags of `open` (POSIX.1-2017 `O_RDONLY`, `O_WRONLY` and `O_RDWR` as two bits, `O_CREAT`,
-/// `O_EXCL`, `O_TRUNC`). Any 64 bits are a value; which are lawful `open` says.
+/// `O_EXCL`, `O_TRUNC`). Any 64 bits are a value.
 #[derive(Clone, Copy, PartialEq, Eq, Debug)]
 pub struct OpenFlags(u64);
 
@@ -15,6 +15,28 @@ bitflag_items! {
         const CREAT = 4;
         const EXCL = 8;
         const TRUNC = 16;
+    }
+}
+
+impl OpenFlags {
+    ghost use Rattle.fs_types.specs.Flags as flags_specs;
+
+    /// Whether `open` takes them: for reading or writing, exclusive only with creation, truncating only
+    /// for writing, and no other bit.
+    pub fn are_lawful(self) -> bool
+        ensures { result ≡ flags_specs.are_lawful self }
+    {
+        let writes = self.contains(OpenFlags::WRITE);
+        if !writes && !self.contains(OpenFlags::READ) {
+            return false;
+        }
+        if self.contains(OpenFlags::EXCL) && !self.contains(OpenFlags::CREAT) {
+            return false;
+        }
+        if self.contains(OpenFlags::TRUNC) && !writes {
+            return false;
+        }
+        self.bits() < 32
     }
 }
 

@@ -9,6 +9,7 @@ ghost use Rattle.std.proofs.Common.{rules};
 ghost use Rattle.fs_types.specs.Names.{is_lawful, is_dots, is_name, is_path, path_refusal, components_refusal, components_of, same_path, name_cmp, path_cmp};
 
 use crate::faults::Fault;
+use crate::limits::{MAX_NAME_BYTES, MAX_NAMES};
 use crate::names::Name;
 use std::alloc::{AllocError, Global};
 use std::cmp::Ordering;
@@ -123,8 +124,7 @@ fn are_lawful(rest: &[u8]) -> bool
 fn are_names(rest: &[u8]) -> bool
     ensures { result ≡ list_all is_name (slice_split (λ b. b == 47) rest.now) }
 {
-    rest.split(|b| *b == b'/')
-        .all(|name| is_lawful_name(name) && name.len() <= 64)
+    rest.split(|b| *b == b'/').all(|name| is_lawful_name(name) && name.len() <= MAX_NAME_BYTES)
 }
 
 fn count_components(rest: &[u8]) -> usize
@@ -143,7 +143,7 @@ fn refused_components(rest: &[u8]) -> Option<Fault>
     if !are_names(rest) {
         return Some(Fault::NameTooLong);
     }
-    if count_components(rest) > 16 {
+    if count_components(rest) > MAX_NAMES {
         return Some(Fault::NameTooLong);
     }
     None

@@ -21,6 +21,10 @@ abbrev pub is_place : Place → Bool
 is_place (Dir block) = nat_lt block (2 ^ 32)
 is_place (File head size) = nat_lt head (2 ^ 32) && nat_le size most_length
 
+abbrev pub is_dir_place : Place → Bool
+is_dir_place (Dir block) = true
+is_dir_place (File head size) = false
+
 -- an entry has a lawful name and a place
 abbrev pub is_item : Item → Bool
 is_item item = is_name item.name && is_place item.place

@@ -4,6 +4,7 @@ ghost use Rattle.byteorder.specs.Endian.{little_bytes};
 ghost use Rattle.node_format.specs.Headers.{field, body_front, IsNode};
 ghost use Rattle.node_format.specs.BodyNodes.{place_count, IsBodyNode, HasPlace, IsBodySpelling};
 
+use crate::headers::BODY_FRONT;
 use std::alloc::{AllocError, Global};
 use std::marker::Model;
 
@@ -11,7 +12,7 @@ use std::marker::Model;
 const MAGIC: [u8; 4] = *b"UFNB";
 
 /// The bytes before the data.
-const FRONT: usize = 80;
+const FRONT: usize = BODY_FRONT as usize;
 
 /// The pointer places.
 const PLACES: usize = 16;

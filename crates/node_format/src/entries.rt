@@ -11,7 +11,7 @@ ghost use Rattle.node_format.specs.Edits.{IsSplit, AreFront};
 use crate::headers::{DIRECTORY_MAGIC, MOST_ENTRIES};
 use crate::places::Place;
 use byteorder::{ByteOrder, LittleEndian};
-use fs_types::is_lawful_name;
+use fs_types::{MAX_FILE_BYTES, MAX_NAME_BYTES, is_lawful_name};
 use std::cmp::Ordering;
 use std::marker::Model;
 
@@ -76,7 +76,7 @@ fn name_of(size: u8, bytes: &[u8]) -> Option<(&[u8], &[u8])>
         return None;
     }
     let (name, rest) = bytes.split_at(size);
-    if name.len() > 64 {
+    if name.len() > MAX_NAME_BYTES {
         return None;
     }
     if is_lawful_name(name) {
@@ -90,7 +90,7 @@ fn place_of(kind: u8, head: u32, length: u32) -> Option<Place>
     ensures { result ≡ place_at kind head length }
 {
     match kind {
-        1 if length <= 16_777_216 => Some(Place::File { head, length }),
+        1 if length <= MAX_FILE_BYTES => Some(Place::File { head, length }),
         2 if length == 0 => Some(Place::Dir { block: head }),
         _ => None,
     }

@@ -2,6 +2,7 @@ ghost use Rattle.std.specs.Prelude.{◌≡◌, ◌≤◌, length, take};
 ghost use Rattle.node_format.specs.Headers as spec;
 
 use byteorder::{ByteOrder, LittleEndian};
+use fs_types::MAX_ENTRIES;
 
 /// The magic of a body node, `UFNB`.
 const BODY_MAGIC: u32 = 0x424e_4655;
@@ -10,13 +11,13 @@ const BODY_MAGIC: u32 = 0x424e_4655;
 pub(crate) const DIRECTORY_MAGIC: u32 = 0x444e_4655;
 
 /// The bytes before the data of a body node.
-const BODY_FRONT: u32 = 80;
+pub const BODY_FRONT: u32 = 80;
 
 /// The bytes before the entries of a directory node.
 const DIRECTORY_FRONT: u32 = 16;
 
 /// The most entries of a directory.
-pub(crate) const MOST_ENTRIES: u32 = 32;
+pub(crate) const MOST_ENTRIES: u32 = MAX_ENTRIES as u32;
 
 /// The size in bytes of the node whose first bytes are given, or None where its header is not well
 /// formed. Only the first 16 bytes are looked at.

@@ -5,8 +5,8 @@ ghost use Rattle.fs_types.specs.Names.{same_path};
 ghost use Rattle.plain_trees.specs.Contents.{begins};
 ghost use Rattle.history_machine.specs.Descriptors as descriptors;
 
-use crate::beginnings::is_beginning;
 use fs_types::{OpenFlags, Path};
+use plain_trees::is_beginning;
 use std::marker::Model;
 
 /// An open file: its path, and how it was opened.

@@ -1,23 +1,13 @@
-//! Paths as lists of names: what is left of one after another, and what is made of two.
-ghost use Rattle.std.specs.Prelude.{◌≡◌, ◌+◌, ◌-◌, ◌++◌, true, false, length, is_some, IfOk, OnOk};
+//! Names below a directory, and paths made of two.
+ghost use Rattle.std.specs.Prelude.{◌≡◌, ◌+◌, ◌++◌, true, false, length, is_some, IfOk, OnOk};
 ghost use Rattle.std.specs.Option.{option_copied};
 ghost use Rattle.fs_types.specs.Names.{is_path};
-ghost use Rattle.plain_trees.specs.Contents.{beneath, parent_of};
+ghost use Rattle.plain_trees.specs.Contents.{beneath};
 ghost use Rattle.plain_machine.specs.Plain.{is_deep, only_name, path_moved};
 
-use fs_types::{Name, Path};
-use open_files::{is_beginning, rest_of};
+use fs_types::{MAX_NAMES, Name, Path};
+use plain_trees::{is_beginning, rest_of};
 use std::alloc::{AllocError, Global};
-
-/// The names of the directory that a path stands in.
-pub fn parent(path: &[Name]) -> &[Name]
-    ensures { result.now ≡ parent_of path.now }
-{
-    match path.split_last() {
-        Some((_, parent)) => parent,
-        None => path,
-    }
-}
 
 /// The name of an entry right in a directory.
 pub fn child_name<'a>(directory: &[Name], path: &'a [Name]) -> Option<&'a Name>
@@ -41,7 +31,7 @@ pub fn is_deep(old: &[Name], depth: usize, path: &[Name]) -> bool
     ensures { result ≡ is_deep old.now depth path.now }
 {
     match rest_of(old, path) {
-        Some(rest) => depth > 16 || rest.len() > 16 - depth,
+        Some(rest) => depth > MAX_NAMES || rest.len() > MAX_NAMES - depth,
         None => false,
     }
 }

@@ -10,12 +10,12 @@ ghost use Rattle.fs_types.specs.declared.faults.Fault.{Fault};
 ghost use Rattle.plain_machine.specs.Plain.{machine_with, machine_at, size_refusal, emptiness_refusal};
 
 use crate::histories::History;
-use crate::names::parent;
 use crate::nodes::Node;
 use crate::trees::Tree;
 use bitflags::Flags;
-use fs_types::{Bytes, Call, Fault, Name, OpenFlags, Path, View};
-use open_files::{OpenFiles, are_lawful, is_beginning};
+use fs_types::{Bytes, Call, Fault, MAX_FILE_BYTES, Name, OpenFlags, Path, View};
+use open_files::OpenFiles;
+use plain_trees::{is_beginning, parent};
 
 /// The first refusal of a call, if any.
 pub fn refusal(history: &History, files: &OpenFiles, call: &Call) -> Option<Fault>
@@ -70,7 +70,7 @@ fn found<'a>(tree: &'a Tree, path: &[Name]) -> Result<&'a Node, Fault>
 fn open_refusal(tree: &Tree, files: &OpenFiles, path: &Path, flags: OpenFlags) -> Option<Fault>
     ensures { result ≡ machine.refusal (machine_at tree.now files.now) (Call.Open path.now flags) }
 {
-    if !are_lawful(flags) {
+    if !flags.are_lawful() {
         return Some(Fault::Invalid);
     }
     if let Some(fault) = tree.lookup_refusal(path.names()) {
@@ -159,7 +159,7 @@ fn size_refusal(offset: u64, bytes: &[u8]) -> Option<Fault>
 }
 
 /// The greatest length of a file in bytes.
-const MAX_LENGTH: u64 = 16_777_216;
+const MAX_LENGTH: u64 = MAX_FILE_BYTES as u64;
 
 fn ftruncate_refusal(files: &OpenFiles, number: u64, length: u64) -> Option<Fault>
     ensures { result ≡ machine.refusal (machine_at bare files.now) (Call.Ftruncate number length) }

@@ -9,7 +9,7 @@ ghost use Rattle.plain_trees.specs.Trees.{is_too_deep};
 
 use crate::maps;
 use crate::nodes::Node;
-use fs_types::{Fault, Name, Path, Sequence};
+use fs_types::{Fault, MAX_ENTRIES, Name, Path, Sequence};
 use std::alloc::{AllocError, Global};
 use std::collections::BTreeMap;
 use std::marker::Model;
@@ -91,7 +91,7 @@ impl Tree {
     pub fn is_full(&self, path: &[Name]) -> bool
         ensures { result ≡ tree.is_full self.now path.now }
     {
-        self.entry_count(path) >= 32
+        self.entry_count(path) >= MAX_ENTRIES
     }
 
     /// Why the names but the last lead nowhere.

@@ -1,7 +1,9 @@
 //! Trees of directories and files as functions and as finite maps: the plain edits of them, what a
-//! look-up refuses, files' bytes written and cut, and the laws of these.
+//! look-up refuses, files' bytes written and cut, and the laws of these; and paths taken apart.
 #![tactic(auto)]
 
 mod laws;
+mod paths;
 
 pub use laws::{edit_laws, file_laws, graft_laws, lookup_laws};
+pub use paths::{is_beginning, parent, rest_of};

@@ -10,12 +10,9 @@ ghost use Rattle.node_store.specs.Frames.{OnlyLooks};
 
 use crate::bodies::Body;
 use fs_types::{Bytes, Fault};
-use node_format::BodyNode;
+use node_format::{BODY_FRONT, BodyNode};
 use node_store::Nodes;
 use std::alloc::Global;
-
-/// The bytes of a body node before its data.
-const FRONT: u32 = 80;
 
 /// The farthest pointer place that leads from an index to one before it, or to one between.
 fn farthest_place(index: u32, before: u32) -> u32
@@ -142,7 +139,7 @@ pub(crate) fn room_in<N: Nodes>(nodes: &N) -> u32
     ensures room { result ≡ N.limit nodes.now - body_front }
     ensures some { 0 < result }
 {
-    nodes.block_bytes() - FRONT
+    nodes.block_bytes() - BODY_FRONT
 }
 
 /// The bytes of a file from an offset on, at most `count`: fewer near its end, none at or past it.

@@ -16,12 +16,9 @@ use crate::old_nodes::{list_blocks, read_kept};
 use crate::reading::find;
 use crate::tables::{Table, start_table};
 use fs_types::Fault;
-use node_format::body_node;
+use node_format::{BODY_FRONT, body_node};
 use node_store::Nodes;
 use std::alloc::Global;
-
-/// The bytes of a body node before its data.
-const BODY_FRONT: u32 = 80;
 
 /// Writes one node after a body of full nodes, of `room` data bytes each, and answers its block. Its
 /// pointer places are those of the table, which takes it in.

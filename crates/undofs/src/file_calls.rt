@@ -25,7 +25,7 @@ use bitflags::Flags;
 use directory::{Found, Trail};
 use flash_model::Flash;
 use fs_types::{Fault, OpenFlags, Path};
-use open_files::{OpenFile, are_lawful};
+use open_files::OpenFile;
 use std::alloc::Global;
 use tree_edits::Edit;
 
@@ -110,7 +110,7 @@ impl State {
         ensures accepted { OnOk result (refusal (machine_on (F.device flash.old) self.old) (Call.Open path.now flags) ≡ None) }
         ensures refused { IfErr result (λ fault. Refuses (seen_on (F.device flash.old) self.old) (machine_on (F.device flash.old) self.old) (Call.Open path.now flags) fault (seen_on (F.device flash.new) self.new)) }
     {
-        if !are_lawful(flags) {
+        if !flags.are_lawful() {
             return Err(Fault::Invalid);
         }
         let (found, trail) = find_path(flash, &mut self.storage, root, path)?;

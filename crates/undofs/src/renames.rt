@@ -33,7 +33,7 @@ use flash_model::Flash;
 use fs_types::{Fault, Name, Path};
 use node_format::Place;
 use node_store::Store;
-use open_files::is_beginning;
+use plain_trees::is_beginning;
 use std::alloc::Global;
 use tree_edits::Edit;
 

@@ -1,5 +1,5 @@
 use Rattle.std.proofs.Common.{length}
-use Rattle.open_files.proofs.beginnings.+rest_of.Given as goal
+use Rattle.plain_trees.proofs.paths.+rest_of.Given as goal
 
 abbrev pub decreases-rest_of : goal.decreases-rest_of
 decreases-rest_of l = length l.front.now

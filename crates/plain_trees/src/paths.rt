@@ -1,7 +1,7 @@
-//! What is left of a path after a beginning of it.
+//! Paths as lists of names: what is left of one after a beginning of it, and its directory.
 ghost use Rattle.std.specs.Prelude.{◌≡◌};
 ghost use Rattle.std.specs.Option.{option_map};
-ghost use Rattle.plain_trees.specs.Contents.{beneath, begins};
+ghost use Rattle.plain_trees.specs.Contents.{beneath, begins, parent_of};
 
 use fs_types::Name;
 
@@ -26,4 +26,14 @@ pub fn is_beginning(front: &[Name], path: &[Name]) -> bool
     ensures { result ≡ begins front.now path.now }
 {
     rest_of(front, path).is_some()
+}
+
+/// The names of the directory that a path stands in; none for the root.
+pub fn parent(path: &[Name]) -> &[Name]
+    ensures { result.now ≡ parent_of path.now }
+{
+    match path.split_last() {
+        Some((_, parent)) => parent,
+        None => path,
+    }
 }

@@ -1,0 +1,16 @@
+//! How much there may be of names, paths, directories and files.
+
+/// The most bytes in a name of a directory entry.
+pub const MAX_NAME_BYTES: usize = 64;
+
+/// The most names in a path.
+pub const MAX_NAMES: usize = 16;
+
+/// The most bytes in a name of a checkpoint.
+pub const MAX_CHECKPOINT_BYTES: usize = 31;
+
+/// The most entries in a directory.
+pub const MAX_ENTRIES: usize = 32;
+
+/// The most bytes in a file.
+pub const MAX_FILE_BYTES: u32 = 16_777_216;

@@ -30,10 +30,10 @@ use crate::lookups::find_path;
 use crate::state::State;
 use directory::{Found, Trail, is_deeper};
 use flash_model::Flash;
-use fs_types::{Fault, Name, Path};
+use fs_types::{Fault, Path};
 use node_format::Place;
 use node_store::Store;
-use plain_trees::is_beginning;
+use plain_trees::{is_beginning, parent};
 use std::alloc::Global;
 use tree_edits::Edit;
 
@@ -167,7 +167,7 @@ impl State {
         ensures accepted { OnOk result ((entry : Entry) → is_dir entry ≡ is_dir_place place → rename_refusal (machine_on (F.device flash.old) self.old) old.now new.now entry ≡ None) }
         ensures refused { IfErr result (λ fault. ((entry : Entry) → is_dir entry ≡ is_dir_place place → rename_refusal (machine_on (F.device flash.old) self.old) old.now new.now entry ≡ Some fault) ⊎ ReadCause (seen_on (F.device flash.old) self.old) fault (seen_on (F.device flash.new) self.new)) }
     {
-        let moves_directory = is_directory(place);
+        let moves_directory = place.is_dir();
         check_beyond(old, new, moves_directory)?;
         let (lacks_room, trail) = self.check_target(flash, root, new, moves_directory)?;
         self.check_depth(alloc, flash, root, old, new, place)?;
@@ -287,16 +287,6 @@ impl State {
     }
 }
 
-/// Whether an entry is a directory.
-fn is_directory(place: Place) -> bool
-    ensures { result ≡ is_dir_place place }
-{
-    match place {
-        Place::Dir { .. } => true,
-        Place::File { .. } => false,
-    }
-}
-
 /// Refuses to move a directory below itself.
 fn check_beyond(old: &Path, new: &Path, moves_directory: bool) -> Result<(), Fault>
     ensures lawful { OnOk result (is_path old.now && is_path new.now ≡ true) }
@@ -311,16 +301,6 @@ fn check_beyond(old: &Path, new: &Path, moves_directory: bool) -> Result<(), Fau
         return Err(Fault::Invalid);
     }
     Ok(())
-}
-
-/// The directory that a path stands in.
-fn parent(path: &[Name]) -> &[Name]
-    ensures { result.now ≡ parent_of path.now }
-{
-    match path.split_last() {
-        Some((_, parent)) => parent,
-        None => path,
-    }
 }
 
 /// Refuses a new name of a full directory, but where the old name stands in that directory too.

@@ -18,13 +18,13 @@ pub returns-in_err-check_beyond-clause-refused : goal.returns-in_err-check_beyon
 returns-in_err-check_beyond-clause-refused g c =
     let p = err_from_is_err_and c.from_residual.result c.from_residual.ensures.1 in
     of_fault (MoveRefused (g.F.Flash.device c.args.flash.now) c.args.self.now (g.F.Flash.device c.args.flash.now) c.args.self.now c.args.old.now c.args.new.now c.args.place) c.in_err-check_beyond.field-0.0 c.from_residual.result (p.1 ∙ ap Err p.2)
-    (move_below (g.F.Flash.device c.args.flash.now) c.args.self.now c.args.old.now c.args.new.now c.args.place _ c.requires.differ c.is_directory-moves_directory.ensures (g.F.Flash.device c.args.flash.now) c.args.self.now c.in_err-check_beyond.field-0.0 c.in_err-check_beyond.ensures.err)
+    (move_below (g.F.Flash.device c.args.flash.now) c.args.self.now c.args.old.now c.args.new.now c.args.place _ c.requires.differ c.is_dir-moves_directory.ensures (g.F.Flash.device c.args.flash.now) c.args.self.now c.in_err-check_beyond.field-0.0 c.in_err-check_beyond.ensures.err)
 
 pub returns-in_err-lacks_room-clause-refused : goal.returns-in_err-lacks_room-clause-refused
 returns-in_err-lacks_room-clause-refused g c =
     let p = err_from_is_err_and c.from_residual-in_err-lacks_room.result c.from_residual-in_err-lacks_room.ensures.1 in
     of_fault (MoveRefused (g.F.Flash.device c.args.flash.now) c.args.self.now (g.F.Flash.device c.check_target.new.flash) c.check_target.new.self c.args.old.now c.args.new.now c.args.place) c.in_err-lacks_room.field-0.0 c.from_residual-in_err-lacks_room.result (p.1 ∙ ap Err p.2)
-    (move_target (g.F.Flash.device c.args.flash.now) c.args.self.now c.args.old.now c.args.new.now c.args.place _ c.requires.differ c.is_directory-moves_directory.ensures (g.F.Flash.device c.check_target.new.flash) c.check_target.new.self c.in_err-lacks_room.field-0.0
+    (move_target (g.F.Flash.device c.args.flash.now) c.args.self.now c.args.old.now c.args.new.now c.args.place _ c.requires.differ c.is_dir-moves_directory.ensures (g.F.Flash.device c.check_target.new.flash) c.check_target.new.self c.in_err-lacks_room.field-0.0
     c.in_ok-check_beyond.ensures.ok c.in_err-lacks_room.ensures.refused)
 
 pub check_depth-requires-clause-mounted : goal.check_depth-requires-clause-mounted
@@ -43,7 +43,7 @@ returns-in_err-check_depth-clause-refused g c =
     let fault = c.in_err-check_depth.field-0.0 in
     of_fault (MoveRefused (g.F.Flash.device c.args.flash.now) c.args.self.now (g.F.Flash.device c.check_depth.new.flash) c.check_depth.new.self c.args.old.now c.args.new.now c.args.place) c.in_err-check_depth.field-0.0 c.from_residual-in_err-check_depth.result (p.1 ∙ ap Err p.2)
     (elim c.in_err-check_depth.ensures.refused [
-      | inl told ↦ inl (λ entry kind. move_then (g.F.Flash.device c.args.flash.now) c.args.self.now c.args.old.now c.args.new.now c.args.place _ c.requires.differ c.is_directory-moves_directory.ensures (Some fault) c.in_ok-check_beyond.ensures.ok c.in_ok-lacks_room.ensures.allowed
+      | inl told ↦ inl (λ entry kind. move_then (g.F.Flash.device c.args.flash.now) c.args.self.now c.args.old.now c.args.new.now c.args.place _ c.requires.differ c.is_dir-moves_directory.ensures (Some fault) c.in_ok-check_beyond.ensures.ok c.in_ok-lacks_room.ensures.allowed
           (deep_refuses (machine_on (g.F.Flash.device c.args.flash.now) c.args.self.now) c.args.old.now c.args.new.now
           (is_deep (g.F.Flash.device c.args.flash.now) c.args.self.now c.args.root c.args.old.now c.args.new.now c.args.place c.requires.mounted c.requires.present c.requires.stands (path_within c.args.new.now lawful.1)
           (deeper_before (node_of (g.F.Flash.device c.args.flash.now)) (node_of (g.F.Flash.device c.check_target.new.flash)) c.args.place _ c.check_target.ensures.nodes told.1))
@@ -58,7 +58,7 @@ returns-in_err-check_closed-clause-refused g c =
     let lawful = and_parts (is_path c.args.old.now) (is_path c.args.new.now) c.in_ok-check_beyond.ensures.lawful in
     let told = c.in_err-check_closed.ensures.err in
     of_fault (MoveRefused (g.F.Flash.device c.args.flash.now) c.args.self.now (g.F.Flash.device c.check_depth.new.flash) c.check_depth.new.self c.args.old.now c.args.new.now c.args.place) c.in_err-check_closed.field-0.0 c.from_residual-in_err-check_closed.result (p.1 ∙ ap Err p.2)
-    (inl (move_then (g.F.Flash.device c.args.flash.now) c.args.self.now c.args.old.now c.args.new.now c.args.place _ c.requires.differ c.is_directory-moves_directory.ensures (Some c.in_err-check_closed.field-0.0) c.in_ok-check_beyond.ensures.ok c.in_ok-lacks_room.ensures.allowed
+    (inl (move_then (g.F.Flash.device c.args.flash.now) c.args.self.now c.args.old.now c.args.new.now c.args.place _ c.requires.differ c.is_dir-moves_directory.ensures (Some c.in_err-check_closed.field-0.0) c.in_ok-check_beyond.ensures.ok c.in_ok-lacks_room.ensures.allowed
     (busy_refuses (machine_on (g.F.Flash.device c.args.flash.now) c.args.self.now) c.args.old.now c.args.new.now
     (is_shallow (g.F.Flash.device c.args.flash.now) c.args.self.now c.args.root c.args.old.now c.args.new.now c.args.place c.requires.mounted c.requires.present c.requires.stands (path_within c.args.new.now lawful.1)
     (shallow_before (node_of (g.F.Flash.device c.args.flash.now)) (node_of (g.F.Flash.device c.check_target.new.flash)) c.args.place _ c.check_target.ensures.nodes c.in_ok-check_depth.ensures.shallow))
@@ -71,7 +71,7 @@ returns-in_err-check_room-clause-refused g c =
     let lawful = and_parts (is_path c.args.old.now) (is_path c.args.new.now) c.in_ok-check_beyond.ensures.lawful in
     let told = c.in_err-check_room.ensures.err in
     of_fault (MoveRefused (g.F.Flash.device c.args.flash.now) c.args.self.now (g.F.Flash.device c.check_depth.new.flash) c.check_depth.new.self c.args.old.now c.args.new.now c.args.place) c.in_err-check_room.field-0.0 c.from_residual-in_err-check_room.result (p.1 ∙ ap Err p.2)
-    (inl (move_then (g.F.Flash.device c.args.flash.now) c.args.self.now c.args.old.now c.args.new.now c.args.place _ c.requires.differ c.is_directory-moves_directory.ensures (Some c.in_err-check_room.field-0.0) c.in_ok-check_beyond.ensures.ok c.in_ok-lacks_room.ensures.allowed
+    (inl (move_then (g.F.Flash.device c.args.flash.now) c.args.self.now c.args.old.now c.args.new.now c.args.place _ c.requires.differ c.is_dir-moves_directory.ensures (Some c.in_err-check_room.field-0.0) c.in_ok-check_beyond.ensures.ok c.in_ok-lacks_room.ensures.allowed
     (moves_by (machine_on (g.F.Flash.device c.args.flash.now) c.args.self.now) c.args.old.now c.args.new.now false false true
     (is_shallow (g.F.Flash.device c.args.flash.now) c.args.self.now c.args.root c.args.old.now c.args.new.now c.args.place c.requires.mounted c.requires.present c.requires.stands (path_within c.args.new.now lawful.1)
     (shallow_before (node_of (g.F.Flash.device c.args.flash.now)) (node_of (g.F.Flash.device c.check_target.new.flash)) c.args.place _ c.check_target.ensures.nodes c.in_ok-check_depth.ensures.shallow))
@@ -82,7 +82,7 @@ returns-in_err-check_room-clause-refused g c =
 pub returns-clause-accepted : goal.returns-clause-accepted
 returns-clause-accepted g c =
     let lawful = and_parts (is_path c.args.old.now) (is_path c.args.new.now) c.in_ok-check_beyond.ensures.lawful in
-    move_then (g.F.Flash.device c.args.flash.now) c.args.self.now c.args.old.now c.args.new.now c.args.place _ c.requires.differ c.is_directory-moves_directory.ensures None c.in_ok-check_beyond.ensures.ok c.in_ok-lacks_room.ensures.allowed
+    move_then (g.F.Flash.device c.args.flash.now) c.args.self.now c.args.old.now c.args.new.now c.args.place _ c.requires.differ c.is_dir-moves_directory.ensures None c.in_ok-check_beyond.ensures.ok c.in_ok-lacks_room.ensures.allowed
     (moves_by (machine_on (g.F.Flash.device c.args.flash.now) c.args.self.now) c.args.old.now c.args.new.now false false false
     (is_shallow (g.F.Flash.device c.args.flash.now) c.args.self.now c.args.root c.args.old.now c.args.new.now c.args.place c.requires.mounted c.requires.present c.requires.stands (path_within c.args.new.now lawful.1)
     (shallow_before (node_of (g.F.Flash.device c.args.flash.now)) (node_of (g.F.Flash.device c.check_target.new.flash)) c.args.place _ c.check_target.ensures.nodes c.in_ok-check_depth.ensures.shallow))

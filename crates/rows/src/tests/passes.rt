@@ -54,6 +54,7 @@ impl ThreeNodes {
 
 impl Nodes for ThreeNodes {
     ghost use Rattle.std.specs.Prelude.{true, unwrap_or, [], refl, ◌≡◌};
+    ghost use Rattle.node_store.specs.FrameLaws.{Looks_on, Works_on, Looks_works};
     ghost use Rattle.rows.specs.Contents.{content_of, content_whole, content_low, content_high};
 
     ghost node = { λ _ b. content_of b };
@@ -112,6 +113,12 @@ impl Nodes for ThreeNodes {
     ghost follows_itself = { λ _. tt };
 
     ghost follows_on = { λ _ _ _ _ _. tt };
+
+    ghost looks_on = { Looks_on (λ _ _ _ _ _. tt) };
+
+    ghost works_on = { Works_on (λ _ _ _ _ _. tt) };
+
+    ghost looks_works = { Looks_works };
 
     ghost causes_on = { λ _ _ _ _ _ _. tt };
 

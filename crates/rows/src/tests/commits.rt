@@ -1,5 +1,5 @@
 //! Records committed on a flash in memory: where they go, and what failed operations and cuts leave.
-ghost use Rattle.std.specs.Prelude.{◌≡◌, ◌<◌, ◌≤◌, true, [], IfOk};
+ghost use Rattle.std.specs.Prelude.{◌≡◌, true, [], IfOk};
 ghost use Rattle.record_format.specs.Payloads.{is_record};
 
 use bad_blocks::BadBlocks;

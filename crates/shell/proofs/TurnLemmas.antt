@@ -13,12 +13,12 @@ use Rattle.flash_model.specs.declared.simulation.SimFlash.{SimFlash}
 use Rattle.script.specs.Lines.{line_of}
 use Rattle.script.specs.declared.lines.Line.{Line}
 use Rattle.script.specs.declared.answers.Answer.{Answer}
-use Rattle.undofs.specs.Fresh.{IsFresh, FreshCause}
-use Rattle.undofs.specs.Moments.{Moment, machine_at, IsMountedAt}
+use Rattle.working_state.specs.Fresh.{IsFresh, FreshCause}
+use Rattle.working_state.specs.Moments.{Moment, machine_at, IsMountedAt}
 use Rattle.undofs.specs.Runs.{world_at, found_after}
 use Rattle.undofs.specs.declared.events.Event.{Event}
 use Rattle.undofs.specs.declared.events.Answer.{Answer as EventAnswer}
-use Rattle.undofs.proofs.CutCalls.{stays_off}
+use Rattle.working_state.proofs.CutCalls.{stays_off}
 use Rattle.shell.specs.Scripts.{Scene, event_of, Plans, RepliesBy, Replies, CarriesOut, scene_at, kept_versions, answer_text, answer_texts, HasTaken, EndsBy, Session, Ends}
 use Rattle.shell.specs.Turns.{Gets, DoesBy, Does, Writes, Carried, LinesEnd}
 use Rattle.shell.specs.declared.scripts.ScriptFault.{ScriptFault}

@@ -16,8 +16,8 @@ use Rattle.script.specs.Streams.{TakesLine, TakesPart, lines_of}
 use Rattle.script.specs.declared.lines.Line.{Line}
 use Rattle.script.specs.declared.answers.Answer.{Answer}
 use Rattle.undofs.specs.Built.{is_built}
-use Rattle.undofs.specs.Fresh.{IsFresh, FreshCause}
-use Rattle.undofs.specs.Moments.{Moment, machine_at, IsMountedAt}
+use Rattle.working_state.specs.Fresh.{IsFresh, FreshCause}
+use Rattle.working_state.specs.Moments.{Moment, machine_at, IsMountedAt}
 use Rattle.undofs.specs.Runs.{World, world_at, Happens, Run}
 use Rattle.undofs.specs.declared.events.Event.{Event}
 use Rattle.undofs.specs.declared.events.Answer.{Answer as EventAnswer}

@@ -9,7 +9,7 @@ use Rattle.script.specs.Lines.{line_of}
 use Rattle.script.specs.Streams.{TakesLine, TakesPart}
 use Rattle.script.specs.declared.lines.Line.{Line}
 use Rattle.script.specs.declared.answers.Answer.{Answer}
-use Rattle.undofs.specs.Moments.{Moment, machine_at, Steps}
+use Rattle.working_state.specs.Moments.{Moment, machine_at, Steps}
 use Rattle.undofs.specs.declared.events.Event.{Event}
 use Rattle.shell.specs.Scripts.{event_of, IsStillAnswer, CarriesOut, EndsBy, scene_at, answer_text}
 use Rattle.shell.specs.declared.scripts.ScriptFault.{ScriptFault}

@@ -6,7 +6,7 @@ use Rattle.flash_model.specs.Simulation.{device_of, plan_of, IsNew}
 use Rattle.flash_model.specs.Plan.{plan_of_entries}
 use Rattle.flash_model.specs.declared.simulation.SimFlash.{SimFlash}
 use Rattle.flash_model.specs.declared.sizes.Geometry.{Geometry}
-use Rattle.undofs.specs.Fresh.{FreshCause}
+use Rattle.working_state.specs.Fresh.{FreshCause}
 use Rattle.shell.specs.Scripts.{EndsBy, kept_versions, Session}
 use Rattle.script.specs.declared.answers.Answer.{Answer}
 use Rattle.shell.specs.declared.scripts.ScriptFault.{ScriptFault}

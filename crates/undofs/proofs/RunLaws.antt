@@ -8,10 +8,10 @@ use Rattle.history_machine.specs.Machine.{Machine, mounted, next, after}
 use Rattle.fs_types.specs.declared.calls.Call.{Call}
 use Rattle.fs_types.specs.declared.calls.Reply.{Reply}
 use Rattle.fs_types.specs.declared.faults.Fault.{Fault}
-use Rattle.undofs.specs.Seen.{Seen, machine_on}
-use Rattle.undofs.specs.Steps.{Answers}
+use Rattle.working_state.specs.Seen.{Seen, machine_on}
+use Rattle.working_state.specs.Steps.{Answers}
 use Rattle.undofs.specs.Runs.{World, Shows, is_sync, found_after, Run, accepted, NoneCommits, CommitLaw, PrefixLaw}
-use Rattle.undofs.specs.declared.state.State.{State}
+use Rattle.working_state.specs.declared.state.State.{State}
 use Rattle.undofs.specs.declared.events.Event.{Event}
 use Rattle.undofs.specs.declared.events.Answer.{Answer}
 

@@ -1,15 +1,3 @@
 pub mod Built
-pub mod Changes
-pub mod Changing
-pub mod Fresh
-pub mod Moments
-pub mod Mounted
-pub mod Opening
-pub mod Props
-pub mod Reading
-pub mod Renames
 pub mod Runs
-pub mod Seen
-pub mod Steps
 pub mod Systems
-pub mod Worked

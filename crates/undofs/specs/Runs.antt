@@ -9,10 +9,10 @@ use Rattle.fs_types.specs.declared.faults.Fault.{Fault}
 use Rattle.fs_types.specs.declared.faults.Fault.TheVariants.{ReadFailed, PowerCut, NoMemory}
 use Rattle.flash_model.specs.Device.{Device}
 use Rattle.flash_model.specs.Reading.{OnlyReads}
-use Rattle.undofs.specs.Seen.{machine_on}
-use Rattle.undofs.specs.Mounted.{IsMounted, StateStep}
-use Rattle.undofs.specs.Moments.{Moment}
-use Rattle.undofs.specs.declared.state.State.{State}
+use Rattle.working_state.specs.Seen.{machine_on}
+use Rattle.working_state.specs.Mounted.{IsMounted, StateStep}
+use Rattle.working_state.specs.Moments.{Moment}
+use Rattle.working_state.specs.declared.state.State.{State}
 use Rattle.undofs.specs.declared.events.Event.{Event}
 use Rattle.undofs.specs.declared.events.Answer.{Answer}
 

@@ -5,9 +5,9 @@ use Rattle.fs_types.specs.declared.calls.Call.{Call}
 use Rattle.fs_types.specs.declared.calls.Reply.{Reply}
 use Rattle.fs_types.specs.declared.faults.Fault.{Fault}
 use Rattle.flash_model.specs.declared.device.Flash.{Ghosts}
-use Rattle.undofs.specs.Moments.{Moment}
-use Rattle.undofs.specs.Moments as moments
-use Rattle.undofs.specs.Mounted.{KeepsPages}
+use Rattle.working_state.specs.Moments.{Moment}
+use Rattle.working_state.specs.Moments as moments
+use Rattle.working_state.specs.Mounted.{KeepsPages}
 use Rattle.undofs.specs.declared.system.Fs.{Fs}
 
 module _ {F : Type 0} {flash : Ghosts F} where

@@ -1,14 +1,14 @@
 //! A mounted file system.
 ghost use Rattle.std.specs.Prelude.{◌≡◌, true};
 ghost use Rattle.undofs.specs.Built.{is_built};
-ghost use Rattle.undofs.specs.Steps.{replied, empty};
-ghost use Rattle.undofs.specs.Mounted.{IsMounted};
-ghost use Rattle.undofs.specs.Props.{mounted-prop};
+ghost use Rattle.working_state.specs.Steps.{replied, empty};
+ghost use Rattle.working_state.specs.Mounted.{IsMounted};
+ghost use Rattle.working_state.specs.Props.{mounted-prop};
 
-use crate::state::State;
 use flash_model::{FaultKind, Flash, Planned};
 use fs_types::{Bytes, Call, CpName, Fault, Name, OpenFlags, Path, Reply, Sequence, Stat, View};
 use std::alloc::Global;
+use working_state::State;
 
 /// A file system that is mounted on a flash.
 ///
@@ -58,8 +58,8 @@ impl<'f, F: Flash> Fs<'f, F> {
     ghost use Rattle.fs_types.specs.declared.calls.Call.{Call};
     ghost use Rattle.fs_types.specs.declared.calls.Reply.{Reply};
     ghost use Rattle.flash_model.specs.Geometry.{IsGeometry};
-    ghost use Rattle.undofs.specs.Fresh.{IsFresh, IsFreshFault};
-    ghost use Rattle.undofs.specs.Moments.{moment};
+    ghost use Rattle.working_state.specs.Fresh.{IsFresh, IsFreshFault};
+    ghost use Rattle.working_state.specs.Moments.{moment};
     ghost use Rattle.undofs.specs.Systems.{moment_of, Steps, KeepsAllPages, flash_name};
 
     /// A fresh system with an empty root as its version of serial 1, which keeps at most `limit`

@@ -1,7 +1,7 @@
 use Rattle.std.proofs.Common.{◌≡◌, Ok, Err, inl, inr, refl, ap}
 use Rattle.fs_types.specs.declared.faults.Fault.{Fault}
 use Rattle.script.specs.declared.answers.Answer.{Answer}
-use Rattle.undofs.specs.Moments.{moment}
+use Rattle.working_state.specs.Moments.{moment}
 use Rattle.shell.proofs.TurnLemmas.{plans}
 use Rattle.shell.proofs.scripts.carry_out.Goals as goal
 

@@ -1,8 +1,8 @@
 use Rattle.std.proofs.Common.{refl, sym, ap, subst, ◌∙◌}
 use Rattle.flash_model.specs.Simulation.{device_of, plan_of}
 use Rattle.flash_model.specs.declared.simulation.SimFlash.{SimFlash}
-use Rattle.undofs.specs.Fresh.{IsFresh}
-use Rattle.undofs.specs.Moments.{Moment}
+use Rattle.working_state.specs.Fresh.{IsFresh}
+use Rattle.working_state.specs.Moments.{Moment}
 use Rattle.undofs.specs.Systems.{moment_of}
 use Rattle.shell.specs.Scripts.{Ends, kept_versions}
 use Rattle.shell.proofs.TurnLemmas.{script_ends}

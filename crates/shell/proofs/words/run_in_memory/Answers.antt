@@ -1,6 +1,6 @@
 use Rattle.std.proofs.Common.{inr}
 use Rattle.flash_model.specs.Simulation.{device_of}
-use Rattle.undofs.specs.Fresh.{FreshCause}
+use Rattle.working_state.specs.Fresh.{FreshCause}
 use Rattle.shell.specs.Scripts.{Session, kept_versions}
 use Rattle.shell.specs.Words.{IsNewFlash, NewSession, NewCause}
 use Rattle.shell.specs.declared.words.TheConstants.{MEMORY_SIZES}

@@ -1,0 +1,200 @@
+-- What a change leaves: each answer of a call that is a change by an edit.
+use Rattle.std.proofs.Common.{◌≡◌, ℕ, zero, suc, ◌+◌, ◌<◌, ◌≤◌, true, false, Some, None, Result, Ok, Err, refl, sym, ap, subst, ◌∙◌, inl, inr, arith}
+use Rattle.std.specs.Prelude.{is_some, nat_le, ◌||◌, IfOk, IfErr}
+use Rattle.std.specs.FinSet as set
+use Rattle.history_machine.specs.History.{Past, present_root}
+use Rattle.plain_trees.specs.Trees.{Tree}
+use Rattle.history_machine.specs.Descriptors.{Descriptors}
+use Rattle.history_machine.specs.Machine.{Space, refusal, change_need, reply_of, tree_after, descriptors_after, has_paths}
+use Rattle.fs_types.specs.declared.calls.Call.{Call}
+use Rattle.fs_types.specs.declared.calls.Reply.{Reply}
+use Rattle.fs_types.specs.declared.faults.Fault.{Fault}
+use Rattle.fs_types.specs.declared.faults.Fault.TheVariants.{FlashFull, ReadOnly, ReadFailed, PowerCut, NoMemory}
+use Rattle.flash_model.specs.Device.{Device}
+use Rattle.node_store.specs.declared.storage.Storage.{Storage}
+use Rattle.node_store.specs.NodePages.{node_of}
+use Rattle.node_store.specs.Storage as parts
+use Rattle.node_store.specs.declared.stores.Store.{Store}
+use Rattle.node_store.specs.Stores.{Follows, Causes}
+use Rattle.node_store.specs.StorageLaws.{Evolved_itself}
+use Rattle.block_trees.specs.Trees.{IsRoot, root_tree}
+use Rattle.tree_edits.specs.declared.edits.Edit.{Edit}
+use Rattle.tree_edits.specs.Edits.{need, source}
+use Rattle.tree_edits.specs.Roots.{IsNewRoot}
+use Rattle.directory.specs.Trails.{IsChangeFault}
+use Rattle.working_state.specs.Changes.{IsReady, HasWritten, edited_tree, WorkRefuses, IsPushed, ChangeCause, IsChanged}
+use Rattle.working_state.specs.Mounted.{IsStanding, IsMounted}
+use Rattle.working_state.specs.Opening.{IsAnswered}
+use Rattle.working_state.specs.Seen.{room_of, tree_on, seen_of, seen_on, machine_on, bad_anchors}
+use Rattle.working_state.specs.Steps.{empty, replied, is_light, is_cut, is_cut_answer, MayRefuse, Refuses}
+use Rattle.working_state.specs.Worked.{IsWorked, IsLooked, WorkCause}
+use Rattle.working_state.specs.declared.state.State.{State}
+use Rattle.working_state.proofs.ChangeSteps.{makes, later_stands, writing_refuses, HasNewTree, changed_step, changed_mounted}
+use Rattle.working_state.proofs.OpenCalls.{refused_answer}
+use Rattle.working_state.proofs.Standing.{same_room, looked_worked, worked_on, worked_later, worked_mounted, worked_pages}
+use Rattle.working_state.proofs.Steps.{writes-version}
+
+-- ---- the state as it was
+
+pub mounted_ready : (d : Device) (s : State) → IsMounted d s → IsReady d s.storage
+mounted_ready d s m = record { lawful = m.lawful; ring_blocks = m.ring_blocks; page_len = m.page_len; node_room = m.node_room }
+
+-- after a look, the system is ready and its present root stands
+
+pub looked_ready : (d : Device) (s : State) (e : Device) (t : State) → IsMounted d s → IsLooked d s e t → IsReady e t.storage
+looked_ready d s e t m l = mounted_ready e t (worked_mounted d s e t m (looked_worked d s e t l))
+
+pub same_root : (a b : ℕ) (h i : Past ℕ) → i ≡ h → present_root h ≡ Some a → present_root i ≡ Some b → a ≡ b
+same_root a b h i same first second = some_same a b (sym first ∙ ap (λ (x : Past ℕ). present_root x) (sym same) ∙ second)
+  where
+    some_same : (a b : ℕ) → Some a ≡ Some b → a ≡ b
+    some_same a b e = cc
+
+pub looked_stands : (d : Device) (s : State) (e : Device) (t : State) (root : ℕ) → IsMounted d s → present_root s.history ≡ Some root → IsLooked d s e t
+    → (other : ℕ) → present_root t.history ≡ Some other → IsStanding e t.storage.ring other
+looked_stands d s e t root m is l other there =
+    subst (λ (r : ℕ). IsStanding e t.storage.ring r) (same_root root other s.history t.history l.rest.history is there) (later_stands d s e t root m is l)
+
+-- what is known of one root is known of the present one
+pub at_present : (P : ℕ → Type 0) (d : Device) (s : State) (e : Device) (t : State) (root : ℕ) → present_root s.history ≡ Some root → IsLooked d s e t → P root
+    → (other : ℕ) → present_root t.history ≡ Some other → P other
+at_present P d s e t root is l here other there = subst P (same_root root other s.history t.history l.rest.history is there) here
+
+-- ---- a change
+
+pub none_written : (d : Device) (s : Storage) (most : ℕ) → HasWritten d s most d s
+none_written d s most = record { evolved = Evolved_itself (parts.storage d s.bad s.ring); paid = omega arith; page_len = refl; node_room = omega arith }
+
+-- ---- the tree of the new root, at the room that the flash has by now
+
+pub root_stands : (d : Device) (s : Storage) (e : Device) (t : Storage) (most from to : ℕ) (tree : Tree) → HasWritten d s most e t
+    → IsNewRoot (room_of d) (node_of d) (set.contains s.ring.used) (node_of e) (set.contains t.ring.used) from to tree → IsStanding e t.ring to
+root_stands d s e t most from to tree w new = record {
+  held = new.held;
+  rooted = subst (λ room. IsRoot room (node_of e) to) (sym (same_room (parts.storage d s.bad s.ring) (parts.storage e t.bad t.ring) w.evolved)) new.rooted;
+}
+
+pub root_shows : (d : Device) (s : Storage) (e : Device) (t : Storage) (most from to : ℕ) (tree : Tree) → HasWritten d s most e t
+    → IsNewRoot (room_of d) (node_of d) (set.contains s.ring.used) (node_of e) (set.contains t.ring.used) from to tree → tree_on e to ≡ tree
+root_shows d s e t most from to tree w new = ap (λ room. root_tree room (node_of e) to) (same_room (parts.storage d s.bad s.ring) (parts.storage e t.bad t.ring) w.evolved) ∙ new.shows
+
+pub stands_result : (d : Device) (s : Storage) (e : Device) (t : Storage) (most from : ℕ) (tree : Tree) (result : Result ℕ Fault) → HasWritten d s most e t
+    → IfOk result (λ to. IsNewRoot (room_of d) (node_of d) (set.contains s.ring.used) (node_of e) (set.contains t.ring.used) from to tree) → IfOk result (IsStanding e t.ring)
+stands_result d s e t most from tree (Ok to) w new = root_stands d s e t most from to tree w new
+stands_result d s e t most from tree (Err fault) w new = tt
+
+pub shows_result : (d : Device) (s : Storage) (e : Device) (t : Storage) (most from : ℕ) (tree : Tree) (result : Result ℕ Fault) → HasWritten d s most e t
+    → IfOk result (λ to. IsNewRoot (room_of d) (node_of d) (set.contains s.ring.used) (node_of e) (set.contains t.ring.used) from to tree) → IfOk result (λ to. tree_on e to ≡ tree)
+shows_result d s e t most from tree (Ok to) w new = root_shows d s e t most from to tree w new
+shows_result d s e t most from tree (Err fault) w new = tt
+
+-- ---- what a store says of itself
+
+module _ {F : Type 0} (device : F → Device) where
+  -- so many writes were asked at most
+  pub follows_written : (s t : Store F) (most : ℕ) → Follows device s t → t.writes.n ≤ s.writes.n + most → HasWritten (device s.flash.now) s.storage.now most (device t.flash.now) t.storage.now
+  follows_written s t most follows few = record {
+    evolved = follows.evolved;
+    paid = let paid = follows.paid in omega arith;
+    page_len = follows.page_len;
+    node_room = follows.node_room;
+  }
+
+  cause_work : (s t : Store F) (fault : Fault) → Causes device s t fault → WorkCause (seen_of (device s.flash.now) s.storage.now) fault (seen_of (device t.flash.now) t.storage.now)
+  cause_work s t FlashFull c = c.reason.none_free
+  cause_work s t ReadOnly c = ap (λ n. nat_le 256 n || nat_le 7 (bad_anchors t.storage.now.bad)) c.reason
+  cause_work s t ReadFailed c = c.reason
+  cause_work s t PowerCut c = c.reason
+  cause_work s t NoMemory c = tt
+  cause_work s t _ c = absurd c.reason
+
+  -- what an edit of a store's nodes answers where it needs none
+  abbrev NeedsNone : Store F → Store F → Edit → ℕ → Result ℕ Fault → Type 0
+  NeedsNone s t edit root result = need (room_of (device s.flash.now)) edit ≡ 0 → (t ≡ s) × (result ≡ Ok (source root edit))
+
+  pub refused_result : (s t : Store F) (edit : Edit) (root : ℕ) (result : Result ℕ Fault) → NeedsNone s t edit root result → IfErr result IsChangeFault → IfErr result (λ fault. Causes device s t fault)
+      → IfErr result (λ fault. WorkRefuses (device s.flash.now) s.storage.now edit fault (device t.flash.now) t.storage.now)
+  refused_result s t edit root (Ok to) none faults why = tt
+  refused_result s t edit root (Err fault) none faults why = record { needs = some (need (room_of (device s.flash.now)) edit) none; kind = faults; why = cause_work s t fault why }
+    where
+      some : (n : ℕ) → (n ≡ 0 → (t ≡ s) × (Err fault ≡ Ok (source root edit))) → 0 < n
+      some zero none = let wrong = (none refl).1 in absurd cc
+      some (suc n) none = omega arith
+
+  pub still_result : (s t : Store F) (edit : Edit) (root : ℕ) (result : Result ℕ Fault) → NeedsNone s t edit root result
+      → need (room_of (device s.flash.now)) edit ≡ 0 → (device t.flash.now ≡ device s.flash.now) × (t.storage.now ≡ s.storage.now)
+  still_result s t edit root result none is = (ap (λ (x : Store F). device x.flash.now) (none is).0, ap (λ (x : Store F). x.storage.now) (none is).0)
+
+-- ---- a call that is a change
+
+-- the call is accepted, and makes this tree of the one of the present root
+pub record IsChangeBy (d : Device) (s : State) (call : Call) (made : ℕ → Tree) (reply : Reply) : Type 0 where
+  pub fine : refusal (machine_on d s) call ≡ None
+  pub after : (root : ℕ) → present_root s.history ≡ Some root → tree_after (machine_on d s) call ≡ Some (made root)
+  pub heavy : is_light call ≡ false
+  pub paths : has_paths call ≡ true
+  pub more : (room : ℕ) → 0 < change_need room (machine_on d s) call
+  pub replies : (space : Space) → reply_of space (machine_on d s) call ≡ reply
+
+-- nodes were written
+written_worked : (e : Device) (t : State) (f : Device) (st : Storage) (most : ℕ) → HasWritten e t.storage most f st → IsWorked e t f (record t { storage = st })
+written_worked e t f st most w = record { evolved = w.evolved; rest = record { page_len = w.page_len; node_room = w.node_room; history = refl; files = refl; is_off = refl } }
+
+pub pushed_answer : (d : Device) (s : State) (e : Device) (t : State) (f : Device) (st : Storage) (h : Past ℕ) (files : Descriptors) (call : Call) (edit : Edit) (reply : Reply) (most : ℕ) → IsMounted d s → IsLooked d s e t
+    → IsChangeBy d s call (edited_tree e edit) reply → HasWritten e t.storage most f st → IsPushed e t.history t.storage edit f h st → files ≡ descriptors_after (machine_on d s) call
+    → IsAnswered d s call (Ok reply) f (record t { storage = st; history = h; files = files }) false
+pushed_answer d s e t f st h files call edit reply most m l by written pushed opens =
+    let u : State = record t { storage = st } in
+    let w = written_worked e t f st most written in
+    let all = worked_on d s e t f u (looked_worked d s e t l) w in
+    let present : present_root s.history ≡ Some pushed.root = ap (λ (x : Past ℕ). present_root x) (sym l.rest.history) ∙ pushed.present in
+    let tree = edited_tree e edit pushed.root in
+    let new : HasNewTree f u pushed.to tree = record { stands = pushed.stands; is = pushed.shows } in
+    let step = changed_step d s e t f u pushed.to call tree reply h files pushed.pushed opens m l by.fine (by.after pushed.root present) (by.replies (seen_on f u).space) pushed.writable pushed.serial_left w new in
+    record {
+      mounted = changed_mounted d s f u pushed.to call tree (Ok reply) h files pushed.pushed m all new by.paths step;
+      step = step;
+      is_off = all.rest.is_off;
+      pages = worked_pages d s f u m all;
+    }
+
+cause_refuses : (d : Device) (s : State) (e : Device) (t : State) (f : Device) (st : Storage) (root : ℕ) (call : Call) {edit : Edit} (made : ℕ → Tree) (reply : Reply) (most : ℕ) (fault : Fault) → present_root s.history ≡ Some root → IsLooked d s e t
+    → IsChangeBy d s call made reply → HasWritten e t.storage most f st → ChangeCause e t.history t.storage edit fault f st → Refuses (seen_on d s) (machine_on d s) call fault (seen_on f (record t { storage = st }))
+cause_refuses d s e t f st root call made reply most fault is l by written (inl (inl only)) =
+    inr (subst (λ x. MayRefuse (seen_on d s) (machine_on d s) call x (seen_on f (record t { storage = st }))) (sym only.0)
+    (writes-version (machine_on d s) call (makes (machine_on d s) call by.fine (ap is_some (by.after root is))), (worked_later e t f (record t { storage = st }) (written_worked e t f st most written)).stays_read_only only.1))
+cause_refuses d s e t f st root call made reply most fault is l by written (inl (inr over)) =
+    inr (subst (λ x. MayRefuse (seen_on d s) (machine_on d s) call x (seen_on f (record t { storage = st }))) (sym over.0)
+    (makes (machine_on d s) call by.fine (ap is_some (by.after root is)), ap (λ (h : Past ℕ). h.next) (sym l.rest.history) ∙ over.1))
+cause_refuses d s e t f st root call made reply most fault is l by written (inr work) =
+    writing_refuses d s e t f (record t { storage = st }) call fault l by.heavy (makes (machine_on d s) call by.fine (ap is_some (by.after root is))) (by.more (room_of d)) work.kind work.why
+
+pub refused_change : (d : Device) (s : State) (e : Device) (t : State) (f : Device) (st : Storage) (h : Past ℕ) (root : ℕ) (call : Call) {edit : Edit} (made : ℕ → Tree) (reply : Reply) (most : ℕ) (fault : Fault) → IsMounted d s → present_root s.history ≡ Some root
+    → IsLooked d s e t → IsChangeBy d s call made reply → HasWritten e t.storage most f st → (h ≡ t.history) × ChangeCause e t.history t.storage edit fault f st
+    → IsAnswered d s call (Err fault) f (record t { storage = st; history = h }) (is_cut fault)
+refused_change d s e t f st h root call {edit} made reply most fault m is l by written ends =
+    let u : State = record t { storage = st } in
+    let all = worked_on d s e t f u (looked_worked d s e t l) (written_worked e t f st most written) in
+    subst (λ (i : Past ℕ). IsAnswered d s call (Err fault) f (record t { storage = st; history = i }) (is_cut fault)) (sym ends.0)
+    (refused_answer d s f u call fault m all (cause_refuses d s e t f st root call {edit = edit} made reply most fault is l by written ends.1))
+
+-- a change that answers nothing, and leaves the open files
+pub change_answer : (d : Device) (s : State) (e : Device) (t : State) (f : Device) (st : Storage) (h : Past ℕ) (root : ℕ) (call : Call) (edit : Edit) (result : Result (Unit {0}) Fault) → IsMounted d s → present_root s.history ≡ Some root
+    → IsLooked d s e t → IsChangeBy d s call (edited_tree e edit) Reply.Empty → descriptors_after (machine_on d s) call ≡ s.files → IsChanged e t.history t.storage edit result f h st
+    → IsAnswered d s call (replied empty result) f (record t { storage = st; history = h }) (is_cut_answer result)
+change_answer d s e t f st h root call edit (Ok x) m is l by files changes =
+    pushed_answer d s e t f st h t.files call edit Reply.Empty _ m l by changes.written changes.ends (l.rest.files ∙ sym files)
+change_answer d s e t f st h root call edit (Err fault) m is l by files changes =
+    refused_change d s e t f st h root call (edited_tree e edit) Reply.Empty _ fault m is l by changes.written changes.ends
+
+-- the same, where the edit is that of the change
+
+pub pushed_by : (d : Device) (s : State) (e : Device) (t : State) (f : Device) (st : Storage) (h : Past ℕ) (files : Descriptors) (call : Call) {edit : Edit} (reply : Reply) (most : ℕ) → IsPushed e t.history t.storage edit f h st
+    → IsChangeBy d s call (edited_tree e edit) reply → HasWritten e t.storage most f st → IsMounted d s → IsLooked d s e t → files ≡ descriptors_after (machine_on d s) call
+    → IsAnswered d s call (Ok reply) f (record t { storage = st; history = h; files = files }) false
+pushed_by d s e t f st h files call {edit} reply most pushed by written m l opens = pushed_answer d s e t f st h files call edit reply most m l by written pushed opens
+
+pub change_by : (d : Device) (s : State) (e : Device) (t : State) (f : Device) (st : Storage) (h : Past ℕ) (root : ℕ) (call : Call) {edit : Edit} (result : Result (Unit {0}) Fault) → IsChanged e t.history t.storage edit result f h st
+    → IsChangeBy d s call (edited_tree e edit) Reply.Empty → IsMounted d s → present_root s.history ≡ Some root → IsLooked d s e t → descriptors_after (machine_on d s) call ≡ s.files
+    → IsAnswered d s call (replied empty result) f (record t { storage = st; history = h }) (is_cut_answer result)
+change_by d s e t f st h root call {edit} result changes by m is l files = change_answer d s e t f st h root call edit result m is l by files changes

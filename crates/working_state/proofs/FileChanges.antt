@@ -1,0 +1,267 @@
+-- The step of a change of the bytes of an open file.
+use Rattle.std.proofs.Common.{Bool, ◌≡◌, ℕ, zero, suc, ◌+◌, ◌<◌, ◌≤◌, true, false, Option, Some, None, Result, Ok, Err, List, [], ◌∷◌, length, refl, sym, ap, subst, ◌∙◌, arith}
+use Rattle.std.proofs.lemmas.Bool.{true≢false, eq-eqb, ne_eqb}
+use Rattle.std.proofs.lemmas.List.{length-take}
+use Rattle.std.specs.Prelude.{unwrap_or, is_some, if◌then◌else◌, ◌==◌}
+use Rattle.std.specs.Option.{option_map, option_map_or, option_and_then}
+use Rattle.std.specs.FinMap.{get}
+use Rattle.std.specs.FinSet as set
+use Rattle.fs_types.specs.Names.{Path, is_path}
+use Rattle.plain_trees.specs.Contents.{Contents, Entry, overwritten, resized, pwrite_need, ftruncate_need}
+use Rattle.plain_trees.specs.Trees.{Tree, put, IsFile, bytes_of, bytes_at}
+use Rattle.history_machine.specs.History.{Past, present_root, changed}
+use Rattle.history_machine.specs.Descriptors.{Descriptor, descriptor_at}
+use Rattle.history_machine.specs.Machine.{Machine, Space, has_paths, present_tree, file_put, refusal, change_need, reply_of, tree_after, descriptors_after, makes_version, machine_of}
+use Rattle.fs_types.specs.declared.calls.Call.{Call}
+use Rattle.fs_types.specs.declared.calls.Reply.{Reply}
+use Rattle.fs_types.specs.declared.faults.Fault.{Fault}
+use Rattle.history_machine.proofs.Accepted.{not-root}
+use Rattle.history_machine.proofs.Kept.{present-file_tree}
+use Rattle.flash_model.specs.Device.{Device}
+use Rattle.node_format.specs.Items.{Item, named}
+use Rattle.node_format.specs.declared.places.Place.{Place}
+use Rattle.node_format.specs.declared.places.Place.TheVariants as place
+use Rattle.node_store.specs.NodePages.{node_of}
+use Rattle.node_store.specs.StorageLaws.{Untouched_itself}
+use Rattle.block_trees.specs.Bodies.{Blocks, body, head_index, data_to, IsBody}
+use Rattle.block_trees.specs.Reached.{IsHeld}
+use Rattle.block_trees.specs.Trees.{entries_of, leads, entry_at}
+use Rattle.block_trees.proofs.Entries.{some_place, place_is}
+use Rattle.block_trees.proofs.Reaching.{held_leads}
+use Rattle.directory.specs.declared.lookups.Found.{Found}
+use Rattle.directory.specs.declared.lookups.Found.TheVariants as found
+use Rattle.directory.specs.Lookups.{◌>>=◌, look_up, found_in, found_of, below_in, directory_at, is_path_fault, IsLookupFault}
+use Rattle.directory.proofs.LookupLaws.{found_is, found_leads_file}
+use Rattle.working_state.specs.Changing.{IsPathOf}
+use Rattle.working_state.specs.Seen.{Seen, room_of, tree_on, seen_on, machine_on}
+use Rattle.working_state.specs.Steps.{is_light}
+use Rattle.working_state.specs.Mounted.{IsMounted}
+use Rattle.working_state.specs.Opening.{IsAnswered}
+use Rattle.working_state.specs.Worked.{storage_on, IsWorked, IsLooked, WorkCause, ReadCause}
+use Rattle.working_state.specs.declared.state.State.{State}
+use Rattle.working_state.proofs.ChangedCalls.{IsChangeBy}
+use Rattle.working_state.proofs.ChangeSteps.{makes, later_tree}
+use Rattle.working_state.proofs.MovedEntries.{read_cause}
+use Rattle.working_state.proofs.OpenCalls.{present_is}
+use Rattle.working_state.proofs.PathCalls.{OnlyReads, present_stands, read_done}
+use Rattle.working_state.proofs.Standing.{worked_machine, worked_mounted, worked_pages, looked_worked}
+
+-- What a path leads to, looked up.
+
+-- a path that leads to a file is looked up as that
+leads_looked : (f : Blocks) (root : ℕ) (path : Path) (head size : ℕ) → leads f (place.Dir root) path ≡ Some (place.File head size) → look_up f root path ≡ Ok (found.File head size)
+leads_looked f root [] head size e = absurd cc
+leads_looked f root (n ∷ []) head size e = last (entries_of (f root)) e
+  where
+    at : (r : Option Place) (full : Bool) → option_and_then some_place r ≡ Some (place.File head size) → (let x : Result Found Fault = Ok (found_of r full) in x) ≡ Ok (found.File head size)
+    at None full e = absurd cc
+    at (Some (place.Dir block)) full e = absurd cc
+    at (Some (place.File h n)) full e = ap (λ (p : Place). let x : Result Found Fault = Ok (found_of (Some p) full) in x) (place_is (place.File h n) (place.File head size) e)
+
+    last : (o : Option (List Item)) → option_and_then some_place (named (unwrap_or o []) n) ≡ Some (place.File head size) → found_in o n ≡ Ok (found.File head size)
+    last None e = absurd cc
+    last (Some items) e = at (named items n) _ e
+leads_looked f root (n ∷ m ∷ path) head size e = way (λ below. leads_looked f below (m ∷ path) head size) (entries_of (f root)) e
+  where
+    on : ((below : ℕ) → leads f (place.Dir below) (m ∷ path) ≡ Some (place.File head size) → look_up f below (m ∷ path) ≡ Ok (found.File head size)) → (r : Option Place) → option_and_then (λ next. leads f next (m ∷ path)) r ≡ Some (place.File head size) → (directory_at r >>= λ below. look_up f below (m ∷ path)) ≡ Ok (found.File head size)
+    on again None e = absurd cc
+    on again (Some (place.Dir below)) e = again below e
+    on again (Some (place.File h n)) e = absurd cc
+
+    way : ((below : ℕ) → leads f (place.Dir below) (m ∷ path) ≡ Some (place.File head size) → look_up f below (m ∷ path) ≡ Ok (found.File head size)) → (o : Option (List Item)) → option_and_then (λ next. leads f next (m ∷ path)) (named (unwrap_or o []) n) ≡ Some (place.File head size) → (below_in o n >>= λ below. look_up f below (m ∷ path)) ≡ Ok (found.File head size)
+    way again None e = absurd cc
+    way again (Some items) e = on again (named items n) e
+
+-- a file of the present tree is looked up as one
+pub present_file : (d : Device) (s : State) (root : ℕ) (path : Path) → IsMounted d s → present_root s.history ≡ Some root → IsFile (present_tree (machine_on d s)) path
+    → (head : ℕ) × (size : ℕ) × (look_up (node_of d) root path ≡ Ok (found.File head size))
+present_file d s root path m is file =
+    go (leads (node_of d) (place.Dir root) path) refl (ap (λ (t : Contents). t path) (sym (present_is d s root m is)) ∙ file.1)
+  where
+    go : (o : Option Place) → leads (node_of d) (place.Dir root) path ≡ o → option_map (entry_at (room_of d) (node_of d)) o ≡ Some (Entry.File file.0)
+        → (head : ℕ) × (size : ℕ) × (look_up (node_of d) root path ≡ Ok (found.File head size))
+    go None led e = absurd cc
+    go (Some (place.Dir block)) led e = absurd cc
+    go (Some (place.File head size)) led e = (head, size, leads_looked (node_of d) root path head size led)
+
+-- a body is as long as its file
+long_body : (room : ℕ) (f : Blocks) (head size : ℕ) → IsBody room f head size → length (body room f head size) ≡ size
+long_body room f head zero is = refl
+long_body room f head (suc n) is =
+    let enough : suc n ≤ length (data_to f (head_index room (suc n)) head) = is.1 in
+    omega (arith, length-take (suc n) (data_to f (head_index room (suc n)) head))
+
+-- the body of a file of the present tree
+pub record IsPresentBody (d : Device) (s : State) (path : Path) (head size : ℕ) : Type 0 where
+  pub whole : IsBody (room_of d) (node_of d) head size
+  pub held : IsHeld (node_of d) (set.contains s.storage.ring.used) (place.File head size)
+  pub shown : bytes_at (present_tree (machine_on d s)) path ≡ body (room_of d) (node_of d) head size
+  pub short : size ≤ 16777216
+
+pub present_body : (d : Device) (s : State) (root : ℕ) (path : Path) (head size : ℕ) → IsMounted d s → present_root s.history ≡ Some root → look_up (node_of d) root path ≡ Ok (found.File head size) → IsPresentBody d s path head size
+present_body d s root path head size m is led =
+    let stands = present_stands d s root m is in
+    let leads = found_leads_file (node_of d) root path head size led in
+    let whole = (stands.rooted path (place.File head size) leads).0 in
+    let there : get (present_tree (machine_on d s)) path ≡ Some (Entry.File (body (room_of d) (node_of d) head size)) =
+    ap (λ (t : Contents). t path) (present_is d s root m is) ∙ (found_is (room_of d) (node_of d) root path (found.File head size) led).1 in
+    let most = (present-file_tree (machine_on d s) m.machine).lengths path (body (room_of d) (node_of d) head size) there in
+    record {
+      whole = whole;
+      held = held_leads (node_of d) (set.contains s.storage.ring.used) path (place.Dir root) (place.File head size) leads stands.held;
+      shown = ap bytes_of there;
+      short = omega (arith, most, long_body (room_of d) (node_of d) head size whole);
+    }
+
+-- Refusals.
+
+-- a look up of a file that is there is refused only for what reads are refused for
+pub file_cause : (f : Blocks) (root : ℕ) (path : Path) (old new : Seen) (fault : Fault) → (head : ℕ) × (size : ℕ) × (look_up f root path ≡ Ok (found.File head size))
+    → (is_path_fault fault ≡ true → look_up f root path ≡ Err fault) → (is_path_fault fault ≡ false → WorkCause old fault new) → IsLookupFault fault → ReadCause old fault new
+file_cause f root path old new fault there refused why lookup = by (is_path_fault fault) refl
+  where
+    not_both : look_up f root path ≡ Err fault → ⊥
+    not_both e = let is = sym there.2 ∙ e in cc
+
+    by : (b : Bool) → is_path_fault fault ≡ b → ReadCause old fault new
+    by true told = absurd (not_both (refused told))
+    by false other = read_cause old new fault other lookup (why other)
+
+-- a call that changes the bytes of the file at a path
+pub record IsFileChange (m : Machine) (call : Call) (path : Path) (bytes : List ℕ) : Type 0 where
+  pub fine : refusal m call ≡ None
+  pub after : tree_after m call ≡ Some (file_put (present_tree m) path bytes)
+  pub files : descriptors_after m call ≡ m.descriptors
+  pub heavy : is_light call ≡ false
+  pub paths : has_paths call ≡ true
+  pub more : (room : ℕ) → 0 < change_need room m call
+
+pub file_makes : (m : Machine) (call : Call) (path : Path) (bytes : List ℕ) → IsFileChange m call path bytes → makes_version m call ≡ true
+file_makes m call path bytes change = makes m call change.fine (ap is_some change.after)
+
+-- the present root after work, and the file in it
+later_root : (d : Device) (s : State) (f : Device) (u : State) (root : ℕ) → present_root s.history ≡ Some root → IsWorked d s f u → present_root u.history ≡ Some root
+later_root d s f u root is w = ap (λ (h : Past ℕ). present_root h) w.rest.history ∙ is
+
+pub later_body : (d : Device) (s : State) (f : Device) (u : State) (root : ℕ) (path : Path) (head size : ℕ) → IsMounted d s → present_root s.history ≡ Some root → IsWorked d s f u → look_up (node_of f) root path ≡ Ok (found.File head size)
+    → IsPresentBody f u path head size
+later_body d s f u root path head size m is w led = present_body f u root path head size (worked_mounted d s f u m w) (later_root d s f u root is w) led
+
+-- a call that changes nothing
+pub same_answer : (d : Device) (s : State) (e : Device) (t : State) (call : Call) (reply : Reply) → IsMounted d s → IsLooked d s e t → OnlyReads (machine_on d s) call → refusal (machine_on d s) call ≡ None
+    → reply_of (seen_on e t).space (machine_on d s) call ≡ reply → IsAnswered d s call (Ok reply) e t false
+same_answer d s e t call reply m l reads fine replies =
+    let w = looked_worked d s e t l in
+    record {
+      mounted = worked_mounted d s e t m w;
+      step = read_done d s e t call reply m l reads fine replies;
+      is_off = w.rest.is_off;
+      pages = worked_pages d s e t m w;
+    }
+
+pub looked_itself : (d : Device) (s : State) → IsLooked d s d s
+looked_itself d s = record { untouched = Untouched_itself (storage_on d s); rest = record { page_len = refl; node_room = omega arith; history = refl; files = refl; is_off = refl } }
+
+-- the path of an open file
+
+pub open_file : (d : Device) (s : State) (number : ℕ) (path : Path) → IsMounted d s → IsPathOf s.files number path → IsFile (present_tree (machine_on d s)) path
+open_file d s number path m has = m.machine.files number (record { path = path; flags = has.0 }) has.1
+
+pub below_root : (d : Device) (s : State) (path : Path) → IsMounted d s → IsFile (present_tree (machine_on d s)) path → 0 < length path
+below_root d s path m file = not-root (present_tree (machine_on d s)) path (present-file_tree (machine_on d s) m.machine) (λ dir. let both = sym dir ∙ file.1 in cc)
+
+-- Writing.
+
+some_more : (a b : ℕ) → 0 < b → 0 < a + b
+some_more a b some = omega arith
+
+pub pwrite_change : (m : Machine) (number offset : ℕ) (bytes : List ℕ) (path : Path) → IsPathOf m.descriptors number path → refusal m (Call.Pwrite number offset bytes) ≡ None → (length bytes == 0) ≡ false → 0 < length path
+    → IsFileChange m (Call.Pwrite number offset bytes) path (overwritten (bytes_at (present_tree m) path) offset bytes)
+pwrite_change m number offset bytes path has fine some below = record {
+  fine = fine;
+  after = ap (option_and_then (λ (d : Descriptor). if length bytes == 0 then None else Some (file_put (present_tree m) d.path (overwritten (bytes_at (present_tree m) d.path) offset bytes)))) has.1
+      ∙ ap (λ b. if b then None else Some (file_put (present_tree m) path (overwritten (bytes_at (present_tree m) path) offset bytes))) some;
+  files = refl;
+  heavy = refl;
+  paths = refl;
+  more = λ room.
+      subst (λ (o : Option Descriptor). 0 < option_map_or (λ d. pwrite_need room (length (bytes_at (present_tree m) d.path)) offset (length bytes) + length d.path) o 0) (sym has.1)
+      (some_more (pwrite_need room (length (bytes_at (present_tree m) path)) offset (length bytes)) (length path) below);
+}
+
+pub some_length : (n : ℕ) → (n == 0) ≡ false → 0 < n
+some_length zero some = absurd (true≢false some)
+some_length (suc n) some = omega arith
+
+-- no bytes make no version
+pub pwrite_nothing : (m : Machine) (number offset : ℕ) (bytes : List ℕ) → length bytes ≡ 0 → OnlyReads m (Call.Pwrite number offset bytes)
+pwrite_nothing m number offset (b ∷ bytes) none = absurd (omega arith)
+pwrite_nothing m number offset [] none = record { stays = stays; no_version = no_tree; no_record = refl }
+  where
+    go : (o : Option Descriptor) → option_and_then (λ (d : Descriptor). let r : Option Tree = None in r) o ≡ None
+    go None = refl
+    go (Some d) = refl
+
+    no_tree : tree_after m (Call.Pwrite number offset []) ≡ None
+    no_tree = go (descriptor_at m.descriptors number)
+
+    stays : machine_of m (Call.Pwrite number offset []) None ≡ m
+    stays i = record { history = option_map_or (changed m.history) (no_tree i) m.history; descriptors = m.descriptors }
+
+-- Resizing.
+
+pub ftruncate_change : (m : Machine) (number n : ℕ) (path : Path) → IsPathOf m.descriptors number path → refusal m (Call.Ftruncate number n) ≡ None → (length (bytes_at (present_tree m) path) == n) ≡ false → 0 < length path
+    → IsFileChange m (Call.Ftruncate number n) path (resized (bytes_at (present_tree m) path) n)
+ftruncate_change m number n path has fine other below = record {
+  fine = fine;
+  after = ap (option_and_then (λ (d : Descriptor). if length (bytes_at (present_tree m) d.path) == n then None else Some (file_put (present_tree m) d.path (resized (bytes_at (present_tree m) d.path) n)))) has.1
+      ∙ ap (λ b. if b then None else Some (file_put (present_tree m) path (resized (bytes_at (present_tree m) path) n))) other;
+  files = refl;
+  heavy = refl;
+  paths = refl;
+  more = λ room.
+      subst (λ (o : Option Descriptor). 0 < option_map_or (λ d. ftruncate_need room (length (bytes_at (present_tree m) d.path)) n + length d.path) o 0) (sym has.1)
+      (some_more (ftruncate_need room (length (bytes_at (present_tree m) path)) n) (length path) below);
+}
+
+-- the same length makes no version
+pub ftruncate_nothing : (m : Machine) (number n : ℕ) (path : Path) → IsPathOf m.descriptors number path → (length (bytes_at (present_tree m) path) == n) ≡ true → OnlyReads m (Call.Ftruncate number n)
+ftruncate_nothing m number n path has same = record { stays = stays; no_version = no_tree; no_record = refl }
+  where
+    no_tree : tree_after m (Call.Ftruncate number n) ≡ None
+    no_tree =
+        ap (option_and_then (λ (d : Descriptor). if length (bytes_at (present_tree m) d.path) == n then None else Some (file_put (present_tree m) d.path (resized (bytes_at (present_tree m) d.path) n)))) has.1
+        ∙ ap (λ b. if b then None else Some (file_put (present_tree m) path (resized (bytes_at (present_tree m) path) n))) same
+
+    stays : machine_of m (Call.Ftruncate number n) None ≡ m
+    stays i = record { history = option_map_or (changed m.history) (no_tree i) m.history; descriptors = m.descriptors }
+
+-- the length of the file whose body was found
+pub present_length : (d : Device) (s : State) (e : Device) (t : State) (path : Path) (head size : ℕ) → IsMounted d s → IsWorked d s e t → IsPresentBody e t path head size → length (bytes_at (present_tree (machine_on d s)) path) ≡ size
+present_length d s e t path head size m w there =
+    ap (λ (x : Machine). length (bytes_at (present_tree x) path)) (sym (worked_machine d s e t m w)) ∙ ap length there.shown ∙ long_body (room_of e) (node_of e) head size there.whole
+
+pub same_length : (d : Device) (s : State) (e : Device) (t : State) (path : Path) (head size wide n : ℕ) → IsMounted d s → IsWorked d s e t → IsPresentBody e t path head size → wide ≡ size → wide ≡ n
+    → (length (bytes_at (present_tree (machine_on d s)) path) == n) ≡ true
+same_length d s e t path head size wide n m w there is same = eq-eqb (length (bytes_at (present_tree (machine_on d s)) path)) n (present_length d s e t path head size m w there ∙ sym is ∙ same)
+
+pub other_length : (d : Device) (s : State) (e : Device) (t : State) (path : Path) (head size wide n : ℕ) → IsMounted d s → IsWorked d s e t → IsPresentBody e t path head size → wide ≡ size → (wide ≡ n → ⊥)
+    → (length (bytes_at (present_tree (machine_on d s)) path) == n) ≡ false
+other_length d s e t path head size wide n m w there is other =
+    ne_eqb (length (bytes_at (present_tree (machine_on d s)) path)) n (λ same. other (is ∙ sym (present_length d s e t path head size m w there) ∙ same))
+
+-- the change of a file's bytes, as the flash shows it after a look
+pub file_change : (d : Device) (s : State) (e : Device) (t : State) (call : Call) (path : Path) (f : List ℕ → List ℕ) (reply : Reply) → IsMounted d s → IsLooked d s e t
+    → IsFileChange (machine_on d s) call path (f (bytes_at (present_tree (machine_on d s)) path)) → ((space : Space) → reply_of space (machine_on d s) call ≡ reply)
+    → IsChangeBy d s call (λ root. put (tree_on e root) path (Entry.File (f (bytes_at (tree_on e root) path)))) reply
+file_change d s e t call path f reply m l change replies = record {
+  fine = change.fine;
+  after = λ root is. change.after ∙ ap (λ (x : Tree). Some (put x path (Entry.File (f (bytes_at x path))))) (later_tree d s e t root m is l);
+  heavy = change.heavy;
+  paths = change.paths;
+  more = change.more;
+  replies = replies;
+}
+
+pub file_lawful : (d : Device) (s : State) (path : Path) → IsMounted d s → IsFile (present_tree (machine_on d s)) path → is_path path ≡ true
+file_lawful d s path m file = (present-file_tree (machine_on d s) m.machine).paths path (ap is_some file.1)

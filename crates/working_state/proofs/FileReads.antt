@@ -1,0 +1,171 @@
+-- The steps of reading bytes of files.
+use Rattle.std.proofs.Common.{◌≡◌, ℕ, true, false, Option, Some, None, Result, Ok, Err, List, [], ◌∷◌, refl, sym, ap, subst, ◌∙◌, inl, inr}
+use Rattle.std.proofs.lemmas.Bool.{cases_Bool, true≢false}
+use Rattle.std.specs.Prelude.{IsTrue, IsSome, IfOk, IfErr, if◌then◌else◌}
+use Rattle.std.specs.FinMap.{get}
+use Rattle.std.specs.Option.{option_or, option_map_or}
+use Rattle.fs_types.specs.Names.{Path}
+use Rattle.plain_trees.specs.Contents.{Contents, Entry, IsTree, under, way_refusal, lookup_refusal, read_from}
+use Rattle.plain_trees.specs.Trees.{Tree, IsFileTree, IsFile, bytes_of, bytes_at}
+use Rattle.history_machine.specs.History.{present_root}
+use Rattle.history_machine.specs.Descriptors.{Descriptor, Descriptors, descriptor_at, can_read}
+use Rattle.history_machine.specs.Machine.{Machine, Space, present_tree, refusal, reply_of}
+use Rattle.fs_types.specs.declared.calls.Call.{Call}
+use Rattle.fs_types.specs.declared.calls.Reply.{Reply}
+use Rattle.fs_types.specs.declared.calls.View.{View}
+use Rattle.fs_types.specs.declared.faults.Fault.{Fault}
+use Rattle.fs_types.specs.declared.faults.Fault.TheVariants.{NoEntry, NotDirectory, BadDescriptor, Damaged, ReadFailed, PowerCut, NoMemory}
+use Rattle.history_machine.proofs.Kept.{present-file_tree}
+use Rattle.plain_trees.proofs.Lookups.{some-is, above, under-tree}
+use Rattle.flash_model.specs.Device.{Device}
+use Rattle.node_format.specs.declared.places.Place.TheVariants.{File}
+use Rattle.block_trees.specs.Bodies.{Blocks, body, IsBody}
+use Rattle.block_trees.specs.Trees.{root_tree, IsRoot}
+use Rattle.block_trees.proofs.RootMaps.{map_law}
+use Rattle.directory.specs.declared.lookups.Found.{Found}
+use Rattle.directory.specs.declared.lookups.Found.TheVariants as found
+use Rattle.directory.specs.Lookups.{look_up, entry_of, is_path_fault, IsLookupFault}
+use Rattle.directory.proofs.LookupLaws.{found_is, found_leads_file}
+use Rattle.skip_list_file.specs.Reading.{is_body_fault}
+use Rattle.working_state.specs.Mounted.{IsMounted}
+use Rattle.working_state.specs.Reading.{refuse_directory, file_refusal, IsRead}
+use Rattle.working_state.specs.Seen.{Seen, tree_on, seen_on, machine_on}
+use Rattle.working_state.specs.Steps.{replied, is_light, is_cut_answer, MayRefuse, CallStep}
+use Rattle.working_state.specs.Worked.{IsLooked, WorkCause}
+use Rattle.working_state.specs.declared.state.State.{State}
+use Rattle.working_state.proofs.PathCalls.{found_tells, refused_tells, present_tree_is, OnlyReads, read_done}
+use Rattle.working_state.proofs.Refusals.{refused_step}
+use Rattle.working_state.proofs.Standing.{looked_worked}
+use Rattle.working_state.proofs.Views.{Shows, view_tree_is, view_looks}
+
+-- The file that a path leads to.
+
+not_so : IsTrue false → ⊥
+not_so h = true≢false (sym h)
+
+-- a look up's refusal that comes of no read
+path_fault : (fault : Fault) → IsLookupFault fault → is_body_fault fault ≡ false → is_path_fault fault ≡ true
+path_fault NoEntry is other = refl
+path_fault NotDirectory is other = refl
+path_fault Damaged is other = refl
+path_fault ReadFailed is other = absurd (true≢false other)
+path_fault PowerCut is other = absurd (true≢false other)
+path_fault NoMemory is other = absurd (true≢false other)
+path_fault _ is other = absurd (not_so is)
+
+module _ (room : ℕ) (f : Blocks) (root : ℕ) (path : Path) (is : IsRoot room f root) where
+  -- a look up that was refused
+  pub look_up_refuses : (result : Result (List ℕ) Fault) (fault : Fault) → result ≡ Err fault → (is_path_fault fault ≡ true → look_up f root path ≡ Err fault) → IsLookupFault fault
+      → IfErr result (λ x. is_body_fault x ≡ false → file_refusal (root_tree room f root) path ≡ Some x)
+  look_up_refuses result fault e refused faults =
+      subst (λ r. IfErr r (λ x. is_body_fault x ≡ false → file_refusal (root_tree room f root) path ≡ Some x)) (sym e)
+      (λ other. refused_tells room f root path refuse_directory is fault (refused (path_fault fault faults other)))
+
+  module _ (x y : Found) (led : look_up f root path ≡ Ok x) (called : x ≡ y) where
+    led_to : look_up f root path ≡ Ok y
+    led_to = subst (λ z. look_up f root path ≡ Ok z) called led
+
+    -- what was found is refused or not for what it is
+    pub found_refuses_file : (refused : Option Fault) → option_map_or refuse_directory (entry_of room f y) (Some NoEntry) ≡ refused → file_refusal (root_tree room f root) path ≡ refused
+    found_refuses_file refused e = found_tells room f root path refuse_directory is y led_to ∙ e
+
+  module _ (room' : ℕ) (f' : Blocks) (same : f' ≡ f) (same_room : room' ≡ room) (x : Found) (head size : ℕ) (led : look_up f root path ≡ Ok x) (called : x ≡ found.File head size) where
+    file_there : look_up f root path ≡ Ok (found.File head size)
+    file_there = subst (λ z. look_up f root path ≡ Ok z) called led
+
+    -- the file that was found has a body
+    pub file_body : IsBody room' f' head size
+    file_body =
+        subst (λ r. IsBody r f' head size) (sym same_room)
+        (subst (λ (g : Blocks). IsBody room g head size) (sym same) (is path (File head size) (found_leads_file f root path head size file_there)).0)
+
+    -- what is read of its body
+    pub file_read : (offset count : ℕ) (result : Result (List ℕ) Fault) → IfOk result (λ bytes. bytes ≡ read_from (body room' f' head size) offset count) → IfOk result (IsRead (root_tree room f root) path offset count)
+    file_read offset count (Err fault) read = tt
+    file_read offset count (Ok bytes) read = record {
+      accepted = found_tells room f root path refuse_directory is (found.File head size) file_there;
+      read = read
+          ∙ ap (λ r. read_from (body r f' head size) offset count) same_room
+          ∙ ap (λ (g : Blocks). read_from (body room g head size) offset count) same
+          ∙ ap (λ (o : Option Entry). read_from (bytes_of o) offset count)
+          (sym (ap (λ (t : Contents). t path) (map_law room f root is).same ∙ (found_is room f root path (found.File head size) file_there).1));
+    }
+
+-- Steps.
+
+body_refuses : (old new : Seen) (m : Machine) (call : Call) (fault : Fault) → is_light call ≡ false → is_body_fault fault ≡ true → WorkCause old fault new → MayRefuse old m call fault new
+body_refuses old new m call ReadFailed heavy is why = (heavy, why)
+body_refuses old new m call PowerCut heavy is why = (heavy, why)
+body_refuses old new m call NoMemory heavy is why = heavy
+body_refuses old new m call _ heavy is why = absurd (true≢false (sym is))
+
+-- a call reads of the file at a path of the tree of a root
+pub record ReadsFile (d : Device) (s : State) (call : Call) (root : ℕ) (path : Path) (offset count : ℕ) : Type 0 where
+  pub heavy : is_light call ≡ false
+  pub by_path : refusal (machine_on d s) call ≡ file_refusal (tree_on d root) path
+  pub only : OnlyReads (machine_on d s) call
+  pub replies : (space : Space) → reply_of space (machine_on d s) call ≡ Reply.Bytes (read_from (bytes_at (tree_on d root) path) offset count)
+
+pub read_step : (d : Device) (s : State) (e : Device) (t : State) (call : Call) (root : ℕ) (path : Path) (offset count : ℕ) (result : Result (List ℕ) Fault) → IsMounted d s → IsLooked d s e t → ReadsFile d s call root path offset count
+    → IfOk result (IsRead (tree_on d root) path offset count)
+    → IfErr result (λ fault. is_body_fault fault ≡ false → file_refusal (tree_on d root) path ≡ Some fault)
+    → IfErr result (λ fault. is_body_fault fault ≡ true → WorkCause (seen_on d s) fault (seen_on e t))
+    → CallStep (seen_on d s) (machine_on d s) false call (replied Reply.Bytes result) (seen_on e t) (machine_on e t) (is_cut_answer result)
+read_step d s e t call root path offset count (Ok bytes) m l reads read refused why =
+    read_done d s e t call (Reply.Bytes bytes) m l reads.only (reads.by_path ∙ read.accepted) (reads.replies (seen_on e t).space ∙ ap Reply.Bytes (sym read.read))
+read_step d s e t call root path offset count (Err fault) m l reads read refused why =
+    refused_step d s e t call fault m (looked_worked d s e t l) (elim (cases_Bool (is_body_fault fault)) [
+      | inl is ↦ inr (body_refuses (seen_on d s) (seen_on e t) (machine_on d s) call fault reads.heavy is (why is))
+      | inr other ↦ inl (reads.by_path ∙ refused other)
+    ])
+
+-- A file of the tree that a view shows.
+
+pub view_reads : (d : Device) (s : State) (view : View) (path : Path) (offset count root : ℕ) → IsMounted d s → Shows s.history view root → ReadsFile d s (Call.ReadAt view path offset count) root path offset count
+view_reads d s view path offset count root m shows = record {
+  heavy = refl;
+  by_path = (view_looks d s view path (Call.ReadAt view path offset count) refuse_directory refl root m shows refl).by_path;
+  only = record { stays = refl; no_version = refl; no_record = refl };
+  replies = λ space. ap (λ (t : Tree). Reply.Bytes (read_from (bytes_at t path) offset count)) (view_tree_is d s view root shows);
+}
+
+-- An open file.
+
+-- path resolution is not refused where something stands
+resolves : (t : Contents) → IsTree t → (path : Path) → IsSome (t path) → lookup_refusal t path ≡ None
+resolves t tree [] there = refl
+resolves t tree (n ∷ []) there = refl
+resolves t tree (n ∷ m ∷ path) there =
+    let dir : t (n ∷ []) ≡ Some Entry.Dir = above t tree (n ∷ []) path m there in
+    ap (λ o. option_or (way_refusal o) (lookup_refusal (under t (n ∷ [])) (m ∷ path))) dir ∙ resolves (under t (n ∷ [])) (under-tree t (n ∷ []) tree dir) (m ∷ path) there
+
+file_is_read : (t : Tree) (path : Path) → IsFileTree t → IsFile t path → file_refusal t path ≡ None
+file_is_read t path tree is =
+    ap (λ o. option_or o (option_map_or refuse_directory (get t path) (Some NoEntry))) (resolves (get t) tree.shape path (some-is (get t path) (Entry.File is.0) is.1))
+    ∙ ap (λ o. option_map_or refuse_directory o (Some NoEntry)) is.1
+
+-- the open file of a number
+pub record IsOpen (files : Descriptors) (number : ℕ) (path : Path) : Type 0 where
+  pub file : Descriptor
+  pub there : descriptor_at files number ≡ Some file
+  pub reads : can_read file.flags ≡ true
+  pub named : path ≡ file.path
+
+pub open_reads : (d : Device) (s : State) (number : ℕ) (path : Path) (offset count root : ℕ) → IsMounted d s → present_root s.history ≡ Some root → IsOpen s.files number path → ReadsFile d s (Call.Pread number offset count) root path offset count
+open_reads d s number path offset count root m is opened = record {
+  heavy = refl;
+  by_path = accepted ∙ sym (ap (λ t. file_refusal t path) (sym (present_tree_is d s root is)) ∙ file_is_read (present_tree (machine_on d s)) path (present-file_tree (machine_on d s) m.machine) file);
+  only = record { stays = refl; no_version = refl; no_record = refl };
+  replies = λ space.
+      ap (λ o. Reply.Bytes (option_map_or (λ x. read_from (bytes_at (present_tree (machine_on d s)) x.path) offset count) o [])) opened.there
+      ∙ ap (λ p. Reply.Bytes (read_from (bytes_at (present_tree (machine_on d s)) p) offset count)) (sym opened.named)
+      ∙ ap (λ (t : Tree). Reply.Bytes (read_from (bytes_at t path) offset count)) (present_tree_is d s root is);
+}
+  where
+    accepted : refusal (machine_on d s) (Call.Pread number offset count) ≡ None
+    accepted =
+        ap (λ o. option_map_or (λ (x : Descriptor). if can_read x.flags then None else Some BadDescriptor) o (Some BadDescriptor)) opened.there
+        ∙ ap (λ b. if b then None else Some BadDescriptor) opened.reads
+
+    file : IsFile (present_tree (machine_on d s)) path
+    file = subst (IsFile (present_tree (machine_on d s))) (sym opened.named) (m.machine.files number opened.file opened.there)

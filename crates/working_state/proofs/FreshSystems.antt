@@ -1,0 +1,154 @@
+-- A fresh system: its one version is the empty root.
+use Rattle.std.proofs.Common.{◌≡◌, ℕ, zero, suc, ◌+◌, ◌-◌, ◌≤◌, Bool, true, false, cond, Some, [], Result, Ok, Err, refl, sym, ap, subst, ◌∙◌, arith}
+use Rattle.std.proofs.lemmas.Bool.{true≢false}
+use Rattle.std.proofs.lemmas.List.Elements.{All-push}
+use Rattle.std.proofs.lemmas.List.Sums.{sum_by-cons}
+use Rattle.std.specs.Prelude.{IsTrue, not, ◌||◌, count_by, IfErr, vec_len, vec_capacity}
+use Rattle.std.specs.FinSet as set
+use Rattle.std.specs.List.{range_with_len}
+use Rattle.std.specs.Ordering.{nat_cmp}
+use Rattle.history_machine.specs.History.{Past, fresh, map_roots}
+use Rattle.history_machine.specs.Descriptors.{Descriptors, none_open}
+use Rattle.history_machine.specs.Machine.{IsMachine, mounted}
+use Rattle.plain_trees.specs.Trees.{Tree, bare}
+use Rattle.fs_types.specs.declared.calls.Version.{Version}
+use Rattle.fs_types.specs.declared.faults.Fault.{Fault}
+use Rattle.fs_types.specs.declared.faults.Fault.TheVariants.{FlashFull, ReadOnly, PowerCut}
+use Rattle.history_machine.proofs.Kept.{machine_law}
+use Rattle.flash_model.specs.Device.{Device}
+use Rattle.flash_model.specs.declared.sizes.Geometry.{Geometry}
+use Rattle.flash_model.specs.Geometry.{IsGeometry, block_bytes}
+use Rattle.allocator.specs.Ring.{Ring, is_busy, free_count}
+use Rattle.node_store.specs.declared.storage.Storage.{Storage}
+use Rattle.node_store.specs.declared.stores.Store.{Store}
+use Rattle.node_store.specs.Faults.{IsWriteFault}
+use Rattle.node_store.specs.NodePages.{node_of}
+use Rattle.node_store.specs.Storage as parts
+use Rattle.node_store.specs.Storage.{Evolved}
+use Rattle.node_store.specs.Stores.{Causes}
+use Rattle.block_trees.specs.Trees.{entries_of}
+use Rattle.block_trees.proofs.RootMaps.{empty_root}
+use Rattle.working_state.specs.Changes.{HasWritten}
+use Rattle.working_state.specs.Fresh.{unused_ring, unused, IsFresh, FreshCause, RootCause}
+use Rattle.working_state.specs.Moments.{moment}
+use Rattle.working_state.specs.Seen.{room_of, tree_on, machine_on}
+use Rattle.working_state.specs.Mounted.{IsStanding, IsMounted}
+use Rattle.working_state.specs.Worked.{storage_on}
+use Rattle.working_state.specs.declared.state.State.{State}
+use Rattle.block_trees.proofs.EmptyDirectories.{empty_held}
+use Rattle.working_state.proofs.Standing.{AllStand}
+
+-- an empty root stands
+empty_stands : (d : Device) (s : State) (root : ℕ) → entries_of (node_of d root) ≡ Some [] → set.contains s.storage.ring.used root ≡ true → IsStanding d s.storage.ring root
+empty_stands d s root empty kept = record {
+  held = empty_held (node_of d) root empty (set.contains s.storage.ring.used) kept;
+  rooted = (empty_root (room_of d) (node_of d) root empty).0;
+}
+
+fresh_stand : (d : Device) (s : State) (limit root : ℕ) → IsStanding d s.storage.ring root → AllStand d s.storage.ring (fresh limit root)
+fresh_stand d s limit root stands = record {
+  versions = All-push (λ (v : Version ℕ). IsStanding d s.storage.ring v.root) [] (record { serial = 1; root = root }) (λ k v below. absurd (omega arith)) stands;
+  checkpoints = λ k e below. absurd (omega arith);
+}
+
+pub fresh_machine : (d : Device) (h : Past ℕ) (files : Descriptors) (limit root : ℕ) → h ≡ fresh limit root → files ≡ none_open → entries_of (node_of d root) ≡ Some []
+    → record { history = map_roots (tree_on d) h; descriptors = files } ≡ mounted (fresh limit bare)
+fresh_machine d h files limit root is none empty =
+    let history =
+    ap (λ (p : Past ℕ). map_roots (tree_on d) p) is
+    ∙ ap (λ (t : Tree). fresh limit t) (empty_root (room_of d) (node_of d) root empty).1 in
+    (λ i. record { history = history i; descriptors = none i })
+
+pub fresh_mounted : (d : Device) (s : State) (limit root : ℕ) → IsGeometry d.geometry → s.storage.ring.blocks ≡ d.geometry.blocks → vec_len s.storage.page ≡ d.geometry.page → block_bytes d.geometry ≤ vec_capacity s.storage.node
+    → 2 ≤ limit → s.history ≡ fresh limit root → s.files ≡ none_open → entries_of (node_of d root) ≡ Some [] → set.contains s.storage.ring.used root ≡ true → IsMounted d s
+fresh_mounted d s limit root lawful blocks len room some is none empty kept =
+    let all = subst (AllStand d s.storage.ring) (sym is) (fresh_stand d s limit root (empty_stands d s root empty kept)) in
+    record {
+      lawful = lawful;
+      ring_blocks = blocks;
+      page_len = len;
+      node_room = room;
+      versions = all.versions;
+      checkpoints = all.checkpoints;
+      machine = subst IsMachine (sym (fresh_machine d s.history s.files limit root is none empty)) (machine_law.first limit some);
+    }
+
+-- What it begins with, and why it is refused.
+
+abbrev one_if : Bool → ℕ
+one_if b = cond b 1 0
+
+-- all of so many
+count_all : (p : ℕ → Bool) (a n : ℕ) → ((b : ℕ) → p b ≡ true) → count_by p (range_with_len a n) ≡ n
+count_all p a zero each = refl
+count_all p a (suc n) each =
+    let rest = count_all p (a + 1) n each in
+    let one : one_if (p a) ≡ 1 = ap one_if (each a) in
+    let first = sum_by-cons (λ b. one_if (p b)) a (range_with_len (a + 1) n) in
+    omega (arith, rest, one, first)
+
+-- each data block of an unused flash is free
+free_unused : (blocks : ℕ) → free_count (unused_ring blocks) set.empty ≡ blocks - 8
+free_unused blocks =
+    count_all (λ b. not (is_busy (unused_ring blocks) set.empty b)) 8 (blocks - 8)
+    (λ b. let none : set.contains (set.empty {R = nat_cmp}) b ≡ false = set.contains-empty nat_cmp b in λ i. not (none i || none i))
+
+unused_parts : (d : Device) (s : Storage) → s.bad ≡ set.empty → s.ring ≡ unused_ring d.geometry.blocks → parts.storage d s.bad s.ring ≡ unused d
+unused_parts d s bad ring = λ i. parts.storage d (bad i) (ring i)
+
+pub fresh_cause : (d : Device) (limit : ℕ) (s : Storage) (fault : Fault) (e : Device) (t : Storage) → s.bad ≡ set.empty → s.ring ≡ unused_ring d.geometry.blocks → HasWritten d s 1 e t
+    → RootCause (parts.storage d s.bad s.ring) fault (parts.storage e t.bad t.ring) → FreshCause d limit fault e
+fresh_cause d limit s FlashFull e t bad ring written why =
+    let none : set.len s.bad ≡ 0 = ap set.len bad ∙ set.len-empty nat_cmp in
+    let free : free_count s.ring s.bad ≡ d.geometry.blocks - 8 = (λ i. free_count (ring i) (bad i)) ∙ free_unused d.geometry.blocks in
+    let failures = written.evolved.failures in
+    omega arith
+fresh_cause d limit s ReadOnly e t bad ring written why =
+    let none : set.len s.bad ≡ 0 = ap set.len bad ∙ set.len-empty nat_cmp in
+    let failures = written.evolved.failures in
+    omega arith
+fresh_cause d limit s PowerCut e t bad ring written why = why
+fresh_cause d limit s _ e t bad ring written why = absurd why
+
+pub fresh_at : (d : Device) (limit : ℕ) (s : Storage) (e : Device) (t : State) → IsMounted e t → machine_on e t ≡ mounted (fresh limit bare) → t.is_off ≡ false
+    → s.bad ≡ set.empty → s.ring ≡ unused_ring d.geometry.blocks → HasWritten d s 1 e t.storage → IsFresh d limit (moment e t)
+fresh_at d limit s e t is shows on bad ring written =
+    let none : set.len s.bad ≡ 0 = ap set.len bad ∙ set.len-empty nat_cmp in
+    let no_takes : s.ring.takes ≡ 0 = ap (λ (r : Ring). r.takes) ring in
+    let paid = written.paid in
+    record {
+      machine = shows;
+      mounted = is;
+      is_on = on;
+      evolved = subst (λ p. Evolved p (storage_on e t)) (unused_parts d s bad ring) written.evolved;
+      paid = omega arith;
+    }
+
+-- why a write to a store is refused
+root_cause : {F : Type 0} (device : F → Device) (s t : Store F) (fault : Fault) → t.writes.n ≡ s.writes.n + 1 → IsWriteFault fault → Causes device s t fault
+    → RootCause (parts.storage (device s.flash.now) s.storage.now.bad s.storage.now.ring) fault (parts.storage (device t.flash.now) t.storage.now.bad t.storage.now.ring)
+root_cause device s t FlashFull one is c = let few = c.reason.few_free in omega arith
+root_cause device s t ReadOnly one is c = c.reason
+root_cause device s t PowerCut one is c = c.reason
+root_cause device s t _ one is c = absurd (not_so is)
+  where
+    not_so : IsTrue false → ⊥
+    not_so h = true≢false (sym h)
+
+pub root_why : {F : Type 0} (device : F → Device) (s t : Store F) (result : Result ℕ Fault) → t.writes.n ≡ s.writes.n + 1 → IfErr result IsWriteFault → IfErr result (λ fault. Causes device s t fault)
+    → IfErr result (λ fault. RootCause (parts.storage (device s.flash.now) s.storage.now.bad s.storage.now.ring) fault (parts.storage (device t.flash.now) t.storage.now.bad t.storage.now.ring))
+root_why device s t (Ok root) one is why = tt
+root_why device s t (Err fault) one is why = root_cause device s t fault one is why
+
+-- the first moment, once the root is written
+pub written_fresh : (d : Device) (limit : ℕ) (s : Storage) (e : Device) (t : Storage) (h : Past ℕ) (files : Descriptors) (root : ℕ) → IsGeometry d.geometry → s.bad ≡ set.empty → s.ring ≡ unused_ring d.geometry.blocks
+    → vec_len s.page ≡ d.geometry.page → block_bytes d.geometry ≤ vec_capacity s.node → HasWritten d s 1 e t → set.contains t.ring.used root ≡ true → entries_of (node_of e root) ≡ Some [] → 2 ≤ limit → h ≡ fresh limit root → files ≡ none_open
+    → IsFresh d limit (moment e (record { history = h; storage = t; files = files; is_off = false }))
+written_fresh d limit s e t h files root lawful bad ring len room written kept empty some is none =
+    let state : State = record { history = h; storage = t; files = files; is_off = false } in
+    let same = sym written.evolved.geometry in
+    let more = written.node_room in
+    let fits : block_bytes d.geometry ≤ vec_capacity t.node = omega arith in
+    let stands = fresh_mounted e state limit root (subst IsGeometry same lawful) (written.evolved.blocks ∙ ap (λ (r : Ring). r.blocks) ring ∙ ap (λ (g : Geometry). g.blocks) same) (written.page_len ∙ len ∙ ap (λ (g : Geometry). g.page) same)
+    (subst (λ (g : Geometry). block_bytes g ≤ vec_capacity t.node) same fits) some is none empty kept in
+    fresh_at d limit s e state stands (fresh_machine e h files limit root is none empty) refl bad ring written

@@ -1,0 +1,270 @@
+-- The step of opening a file.
+use Rattle.std.proofs.Common.{◌≡◌, ℕ, zero, suc, ◌<◌, ◌≤◌, Bool, true, false, cond, not, ◌&&◌, ◌||◌, Option, Some, None, Result, Ok, Err, [], ◌∷◌, length, take, refl, sym, ap, subst, ◌∙◌, inl, inr, arith}
+use Rattle.std.proofs.lemmas.Bool.{cases_Bool}
+use Rattle.std.proofs.lemmas.List.{length-take}
+use Rattle.std.specs.Prelude.{nat_lt, unwrap_or}
+use Rattle.std.specs.Option.{option_or, option_map_or, is_none, is_some}
+use Rattle.std.specs.FinMap.{get}
+use Rattle.fs_types.specs.Names.{Path, is_path}
+use Rattle.plain_trees.specs.Contents.{Contents, Entry, parent_of, lookup_refusal}
+use Rattle.plain_trees.specs.Trees.{Tree, is_full, bytes_of}
+use Rattle.history_machine.specs.Descriptors.{Descriptors, least_free, opened, creates, is_exclusive, truncates, are_lawful}
+use Rattle.history_machine.specs.History.{Past, present_root, changed}
+use Rattle.history_machine.specs.Machine.{Machine, IsMachine, Space, present_tree, number_refusal, open_refusal, open_changes, file_put, refusal, tree_after, answer_of, machine_of}
+use Rattle.fs_types.specs.declared.calls.Call.{Call}
+use Rattle.fs_types.specs.declared.calls.Reply.{Reply}
+use Rattle.fs_types.specs.declared.faults.Fault.{Fault}
+use Rattle.fs_types.specs.declared.faults.Fault.TheVariants.{NoEntry, IsDirectory, Exists, Invalid, DirectoryFull, TooManyOpen}
+use Rattle.fs_types.specs.declared.flags.OpenFlags.{OpenFlags}
+use Rattle.flash_model.specs.Device.{Device}
+use Rattle.node_format.specs.declared.places.Place.TheVariants as place
+use Rattle.node_store.specs.NodePages.{node_of}
+use Rattle.block_trees.specs.Bodies.{Blocks, body, head_index, data_to, IsBody}
+use Rattle.block_trees.specs.Trees.{tree}
+use Rattle.block_trees.proofs.RootMaps.{map_law, full_directory}
+use Rattle.directory.specs.declared.lookups.Found.{Found}
+use Rattle.directory.specs.declared.lookups.Found.TheVariants as found
+use Rattle.directory.specs.Lookups.{look_up, entry_of, is_path_fault, IsLookupFault}
+use Rattle.directory.proofs.LookupLaws.{found_is, found_leads_file, missing_parent, refused_is}
+use Rattle.working_state.specs.Seen.{room_of, seen_on, machine_on}
+use Rattle.working_state.specs.Steps.{replied, is_cut, is_cut_answer, Refuses, CallStep}
+use Rattle.working_state.specs.Mounted.{IsMounted}
+use Rattle.working_state.specs.Opening.{found_refusal, changes_found, IsAnswered}
+use Rattle.working_state.specs.Worked.{IsWorked, IsLooked, WorkCause}
+use Rattle.working_state.specs.declared.state.State.{State}
+use Rattle.working_state.proofs.PathCalls.{present_tree_is, present_stands}
+use Rattle.working_state.proofs.Refusals.{read_refuses, refused_step, never}
+use Rattle.working_state.proofs.Standing.{all_stand, AllStand, worked_machine, worked_later, worked_mounted, worked_pages, looked_worked}
+use Rattle.working_state.proofs.Steps.{still_machine}
+
+-- ---- refusals
+
+-- what stands at each path of the present tree
+pub present_is : (d : Device) (s : State) (root : ℕ) → IsMounted d s → present_root s.history ≡ Some root → get (present_tree (machine_on d s)) ≡ tree (room_of d) (node_of d) root
+present_is d s root m is = ap (λ (t : Tree). get t) (present_tree_is d s root is) ∙ (map_law (room_of d) (node_of d) root (present_stands d s root m is).rooted).same
+
+-- the refusal of lawful flags, by what stands at each path
+abbrev refusal_by : Machine → Path → OpenFlags → Contents → Option Fault
+refusal_by m path flags t = option_or (lookup_refusal t path) (open_refusal m path flags (t path))
+
+open_at : (d : Device) (s : State) (path : Path) (flags : OpenFlags) (root : ℕ) → IsMounted d s → present_root s.history ≡ Some root → are_lawful flags ≡ true
+    → refusal (machine_on d s) (Call.Open path flags) ≡ refusal_by (machine_on d s) path flags (tree (room_of d) (node_of d) root)
+open_at d s path flags root m is lawful =
+    ap (λ b. cond (not b) (Some Invalid) (refusal_by (machine_on d s) path flags (get (present_tree (machine_on d s))))) lawful
+    ∙ ap (refusal_by (machine_on d s) path flags) (present_is d s root m is)
+
+pub open_unlawful : (m : Machine) (path : Path) (flags : OpenFlags) → are_lawful flags ≡ false → refusal m (Call.Open path flags) ≡ Some Invalid
+open_unlawful m path flags wrong = ap (λ b. cond (not b) (Some Invalid) (refusal_by m path flags (get (present_tree m)))) wrong
+
+creation : (b full : Bool) (number : Option Fault) → cond (not b) (Some NoEntry) (cond full (Some DirectoryFull) number) ≡ option_or (cond (not b) (Some NoEntry) (cond full (Some DirectoryFull) None)) number
+creation false full number = refl
+creation true true number = refl
+creation true false number = refl
+
+reopening : (b : Bool) (number : Option Fault) → cond b (Some Exists) number ≡ option_or (cond b (Some Exists) None) number
+reopening true number = refl
+reopening false number = refl
+
+directory : (b : Bool) (number : Option Fault) → cond b (Some Exists) (Some IsDirectory) ≡ option_or (cond b (Some Exists) (Some IsDirectory)) number
+directory true number = refl
+directory false number = refl
+
+-- the refusal of what was found, and then that of the number
+open_found : (d : Device) (s : State) (path : Path) (flags : OpenFlags) (root : ℕ) (x : Found) → IsMounted d s → present_root s.history ≡ Some root → are_lawful flags ≡ true → look_up (node_of d) root path ≡ Ok x
+    → refusal (machine_on d s) (Call.Open path flags) ≡ option_or (found_refusal flags x) (number_refusal (machine_on d s))
+open_found d s path flags root x m is lawful e =
+    let n = machine_on d s in
+    let law = found_is (room_of d) (node_of d) root path x e in
+    open_at d s path flags root m is lawful
+    ∙ ap (λ o. option_or o (open_refusal n path flags (tree (room_of d) (node_of d) root path))) law.0
+    ∙ ap (open_refusal n path flags) law.1
+    ∙ go x e
+  where
+    number : Option Fault
+    number = number_refusal (machine_on d s)
+
+    go : (x : Found) → look_up (node_of d) root path ≡ Ok x → open_refusal (machine_on d s) path flags (entry_of (room_of d) (node_of d) x) ≡ option_or (found_refusal flags x) number
+    go (found.Missing full) e =
+        let parent = missing_parent (node_of d) root path full e in
+        let same : is_full (present_tree (machine_on d s)) (parent_of path) ≡ full =
+        ap (λ (t : Tree). is_full t (parent_of path)) (present_tree_is d s root is)
+        ∙ full_directory (room_of d) (node_of d) root (parent_of path) parent.0 (present_stands d s root m is).rooted parent.1 ∙ sym parent.2 in
+        ap (λ b. cond (not (creates flags)) (Some NoEntry) (cond b (Some DirectoryFull) number)) same ∙ creation (creates flags) full number
+    go (found.File head size) e = reopening (creates flags && is_exclusive flags) number
+    go (found.Dir block) e = directory (creates flags && is_exclusive flags) number
+
+open_told : (d : Device) (s : State) (path : Path) (flags : OpenFlags) (root : ℕ) (fault : Fault) → IsMounted d s → present_root s.history ≡ Some root → are_lawful flags ≡ true → look_up (node_of d) root path ≡ Err fault
+    → refusal (machine_on d s) (Call.Open path flags) ≡ Some fault
+open_told d s path flags root fault m is lawful e =
+    open_at d s path flags root m is lawful
+    ∙ ap (λ o. option_or o (open_refusal (machine_on d s) path flags (tree (room_of d) (node_of d) root path))) (refused_is (room_of d) (node_of d) root path fault (present_stands d s root m is).rooted e)
+
+-- a look up that was refused, by whether the nodes tell of it
+pub open_fault : (d : Device) (s : State) (e : Device) (t : State) (path : Path) (flags : OpenFlags) (root : ℕ) (fault : Fault) → IsMounted d s → present_root s.history ≡ Some root → are_lawful flags ≡ true
+    → (is_path_fault fault ≡ true → look_up (node_of d) root path ≡ Err fault)
+    → (is_path_fault fault ≡ false → WorkCause (seen_on d s) fault (seen_on e t)) → IsLookupFault fault
+    → Refuses (seen_on d s) (machine_on d s) (Call.Open path flags) fault (seen_on e t)
+open_fault d s e t path flags root fault m is lawful refused why lookup = elim (cases_Bool (is_path_fault fault)) [
+  | inl told ↦ inl (open_told d s path flags root fault m is lawful (refused told))
+  | inr other ↦ inr (read_refuses (seen_on d s) (seen_on e t) (machine_on d s) (Call.Open path flags) fault refl other lookup (why other))
+]
+
+-- what was found is refused
+pub found_refuses : (d : Device) (s : State) (e : Device) (t : State) (path : Path) (flags : OpenFlags) (root : ℕ) (x : Found) (fault : Fault) → IsMounted d s → present_root s.history ≡ Some root → are_lawful flags ≡ true
+    → look_up (node_of d) root path ≡ Ok x → found_refusal flags x ≡ Some fault → Refuses (seen_on d s) (machine_on d s) (Call.Open path flags) fault (seen_on e t)
+found_refuses d s e t path flags root x fault m is lawful led refused =
+    inl (open_found d s path flags root x m is lawful led ∙ ap (λ o. option_or o (number_refusal (machine_on d s))) refused)
+
+-- no number is free
+pub number_refuses : (d : Device) (s : State) (e : Device) (t : State) (path : Path) (flags : OpenFlags) (root : ℕ) (x : Found) → IsMounted d s → present_root s.history ≡ Some root → are_lawful flags ≡ true
+    → look_up (node_of d) root path ≡ Ok x → found_refusal flags x ≡ None → least_free s.files ≡ None → Refuses (seen_on d s) (machine_on d s) (Call.Open path flags) TooManyOpen (seen_on e t)
+number_refuses d s e t path flags root x m is lawful led fits none =
+    inl (open_found d s path flags root x m is lawful led
+    ∙ ap (λ o. option_or o (number_refusal (machine_on d s))) fits ∙ ap (λ o. cond (is_none o) (Some TooManyOpen) None) none)
+
+pub open_accepted : (d : Device) (s : State) (path : Path) (flags : OpenFlags) (root number : ℕ) (x : Found) → IsMounted d s → present_root s.history ≡ Some root → are_lawful flags ≡ true
+    → look_up (node_of d) root path ≡ Ok x → found_refusal flags x ≡ None → least_free s.files ≡ Some number → refusal (machine_on d s) (Call.Open path flags) ≡ None
+open_accepted d s path flags root number x m is lawful led fits free =
+    open_found d s path flags root x m is lawful led
+    ∙ ap (λ o. option_or o (number_refusal (machine_on d s))) fits ∙ ap (λ o. cond (is_none o) (Some TooManyOpen) None) free
+
+-- ---- changes
+
+-- a body is as long as its file
+long_body : (room : ℕ) (f : Blocks) (head size : ℕ) → IsBody room f head size → nat_lt 0 (length (body room f head size)) ≡ nat_lt 0 size
+long_body room f head zero is = refl
+long_body room f head (suc n) is =
+    let enough : suc n ≤ length (data_to f (head_index room (suc n)) head) = is.1 in
+    let long : length (take (suc n) (data_to f (head_index room (suc n)) head)) ≡ suc n = omega (arith, length-take (suc n) (data_to f (head_index room (suc n)) head)) in
+    ap (nat_lt 0) long
+
+-- whether what stands at the path is changed
+abbrev changes_at : OpenFlags → Option Entry → Bool
+changes_at flags o = is_none o || (truncates flags && nat_lt 0 (length (bytes_of o)))
+
+pub changes_is : (d : Device) (s : State) (path : Path) (flags : OpenFlags) (root : ℕ) (x : Found) → IsMounted d s → present_root s.history ≡ Some root → look_up (node_of d) root path ≡ Ok x → found_refusal flags x ≡ None
+    → open_changes (present_tree (machine_on d s)) path flags ≡ changes_found flags x
+changes_is d s path flags root x m is led fits =
+    ap (λ (t : Contents). changes_at flags (t path)) (present_is d s root m is)
+    ∙ ap (changes_at flags) (found_is (room_of d) (node_of d) root path x led).1
+    ∙ go x led fits
+  where
+    go : (x : Found) → look_up (node_of d) root path ≡ Ok x → found_refusal flags x ≡ None → changes_at flags (entry_of (room_of d) (node_of d) x) ≡ changes_found flags x
+    go (found.Missing full) led fits = refl
+    go (found.File head size) led fits =
+        let whole = ((present_stands d s root m is).rooted path (place.File head size) (found_leads_file (node_of d) root path head size led)).0 in
+        ap (λ b. truncates flags && b) (long_body (room_of d) (node_of d) head size whole)
+    go (found.Dir block) led fits = absurd (no_directory (creates flags && is_exclusive flags) fits)
+      where
+        no_directory : (b : Bool) → cond b (Some Exists) (Some IsDirectory) ≡ None → ⊥
+        no_directory true e = cc
+        no_directory false e = cc
+
+-- ---- steps of what is opened
+
+-- a refused call
+pub refused_answer : (d : Device) (s : State) (e : Device) (t : State) (call : Call) (fault : Fault) → IsMounted d s → IsWorked d s e t → Refuses (seen_on d s) (machine_on d s) call fault (seen_on e t)
+    → IsAnswered d s call (Err fault) e t (is_cut fault)
+refused_answer d s e t call fault m w refuses = record {
+  mounted = worked_mounted d s e t m w;
+  step = refused_step d s e t call fault m w refuses;
+  is_off = w.rest.is_off;
+  pages = worked_pages d s e t m w;
+}
+
+-- where what was answered is a fault
+pub at_answer : {T : Type 0} (f : T → Reply) (d : Device) (s : State) (e : Device) (t : State) (call : Call) (fault : Fault) (result : Result T Fault) → result ≡ Err fault
+    → IsAnswered d s call (Err fault) e t (is_cut fault) → IsAnswered d s call (replied f result) e t (is_cut_answer result)
+at_answer f d s e t call fault result is answered = subst (λ r. IsAnswered d s call (replied f r) e t (is_cut_answer r)) (sym is) answered
+
+-- the same but for the history and the open files
+mounted_at : (e : Device) (t : State) (h : Past ℕ) (files : Descriptors) → IsMounted e t → AllStand e t.storage.ring h → IsMachine (machine_on e (record t { history = h; files = files })) → IsMounted e (record t { history = h; files = files })
+mounted_at e t h files m all machine = record {
+  lawful = m.lawful;
+  ring_blocks = m.ring_blocks;
+  page_len = m.page_len;
+  node_room = m.node_room;
+  versions = all.versions;
+  checkpoints = all.checkpoints;
+  machine = machine;
+}
+
+-- the open files with one more
+pub files_after : (m : Machine) (path : Path) (flags : OpenFlags) (number : ℕ) → least_free m.descriptors ≡ Some number
+    → option_map_or (λ n. opened m.descriptors n (record { path = path; flags = flags })) (least_free m.descriptors) m.descriptors ≡ opened m.descriptors number (record { path = path; flags = flags })
+files_after m path flags number free = ap (λ o. option_map_or (λ n. opened m.descriptors n (record { path = path; flags = flags })) o m.descriptors) free
+
+-- what an open leaves, by the tree that it makes
+next_is : (m : Machine) (path : Path) (flags : OpenFlags) (number : ℕ) (made : Option Tree) → refusal m (Call.Open path flags) ≡ None → tree_after m (Call.Open path flags) ≡ made → least_free m.descriptors ≡ Some number
+    → machine_of m (Call.Open path flags) (refusal m (Call.Open path flags))
+    ≡ record { history = option_map_or (changed m.history) made m.history; descriptors = opened m.descriptors number (record { path = path; flags = flags }) }
+next_is m path flags number made fine makes free =
+    ap (machine_of m (Call.Open path flags)) fine
+    ∙ (λ i. record { history = option_map_or (changed m.history) (makes i) m.history; descriptors = files_after m path flags number free i })
+
+pub made_by : (m : Machine) (path : Path) (flags : OpenFlags) (b : Bool) → open_changes (present_tree m) path flags ≡ b → tree_after m (Call.Open path flags) ≡ cond b (Some (file_put (present_tree m) path [])) None
+made_by m path flags b is = ap (λ c. cond c (Some (file_put (present_tree m) path [])) None) is
+
+answers_number : (space : Space) (m : Machine) (path : Path) (flags : OpenFlags) (number : ℕ) → refusal m (Call.Open path flags) ≡ None → least_free m.descriptors ≡ Some number
+    → answer_of space m (Call.Open path flags) (refusal m (Call.Open path flags)) ≡ Ok (Reply.Fd number)
+answers_number space m path flags number fine free = ap (answer_of space m (Call.Open path flags)) fine ∙ ap (λ o. Ok (Reply.Fd (unwrap_or o 0))) free
+
+-- a file that is there, and stays as it is
+pub opened_answer : (d : Device) (s : State) (e : Device) (t : State) (path : Path) (flags : OpenFlags) (number : ℕ) (files : Descriptors) → IsMounted d s → IsLooked d s e t → is_path path ≡ true
+    → refusal (machine_on d s) (Call.Open path flags) ≡ None → open_changes (present_tree (machine_on d s)) path flags ≡ false → least_free s.files ≡ Some number
+    → files ≡ opened t.files number (record { path = path; flags = flags })
+    → IsAnswered d s (Call.Open path flags) (Ok (Reply.Fd number)) e (record t { files = files }) false
+opened_answer d s e t path flags number files m l lawful fine same free is =
+    record { mounted = mounted_at e t t.history files mid (all_stand e t mid) machine; step = step; is_off = l.rest.is_off; pages = worked_pages d s e t m w }
+  where
+    call : Call
+    call = Call.Open path flags
+
+    n : Machine
+    n = machine_on d s
+
+    w : IsWorked d s e t
+    w = looked_worked d s e t l
+
+    mid : IsMounted e t
+    mid = worked_mounted d s e t m w
+
+    none : tree_after n call ≡ None
+    none = made_by n path flags false same
+
+    leaves : machine_on e (record t { files = files }) ≡ machine_of n call (refusal n call)
+    leaves =
+        let history = ap (λ (x : Machine). x.history) (worked_machine d s e t m w) in
+        let descriptors = is ∙ ap (λ (fs : Descriptors). opened fs number (record { path = path; flags = flags })) l.rest.files in
+        (λ i. record { history = history i; descriptors = descriptors i }) ∙ sym (next_is n path flags number None fine none free)
+
+    step : CallStep (seen_on d s) n false call (Ok (Reply.Fd number)) (seen_on e t) (machine_on e (record t { files = files })) false
+    step = record {
+      later = worked_later d s e t w;
+      answers = (
+        refl,
+        record {
+          answered = answers_number (seen_on e t).space n path flags number fine free;
+          leaves = leaves;
+          writable = λ writes. never (is_none (refusal n call)) (sym (ap (λ o. is_none (refusal n call) && (is_some o || false)) none) ∙ writes);
+          serial_left = λ makes. never (is_none (refusal n call)) (sym (ap (λ o. is_none (refusal n call) && is_some o) none) ∙ makes);
+        },
+        refl,
+      );
+    }
+
+    machine : IsMachine (machine_on e (record t { files = files }))
+    machine = still_machine (seen_on d s) (seen_on e t) n (machine_on e (record t { files = files })) false false call (Ok (Reply.Fd number)) m.machine lawful step
+
+-- ---- a file that is made or cut
+
+-- what is found and fits is below the root, and no directory
+pub found_below : (f : Blocks) (root : ℕ) (path : Path) (flags : OpenFlags) (x : Found) → look_up f root path ≡ Ok x → found_refusal flags x ≡ None → 0 < length path
+found_below f root [] flags (found.Missing full) led fits = absurd cc
+found_below f root [] flags (found.File head size) led fits = absurd cc
+found_below f root [] flags (found.Dir block) led fits = absurd (go (creates flags && is_exclusive flags) fits)
+  where
+    go : (b : Bool) → cond b (Some Exists) (Some IsDirectory) ≡ None → ⊥
+    go true e = cc
+    go false e = cc
+found_below f root (n ∷ path) flags x led fits = omega arith

@@ -1,0 +1,177 @@
+-- Calls with a path that has to be there, and what they refuse for what stands at it.
+use Rattle.std.proofs.Common.{◌≡◌, ℕ, true, false, ◌||◌, Option, Some, None, Result, Ok, Err, refl, sym, ap, subst, ◌∙◌, inl, inr}
+use Rattle.std.proofs.lemmas.Bool.{cases_Bool, true≢false, and_parts}
+use Rattle.std.specs.Prelude.{unwrap_or, is_some, IsSome}
+use Rattle.std.specs.Option.{option_or, option_map, option_map_or}
+use Rattle.std.specs.FinMap.{get}
+use Rattle.fs_types.specs.Names.{Path, is_path}
+use Rattle.plain_trees.specs.Contents.{Contents, Entry, lookup_refusal}
+use Rattle.plain_trees.specs.Trees.{bare}
+use Rattle.history_machine.specs.History.{present_root}
+use Rattle.history_machine.specs.HistoryMaps.{present_root-map}
+use Rattle.history_machine.specs.Machine.{Machine, present_tree, refusal, found_refusal, answer_of, machine_of, reply_of, tree_after, is_accepted}
+use Rattle.fs_types.specs.declared.calls.Call.{Call}
+use Rattle.fs_types.specs.declared.calls.Reply.{Reply}
+use Rattle.fs_types.specs.declared.faults.Fault.{Fault}
+use Rattle.fs_types.specs.declared.faults.Fault.TheVariants.{NoEntry, NotDirectory, Damaged}
+use Rattle.plain_trees.proofs.Beneath.{None≢Some}
+use Rattle.history_machine.proofs.Kept.{present-file_tree}
+use Rattle.flash_model.specs.Device.{Device}
+use Rattle.node_format.specs.declared.places.Place.TheVariants.{Dir}
+use Rattle.node_store.specs.Faults.{IsReadFault}
+use Rattle.node_store.specs.NodePages.{node_of}
+use Rattle.block_trees.specs.Bodies.{Blocks}
+use Rattle.block_trees.specs.Trees.{entries_of, tree, root_tree, IsRoot}
+use Rattle.block_trees.proofs.RootMaps.{map_law}
+use Rattle.directory.specs.declared.lookups.Found.{Found}
+use Rattle.directory.specs.declared.lookups.Found.TheVariants as found
+use Rattle.directory.specs.Lookups.{look_up, entry_of, is_path_fault, IsLookupFault}
+use Rattle.directory.proofs.LookupLaws.{found_is, found_leads, refused_is}
+use Rattle.working_state.specs.Seen.{room_of, tree_on, seen_on, machine_on}
+use Rattle.working_state.specs.Steps.{is_light, is_for_record, Refuses, CallStep}
+use Rattle.working_state.specs.Mounted.{IsStanding, IsMounted}
+use Rattle.working_state.specs.Worked.{IsLooked, WorkCause}
+use Rattle.working_state.specs.declared.state.State.{State}
+use Rattle.working_state.proofs.Roots.{of_present}
+use Rattle.working_state.proofs.Standing.{looked_worked, worked_machine, worked_later}
+use Rattle.working_state.proofs.Refusals.{read_refuses, cause_later}
+
+-- The present tree.
+
+pub present_tree_is : (d : Device) (s : State) (root : ℕ) → present_root s.history ≡ Some root → present_tree (machine_on d s) ≡ tree_on d root
+present_tree_is d s root is = ap (λ o. unwrap_or o bare) (present_root-map (tree_on d) s.history ∙ ap (option_map (tree_on d)) is)
+
+pub present_stands : (d : Device) (s : State) (root : ℕ) → IsMounted d s → present_root s.history ≡ Some root → IsStanding d s.storage.ring root
+present_stands d s root m is = of_present (IsStanding d s.storage.ring) s.history root m.versions is
+
+-- what stands in the present tree stands at a lawful path
+pub found_lawful : (d : Device) (s : State) (root : ℕ) (path : Path) (x : Found) (entry : Entry) → IsMounted d s → present_root s.history ≡ Some root → look_up (node_of d) root path ≡ Ok x → entry_of (room_of d) (node_of d) x ≡ Some entry
+    → is_path path ≡ true
+found_lawful d s root path x entry m is led there =
+    let law = map_law (room_of d) (node_of d) root (present_stands d s root m is).rooted in
+    let stands : get (present_tree (machine_on d s)) path ≡ Some entry =
+    ap (λ t. get t path) (present_tree_is d s root is)
+    ∙ ap (λ (t : Contents). t path) law.same
+    ∙ (found_is (room_of d) (node_of d) root path x led).1
+    ∙ there in
+    (present-file_tree (machine_on d s) m.machine).paths path (subst IsSome (sym stands) refl)
+
+-- The refusal of what stands at a path, or of nothing.
+
+found_at : (room : ℕ) (f : Blocks) (root : ℕ) (path : Path) (refuse : Entry → Option Fault) → IsRoot room f root
+    → found_refusal (root_tree room f root) path refuse ≡ option_or (lookup_refusal (tree room f root) path) (option_map_or refuse (tree room f root path) (Some NoEntry))
+found_at room f root path refuse is = ap (λ (t : Contents). option_or (lookup_refusal t path) (option_map_or refuse (t path) (Some NoEntry))) (map_law room f root is).same
+
+-- by what was found
+pub found_tells : (room : ℕ) (f : Blocks) (root : ℕ) (path : Path) (refuse : Entry → Option Fault) → IsRoot room f root → (x : Found) → look_up f root path ≡ Ok x
+    → found_refusal (root_tree room f root) path refuse ≡ option_map_or refuse (entry_of room f x) (Some NoEntry)
+found_tells room f root path refuse is x e =
+    let there = found_is room f root path x e in
+    found_at room f root path refuse is
+    ∙ ap (λ o. option_or o (option_map_or refuse (tree room f root path) (Some NoEntry))) there.0
+    ∙ ap (λ o. option_map_or refuse o (Some NoEntry)) there.1
+
+-- by what the look up was refused with
+pub refused_tells : (room : ℕ) (f : Blocks) (root : ℕ) (path : Path) (refuse : Entry → Option Fault) → IsRoot room f root → (fault : Fault) → look_up f root path ≡ Err fault
+    → found_refusal (root_tree room f root) path refuse ≡ Some fault
+refused_tells room f root path refuse is fault e =
+    found_at room f root path refuse is
+    ∙ ap (λ o. option_or o (option_map_or refuse (tree room f root path) (Some NoEntry))) (refused_is room f root path fault is e)
+
+-- a call looks a path up in the tree of a root, and refuses what stands there
+pub record LooksUp (d : Device) (s : State) (call : Call) (root : ℕ) (path : Path) (refuse : Entry → Option Fault) : Type 0 where
+  pub rooted : IsRoot (room_of d) (node_of d) root
+  pub heavy : is_light call ≡ false
+  pub by_path : refusal (machine_on d s) call ≡ found_refusal (tree_on d root) path refuse
+
+module _ (d : Device) (s : State) (call : Call) (root : ℕ) (path : Path) (refuse : Entry → Option Fault) (looks : LooksUp d s call root path refuse) where
+  -- what was found is refused or not for what it is
+  pub found_refuses : (x : Found) → look_up (node_of d) root path ≡ Ok x → refusal (machine_on d s) call ≡ option_map_or refuse (entry_of (room_of d) (node_of d) x) (Some NoEntry)
+  found_refuses x e = looks.by_path ∙ found_tells (room_of d) (node_of d) root path refuse looks.rooted x e
+
+  -- the same of what is also called `y`
+  pub found_by : (x y : Found) → look_up (node_of d) root path ≡ Ok x → x ≡ y → refusal (machine_on d s) call ≡ option_map_or refuse (entry_of (room_of d) (node_of d) y) (Some NoEntry)
+  found_by x y e is = found_refuses y (subst (λ z. look_up (node_of d) root path ≡ Ok z) is e)
+
+  pub found_refused : (e : Device) (t : State) (x y : Found) (fault : Fault) → look_up (node_of d) root path ≡ Ok x → x ≡ y → option_map_or refuse (entry_of (room_of d) (node_of d) y) (Some NoEntry) ≡ Some fault
+      → Refuses (seen_on d s) (machine_on d s) call fault (seen_on e t)
+  found_refused e t x y fault led is refused = inl (found_by x y led is ∙ refused)
+
+  told : (fault : Fault) → look_up (node_of d) root path ≡ Err fault → refusal (machine_on d s) call ≡ Some fault
+  told fault e = looks.by_path ∙ refused_tells (room_of d) (node_of d) root path refuse looks.rooted fault e
+
+  -- a look up that was refused, by whether the nodes tell of it
+  pub look_refused : (e : Device) (t : State) (fault : Fault)
+      → (is_path_fault fault ≡ true → look_up (node_of d) root path ≡ Err fault)
+      → (is_path_fault fault ≡ false → WorkCause (seen_on d s) fault (seen_on e t)) → IsLookupFault fault
+      → Refuses (seen_on d s) (machine_on d s) call fault (seen_on e t)
+  look_refused e t fault refused why is = elim (cases_Bool (is_path_fault fault)) [
+    | inl tells ↦ inl (told fault (refused tells))
+    | inr other ↦ inr (read_refuses (seen_on d s) (seen_on e t) (machine_on d s) call fault looks.heavy other is (why other))
+  ]
+
+  -- a directory that was found is one
+  is_directory : (block : ℕ) → look_up (node_of d) root path ≡ Ok (found.Dir block) → entries_of (node_of d block) ≡ None → ⊥
+  is_directory block led none =
+      let whole = (looks.rooted path (Dir block) (found_leads (node_of d) root path block led)).0 in
+      None≢Some (sym none ∙ whole.1)
+
+  -- a read of the directory that was found
+  pub read_refused : (e : Device) (t : State) (f : Device) (u : State) (block : ℕ) (x : Found) (fault : Fault) → IsLooked d s e t → node_of e ≡ node_of d
+      → look_up (node_of d) root path ≡ Ok x → x ≡ found.Dir block
+      → (fault ≡ Damaged → entries_of (node_of e block) ≡ None) → (is_path_fault fault ≡ false → WorkCause (seen_on e t) fault (seen_on f u)) → IsReadFault fault
+      → Refuses (seen_on d s) (machine_on d s) call fault (seen_on f u)
+  read_refused e t f u block x fault l same called is damaged why reads =
+      look_refused f u fault (tells fault damaged reads)
+      (λ other. cause_later (seen_on d s) (seen_on e t) (seen_on f u) fault (worked_later d s e t (looked_worked d s e t l)) (why other)) (is_lookup fault reads)
+    where
+      led : look_up (node_of d) root path ≡ Ok (found.Dir block)
+      led = subst (λ z. look_up (node_of d) root path ≡ Ok z) is called
+
+      is_lookup : (fault : Fault) → IsReadFault fault → IsLookupFault fault
+      is_lookup NoEntry reads = refl
+      is_lookup NotDirectory reads = refl
+      is_lookup _ reads = reads
+
+      tells : (fault : Fault) → (fault ≡ Damaged → entries_of (node_of e block) ≡ None) → IsReadFault fault → is_path_fault fault ≡ true → look_up (node_of d) root path ≡ Err fault
+      tells Damaged damaged reads path_fault = absurd (is_directory block led (ap (λ (g : Blocks). entries_of (g block)) (sym same) ∙ damaged refl))
+      tells NoEntry damaged reads path_fault = absurd (true≢false (sym reads))
+      tells NotDirectory damaged reads path_fault = absurd (true≢false (sym reads))
+      tells _ damaged reads path_fault = absurd (true≢false (sym path_fault))
+
+-- what an answer of `Damaged` says
+pub damaged_says : {T : Type 0} {A : Type 0} (fault : Fault) → ((let r : Result T Fault = Err fault in r) ≡ Err Damaged → A) → fault ≡ Damaged → A
+damaged_says {T} fault says is = says (ap (λ (x : Fault). (let r : Result T Fault = Err x in r)) is)
+
+-- Calls that only read.
+
+pub record OnlyReads (m : Machine) (call : Call) : Type 0 where
+  pub stays : machine_of m call None ≡ m
+  pub no_version : tree_after m call ≡ None
+  pub no_record : is_for_record call ≡ false
+
+pub read_done : (d : Device) (s : State) (e : Device) (t : State) (call : Call) (reply : Reply) → IsMounted d s → IsLooked d s e t → OnlyReads (machine_on d s) call
+    → refusal (machine_on d s) call ≡ None → reply_of (seen_on e t).space (machine_on d s) call ≡ reply
+    → CallStep (seen_on d s) (machine_on d s) false call (Ok reply) (seen_on e t) (machine_on e t) false
+read_done d s e t call reply m l reads fine replies =
+    let w = looked_worked d s e t l in
+    let before = machine_on d s in
+    record {
+      later = worked_later d s e t w;
+      answers = (
+        refl,
+        record {
+          answered = ap (answer_of (seen_on e t).space before call) fine ∙ ap Ok replies;
+          leaves = worked_machine d s e t m w ∙ sym reads.stays ∙ sym (ap (machine_of before call) fine);
+          writable = λ writes. absurd (nothing ((and_parts (is_accepted before call) (is_some (tree_after before call) || is_for_record call) writes).1));
+          serial_left = λ makes. absurd (no_tree ((and_parts (is_accepted before call) (is_some (tree_after before call)) makes).1));
+        },
+        refl,
+      );
+    }
+  where
+    no_tree : is_some (tree_after (machine_on d s) call) ≡ true → ⊥
+    no_tree makes = true≢false (sym makes ∙ ap is_some reads.no_version)
+
+    nothing : is_some (tree_after (machine_on d s) call) || is_for_record call ≡ true → ⊥
+    nothing writes = true≢false (sym writes ∙ ap (λ o. is_some o || is_for_record call) reads.no_version ∙ reads.no_record)

@@ -1,0 +1,99 @@
+-- Steps of refused calls, and what is remembered of an answer that the power is off.
+use Rattle.std.proofs.Common.{◌≡◌, ◌<◌, Bool, true, false, ◌&&◌, ◌||◌, Result, Err, refl, sym, subst, ◌∙◌, arith}
+use Rattle.std.proofs.lemmas.Bool.{true≢false, and_parts}
+use Rattle.std.specs.Prelude.{IsTrue, IfErr}
+use Rattle.history_machine.specs.Machine.{Machine, need}
+use Rattle.fs_types.specs.declared.calls.Call.{Call}
+use Rattle.fs_types.specs.declared.calls.Reply.{Reply}
+use Rattle.fs_types.specs.declared.faults.Fault.{Fault}
+use Rattle.fs_types.specs.declared.faults.Fault.TheVariants.{NoEntry, NotDirectory, FlashFull, ReadOnly, ReadFailed, PowerCut, NoMemory, Damaged}
+use Rattle.flash_model.specs.Device.{Device}
+use Rattle.directory.specs.Lookups.{is_path_fault, IsLookupFault}
+use Rattle.directory.specs.Trails.{IsChangeFault}
+use Rattle.working_state.specs.Seen.{Seen, seen_on, machine_on}
+use Rattle.working_state.specs.Steps.{replied, is_light, is_writing, is_cut, is_cut_answer, MayRefuse, Refuses, IsLater, CallStep}
+use Rattle.working_state.specs.Mounted.{IsMounted, StateStep}
+use Rattle.working_state.specs.Worked.{IsWorked, WorkCause}
+use Rattle.working_state.specs.declared.state.State.{State}
+use Rattle.working_state.proofs.Standing.{worked_machine, worked_later}
+
+-- Causes.
+
+not_so : IsTrue false → ⊥
+not_so h = true≢false (sym h)
+
+-- a look up's refusal that no node tells of
+pub read_refuses : (old new : Seen) (m : Machine) (call : Call) (fault : Fault) → is_light call ≡ false → is_path_fault fault ≡ false → IsLookupFault fault → WorkCause old fault new → MayRefuse old m call fault new
+read_refuses old new m call ReadFailed heavy other is why = (heavy, why)
+read_refuses old new m call PowerCut heavy other is why = (heavy, why)
+read_refuses old new m call NoMemory heavy other is why = heavy
+read_refuses old new m call NoEntry heavy other is why = absurd (true≢false other)
+read_refuses old new m call NotDirectory heavy other is why = absurd (true≢false other)
+read_refuses old new m call Damaged heavy other is why = absurd (true≢false other)
+read_refuses old new m call _ heavy other is why = absurd (not_so is)
+
+-- a refusal of a new directory's nodes
+pub write_refuses : (old new : Seen) (m : Machine) (call : Call) (fault : Fault) → is_light call ≡ false → 0 < need old.room m call → is_writing m call ≡ true → IsChangeFault fault → WorkCause old fault new → MayRefuse old m call fault new
+write_refuses old new m call FlashFull heavy needs writes is why = (needs, why)
+write_refuses old new m call ReadOnly heavy needs writes is why = (writes, why)
+write_refuses old new m call ReadFailed heavy needs writes is why = (heavy, why)
+write_refuses old new m call PowerCut heavy needs writes is why = (heavy, why)
+write_refuses old new m call NoMemory heavy needs writes is why = heavy
+write_refuses old new m call _ heavy needs writes is why = absurd (not_so is)
+
+-- a cause between later states
+pub cause_later : (old mid new : Seen) (fault : Fault) → IsLater old mid → WorkCause mid fault new → WorkCause old fault new
+cause_later old mid new FlashFull later why = why
+cause_later old mid new ReadOnly later why = why
+cause_later old mid new ReadFailed later why = omega arith
+cause_later old mid new PowerCut later why = why
+cause_later old mid new NoMemory later why = tt
+cause_later old mid new _ later why = absurd why
+
+-- Steps.
+
+-- a refusal of what was answered
+pub at_refusal : {T : Type 0} (d : Device) (s : State) (e : Device) (t : State) (call : Call) (fault : Fault) (result : Result T Fault) → result ≡ Err fault
+    → Refuses (seen_on d s) (machine_on d s) call fault (seen_on e t) → IfErr result (λ x. Refuses (seen_on d s) (machine_on d s) call x (seen_on e t))
+at_refusal d s e t call fault result is refuses = subst (λ r. IfErr r (λ x. Refuses (seen_on d s) (machine_on d s) call x (seen_on e t))) (sym is) refuses
+
+pub refused_step : (d : Device) (s : State) (e : Device) (t : State) (call : Call) (fault : Fault) → IsMounted d s → IsWorked d s e t → Refuses (seen_on d s) (machine_on d s) call fault (seen_on e t)
+    → CallStep (seen_on d s) (machine_on d s) false call (Err fault) (seen_on e t) (machine_on e t) (is_cut fault)
+refused_step d s e t call fault m w refuses = record { later = worked_later d s e t w; answers = (refuses, worked_machine d s e t m w, refl) }
+
+-- a step, where what was answered is a fault
+pub at_fault : {T : Type 0} (f : T → Reply) (old new : Seen) (m n : Machine) (call : Call) (fault : Fault) (result : Result T Fault) → result ≡ Err fault
+    → CallStep old m false call (Err fault) new n (is_cut fault) → CallStep old m false call (replied f result) new n (is_cut_answer result)
+at_fault f old new m n call fault result is step = subst (λ r. CallStep old m false call (replied f r) new n (is_cut_answer r)) (sym is) step
+
+-- the state, where a call answered so
+abbrev pub remembering : {T : Type 0} → State → Result T Fault → State
+remembering t result = record t { is_off = t.is_off || is_cut_answer result }
+
+abbrev Step : Device → State → Call → Result Reply Fault → Device → State → Bool → Bool → Type 0
+Step d s call result e t off off' = CallStep (seen_on d s) (machine_on d s) off call result (seen_on e t) (machine_on e t) off'
+
+pub remembered_step : {T : Type 0} (f : T → Reply) (d : Device) (s : State) (e : Device) (t u : State) (call : Call) (result again : Result T Fault)
+    → again ≡ result → s.is_off ≡ false → t.is_off ≡ s.is_off → u ≡ remembering t result
+    → CallStep (seen_on d s) (machine_on d s) false call (replied f result) (seen_on e t) (machine_on e t) (is_cut_answer result)
+    → StateStep d s call (replied f again) e u
+remembered_step f d s e t u call result again told on same is step =
+    subst (λ r. StateStep d s call (replied f r) e u) (sym told)
+    (subst (λ v. StateStep d s call (replied f result) e v) (sym is)
+    (subst (λ o. Step d s call (replied f result) e t o (t.is_off || is_cut_answer result)) (sym on)
+    (subst (λ o. Step d s call (replied f result) e t false (o || is_cut_answer result)) (sym (same ∙ on)) step)))
+
+pub remembered_mounted : {T : Type 0} (e : Device) (t u : State) (result : Result T Fault) → u ≡ remembering t result → IsMounted e t → IsMounted e u
+remembered_mounted e t u result is m = subst (IsMounted e) (sym is) (record {
+  lawful = m.lawful;
+  ring_blocks = m.ring_blocks;
+  page_len = m.page_len;
+  node_room = m.node_room;
+  versions = m.versions;
+  checkpoints = m.checkpoints;
+  machine = m.machine;
+})
+
+-- a call that makes no version and is none for the record
+pub never : {P : Type 0} (b : Bool) → b && false ≡ true → P
+never b h = absurd (true≢false (sym (and_parts b false h).1))

@@ -1,0 +1,233 @@
+-- What a call that does no device operation has to show for its step, and what stays of the invariant.
+use Rattle.std.proofs.Common.{◌≡◌, ◌⊎◌, inl, inr, ℕ, ◌+◌, ◌<◌, ◌≤◌, Bool, true, false, cond, ◌&&◌, Option, Some, None, List, [], ◌∷◌, map, Result, Ok, Err, OnOk, OnErr, IfErr, length, sym, ap, refl, ◌∙◌, subst, arith}
+use Rattle.std.proofs.lemmas.Bool.{true≢false, and_parts, and_from, le-leb, lt-leb}
+use Rattle.std.specs.Prelude.{◌==◌, ◌||◌, nat_lt, nat_le, unwrap_or}
+use Rattle.std.specs.Option.{option_map, option_map_or, is_some, is_none}
+use Rattle.fs_types.specs.Names.{Name}
+use Rattle.plain_trees.specs.Trees.{Tree}
+use Rattle.history_machine.specs.History.{Past, map_roots, changed, checkpoint_root, first_serial, place_of, undo_refusal, redo_refusal, serial_refusal, forget_refusal, name_refusal, checkpoint_refusal, with_checkpoint}
+use Rattle.history_machine.specs.HistoryMaps.{checkpoint_root-map, changed-map, checkpoint_refusal-map, with_checkpoint-map}
+use Rattle.history_machine.specs.Descriptors.{any_open}
+use Rattle.history_machine.specs.Machine.{Machine, IsMachine, has_paths, travel_refusal, log_of, refusal, answer_of, machine_of, reply_of, is_accepted, makes_version, tree_after}
+use Rattle.history_machine.proofs.Kept.{machine_law}
+use Rattle.fs_types.specs.declared.calls.Call.{Call}
+use Rattle.fs_types.specs.declared.calls.Reply.{Reply}
+use Rattle.fs_types.specs.declared.calls.Version.{Version}
+use Rattle.fs_types.specs.declared.faults.Fault.{Fault}
+use Rattle.flash_model.specs.Device.{Device}
+use Rattle.history.specs.Answers.{answer}
+use Rattle.working_state.specs.Seen.{Seen, seen_on, machine_on, tree_on, is_read_only}
+use Rattle.working_state.specs.Steps.{last_serial, replied, empty, is_cut, is_writing, is_for_record, MayRefuse, Answers, IsLater, CallStep}
+use Rattle.working_state.specs.Mounted.{IsMounted, StateStep}
+use Rattle.working_state.specs.declared.state.State.{State}
+use Rattle.working_state.proofs.Standing.{AllStand}
+
+-- the state with another history
+abbrev pub with_history : State → Past ℕ → State
+with_history s p = record s { history = p }
+
+same-later : (old : Seen) → IsLater old old
+same-later old = record { room = refl; failed_reads = omega arith; was_on = λ e. e; stays_read_only = λ e. e }
+
+module _ (d : Device) (s : State) (call : Call) where
+  abbrev before : Machine
+  before = machine_on d s
+
+  -- a call that was carried out
+  pub done : (p : Past ℕ) (reply : Reply) → s.is_off ≡ false → refusal before call ≡ None → reply_of (seen_on d s).space before call ≡ reply → machine_of before call None ≡ machine_on d (with_history s p)
+      → (is_writing before call ≡ true → is_read_only s.storage.bad ≡ false) → (makes_version before call ≡ true → s.history.next < last_serial) → StateStep d s call (Ok reply) d (with_history s p)
+  done p reply on ok tells leaves writable serial = record {
+    later = same-later (seen_on d s);
+    answers = (
+      on,
+      record {
+        answered = ap (answer_of (seen_on d s).space before call) ok ∙ ap Ok tells;
+        leaves = sym (ap (machine_of before call) ok ∙ leaves);
+        writable = writable;
+        serial_left = serial;
+      },
+      on,
+    );
+  }
+
+  -- a call that was refused
+  pub refused : (fault : Fault) → s.is_off ≡ false → is_cut fault ≡ false → (refusal before call ≡ Some fault) ⊎ MayRefuse (seen_on d s) before call fault (seen_on d s) → StateStep d s call (Err fault) d s
+  refused fault on no_cut why = record {
+    later = same-later (seen_on d s);
+    answers = subst (λ off. Answers (seen_on d s) before off call (Err fault) (seen_on d s) before off) (sym on) (why, refl, sym no_cut);
+  }
+
+  -- a call that the history answers
+  pub answered : (r : Option Fault) (result : Result (Unit {0}) Fault) (after p : Past ℕ) → result ≡ answer r → OnOk result (p ≡ after) → OnErr result (p ≡ s.history)
+      → (r ≡ None → StateStep d s call (Ok Reply.Empty) d (with_history s after)) → ((fault : Fault) → r ≡ Some fault → StateStep d s call (Err fault) d s) → StateStep d s call (replied empty result) d (with_history s p)
+  answered r (Ok x) after p is ok err accepts refuses = subst (λ q. StateStep d s call (Ok Reply.Empty) d (with_history s q)) (sym ok) (accepts (go r is))
+    where
+      go : (r : Option Fault) → Ok x ≡ answer r → r ≡ None
+      go None e = refl
+      go (Some fault) e = cc
+  answered r (Err fault) after p is ok err accepts refuses = subst (λ q. StateStep d s call (Err fault) d (with_history s q)) (sym err) (refuses fault (go r is))
+    where
+      go : (r : Option Fault) → Err fault ≡ answer r → r ≡ Some fault
+      go None e = cc
+      go (Some other) e = cc
+
+-- a test that a call does not meet
+pub never : (b : Bool) → b && false ≡ true → ⊥
+never b e = true≢false (sym (and_parts b false e).1)
+
+-- Calls that read-only mode refuses.
+
+pub writes-version : (m : Machine) (call : Call) → makes_version m call ≡ true → is_writing m call ≡ true
+writes-version m call e =
+    let parts = and_parts (is_accepted m call) (is_some (tree_after m call)) e in
+    and_from (is_accepted m call) _ parts.0 (ap (λ b. b || is_for_record call) parts.1)
+
+pub writes-record : (m : Machine) (call : Call) → refusal m call ≡ None → is_for_record call ≡ true → is_writing m call ≡ true
+writes-record m call ok e = and_from (is_accepted m call) _ (ap is_none ok) (ap (λ b. is_some (tree_after m call) || b) e ∙ go (is_some (tree_after m call)))
+  where
+    go : (b : Bool) → b || true ≡ true
+    go true = refl
+    go false = refl
+
+-- what refuses a change that the machine accepts
+pub refused_change : (d : Device) (s : State) (call : Call) (fault : Fault) → s.is_off ≡ false → makes_version (machine_on d s) call ≡ true
+    → ((fault ≡ Fault.ReadOnly) × (is_read_only s.storage.bad ≡ true)) ⊎ ((fault ≡ Fault.Overflow) × (s.history.next ≡ last_serial)) → StateStep d s call (Err fault) d s
+refused_change d s call fault on makes (inl why) = subst (λ f. StateStep d s call (Err f) d s) (sym why.0) (refused d s call Fault.ReadOnly on refl (inr (writes-version (machine_on d s) call makes, why.1)))
+refused_change d s call fault on makes (inr why) = subst (λ f. StateStep d s call (Err f) d s) (sym why.0) (refused d s call Fault.Overflow on refl (inr (makes, why.1)))
+
+-- what refuses another call that the record has to take
+pub refused_record : (d : Device) (s : State) (call : Call) (fault : Fault) → s.is_off ≡ false → refusal (machine_on d s) call ≡ None → is_for_record call ≡ true
+    → (fault ≡ Fault.ReadOnly) × (is_read_only s.storage.bad ≡ true) → StateStep d s call (Err fault) d s
+refused_record d s call fault on ok record_call why = subst (λ f. StateStep d s call (Err f) d s) (sym why.0) (refused d s call Fault.ReadOnly on refl (inr (writes-record (machine_on d s) call ok record_call, why.1)))
+
+-- no file is open, so that the present version may move
+pub may_travel : (m : Machine) (refused : Option Fault) → any_open m.descriptors ≡ false → travel_refusal m refused ≡ refused
+may_travel m refused none = ap (λ b. cond b (Some Fault.Busy) refused) none
+
+pub may_not_travel : (m : Machine) (refused : Option Fault) → any_open m.descriptors ≡ true → travel_refusal m refused ≡ Some Fault.Busy
+may_not_travel m refused some = ap (λ b. cond b (Some Fault.Busy) refused) some
+
+-- a call that would move the present version, where a file is open
+pub refused_open : (d : Device) (s : State) (call : Call) (fault : Fault) (other : Option Fault) → s.is_off ≡ false → refusal (machine_on d s) call ≡ travel_refusal (machine_on d s) other
+    → (fault ≡ Fault.Busy) × (any_open s.files ≡ true) → StateStep d s call (Err fault) d s
+refused_open d s call fault other on travels why =
+    subst (λ f. StateStep d s call (Err f) d s) (sym why.0) (refused d s call Fault.Busy on refl (inl (travels ∙ may_not_travel (machine_on d s) other why.1)))
+
+-- Rollback to a checkpoint that is there.
+
+module _ (d : Device) (s : State) (name : Name) (root : ℕ) (none : any_open s.files ≡ false) (there : checkpoint_root s.history name ≡ Some root) where
+  seen_there : checkpoint_root (map_roots (tree_on d) s.history) name ≡ Some (tree_on d root)
+  seen_there = checkpoint_root-map (tree_on d) s.history name ∙ ap (option_map (tree_on d)) there
+
+  pub rollback-accepted : refusal (machine_on d s) (Call.Rollback name) ≡ None
+  rollback-accepted = may_travel (machine_on d s) _ none ∙ ap (λ o. cond (is_none o) (Some Fault.NoSuchVersion) None) seen_there
+
+  pub rollback-makes : makes_version (machine_on d s) (Call.Rollback name) ≡ true
+  rollback-makes = and_from (is_accepted (machine_on d s) (Call.Rollback name)) _ (ap is_none rollback-accepted) (ap is_some seen_there)
+
+  pub rollback-leaves : machine_of (machine_on d s) (Call.Rollback name) None ≡ machine_on d (with_history s (changed s.history root))
+  rollback-leaves =
+      let h = map_roots (tree_on d) s.history in
+      ap (λ (x : Past Tree). record { history = x; descriptors = s.files }) (ap (λ o. option_map_or (changed h) o h) seen_there ∙ changed-map (tree_on d) s.history root)
+
+-- A checkpoint.
+
+module _ {R : Type 0} (p : Past R) (name : Name) where
+  pub checkpoint-exists : is_some (checkpoint_root p name) ≡ true → checkpoint_refusal p name ≡ Some Fault.Exists
+  checkpoint-exists there = ap (λ b. cond b (Some Fault.Exists) (cond (nat_le 16 (length p.checkpoints)) (Some Fault.CheckpointsFull) None)) there
+
+  pub checkpoint-full : is_some (checkpoint_root p name) ≡ false → 16 ≤ length p.checkpoints → checkpoint_refusal p name ≡ Some Fault.CheckpointsFull
+  checkpoint-full new many = (λ i. cond (new i) (Some Fault.Exists) (cond (le-leb 16 (length p.checkpoints) many i) (Some Fault.CheckpointsFull) None))
+
+  pub checkpoint-free : is_some (checkpoint_root p name) ≡ false → length p.checkpoints < 16 → checkpoint_refusal p name ≡ None
+  checkpoint-free new few = (λ i. cond (new i) (Some Fault.Exists) (cond (lt-leb 16 (length p.checkpoints) few i) (Some Fault.CheckpointsFull) None))
+
+-- a checkpoint that the machine accepts, which may want memory
+pub checkpointed : (d : Device) (s : State) (name : Name) (result : Result (Unit {0}) Fault) (p : Past ℕ) → s.is_off ≡ false → is_read_only s.storage.bad ≡ false → checkpoint_refusal s.history name ≡ None
+    → OnOk result (p ≡ with_checkpoint s.history name) → IfErr result (λ fault. fault ≡ unwrap_or (checkpoint_refusal s.history name) Fault.NoMemory) → OnErr result (p ≡ s.history)
+    → StateStep d s (Call.Checkpoint name) (replied empty result) d (with_history s p)
+checkpointed d s name (Ok x) p on writable free ok why err =
+    subst (λ q. StateStep d s (Call.Checkpoint name) (Ok Reply.Empty) d (with_history s q)) (sym ok)
+    (done d s (Call.Checkpoint name) (with_checkpoint s.history name) Reply.Empty on (checkpoint_refusal-map (tree_on d) s.history name ∙ free) refl (ap (λ (h : Past Tree). record { history = h; descriptors = s.files }) (with_checkpoint-map (tree_on d) s.history name)) (λ _. writable) (λ e. absurd (never _ e)))
+checkpointed d s name (Err fault) p on writable free ok why err =
+    let want : fault ≡ Fault.NoMemory = why ∙ ap (λ o. unwrap_or o Fault.NoMemory) free in
+    subst (λ q. StateStep d s (Call.Checkpoint name) (Err fault) d (with_history s q)) (sym err)
+    (subst (λ f. StateStep d s (Call.Checkpoint name) (Err f) d s) (sym want) (refused d s (Call.Checkpoint name) Fault.NoMemory on refl (inr refl)))
+
+-- Log tells nothing of roots.
+
+map-twice : {A B C : Type 0} (g : B → C) (f : A → B) (xs : List A) → map g (map f xs) ≡ map (λ x. g (f x)) xs
+map-twice g f [] = refl
+map-twice g f (x ∷ xs) = ap (λ ys. g (f x) ∷ ys) (map-twice g f xs)
+
+pub log-tells : (f : ℕ → Tree) (p : Past ℕ) (next : ℕ) (dropped : Bool) (serials : List ℕ) (cursor : ℕ) (names : List Name) → next ≡ p.next → dropped ≡ p.dropped → serials ≡ map (λ v. v.serial) p.versions → cursor ≡ p.cursor → names ≡ map (λ e. e.0) p.checkpoints
+    → log_of (map_roots f p) ≡ Reply.Log next dropped serials cursor names
+log-tells f p next dropped serials cursor names a b c d e =
+    let vs = map-twice (λ (v : Version Tree). v.serial) (λ (v : Version ℕ). record { serial = v.serial; root = f v.root }) p.versions ∙ sym c in
+    let ns = map-twice (λ (g : Name × Tree). g.0) (λ (g : Name × ℕ). (g.0, f g.1)) p.checkpoints ∙ sym e in
+    λ i. Reply.Log (sym a i) (sym b i) (vs i) (sym d i) (ns i)
+
+-- what holds of both histories that a call may leave
+pub by_result : (result : Result (Unit {0}) Fault) (P : Past ℕ → Type 0) (after old p : Past ℕ) → OnOk result (p ≡ after) → OnErr result (p ≡ old) → P after → P old → P p
+by_result (Ok x) P after old p ok err here there = subst P (sym ok) here
+by_result (Err fault) P after old p ok err here there = subst P (sym err) there
+
+-- a call leaves a machine
+pub still_machine : (s t : Seen) (m n : Machine) (off off' : Bool) (call : Call) (result : Result Reply Fault) → IsMachine m → has_paths call ≡ true → CallStep s m off call result t n off' → IsMachine n
+still_machine s t m n off off' call (Ok reply) is paths step = subst IsMachine (sym step.answers.1.leaves) (machine_law.kept m call is paths)
+still_machine s t m n true off' call (Err fault) is paths step = subst IsMachine (sym step.answers.2) is
+still_machine s t m n false off' call (Err fault) is paths step = subst IsMachine (sym step.answers.1) is
+
+-- a call that leaves another history, on roots that stand
+pub mounted_by : (d : Device) (s : State) (call : Call) (result : Result Reply Fault) (p : Past ℕ) → IsMounted d s → has_paths call ≡ true → StateStep d s call result d (with_history s p) → AllStand d s.storage.ring p → IsMounted d (with_history s p)
+mounted_by d s call result p is paths step all = record {
+  lawful = is.lawful;
+  ring_blocks = is.ring_blocks;
+  page_len = is.page_len;
+  node_room = is.node_room;
+  versions = all.versions;
+  checkpoints = all.checkpoints;
+  machine = still_machine (seen_on d s) (seen_on d s) (machine_on d s) (machine_on d (with_history s p)) s.is_off s.is_off call result is.machine paths step;
+}
+
+-- a call that the history answers
+pub mounted_after : (d : Device) (s : State) (call : Call) (result : Result (Unit {0}) Fault) (after p : Past ℕ) → OnOk result (p ≡ after) → OnErr result (p ≡ s.history)
+    → IsMounted d s → has_paths call ≡ true → StateStep d s call (replied empty result) d (with_history s p) → AllStand d s.storage.ring after → IsMounted d (with_history s p)
+mounted_after d s call result after p ok err is paths step all =
+    mounted_by d s call (replied empty result) p is paths step (by_result result (AllStand d s.storage.ring) after s.history p ok err all (record { versions = is.versions; checkpoints = is.checkpoints }))
+
+-- No refusal of the history is a cut of power.
+
+abbrev NoCut : Option Fault → Type 0
+NoCut None = Unit {0}
+NoCut (Some fault) = is_cut fault ≡ false
+
+either : (b : Bool) (x y : Option Fault) → NoCut x → NoCut y → NoCut (cond b x y)
+either true x y hx hy = hx
+either false x y hx hy = hy
+
+pub no_cut : (r : Option Fault) (fault : Fault) → NoCut r → r ≡ Some fault → is_cut fault ≡ false
+no_cut r fault h e = subst NoCut e h
+
+module _ {R : Type 0} (p : Past R) where
+  pub undo-no_cut : NoCut (undo_refusal p)
+  undo-no_cut = either (p.cursor == 0) (Some (cond p.dropped Fault.TooOld Fault.NothingToUndo)) None (here p.dropped) tt
+    where
+      here : (b : Bool) → is_cut (cond b Fault.TooOld Fault.NothingToUndo) ≡ false
+      here true = refl
+      here false = refl
+
+  pub redo-no_cut : NoCut (redo_refusal p)
+  redo-no_cut = either (nat_lt (p.cursor + 1) (length p.versions)) None (Some Fault.NothingToRedo) tt refl
+
+  pub serial-no_cut : (serial : ℕ) → NoCut (serial_refusal p serial)
+  serial-no_cut serial =
+      either (nat_lt serial (first_serial p)) (Some Fault.TooOld) _ refl
+      (either (nat_le p.next serial) (Some Fault.NoSuchVersion) _ refl
+      (either (is_none (place_of p serial)) (Some Fault.Discarded) None refl tt))
+
+  pub forget-no_cut : (count : ℕ) → NoCut (forget_refusal p count)
+  forget-no_cut count = either (nat_lt p.cursor count) (Some Fault.Invalid) None refl tt
+
+  pub name-no_cut : (name : Name) → NoCut (name_refusal p name)
+  name-no_cut name = either (is_none (checkpoint_root p name)) (Some Fault.NoSuchVersion) None refl tt

@@ -1,0 +1,130 @@
+-- The steps of an entry taken out of the present tree: an empty directory, and a file.
+use Rattle.std.proofs.Common.{◌≡◌, ℕ, ◌<◌, ◌≤◌, Bool, true, false, Option, Some, None, Ok, List, [], ◌∷◌, length, refl, sym, ap, subst, ◌∙◌, inl, arith}
+use Rattle.std.proofs.lemmas.Bool.{lt-ltb}
+use Rattle.std.proofs.lemmas.List.{length-map}
+use Rattle.std.specs.Prelude.{nat_lt, unwrap_or, if◌then◌else◌, ◌==◌}
+use Rattle.fs_types.specs.Names.{Path, is_path}
+use Rattle.plain_trees.specs.Trees.{Tree, remove, entry_count}
+use Rattle.history_machine.specs.History.{present_root}
+use Rattle.history_machine.specs.Machine.{refusal, found_refusal, unlink_refusal, rmdir_refusal}
+use Rattle.history_machine.specs.Descriptors.{Descriptors, is_open}
+use Rattle.fs_types.specs.declared.calls.Call.{Call}
+use Rattle.fs_types.specs.declared.calls.Reply.{Reply}
+use Rattle.fs_types.specs.declared.faults.Fault.TheVariants.{NotEmpty, Busy}
+use Rattle.flash_model.specs.Device.{Device}
+use Rattle.node_format.specs.Items.{Item}
+use Rattle.node_store.specs.NodePages.{node_of}
+use Rattle.block_trees.specs.Bodies.{Blocks}
+use Rattle.block_trees.specs.Trees.{entries_of, is_dir_place}
+use Rattle.block_trees.proofs.RootMaps.{map_law}
+use Rattle.directory.specs.declared.lookups.Found.{Found}
+use Rattle.directory.specs.declared.lookups.Found.TheVariants as found
+use Rattle.directory.specs.Lookups.{look_up}
+use Rattle.directory.proofs.LookupLaws.{found_leads}
+use Rattle.working_state.specs.Seen.{room_of, tree_on, seen_on, machine_on}
+use Rattle.working_state.specs.Steps.{Refuses}
+use Rattle.working_state.specs.Mounted.{IsMounted}
+use Rattle.working_state.specs.Worked.{IsLooked}
+use Rattle.working_state.specs.declared.state.State.{State}
+use Rattle.working_state.proofs.ChangeSteps.{later_tree}
+use Rattle.working_state.proofs.ChangedCalls.{IsChangeBy}
+use Rattle.working_state.proofs.PathCalls.{present_tree_is, present_stands, LooksUp, found_by}
+
+-- An empty directory.
+
+pub rmdir_looks : (d : Device) (s : State) (path : Path) (root : ℕ) → IsMounted d s → present_root s.history ≡ Some root → (length path == 0) ≡ false → LooksUp d s (Call.Rmdir path) root path (rmdir_refusal (tree_on d root) path)
+rmdir_looks d s path root m is below = record {
+  rooted = (present_stands d s root m is).rooted;
+  heavy = refl;
+  by_path = ap (λ (t : Tree). if length path == 0 then Some Busy else found_refusal t path (rmdir_refusal t path)) (present_tree_is d s root is)
+      ∙ ap (λ b. if b then Some Busy else found_refusal (tree_on d root) path (rmdir_refusal (tree_on d root) path)) below;
+}
+
+-- the number of entries that was read
+pub rmdir_count : (d : Device) (s : State) (path : Path) (root block : ℕ) (items : List Item) → IsMounted d s → present_root s.history ≡ Some root → look_up (node_of d) root path ≡ Ok (found.Dir block) → entries_of (node_of d block) ≡ Some items
+    → entry_count (tree_on d root) path ≡ length items
+rmdir_count d s path root block items m is led spelled =
+    ap length ((map_law (room_of d) (node_of d) root (present_stands d s root m is).rooted).lists path block (found_leads (node_of d) root path block led))
+    ∙ length-map (unwrap_or (entries_of (node_of d block)) []) (λ (item : Item). (item.name, is_dir_place item.place))
+    ∙ ap (λ (o : Option (List Item)). length (unwrap_or o [])) spelled
+
+-- what is refused for a directory of so many entries
+pub rmdir_counted : (d : Device) (s : State) (e : Device) (path : Path) (root block : ℕ) (items : List Item) (x : Found) → IsMounted d s → present_root s.history ≡ Some root → (length path == 0) ≡ false → node_of e ≡ node_of d
+    → look_up (node_of d) root path ≡ Ok x → x ≡ found.Dir block → entries_of (node_of e block) ≡ Some items
+    → refusal (machine_on d s) (Call.Rmdir path) ≡ (if nat_lt 0 (length items) then Some NotEmpty else None)
+rmdir_counted d s e path root block items x m is below same led called spelled =
+    let dir : look_up (node_of d) root path ≡ Ok (found.Dir block) = subst (λ z. look_up (node_of d) root path ≡ Ok z) called led in
+    let here : entries_of (node_of d block) ≡ Some items = ap (λ (g : Blocks). entries_of (g block)) (sym same) ∙ spelled in
+    found_by d s (Call.Rmdir path) root path (rmdir_refusal (tree_on d root) path) (rmdir_looks d s path root m is below) x (found.Dir block) led called
+    ∙ ap (λ n. if nat_lt 0 n then Some NotEmpty else None) (rmdir_count d s path root block items m is dir here)
+
+-- a directory with entries
+pub rmdir_refuses : (d : Device) (s : State) (e : Device) (f : Device) (u : State) (path : Path) (root block count : ℕ) (items : List Item) (x : Found) → IsMounted d s → present_root s.history ≡ Some root → (length path == 0) ≡ false → node_of e ≡ node_of d
+    → look_up (node_of d) root path ≡ Ok x → x ≡ found.Dir block → entries_of (node_of e block) ≡ Some items → count ≡ length items → 0 < count
+    → Refuses (seen_on d s) (machine_on d s) (Call.Rmdir path) NotEmpty (seen_on f u)
+rmdir_refuses d s e f u path root block count items x m is below same led called spelled counts some =
+    inl (rmdir_counted d s e path root block items x m is below same led called spelled
+    ∙ ap (λ b. if b then Some NotEmpty else None) (lt-ltb 0 (length items) (omega arith)))
+
+-- no entries were counted
+pub none_counted : (count : ℕ) (items : List Item) → count ≡ length items → count ≤ 0 → items ≡ []
+none_counted count [] counts few = refl
+none_counted count (item ∷ items) counts few = absurd (omega arith)
+
+-- the directory that a path led to has no entries
+pub emptied : (f g h : Blocks) (path : Path) (root block count : ℕ) (items : List Item) (x : Found) → g ≡ f → h ≡ g → look_up f root path ≡ Ok x → x ≡ found.Dir block → entries_of (g block) ≡ Some items → count ≡ length items → count ≤ 0
+    → (b : ℕ) × (look_up h root path ≡ Ok (found.Dir b)) × (entries_of (h b) ≡ Some [])
+emptied f g h path root block count items x same again led called spelled counts few = (
+  block,
+  subst (λ k. look_up k root path ≡ Ok (found.Dir block)) (sym (again ∙ same)) (subst (λ z. look_up f root path ≡ Ok z) called led),
+  ap (λ (k : Blocks). entries_of (k block)) again ∙ spelled ∙ ap Some (none_counted count items counts few),
+)
+
+pub rmdir_accepts : (d : Device) (s : State) (e : Device) (path : Path) (root block count : ℕ) (items : List Item) (x : Found) → IsMounted d s → present_root s.history ≡ Some root → (length path == 0) ≡ false → node_of e ≡ node_of d
+    → look_up (node_of d) root path ≡ Ok x → x ≡ found.Dir block → entries_of (node_of e block) ≡ Some items → count ≡ length items → count ≤ 0
+    → refusal (machine_on d s) (Call.Rmdir path) ≡ None
+rmdir_accepts d s e path root block count items x m is below same led called spelled counts few =
+    rmdir_counted d s e path root block items x m is below same led called spelled
+    ∙ ap (λ (all : List Item). if nat_lt 0 (length all) then Some NotEmpty else None) (none_counted count items counts few)
+
+pub rmdir_change : (d : Device) (s : State) (e : Device) (t : State) (path : Path) → IsMounted d s → IsLooked d s e t → refusal (machine_on d s) (Call.Rmdir path) ≡ None → is_path path ≡ true → 0 < length path
+    → IsChangeBy d s (Call.Rmdir path) (λ root. remove (tree_on e root) path) Reply.Empty
+rmdir_change d s e t path m l fine lawful below = record {
+  fine = fine;
+  after = λ root is. ap (λ (x : Tree). Some (remove x path)) (later_tree d s e t root m is l);
+  heavy = refl;
+  paths = lawful;
+  more = λ room. below;
+  replies = λ space. refl;
+}
+
+-- A file.
+
+pub file_below : (f : Blocks) (root : ℕ) (path : Path) (head size : ℕ) → look_up f root path ≡ Ok (found.File head size) → 0 < length path
+file_below f root [] head size e = absurd cc
+file_below f root (n ∷ path) head size e = omega arith
+
+pub unlink_looks : (d : Device) (s : State) (path : Path) (root : ℕ) → IsMounted d s → present_root s.history ≡ Some root → LooksUp d s (Call.Unlink path) root path (unlink_refusal (machine_on d s) path)
+unlink_looks d s path root m is = record {
+  rooted = (present_stands d s root m is).rooted;
+  heavy = refl;
+  by_path = ap (λ (t : Tree). found_refusal t path (unlink_refusal (machine_on d s) path)) (present_tree_is d s root is);
+}
+
+-- a file that is open or not
+pub unlink_found : (d : Device) (s : State) (files : Descriptors) (path : Path) (root head size : ℕ) (x : Found) (busy : Bool) → IsMounted d s → present_root s.history ≡ Some root → files ≡ s.files → look_up (node_of d) root path ≡ Ok x → x ≡ found.File head size
+    → is_open files path ≡ busy → refusal (machine_on d s) (Call.Unlink path) ≡ (if busy then Some Busy else None)
+unlink_found d s files path root head size x busy m is same led called told =
+    found_by d s (Call.Unlink path) root path (unlink_refusal (machine_on d s) path) (unlink_looks d s path root m is) x (found.File head size) led called
+    ∙ ap (λ b. if b then Some Busy else None) (ap (λ (ds : Descriptors). is_open ds path) (sym same) ∙ told)
+
+pub unlink_change : (d : Device) (s : State) (e : Device) (t : State) (path : Path) → IsMounted d s → IsLooked d s e t → refusal (machine_on d s) (Call.Unlink path) ≡ None → is_path path ≡ true → 0 < length path
+    → IsChangeBy d s (Call.Unlink path) (λ root. remove (tree_on e root) path) Reply.Empty
+unlink_change d s e t path m l fine lawful below = record {
+  fine = fine;
+  after = λ root is. ap (λ (x : Tree). Some (remove x path)) (later_tree d s e t root m is l);
+  heavy = refl;
+  paths = lawful;
+  more = λ room. below;
+  replies = λ space. refl;
+}

@@ -1,0 +1,14 @@
+use Rattle.fs_types.specs.declared.calls.Call.{Call}
+use Rattle.fs_types.specs.declared.calls.Reply.{Reply}
+use Rattle.working_state.proofs.Refusals.{remembered_mounted, remembered_step}
+use Rattle.working_state.proofs.Standing.{looked_worked, worked_mounted}
+use Rattle.working_state.proofs.state.State.pread.Goals as goal
+
+pub returns-clause-mounted : goal.returns-clause-mounted
+returns-clause-mounted g c =
+    remembered_mounted _ _ _ c.read_open-bytes.result c.remember_cut.ensures.off (worked_mounted _ _ _ _ c.requires (looked_worked _ _ _ _ c.read_open-bytes.ensures.looked))
+
+pub returns-clause-step : goal.returns-clause-step
+returns-clause-step g c =
+    remembered_step Reply.Bytes (g.F.Flash.device c.args.flash.now) c.args.self.now (g.F.Flash.device c.read_open-bytes.new.flash) c.read_open-bytes.new.self c.remember_cut.new.self (Call.Pread c.args.descriptor c.args.offset c.args.count)
+    c.read_open-bytes.result c.remember_cut.result c.remember_cut.ensures.same c.in_ok-check_power.ensures.ok c.read_open-bytes.ensures.looked.rest.is_off c.remember_cut.ensures.off c.read_open-bytes.ensures.step

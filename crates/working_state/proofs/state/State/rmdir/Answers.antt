@@ -1,0 +1,12 @@
+use Rattle.fs_types.specs.declared.calls.Call.{Call}
+use Rattle.working_state.specs.Steps.{empty}
+use Rattle.working_state.proofs.Refusals.{remembered_mounted, remembered_step}
+use Rattle.working_state.proofs.state.State.rmdir.Goals as goal
+
+pub returns-clause-mounted : goal.returns-clause-mounted
+returns-clause-mounted g c = remembered_mounted _ _ _ c.remove_directory-removed.result c.remember_cut.ensures.off c.remove_directory-removed.ensures.mounted
+
+pub returns-clause-step : goal.returns-clause-step
+returns-clause-step g c =
+    remembered_step empty (g.F.Flash.device c.args.flash.now) c.args.self.now (g.F.Flash.device c.remove_directory-removed.new.flash) c.remove_directory-removed.new.self c.remember_cut.new.self (Call.Rmdir c.args.path.now)
+    c.remove_directory-removed.result c.remember_cut.result c.remember_cut.ensures.same c.in_ok-check_power.ensures.ok c.remove_directory-removed.ensures.is_off c.remember_cut.ensures.off c.remove_directory-removed.ensures.step

@@ -1,0 +1,91 @@
+-- Changes: an edit of the present tree is written, and its root becomes the present version.
+use Rattle.std.specs.Prelude.{◌≡◌, ◌⊎◌, ℕ, ◌+◌, ◌<◌, ◌≤◌, true, false, Some, Result, Ok, Err, IfOk, IfErr, vec_len, vec_capacity}
+use Rattle.std.specs.FinSet as set
+use Rattle.history_machine.specs.History.{Past, present_root, changed}
+use Rattle.plain_trees.specs.Trees.{Tree}
+use Rattle.fs_types.specs.declared.faults.Fault.{Fault}
+use Rattle.fs_types.specs.declared.faults.Fault.TheVariants.{ReadOnly, Overflow}
+use Rattle.flash_model.specs.Device.{Device}
+use Rattle.flash_model.specs.Geometry.{IsGeometry, block_bytes}
+use Rattle.node_store.specs.declared.storage.Storage.{Storage}
+use Rattle.node_store.specs.Storage as parts
+use Rattle.node_store.specs.NodePages.{node_of}
+use Rattle.directory.specs.Trails.{IsChangeFault}
+use Rattle.tree_edits.specs.declared.edits.Edit.{Edit}
+use Rattle.tree_edits.specs.Edits.{IsEditable, effect, need}
+use Rattle.working_state.specs.Mounted.{IsStanding}
+use Rattle.working_state.specs.Seen.{room_of, tree_on, seen_of, is_read_only}
+use Rattle.working_state.specs.Steps.{last_serial}
+use Rattle.working_state.specs.Worked.{WorkCause}
+
+-- nodes may be read and written: the sizes are lawful, the ring is of this flash, and there is room for a page and a node
+pub record IsReady (device : Device) (storage : Storage) : Type 0 where
+  pub lawful : IsGeometry device.geometry
+  pub ring_blocks : storage.ring.blocks ≡ device.geometry.blocks
+  pub page_len : vec_len storage.page ≡ device.geometry.page
+  pub node_room : block_bytes device.geometry ≤ vec_capacity storage.node
+
+-- nodes were read: all that is kept is as it was
+pub record HasLooked (old : Device) (s : Storage) (new : Device) (t : Storage) : Type 0 where
+  pub untouched : parts.IsUntouched (parts.storage old s.bad s.ring) (parts.storage new t.bad t.ring)
+  pub page_len : vec_len t.page ≡ vec_len s.page
+  pub node_room : vec_capacity s.node ≤ vec_capacity t.node
+
+-- so many nodes were written at most: kept blocks stay, anchors and kept blocks keep their pages, and a block was taken
+-- for each node at most, and one for each that went bad
+pub record HasWritten (old : Device) (s : Storage) (most : ℕ) (new : Device) (t : Storage) : Type 0 where
+  pub evolved : parts.Evolved (parts.storage old s.bad s.ring) (parts.storage new t.bad t.ring)
+  pub paid : t.ring.takes + set.len s.bad ≤ s.ring.takes + set.len t.bad + most
+  pub page_len : vec_len t.page ≡ vec_len s.page
+  pub node_room : vec_capacity s.node ≤ vec_capacity t.node
+
+-- the edit of a root can be applied
+abbrev pub CanApply : Device → Storage → ℕ → Edit → Type 0
+CanApply device storage root edit = IsEditable (room_of device) (node_of device) (set.contains storage.ring.used) root edit
+
+-- the tree that an edit makes of that of a root
+abbrev pub edited_tree : Device → Edit → ℕ → Tree
+edited_tree device edit root = effect (tree_on device) edit (tree_on device root)
+
+-- why the nodes of an edit are not written, of which there is one at least: for what reads and writes are refused
+pub record WorkRefuses (old : Device) (s : Storage) (edit : Edit) (fault : Fault) (new : Device) (t : Storage) : Type 0 where
+  pub needs : 0 < need (room_of old) edit
+  pub kind : IsChangeFault fault
+  pub why : WorkCause (seen_of old s) fault (seen_of new t)
+
+-- an edit of the tree of a root was written, so many nodes at most: the new root stands and has the edited tree, or a
+-- read or write was refused for its cause; where no node is needed, flash and storage are as they were
+pub record IsTried (old : Device) (s : Storage) (edit : Edit) (root : ℕ) (result : Result ℕ Fault) (new : Device) (t : Storage) : Type 0 where
+  pub written : HasWritten old s (need (room_of old) edit) new t
+  pub stands : IfOk result (IsStanding new t.ring)
+  pub shows : IfOk result (λ to. tree_on new to ≡ edited_tree old edit root)
+  pub refused : IfErr result (λ fault. WorkRefuses old s edit fault new t)
+  pub still : need (room_of old) edit ≡ 0 → (new ≡ old) × (t ≡ s)
+
+-- a root stands that has the edited tree of the present root, and is the present root now; where read-only mode was on,
+-- or no serial was left, it is not
+pub record IsPushed (old : Device) (h : Past ℕ) (s : Storage) (edit : Edit) (new : Device) (i : Past ℕ) (t : Storage) : Type 0 where
+  pub root : ℕ
+  pub to : ℕ
+  pub present : present_root h ≡ Some root
+  pub pushed : i ≡ changed h to
+  pub stands : IsStanding new t.ring to
+  pub shows : tree_on new to ≡ edited_tree old edit root
+  pub writable : is_read_only s.bad ≡ false
+  pub serial_left : h.next < last_serial
+
+-- why a change is refused: read-only mode is on, no serial is left, or its nodes are not written
+abbrev pub ChangeCause : Device → Past ℕ → Storage → Edit → Fault → Device → Storage → Type 0
+ChangeCause old h s edit fault new t =
+    (((fault ≡ ReadOnly) × (is_read_only s.bad ≡ true)) ⊎ ((fault ≡ Overflow) × (h.next ≡ last_serial))) ⊎ WorkRefuses old s edit fault new t
+
+-- how a change ends: one version more, or the same history
+abbrev pub ChangeEnds : Device → Past ℕ → Storage → Edit → Result (Unit {0}) Fault → Device → Past ℕ → Storage → Type 0
+ChangeEnds old h s edit (Ok x) new i t = IsPushed old h s edit new i t
+ChangeEnds old h s edit (Err fault) new i t = (i ≡ h) × ChangeCause old h s edit fault new t
+
+-- what a change leaves, whatever it answers; one that needs no node leaves flash and storage as they were
+pub record IsChanged (old : Device) (h : Past ℕ) (s : Storage) (edit : Edit) (result : Result (Unit {0}) Fault) (new : Device) (i : Past ℕ) (t : Storage) : Type 0 where
+  pub written : HasWritten old s (need (room_of old) edit) new t
+  pub ends : ChangeEnds old h s edit result new i t
+  pub still : need (room_of old) edit ≡ 0 → (new ≡ old) × (t ≡ s)

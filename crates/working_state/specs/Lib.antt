@@ -1,0 +1,12 @@
+pub mod Changes
+pub mod Changing
+pub mod Fresh
+pub mod Moments
+pub mod Mounted
+pub mod Opening
+pub mod Props
+pub mod Reading
+pub mod Renames
+pub mod Seen
+pub mod Steps
+pub mod Worked

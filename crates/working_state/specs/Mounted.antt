@@ -1,0 +1,46 @@
+-- What holds of a flash and the working state on it between calls.
+use Rattle.std.specs.Prelude.{◌≡◌, ◌⊎◌, ◌≤◌, ℕ, Result, vec_len, vec_capacity, All, Contains, map, [], ◌∷◌}
+use Rattle.std.specs.FinSet as set
+use Rattle.history_machine.specs.History.{Past}
+use Rattle.history_machine.specs.Machine.{IsMachine}
+use Rattle.fs_types.specs.declared.calls.Call.{Call}
+use Rattle.fs_types.specs.declared.calls.Reply.{Reply}
+use Rattle.fs_types.specs.declared.faults.Fault.{Fault}
+use Rattle.flash_model.specs.Device.{Device, block_of}
+use Rattle.flash_model.specs.Geometry.{IsGeometry, block_bytes}
+use Rattle.allocator.specs.Ring.{Ring}
+use Rattle.node_format.specs.declared.places.Place.TheVariants.{Dir}
+use Rattle.node_store.specs.NodePages.{node_of}
+use Rattle.block_trees.specs.Trees.{IsRoot}
+use Rattle.block_trees.specs.Reached.{Reached, IsHeld}
+use Rattle.working_state.specs.Seen.{room_of, seen_on, machine_on}
+use Rattle.working_state.specs.Steps.{CallStep}
+use Rattle.working_state.specs.declared.state.State.{State}
+
+-- a root has a tree, and the ring has all that it reaches as used
+pub record IsStanding (device : Device) (ring : Ring) (root : ℕ) : Type 0 where
+  pub held : IsHeld (node_of device) (set.contains ring.used) (Dir root)
+  pub rooted : IsRoot (room_of device) (node_of device) root
+
+-- the sizes are lawful, the ring is of this flash, there is room for a page and for a node, the roots of all versions
+-- and checkpoints stand, and what it shows is a machine: so each open file is a file of the present tree
+pub record IsMounted (device : Device) (state : State) : Type 0 where
+  pub lawful : IsGeometry device.geometry
+  pub ring_blocks : state.storage.ring.blocks ≡ device.geometry.blocks
+  pub page_len : vec_len state.storage.page ≡ device.geometry.page
+  pub node_room : block_bytes device.geometry ≤ vec_capacity state.storage.node
+  pub versions : All (λ v. IsStanding device state.storage.ring v.root) state.history.versions
+  pub checkpoints : All (λ e. IsStanding device state.storage.ring e.1) state.history.checkpoints
+  pub machine : IsMachine (machine_on device state)
+
+-- a call's step, as it is seen of the flash and the state before and after
+abbrev pub StateStep : Device → State → Call → Result Reply Fault → Device → State → Type 0
+StateStep old s call result new t = CallStep (seen_on old s) (machine_on old s) s.is_off call result (seen_on new t) (machine_on new t) t.is_off
+
+-- a version or a checkpoint has this root
+abbrev pub HasRoot : Past ℕ → ℕ → Type 0
+HasRoot h root = Contains (map (λ v. v.root) h.versions) root ⊎ Contains (map (λ e. e.1) h.checkpoints) root
+
+-- no page changed of a block that a version or a checkpoint reaches
+abbrev pub KeepsPages : Device → Past ℕ → Device → Type 0
+KeepsPages old h new = (root p : ℕ) → HasRoot h root → Reached (node_of old) (root ∷ []) (block_of old p) → new.pages p ≡ old.pages p

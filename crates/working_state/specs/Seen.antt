@@ -1,0 +1,64 @@
+-- What contracts see of a flash and the working state on it: the machine that they are, and what refusals depend on.
+use Rattle.std.specs.Prelude.{◌≡◌, ◌≤◌, ℕ, ◌-◌, Bool, true, ◌||◌, nat_le, count_by}
+use Rattle.std.specs.List.{range_with_len}
+use Rattle.std.specs.FinSet as set
+use Rattle.std.specs.Ordering.{nat_cmp}
+use Rattle.history_machine.specs.History.{map_roots}
+use Rattle.plain_trees.specs.Trees.{Tree}
+use Rattle.history_machine.specs.Machine.{Machine, Space}
+use Rattle.flash_model.specs.Device.{Device}
+use Rattle.flash_model.specs.Geometry.{block_bytes}
+use Rattle.allocator.specs.Ring.{data_blocks, free_count}
+use Rattle.node_format.specs.Headers.{body_front}
+use Rattle.node_store.specs.declared.storage.Storage.{Storage}
+use Rattle.node_store.specs.NodePages.{first_data, node_of}
+use Rattle.block_trees.specs.Trees.{root_tree}
+use Rattle.working_state.specs.declared.state.State.{State}
+
+-- the data bytes that a body node has room for
+abbrev pub room_of : Device → ℕ
+room_of d = block_bytes d.geometry - body_front
+
+-- the tree that is read off the pages from a root
+abbrev pub tree_on : Device → ℕ → Tree
+tree_on d root = root_tree (room_of d) (node_of d) root
+
+-- the machine: the history with the tree of each root in its place, and the open files
+abbrev pub machine_on : Device → State → Machine
+machine_on d state = record { history = map_roots (tree_on d) state.history; descriptors = state.files }
+
+-- how many of the anchors, the blocks before the first data block, are bad
+abbrev pub bad_anchors : set.FinSet nat_cmp → ℕ
+bad_anchors bad = count_by (set.contains bad) (range_with_len 0 first_data)
+
+-- how many of the data blocks of a flash of so many blocks are bad
+abbrev pub bad_data : ℕ → set.FinSet nat_cmp → ℕ
+bad_data blocks bad = count_by (set.contains bad) (data_blocks blocks)
+
+-- read-only mode is on while 256 blocks or seven anchors are bad
+abbrev pub is_read_only : set.FinSet nat_cmp → Bool
+is_read_only bad = nat_le 256 (set.len bad) || nat_le 7 (bad_anchors bad)
+
+-- what is used of a flash: free blocks are those that the ring has as neither used nor bad
+abbrev pub space_of : Device → Storage → Space
+space_of d storage = record { blocks = d.geometry.blocks - first_data; bad = bad_data d.geometry.blocks storage.bad; free = free_count storage.ring storage.bad; anchors = first_data - bad_anchors storage.bad }
+
+-- what the refusals of a call depend on
+pub record Seen : Type 0 where
+  pub powered : Bool
+  pub failed_reads : ℕ
+  pub read_only : Bool
+  pub room : ℕ
+  pub space : Space
+
+abbrev pub seen_of : Device → Storage → Seen
+seen_of d storage = record { powered = d.powered; failed_reads = d.failed_reads; read_only = is_read_only storage.bad; room = room_of d; space = space_of d storage }
+
+abbrev pub seen_on : Device → State → Seen
+seen_on d state = seen_of d state.storage
+
+-- the flash came of the other by operations
+pub record IsLaterFlash (old new : Device) : Type 0 where
+  pub geometry : new.geometry ≡ old.geometry
+  pub failed_reads : old.failed_reads ≤ new.failed_reads
+  pub was_on : new.powered ≡ true → old.powered ≡ true

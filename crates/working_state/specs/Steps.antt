@@ -1,0 +1,89 @@
+-- What a call on a mounted system answers and leaves: the step of the machine, or a further refusal with its cause.
+use Rattle.std.specs.Prelude.{◌≡◌, ◌⊎◌, ℕ, ◌-◌, ◌^◌, ◌<◌, ◌≤◌, Bool, true, false, ◌&&◌, ◌||◌, is_some, Some, Result, Ok, Err}
+use Rattle.history_machine.specs.Machine.{Machine, refusal, answer, next, is_accepted, makes_version, need, tree_after}
+use Rattle.fs_types.specs.declared.calls.Call.{Call}
+use Rattle.fs_types.specs.declared.calls.Reply.{Reply}
+use Rattle.fs_types.specs.declared.faults.Fault.{Fault}
+use Rattle.fs_types.specs.declared.faults.Fault.TheVariants.{FlashFull, ReadOnly, Overflow, ReadFailed, PowerCut, NoMemory}
+use Rattle.working_state.specs.Seen.{Seen}
+
+-- the greatest serial is given to no version
+abbrev pub last_serial : ℕ
+last_serial = 2 ^ 64 - 1
+
+-- the answer of a call, as a reply
+abbrev pub replied : {T : Type 0} → (T → Reply) → Result T Fault → Result Reply Fault
+replied f (Ok x) = Ok (f x)
+replied f (Err fault) = Err fault
+
+abbrev pub empty : {T : Type 0} → T → Reply
+empty x = Reply.Empty
+
+-- calls that take no memory and do no device operation
+abbrev pub is_light : Call → Bool
+is_light (Call.Close number) = true
+is_light Call.Undo = true
+is_light Call.Redo = true
+is_light (Call.Goto serial) = true
+is_light _ = false
+
+-- calls that make no version and are refused in read-only mode all the same
+abbrev pub is_for_record : Call → Bool
+is_for_record (Call.Fsync number) = true
+is_for_record Call.Sync = true
+is_for_record (Call.Forget count) = true
+is_for_record (Call.Checkpoint name) = true
+is_for_record (Call.RemoveCheckpoint name) = true
+is_for_record _ = false
+
+-- an accepted call that read-only mode refuses
+abbrev pub is_writing : Machine → Call → Bool
+is_writing m call = is_accepted m call && (is_some (tree_after m call) || is_for_record call)
+
+-- a refusal that the machine does not give, with its cause: no block is left for a call that writes nodes; read-only
+-- mode is on; the serials have run out; a read failed; the device is off; memory was wanted
+abbrev pub MayRefuse : Seen → Machine → Call → Fault → Seen → Type 0
+MayRefuse old m call FlashFull new = (0 < need old.room m call) × (new.space.free ≡ 0)
+MayRefuse old m call ReadOnly new = (is_writing m call ≡ true) × (new.read_only ≡ true)
+MayRefuse old m call Overflow new = (makes_version m call ≡ true) × (m.history.next ≡ last_serial)
+MayRefuse old m call ReadFailed new = (is_light call ≡ false) × (old.failed_reads < new.failed_reads)
+MayRefuse old m call PowerCut new = (is_light call ≡ false) × (new.powered ≡ false)
+MayRefuse old m call NoMemory new = is_light call ≡ false
+MayRefuse old m call _ new = ⊥
+
+-- a call is refused by the machine, or for one of these causes
+abbrev pub Refuses : Seen → Machine → Call → Fault → Seen → Type 0
+Refuses old m call fault new = (refusal m call ≡ Some fault) ⊎ MayRefuse old m call fault new
+
+abbrev pub is_cut : Fault → Bool
+is_cut PowerCut = true
+is_cut _ = false
+
+abbrev pub is_cut_answer : {T : Type 0} → Result T Fault → Bool
+is_cut_answer (Ok x) = false
+is_cut_answer (Err fault) = is_cut fault
+
+-- a call that was carried out: it is the machine's, no read-only mode was on where that refuses it, and a serial was left
+pub record IsDone (old : Seen) (m : Machine) (call : Call) (reply : Reply) (new : Seen) (n : Machine) : Type 0 where
+  pub answered : answer new.space m call ≡ Ok reply
+  pub leaves : n ≡ next m call
+  pub writable : is_writing m call ≡ true → old.read_only ≡ false
+  pub serial_left : makes_version m call ≡ true → m.history.next < last_serial
+
+-- by whether a call answered before that the power is off, and now: then each call answers so and does nothing
+abbrev pub Answers : Seen → Machine → Bool → Call → Result Reply Fault → Seen → Machine → Bool → Type 0
+Answers old m off call (Ok reply) new n off' = (off ≡ false) × IsDone old m call reply new n × (off' ≡ false)
+Answers old m true call (Err fault) new n off' = (fault ≡ PowerCut) × (new ≡ old) × (n ≡ m) × (off' ≡ true)
+Answers old m false call (Err fault) new n off' = Refuses old m call fault new × (n ≡ m) × (off' ≡ is_cut fault)
+
+-- what calls lead to, whatever they answer
+pub record IsLater (old new : Seen) : Type 0 where
+  pub room : new.room ≡ old.room
+  pub failed_reads : old.failed_reads ≤ new.failed_reads
+  pub was_on : new.powered ≡ true → old.powered ≡ true
+  pub stays_read_only : old.read_only ≡ true → new.read_only ≡ true
+
+-- the call's step: it is answered so, and what is seen is later
+pub record CallStep (old : Seen) (m : Machine) (off : Bool) (call : Call) (result : Result Reply Fault) (new : Seen) (n : Machine) (off' : Bool) : Type 0 where
+  pub later : IsLater old new
+  pub answers : Answers old m off call result new n off'

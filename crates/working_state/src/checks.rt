@@ -1,0 +1,89 @@
+//! What calls check before they work, and what they remember after it.
+ghost use Rattle.std.specs.Prelude.{◌≡◌, ◌<◌, ◌⊎◌, ◌||◌, true, false, IfErr, OnOk};
+ghost use Rattle.history_machine.specs.Descriptors.{any_open};
+ghost use Rattle.fs_types.specs.declared.faults.Fault.{Fault};
+ghost use Rattle.working_state.specs.Seen.{is_read_only, bad_anchors};
+ghost use Rattle.working_state.specs.Steps.{last_serial, is_cut_answer};
+
+use crate::state::State;
+use bad_blocks::{BadBlocks, LIMIT};
+use fs_types::Fault;
+use history::History;
+use node_store::Storage;
+
+impl State {
+    /// Refuses a call where an earlier one answered that the power is off.
+    pub(crate) fn check_power(&self) -> Result<(), Fault>
+        ensures ok { OnOk result (self.now.is_off ≡ false) }
+        ensures off { IfErr result (λ fault. (fault ≡ Fault.PowerCut) × (self.now.is_off ≡ true)) }
+    {
+        if self.is_off {
+            Err(Fault::PowerCut)
+        } else {
+            Ok(())
+        }
+    }
+
+    /// Refuses to move the present version while a file is open.
+    pub(crate) fn check_none_open(&self) -> Result<(), Fault>
+        ensures ok { OnOk result (any_open self.now.files ≡ false) }
+        ensures err { IfErr result (λ fault. (fault ≡ Fault.Busy) × (any_open self.now.files ≡ true)) }
+    {
+        if self.files.any_open() {
+            Err(Fault::Busy)
+        } else {
+            Ok(())
+        }
+    }
+
+    /// Remembers that the power is off, where a call answers that.
+    pub(crate) fn remember_cut<T>(&mut self, answer: Result<T, Fault>) -> Result<T, Fault>
+        ensures same { result ≡ answer }
+        ensures off { self.new ≡ record self.old { is_off = self.old.is_off || is_cut_answer answer } }
+    {
+        if let Err(Fault::PowerCut) = &answer {
+            self.is_off = true;
+        }
+        answer
+    }
+}
+
+/// Whether at least seven anchors or 256 blocks are bad.
+fn is_read_only(bad: &BadBlocks) -> bool
+    ensures { result ≡ is_read_only bad.now }
+{
+    bad.len() >= LIMIT || bad_anchors(bad) >= 7
+}
+
+/// How many of the anchors, blocks 0 to 7, are bad.
+fn bad_anchors(bad: &BadBlocks) -> usize
+    ensures { result ≡ bad_anchors bad.now }
+{
+    (0..8).filter(|block| bad.contains(*block)).count()
+}
+
+/// Refuses in read-only mode.
+pub(crate) fn check_writable(storage: &Storage) -> Result<(), Fault>
+    ensures ok { OnOk result (is_read_only storage.now.bad ≡ false) }
+    ensures err { IfErr result (λ fault. (fault ≡ Fault.ReadOnly) × (is_read_only storage.now.bad ≡ true)) }
+{
+    if is_read_only(&storage.bad) {
+        Err(Fault::ReadOnly)
+    } else {
+        Ok(())
+    }
+}
+
+/// Refuses a change in read-only mode, and where no serial is left for it.
+pub(crate) fn check_change(history: &History<u32>, storage: &Storage) -> Result<(), Fault>
+    ensures writable { OnOk result (is_read_only storage.now.bad ≡ false) }
+    ensures serial { OnOk result (history.now.next < last_serial) }
+    ensures err { IfErr result (λ fault. ((fault ≡ Fault.ReadOnly) × (is_read_only storage.now.bad ≡ true)) ⊎ ((fault ≡ Fault.Overflow) × (history.now.next ≡ last_serial))) }
+{
+    check_writable(storage)?;
+    if history.is_exhausted() {
+        Err(Fault::Overflow)
+    } else {
+        Ok(())
+    }
+}

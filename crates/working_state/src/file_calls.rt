@@ -1,0 +1,153 @@
+//! The calls on open files, on the working state and the flash. Each checks in order: whether an
+//! earlier call answered that the power is off; its own refusals; read-only mode; the greatest serial;
+//! and then it works.
+ghost use Rattle.std.specs.Prelude.{◌≡◌, ◌<◌, ℕ, true, false, length, Some, None, Ok, IfOk, IfErr, OnOk, unwrap_or};
+ghost use Rattle.history_machine.specs.History.{present_root};
+ghost use Rattle.fs_types.specs.Names.{is_path};
+ghost use Rattle.history_machine.specs.Descriptors.{least_free};
+ghost use Rattle.history_machine.specs.Machine.{refusal};
+ghost use Rattle.fs_types.specs.declared.calls.Call.{Call};
+ghost use Rattle.fs_types.specs.declared.calls.Reply.{Reply};
+ghost use Rattle.flash_model.specs.Device.{Device};
+ghost use Rattle.node_store.specs.NodePages.{node_of};
+ghost use Rattle.directory.specs.Lookups.{look_up};
+ghost use Rattle.directory.specs.Trails.{IsTrail};
+ghost use Rattle.working_state.specs.Mounted.{IsMounted, StateStep, KeepsPages};
+ghost use Rattle.working_state.specs.Opening.{found_refusal, changes_found, IsAnswered};
+ghost use Rattle.working_state.specs.Seen.{seen_on, machine_on};
+ghost use Rattle.working_state.specs.Steps.{replied, empty, is_cut_answer, Refuses};
+ghost use Rattle.working_state.specs.Worked.{IsLooked};
+
+use crate::changes::change;
+use crate::lookups::find_path;
+use crate::state::State;
+use bitflags::Flags;
+use directory::{Found, Trail};
+use flash_model::Flash;
+use fs_types::{Fault, OpenFlags, Path};
+use open_files::OpenFile;
+use std::alloc::Global;
+use tree_edits::Edit;
+
+impl State {
+    /// The number is free.
+    pub fn close(&mut self, number: u64) -> Result<(), Fault>
+        ensures mounted { (device : Device) → IsMounted device self.old → IsMounted device self.new }
+        ensures step { (device : Device) → StateStep device self.old (Call.Close number) (replied empty result) device self.new }
+    {
+        self.check_power()?;
+        if self.files.get(number).is_none() {
+            return Err(Fault::BadDescriptor);
+        }
+        self.files.close(number);
+        Ok(())
+    }
+
+    /// Opens the file at a path under the least free number, and answers the number.
+    pub fn open<F: Flash>(
+        &mut self,
+        alloc: Global,
+        flash: &mut F,
+        path: &Path,
+        flags: OpenFlags,
+    ) -> Result<u8, Fault>
+        requires { IsMounted (F.device flash.old) self.old }
+        ensures mounted { IsMounted (F.device flash.new) self.new }
+        ensures step { StateStep (F.device flash.old) self.old (Call.Open path.now flags) (replied Reply.Fd result) (F.device flash.new) self.new }
+        ensures pages { KeepsPages (F.device flash.old) self.old.history (F.device flash.new) }
+    {
+        self.check_power()?;
+        let opened = self.open_file(alloc, flash, path, flags);
+        self.remember_cut(opened)
+    }
+
+    /// Opens it, where no call answered before that the power is off. The path is copied before
+    /// anything is written, so that want of memory changes nothing.
+    fn open_file<F: Flash>(
+        &mut self,
+        alloc: Global,
+        flash: &mut F,
+        path: &Path,
+        flags: OpenFlags,
+    ) -> Result<u8, Fault>
+        requires { IsMounted (F.device flash.old) self.old }
+        ensures { IsAnswered (F.device flash.old) self.old (Call.Open path.now flags) (replied Reply.Fd result) (F.device flash.new) self.new (is_cut_answer result) }
+    {
+        let root = self.history.root();
+        let (found, trail, number) = self.check_open(flash, root, path, flags)?;
+        let file = OpenFile::new(path.clone()?, flags);
+        if !is_changed(found, flags) {
+            self.files.open(number, file);
+            return Ok(number);
+        }
+        let edit = Edit::PutEmptyFile {
+            path,
+            trail: &trail,
+        };
+        change(alloc, flash, &mut self.history, &mut self.storage, edit)?;
+        self.files.open(number, file);
+        Ok(number)
+    }
+
+    /// Refuses what cannot be opened. Answers what stands at the path, the directories that it goes
+    /// through, and the least free number.
+    fn check_open<F: Flash>(
+        &mut self,
+        flash: &mut F,
+        root: u32,
+        path: &Path,
+        flags: OpenFlags,
+    ) -> Result<(Found, Trail, u8), Fault>
+        requires mounted { IsMounted (F.device flash.old) self.old }
+        requires present { present_root self.old.history ≡ Some root }
+        ensures looked { IsLooked (F.device flash.old) self.old (F.device flash.new) self.new }
+        ensures lawful { OnOk result (is_path path.now ≡ true) }
+        ensures nodes { node_of (F.device flash.new) ≡ node_of (F.device flash.old) }
+        ensures found { IfOk result (λ r. look_up (node_of (F.device flash.old)) root path.now ≡ Ok r.0) }
+        ensures fits { IfOk result (λ r. found_refusal flags r.0 ≡ None) }
+        ensures way { IfOk result (λ r. IsTrail (node_of (F.device flash.old)) root path.now r.1) }
+        ensures number { IfOk result (λ r. least_free self.old.files ≡ Some r.2) }
+        ensures accepted { OnOk result (refusal (machine_on (F.device flash.old) self.old) (Call.Open path.now flags) ≡ None) }
+        ensures refused { IfErr result (λ fault. Refuses (seen_on (F.device flash.old) self.old) (machine_on (F.device flash.old) self.old) (Call.Open path.now flags) fault (seen_on (F.device flash.new) self.new)) }
+    {
+        if !flags.are_lawful() {
+            return Err(Fault::Invalid);
+        }
+        let (found, trail) = find_path(flash, &mut self.storage, root, path)?;
+        check_found(found, flags)?;
+        let Some(number) = self.files.least_free() else {
+            return Err(Fault::TooManyOpen);
+        };
+        // The names of each path are lawful, as their contract tells.
+        let _names = path.names();
+        Ok((found, trail, number))
+    }
+}
+
+/// Refuses what was found, where the flags do not open it.
+fn check_found(found: Found, flags: OpenFlags) -> Result<(), Fault>
+    ensures ok { OnOk result (found_refusal flags found ≡ None) }
+    ensures err { IfErr result (λ fault. found_refusal flags found ≡ Some fault) }
+{
+    let creates = flags.contains(OpenFlags::CREAT);
+    let is_exclusive = flags.contains(OpenFlags::EXCL);
+    match found {
+        Found::Missing { .. } if !creates => Err(Fault::NoEntry),
+        Found::Missing { is_full: true } => Err(Fault::DirectoryFull),
+        Found::Missing { is_full: false } => Ok(()),
+        _ if creates && is_exclusive => Err(Fault::Exists),
+        Found::File { .. } => Ok(()),
+        Found::Dir { .. } => Err(Fault::IsDirectory),
+    }
+}
+
+/// Whether opening makes or cuts what was found.
+fn is_changed(found: Found, flags: OpenFlags) -> bool
+    ensures { result ≡ changes_found flags found }
+{
+    match found {
+        Found::Missing { .. } => true,
+        Found::File { length, .. } => flags.contains(OpenFlags::TRUNC) && length > 0,
+        Found::Dir { .. } => false,
+    }
+}

@@ -1,0 +1,198 @@
+//! Changes of the bytes of open files, on the working state and the flash. Each call checks in order:
+//! whether an earlier one answered that the power is off; its own refusals; read-only mode; the
+//! greatest serial; and then it works.
+ghost use Rattle.std.specs.Prelude.{◌≡◌, ℕ, ◌<◌, ◌≤◌, ◌+◌, false, length, Some, None, Ok, IfOk, IfErr, OnOk};
+ghost use Rattle.std.specs.Option.{option_map_or};
+ghost use Rattle.history_machine.specs.Descriptors.{descriptor_at};
+ghost use Rattle.history_machine.specs.Machine.{pwrite_refusal, ftruncate_refusal};
+ghost use Rattle.fs_types.specs.declared.calls.Call.{Call};
+ghost use Rattle.fs_types.specs.declared.calls.Reply.{Reply};
+ghost use Rattle.fs_types.specs.declared.faults.Fault.TheVariants.{BadDescriptor};
+ghost use Rattle.node_store.specs.NodePages.{node_of};
+ghost use Rattle.directory.specs.declared.lookups.Found.TheVariants as found;
+ghost use Rattle.directory.specs.Lookups.{look_up};
+ghost use Rattle.directory.specs.Trails.{IsTrail};
+ghost use Rattle.working_state.specs.Changes.{IsReady, HasLooked};
+ghost use Rattle.working_state.specs.Changing.{IsPathOf};
+ghost use Rattle.working_state.specs.Mounted.{IsMounted, StateStep, KeepsPages};
+ghost use Rattle.working_state.specs.Opening.{IsAnswered};
+ghost use Rattle.working_state.specs.Seen.{seen_of, seen_on, machine_on};
+ghost use Rattle.working_state.specs.Steps.{replied, empty, is_cut_answer};
+ghost use Rattle.working_state.specs.Worked.{ReadCause};
+
+use crate::changes::change;
+use crate::lookups::find_path;
+use crate::state::State;
+use bitflags::Flags;
+use directory::{Found, Trail};
+use flash_model::Flash;
+use fs_types::{Fault, OpenFlags, Path};
+use node_store::Storage;
+use open_files::OpenFiles;
+use skip_list_file::Body;
+use std::alloc::Global;
+use tree_edits::Edit;
+
+/// The most bytes in a file.
+const MOST_BYTES: u64 = 16_777_216;
+
+impl State {
+    /// Writes bytes at an offset of an open file, and answers how many.
+    pub fn pwrite<F: Flash>(
+        &mut self,
+        alloc: Global,
+        flash: &mut F,
+        number: u64,
+        offset: u64,
+        bytes: &[u8],
+    ) -> Result<u64, Fault>
+        requires { IsMounted (F.device flash.old) self.old }
+        ensures mounted { IsMounted (F.device flash.new) self.new }
+        ensures step { StateStep (F.device flash.old) self.old (Call.Pwrite number offset bytes.now) (replied Reply.Count result) (F.device flash.new) self.new }
+        ensures pages { KeepsPages (F.device flash.old) self.old.history (F.device flash.new) }
+    {
+        self.check_power()?;
+        let written = self.write_file(alloc, flash, number, offset, bytes);
+        self.remember_cut(written)
+    }
+
+    /// Writes them, where no call answered before that the power is off.
+    fn write_file<F: Flash>(
+        &mut self,
+        alloc: Global,
+        flash: &mut F,
+        number: u64,
+        offset: u64,
+        bytes: &[u8],
+    ) -> Result<u64, Fault>
+        requires { IsMounted (F.device flash.old) self.old }
+        ensures { IsAnswered (F.device flash.old) self.old (Call.Pwrite number offset bytes.now) (replied Reply.Count result) (F.device flash.new) self.new (is_cut_answer result) }
+    {
+        let path = check_write(&self.files, number, offset, bytes)?;
+        if bytes.is_empty() {
+            return Ok(0);
+        }
+        let root = self.history.root();
+        let (body, trail) = find_body(flash, &mut self.storage, root, path)?;
+        let edit = Edit::Overwrite {
+            path,
+            trail: &trail,
+            body,
+            offset: offset as u32,
+            bytes,
+        };
+        change(alloc, flash, &mut self.history, &mut self.storage, edit)?;
+        Ok(bytes.len() as u64)
+    }
+
+    /// Makes the length of an open file this.
+    pub fn ftruncate<F: Flash>(
+        &mut self,
+        alloc: Global,
+        flash: &mut F,
+        number: u64,
+        size: u64,
+    ) -> Result<(), Fault>
+        requires { IsMounted (F.device flash.old) self.old }
+        ensures mounted { IsMounted (F.device flash.new) self.new }
+        ensures step { StateStep (F.device flash.old) self.old (Call.Ftruncate number size) (replied empty result) (F.device flash.new) self.new }
+        ensures pages { KeepsPages (F.device flash.old) self.old.history (F.device flash.new) }
+    {
+        self.check_power()?;
+        let resized = self.resize_file(alloc, flash, number, size);
+        self.remember_cut(resized)
+    }
+
+    /// Makes it this, where no call answered before that the power is off.
+    fn resize_file<F: Flash>(
+        &mut self,
+        alloc: Global,
+        flash: &mut F,
+        number: u64,
+        size: u64,
+    ) -> Result<(), Fault>
+        requires { IsMounted (F.device flash.old) self.old }
+        ensures { IsAnswered (F.device flash.old) self.old (Call.Ftruncate number size) (replied empty result) (F.device flash.new) self.new (is_cut_answer result) }
+    {
+        let path = check_resize(&self.files, number, size)?;
+        let root = self.history.root();
+        let (body, trail) = find_body(flash, &mut self.storage, root, path)?;
+        if u64::from(body.length) == size {
+            return Ok(());
+        }
+        let edit = Edit::SetLength {
+            path,
+            trail: &trail,
+            body,
+            length: size as u32,
+        };
+        change(alloc, flash, &mut self.history, &mut self.storage, edit)
+    }
+}
+
+/// Refuses a number that is not of a file open for writing, and bytes beyond the most of a file; else
+/// the path of the file.
+fn check_write<'a>(
+    files: &'a OpenFiles,
+    number: u64,
+    offset: u64,
+    bytes: &[u8],
+) -> Result<&'a Path, Fault>
+    ensures path { IfOk result (λ path. IsPathOf files.now number path.now) }
+    ensures ok { OnOk result (option_map_or (pwrite_refusal offset bytes.now) (descriptor_at files.now number) (Some BadDescriptor) ≡ None) }
+    ensures fits { OnOk result (0 < length bytes.now → offset + length bytes.now ≤ 16777216) }
+    ensures err { IfErr result (λ fault. option_map_or (pwrite_refusal offset bytes.now) (descriptor_at files.now number) (Some BadDescriptor) ≡ Some fault) }
+{
+    let Some(file) = files.get(number) else {
+        return Err(Fault::BadDescriptor);
+    };
+    if !file.flags().contains(OpenFlags::WRITE) {
+        return Err(Fault::BadDescriptor);
+    }
+    let count = bytes.len() as u64;
+    if count > 0 && (offset > MOST_BYTES || count > MOST_BYTES - offset) {
+        return Err(Fault::TooBig);
+    }
+    Ok(file.path())
+}
+
+/// Refuses a number that is not of an open file, one that is not for writing, and a length beyond the
+/// most of a file; else the path of the file.
+fn check_resize(files: &OpenFiles, number: u64, size: u64) -> Result<&Path, Fault>
+    ensures path { IfOk result (λ path. IsPathOf files.now number path.now) }
+    ensures ok { OnOk result (option_map_or (ftruncate_refusal size) (descriptor_at files.now number) (Some BadDescriptor) ≡ None) }
+    ensures fits { OnOk result (size ≤ 16777216) }
+    ensures err { IfErr result (λ fault. option_map_or (ftruncate_refusal size) (descriptor_at files.now number) (Some BadDescriptor) ≡ Some fault) }
+{
+    let Some(file) = files.get(number) else {
+        return Err(Fault::BadDescriptor);
+    };
+    if !file.flags().contains(OpenFlags::WRITE) {
+        return Err(Fault::Invalid);
+    }
+    if size > MOST_BYTES {
+        return Err(Fault::TooBig);
+    }
+    Ok(file.path())
+}
+
+/// The body of the file that a path below a root leads to, and the directories that it goes through.
+fn find_body<F: Flash>(
+    flash: &mut F,
+    storage: &mut Storage,
+    root: u32,
+    path: &Path,
+) -> Result<(Body, Trail), Fault>
+    requires ready { IsReady (F.device flash.old) storage.old }
+    requires file { (head size : ℕ) × (look_up (node_of (F.device flash.old)) root path.now ≡ Ok (found.File head size)) }
+    ensures looked { HasLooked (F.device flash.old) storage.old (F.device flash.new) storage.new }
+    ensures found { IfOk result (λ r. look_up (node_of (F.device flash.new)) root path.now ≡ Ok (found.File r.0.head r.0.length)) }
+    ensures way { IfOk result (λ r. IsTrail (node_of (F.device flash.new)) root path.now r.1) }
+    ensures why { IfErr result (λ fault. ReadCause (seen_of (F.device flash.old) storage.old) fault (seen_of (F.device flash.new) storage.new)) }
+{
+    let (found, trail) = find_path(flash, storage, root, path)?;
+    match found {
+        Found::File { head, length } => Ok((Body { head, length }, trail)),
+        _ => unreachable!(),
+    }
+}

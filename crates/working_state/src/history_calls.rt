@@ -1,0 +1,150 @@
+//! The calls on the history, on the working state alone: no device operation is done. Each checks in
+//! order: whether an earlier call answered that the power is off; whether a file is open, where it
+//! would move the present version; its own refusals; read-only mode; and the greatest serial.
+ghost use Rattle.std.specs.Prelude.{◌≡◌, map, IfOk};
+ghost use Rattle.fs_types.specs.declared.calls.Call.{Call};
+ghost use Rattle.fs_types.specs.declared.calls.Reply.{Reply};
+ghost use Rattle.flash_model.specs.Device.{Device};
+ghost use Rattle.working_state.specs.Mounted.{IsMounted, StateStep};
+ghost use Rattle.working_state.specs.Steps.{replied, empty};
+
+use crate::changes::change;
+use crate::checks::check_writable;
+use crate::state::State;
+use flash_model::Flash;
+use fs_types::{CpName, Fault, Reply, Sequence, Version};
+use history::MAX_CHECKPOINTS;
+use std::alloc::{AllocError, Global};
+use std::collections::BTreeMap;
+use tree_edits::Edit;
+
+impl State {
+    /// The version before becomes the present one.
+    pub fn undo(&mut self) -> Result<(), Fault>
+        ensures mounted { (device : Device) → IsMounted device self.old → IsMounted device self.new }
+        ensures step { (device : Device) → StateStep device self.old Call.Undo (replied empty result) device self.new }
+    {
+        self.check_power()?;
+        self.check_none_open()?;
+        self.history.undo()
+    }
+
+    /// The version after becomes the present one.
+    pub fn redo(&mut self) -> Result<(), Fault>
+        ensures mounted { (device : Device) → IsMounted device self.old → IsMounted device self.new }
+        ensures step { (device : Device) → StateStep device self.old Call.Redo (replied empty result) device self.new }
+    {
+        self.check_power()?;
+        self.check_none_open()?;
+        self.history.redo()
+    }
+
+    /// The version with this serial becomes the present one.
+    pub fn goto(&mut self, serial: u64) -> Result<(), Fault>
+        ensures mounted { (device : Device) → IsMounted device self.old → IsMounted device self.new }
+        ensures step { (device : Device) → StateStep device self.old (Call.Goto serial) (replied empty result) device self.new }
+    {
+        self.check_power()?;
+        self.check_none_open()?;
+        self.history.goto(serial)
+    }
+
+    /// A change to the tree of a checkpoint, which writes no node.
+    pub fn rollback<F: Flash>(
+        &mut self,
+        alloc: Global,
+        flash: &mut F,
+        name: &CpName,
+    ) -> Result<(), Fault>
+        requires { IsMounted (F.device flash.old) self.old }
+        ensures mounted { IsMounted (F.device flash.new) self.new }
+        ensures step { StateStep (F.device flash.old) self.old (Call.Rollback name.now) (replied empty result) (F.device flash.new) self.new }
+        ensures still { F.device flash.new ≡ F.device flash.old }
+        ensures storage { self.new.storage ≡ self.old.storage }
+    {
+        self.check_power()?;
+        self.check_none_open()?;
+        let root = self.history.checkpoint_root(name)?;
+        let edit = Edit::Restore { root };
+        change(alloc, flash, &mut self.history, &mut self.storage, edit)
+    }
+
+    /// The oldest versions before the present one are dropped.
+    pub fn forget(&mut self, count: u64) -> Result<(), Fault>
+        ensures mounted { (device : Device) → IsMounted device self.old → IsMounted device self.new }
+        ensures step { (device : Device) → StateStep device self.old (Call.Forget count) (replied empty result) device self.new }
+    {
+        self.check_power()?;
+        if count > self.history.cursor() as u64 {
+            return Err(Fault::Invalid);
+        }
+        check_writable(&self.storage)?;
+        self.history.forget(count)
+    }
+
+    /// The present tree is kept under a name.
+    pub fn checkpoint(&mut self, name: &CpName) -> Result<(), Fault>
+        ensures mounted { (device : Device) → IsMounted device self.old → IsMounted device self.new }
+        ensures step { (device : Device) → StateStep device self.old (Call.Checkpoint name.now) (replied empty result) device self.new }
+    {
+        self.check_power()?;
+        if self.history.checkpoints().contains_key(name) {
+            return Err(Fault::Exists);
+        }
+        if self.history.checkpoints().len() >= MAX_CHECKPOINTS {
+            return Err(Fault::CheckpointsFull);
+        }
+        check_writable(&self.storage)?;
+        self.history.checkpoint(name.clone()?)
+    }
+
+    /// The checkpoint of this name is given up.
+    pub fn remove_checkpoint(&mut self, name: &CpName) -> Result<(), Fault>
+        ensures mounted { (device : Device) → IsMounted device self.old → IsMounted device self.new }
+        ensures step { (device : Device) → StateStep device self.old (Call.RemoveCheckpoint name.now) (replied empty result) device self.new }
+    {
+        self.check_power()?;
+        self.history.checkpoint_root(name)?;
+        check_writable(&self.storage)?;
+        self.history.remove_checkpoint(name)
+    }
+
+    /// The history, as `log` tells it.
+    pub fn log(&self, alloc: Global) -> Result<Reply, Fault>
+        ensures { (device : Device) → StateStep device self.now Call.Log result device self.now }
+    {
+        self.check_power()?;
+        let versions = serials_of(alloc, self.history.versions())?;
+        let checkpoints = names_of(alloc, self.history.checkpoints())?;
+        Ok(Reply::Log {
+            next: self.history.next_serial(),
+            dropped: self.history.has_dropped(),
+            versions,
+            cursor: self.history.cursor() as u64,
+            checkpoints,
+        })
+    }
+}
+
+fn serials_of(alloc: Global, versions: &[Version<u32>]) -> Result<Sequence<u64>, AllocError>
+    ensures { IfOk result (λ serials. serials ≡ map (λ v. v.serial) versions.now) }
+{
+    let serials: Vec<u64> = versions
+        .iter()
+        .map(|version| version.serial)
+        .collect(alloc)?;
+    Ok(Sequence::from_vec(serials))
+}
+
+fn names_of(
+    alloc: Global,
+    checkpoints: &BTreeMap<CpName, u32>,
+) -> Result<Sequence<CpName>, AllocError>
+    ensures { IfOk result (λ names. names ≡ map (λ e. e.0) checkpoints.now.entries) }
+{
+    let mut names = Sequence::new(alloc);
+    for (name, _) in checkpoints {
+        names.push(name.clone()?)?;
+    }
+    Ok(names)
+}

@@ -1,0 +1,33 @@
+//! Paths looked up on the flash.
+ghost use Rattle.std.specs.Prelude.{◌≡◌, true, false, Ok, Err, IfOk, IfErr};
+ghost use Rattle.node_store.specs.NodePages.{node_of};
+ghost use Rattle.directory.specs.Lookups.{look_up, is_path_fault, IsLookupFault};
+ghost use Rattle.directory.specs.Trails.{IsTrail};
+ghost use Rattle.working_state.specs.Changes.{IsReady, HasLooked};
+ghost use Rattle.working_state.specs.Seen.{seen_of};
+ghost use Rattle.working_state.specs.Worked.{WorkCause};
+
+use directory::{Found, Trail, find};
+use flash_model::Flash;
+use fs_types::{Fault, Path};
+use node_store::{Storage, Store};
+
+/// What a path below a root leads to, and the directories that it goes through.
+pub(crate) fn find_path<F: Flash>(
+    flash: &mut F,
+    storage: &mut Storage,
+    root: u32,
+    path: &Path,
+) -> Result<(Found, Trail), Fault>
+    requires { IsReady (F.device flash.old) storage.old }
+    ensures looked { HasLooked (F.device flash.old) storage.old (F.device flash.new) storage.new }
+    ensures nodes { node_of (F.device flash.new) ≡ node_of (F.device flash.old) }
+    ensures found { IfOk result (λ r. look_up (node_of (F.device flash.old)) root path.now ≡ Ok r.0) }
+    ensures trail { IfOk result (λ r. IsTrail (node_of (F.device flash.old)) root path.now r.1) }
+    ensures refused { IfErr result (λ fault. is_path_fault fault ≡ true → look_up (node_of (F.device flash.old)) root path.now ≡ Err fault) }
+    ensures why { IfErr result (λ fault. is_path_fault fault ≡ false → WorkCause (seen_of (F.device flash.old) storage.old) fault (seen_of (F.device flash.new) storage.new)) }
+    ensures faults { IfErr result IsLookupFault }
+{
+    let mut store = Store::new(flash, storage);
+    find(&mut store, root, path)
+}

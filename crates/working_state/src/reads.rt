@@ -1,0 +1,163 @@
+//! Bytes of files, on the working state and the flash. Checked in order: whether an earlier call
+//! answered that the power is off, and the call's own refusals.
+ghost use Rattle.std.specs.Prelude.{◌≡◌, ℕ, ◌-◌, true, false, Some, None, IfOk, IfErr};
+ghost use Rattle.std.specs.Option.{option_map_or};
+ghost use Rattle.history_machine.specs.Descriptors.{Descriptor, descriptor_at, can_read};
+ghost use Rattle.fs_types.specs.declared.calls.Call.{Call};
+ghost use Rattle.fs_types.specs.declared.calls.Reply.{Reply};
+ghost use Rattle.fs_types.specs.declared.faults.Fault.TheVariants.{BadDescriptor};
+ghost use Rattle.node_format.specs.Headers.{body_front};
+ghost use Rattle.node_store.specs.NodePages.{node_of};
+ghost use Rattle.block_trees.specs.Trees.{root_tree, IsRoot};
+ghost use Rattle.skip_list_file.specs.Reading.{is_body_fault};
+ghost use Rattle.working_state.specs.Changes.{IsReady, HasLooked};
+ghost use Rattle.working_state.specs.Mounted.{IsMounted, StateStep};
+ghost use Rattle.working_state.specs.Reading.{file_refusal, IsRead};
+ghost use Rattle.working_state.specs.Seen.{room_of, tree_on, seen_of, seen_on, machine_on};
+ghost use Rattle.working_state.specs.Steps.{replied, is_cut_answer, CallStep};
+ghost use Rattle.working_state.specs.Worked.{IsLooked, WorkCause};
+
+use crate::state::State;
+use bitflags::Flags;
+use directory::{Found, lookup};
+use flash_model::Flash;
+use fs_types::{Bytes, Fault, OpenFlags, Path, View};
+use node_store::{Nodes, Storage, Store};
+use open_files::OpenFiles;
+use skip_list_file::{Body, read_range};
+use std::alloc::Global;
+
+impl State {
+    /// The bytes of a file of the tree that a view shows, from `offset` on, at most `count`.
+    pub fn read_at<F: Flash>(
+        &mut self,
+        alloc: Global,
+        flash: &mut F,
+        view: &View,
+        path: &Path,
+        offset: u64,
+        count: u64,
+    ) -> Result<Bytes, Fault>
+        requires { IsMounted (F.device flash.old) self.old }
+        ensures mounted { IsMounted (F.device flash.new) self.new }
+        ensures step { StateStep (F.device flash.old) self.old (Call.ReadAt view.now path.now offset count) (replied Reply.Bytes result) (F.device flash.new) self.new }
+        ensures pages { (p : ℕ) → (F.device flash.new).pages p ≡ (F.device flash.old).pages p }
+    {
+        self.check_power()?;
+        let bytes = self.read_view(alloc, flash, view, path, offset, count);
+        self.remember_cut(bytes)
+    }
+
+    /// The same, where no call answered before that the power is off.
+    fn read_view<F: Flash>(
+        &mut self,
+        alloc: Global,
+        flash: &mut F,
+        view: &View,
+        path: &Path,
+        offset: u64,
+        count: u64,
+    ) -> Result<Bytes, Fault>
+        requires { IsMounted (F.device flash.old) self.old }
+        ensures looked { IsLooked (F.device flash.old) self.old (F.device flash.new) self.new }
+        ensures step { CallStep (seen_on (F.device flash.old) self.old) (machine_on (F.device flash.old) self.old) false (Call.ReadAt view.now path.now offset count) (replied Reply.Bytes result) (seen_on (F.device flash.new) self.new) (machine_on (F.device flash.new) self.new) (is_cut_answer result) }
+    {
+        let root = self.history.find(view)?;
+        read_below(alloc, flash, &mut self.storage, root, path, offset, count)
+    }
+
+    /// The bytes of an open file, from `offset` on, at most `count`.
+    pub fn pread<F: Flash>(
+        &mut self,
+        alloc: Global,
+        flash: &mut F,
+        descriptor: u64,
+        offset: u64,
+        count: u64,
+    ) -> Result<Bytes, Fault>
+        requires { IsMounted (F.device flash.old) self.old }
+        ensures mounted { IsMounted (F.device flash.new) self.new }
+        ensures step { StateStep (F.device flash.old) self.old (Call.Pread descriptor offset count) (replied Reply.Bytes result) (F.device flash.new) self.new }
+        ensures pages { (p : ℕ) → (F.device flash.new).pages p ≡ (F.device flash.old).pages p }
+    {
+        self.check_power()?;
+        let bytes = self.read_open(alloc, flash, descriptor, offset, count);
+        self.remember_cut(bytes)
+    }
+
+    /// The same, where no call answered before that the power is off.
+    fn read_open<F: Flash>(
+        &mut self,
+        alloc: Global,
+        flash: &mut F,
+        descriptor: u64,
+        offset: u64,
+        count: u64,
+    ) -> Result<Bytes, Fault>
+        requires { IsMounted (F.device flash.old) self.old }
+        ensures looked { IsLooked (F.device flash.old) self.old (F.device flash.new) self.new }
+        ensures step { CallStep (seen_on (F.device flash.old) self.old) (machine_on (F.device flash.old) self.old) false (Call.Pread descriptor offset count) (replied Reply.Bytes result) (seen_on (F.device flash.new) self.new) (machine_on (F.device flash.new) self.new) (is_cut_answer result) }
+    {
+        let path = readable(&self.files, descriptor)?;
+        let root = self.history.root();
+        read_below(alloc, flash, &mut self.storage, root, path, offset, count)
+    }
+}
+
+/// The path of an open file that is open for reading.
+fn readable(files: &OpenFiles, descriptor: u64) -> Result<&Path, Fault>
+    ensures found { IfOk result (λ path. (file : Descriptor) × (descriptor_at files.now descriptor ≡ Some file) × (can_read file.flags ≡ true) × (path.now ≡ file.path)) }
+    ensures refused { IfErr result (λ fault. (fault ≡ BadDescriptor) × (option_map_or (λ file. can_read file.flags) (descriptor_at files.now descriptor) false ≡ false)) }
+{
+    match files.get(descriptor) {
+        Some(file) if file.flags().contains(OpenFlags::READ) => Ok(file.path()),
+        _ => Err(Fault::BadDescriptor),
+    }
+}
+
+/// The bytes of the file that a path below a root leads to, from `offset` on, at most `count`.
+fn read_below<F: Flash>(
+    alloc: Global,
+    flash: &mut F,
+    storage: &mut Storage,
+    root: u32,
+    path: &Path,
+    offset: u64,
+    count: u64,
+) -> Result<Bytes, Fault>
+    requires ready { IsReady (F.device flash.old) storage.old }
+    requires rooted { IsRoot (room_of (F.device flash.old)) (node_of (F.device flash.old)) root }
+    ensures looked { HasLooked (F.device flash.old) storage.old (F.device flash.new) storage.new }
+    ensures read { IfOk result (IsRead (tree_on (F.device flash.old) root) path.now offset count) }
+    ensures refused { IfErr result (λ fault. is_body_fault fault ≡ false → file_refusal (tree_on (F.device flash.old) root) path.now ≡ Some fault) }
+    ensures why { IfErr result (λ fault. is_body_fault fault ≡ true → WorkCause (seen_of (F.device flash.old) storage.old) fault (seen_of (F.device flash.new) storage.new)) }
+{
+    let mut store = Store::new(flash, storage);
+    read_file(alloc, &mut store, root, path, offset, count)
+}
+
+/// The same, of any nodes.
+fn read_file<N: Nodes>(
+    alloc: Global,
+    nodes: &mut N,
+    root: u32,
+    path: &Path,
+    offset: u64,
+    count: u64,
+) -> Result<Bytes, Fault>
+    requires sound { N.is_sound nodes.old }
+    requires rooted { IsRoot (N.limit nodes.old - body_front) (N.node nodes.old) root }
+    ensures read { IfOk result (IsRead (root_tree (N.limit nodes.old - body_front) (N.node nodes.old) root) path.now offset count) }
+    ensures refused { IfErr result (λ fault. is_body_fault fault ≡ false → file_refusal (root_tree (N.limit nodes.old - body_front) (N.node nodes.old) root) path.now ≡ Some fault) }
+    ensures why { IfErr result (λ fault. is_body_fault fault ≡ true → N.causes nodes.old nodes.new fault) }
+    ensures writes { N.writes nodes.new ≡ N.writes nodes.old }
+    ensures follows { N.follows nodes.old nodes.new }
+{
+    match lookup(nodes, root, path)? {
+        Found::Missing { .. } => Err(Fault::NoEntry),
+        Found::Dir { .. } => Err(Fault::IsDirectory),
+        Found::File { head, length } => {
+            read_range(alloc, nodes, Body { head, length }, offset, count)
+        }
+    }
+}

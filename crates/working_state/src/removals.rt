@@ -1,0 +1,165 @@
+//! Entries taken out of the present tree, on the working state and the flash. Each call checks in
+//! order: whether an earlier one answered that the power is off; its own refusals; read-only mode;
+//! the greatest serial; and then it works.
+ghost use Rattle.std.specs.Prelude.{◌≡◌, ◌<◌, ℕ, true, false, length, None, Some, [], Ok, Err, IfOk, IfErr, OnOk};
+ghost use Rattle.history_machine.specs.History.{present_root};
+ghost use Rattle.history_machine.specs.Machine.{refusal};
+ghost use Rattle.fs_types.specs.Names.{is_path};
+ghost use Rattle.fs_types.specs.declared.calls.Call.{Call};
+ghost use Rattle.node_store.specs.NodePages.{node_of};
+ghost use Rattle.block_trees.specs.Trees.{entries_of};
+ghost use Rattle.directory.specs.declared.lookups.Found.TheVariants as found;
+ghost use Rattle.directory.specs.Lookups.{look_up};
+ghost use Rattle.directory.specs.Trails.{IsTrail};
+ghost use Rattle.working_state.specs.Mounted.{IsMounted, StateStep, KeepsPages};
+ghost use Rattle.working_state.specs.Opening.{IsAnswered};
+ghost use Rattle.working_state.specs.Seen.{seen_on, machine_on};
+ghost use Rattle.working_state.specs.Steps.{replied, empty, is_cut_answer, Refuses};
+ghost use Rattle.working_state.specs.Worked.{IsLooked};
+
+use crate::changes::change;
+use crate::lookups::find_path;
+use crate::state::State;
+use directory::{Found, Trail};
+use flash_model::Flash;
+use fs_types::{Fault, Path};
+use std::alloc::Global;
+use tree_edits::Edit;
+
+impl State {
+    /// Removes an empty directory.
+    pub fn rmdir<F: Flash>(
+        &mut self,
+        alloc: Global,
+        flash: &mut F,
+        path: &Path,
+    ) -> Result<(), Fault>
+        requires { IsMounted (F.device flash.old) self.old }
+        ensures mounted { IsMounted (F.device flash.new) self.new }
+        ensures step { StateStep (F.device flash.old) self.old (Call.Rmdir path.now) (replied empty result) (F.device flash.new) self.new }
+        ensures pages { KeepsPages (F.device flash.old) self.old.history (F.device flash.new) }
+    {
+        self.check_power()?;
+        let removed = self.remove_directory(alloc, flash, path);
+        self.remember_cut(removed)
+    }
+
+    /// Removes it, where no call answered before that the power is off.
+    fn remove_directory<F: Flash>(
+        &mut self,
+        alloc: Global,
+        flash: &mut F,
+        path: &Path,
+    ) -> Result<(), Fault>
+        requires { IsMounted (F.device flash.old) self.old }
+        ensures { IsAnswered (F.device flash.old) self.old (Call.Rmdir path.now) (replied empty result) (F.device flash.new) self.new (is_cut_answer result) }
+    {
+        let root = self.history.root();
+        let trail = self.check_empty(flash, root, path)?;
+        let edit = Edit::Remove {
+            path,
+            trail: &trail,
+        };
+        change(alloc, flash, &mut self.history, &mut self.storage, edit)
+    }
+
+    /// Refuses the root, a path where no directory stands, and that of a directory with entries.
+    /// Answers the directories that the path goes through.
+    fn check_empty<F: Flash>(
+        &mut self,
+        flash: &mut F,
+        root: u32,
+        path: &Path,
+    ) -> Result<Trail, Fault>
+        requires mounted { IsMounted (F.device flash.old) self.old }
+        requires present { present_root self.old.history ≡ Some root }
+        ensures looked { IsLooked (F.device flash.old) self.old (F.device flash.new) self.new }
+        ensures lawful { OnOk result (is_path path.now ≡ true) }
+        ensures below { OnOk result (0 < length path.now) }
+        ensures way { IfOk result (IsTrail (node_of (F.device flash.new)) root path.now) }
+        ensures empty { OnOk result ((block : ℕ) × (look_up (node_of (F.device flash.new)) root path.now ≡ Ok (found.Dir block)) × (entries_of (node_of (F.device flash.new) block) ≡ Some [])) }
+        ensures accepted { OnOk result (refusal (machine_on (F.device flash.old) self.old) (Call.Rmdir path.now) ≡ None) }
+        ensures refused { IfErr result (λ fault. Refuses (seen_on (F.device flash.old) self.old) (machine_on (F.device flash.old) self.old) (Call.Rmdir path.now) fault (seen_on (F.device flash.new) self.new)) }
+    {
+        if path.names().is_empty() {
+            return Err(Fault::Busy);
+        }
+        let (found, trail) = find_path(flash, &mut self.storage, root, path)?;
+        match found {
+            Found::Missing { .. } => Err(Fault::NoEntry),
+            Found::File { .. } => Err(Fault::NotDirectory),
+            Found::Dir { block } => {
+                if self.count_in(flash, block)? > 0 {
+                    return Err(Fault::NotEmpty);
+                }
+                Ok(trail)
+            }
+        }
+    }
+
+    /// Removes a file.
+    pub fn unlink<F: Flash>(
+        &mut self,
+        alloc: Global,
+        flash: &mut F,
+        path: &Path,
+    ) -> Result<(), Fault>
+        requires { IsMounted (F.device flash.old) self.old }
+        ensures mounted { IsMounted (F.device flash.new) self.new }
+        ensures step { StateStep (F.device flash.old) self.old (Call.Unlink path.now) (replied empty result) (F.device flash.new) self.new }
+        ensures pages { KeepsPages (F.device flash.old) self.old.history (F.device flash.new) }
+    {
+        self.check_power()?;
+        let removed = self.remove_file(alloc, flash, path);
+        self.remember_cut(removed)
+    }
+
+    /// Removes it, where no call answered before that the power is off.
+    fn remove_file<F: Flash>(
+        &mut self,
+        alloc: Global,
+        flash: &mut F,
+        path: &Path,
+    ) -> Result<(), Fault>
+        requires { IsMounted (F.device flash.old) self.old }
+        ensures { IsAnswered (F.device flash.old) self.old (Call.Unlink path.now) (replied empty result) (F.device flash.new) self.new (is_cut_answer result) }
+    {
+        let root = self.history.root();
+        let trail = self.check_file(flash, root, path)?;
+        let edit = Edit::Remove {
+            path,
+            trail: &trail,
+        };
+        change(alloc, flash, &mut self.history, &mut self.storage, edit)
+    }
+
+    /// Refuses a path where no file stands, and that of an open file. Answers the directories that the
+    /// path goes through.
+    fn check_file<F: Flash>(
+        &mut self,
+        flash: &mut F,
+        root: u32,
+        path: &Path,
+    ) -> Result<Trail, Fault>
+        requires mounted { IsMounted (F.device flash.old) self.old }
+        requires present { present_root self.old.history ≡ Some root }
+        ensures looked { IsLooked (F.device flash.old) self.old (F.device flash.new) self.new }
+        ensures lawful { OnOk result (is_path path.now ≡ true) }
+        ensures way { IfOk result (IsTrail (node_of (F.device flash.new)) root path.now) }
+        ensures found { OnOk result ((head size : ℕ) × (look_up (node_of (F.device flash.new)) root path.now ≡ Ok (found.File head size))) }
+        ensures accepted { OnOk result (refusal (machine_on (F.device flash.old) self.old) (Call.Unlink path.now) ≡ None) }
+        ensures refused { IfErr result (λ fault. Refuses (seen_on (F.device flash.old) self.old) (machine_on (F.device flash.old) self.old) (Call.Unlink path.now) fault (seen_on (F.device flash.new) self.new)) }
+    {
+        let (found, trail) = find_path(flash, &mut self.storage, root, path)?;
+        match found {
+            Found::Missing { .. } => Err(Fault::NoEntry),
+            Found::Dir { .. } => Err(Fault::NotPermitted),
+            Found::File { .. } => {
+                if self.files.is_open(path) {
+                    return Err(Fault::Busy);
+                }
+                Ok(trail)
+            }
+        }
+    }
+}

@@ -1,0 +1,125 @@
+//! The working state: all that a mounted system keeps in memory, apart from the flash.
+ghost use Rattle.std.specs.Prelude.{◌≡◌, ◌<◌, ◌≤◌, ◌↔◌, ◌⊎◌, true, Some, Err, [], IfOk, IfErr, vec_len, vec_capacity};
+ghost use Rattle.std.specs.FinSet as set;
+ghost use Rattle.fs_types.specs.declared.faults.Fault.{Fault};
+ghost use Rattle.flash_model.specs.Geometry.{IsGeometry, block_bytes};
+ghost use Rattle.node_store.specs.NodePages.{node_of};
+ghost use Rattle.node_store.specs.Storage as parts;
+ghost use Rattle.node_store.specs.Stores.{IsSound, Follows};
+ghost use Rattle.block_trees.specs.Trees.{entries_of};
+ghost use Rattle.working_state.specs.Changes.{HasWritten};
+ghost use Rattle.working_state.specs.Fresh.{unused_ring, IsFresh, FreshCause, RootCause};
+ghost use Rattle.working_state.specs.Moments.{moment};
+ghost use Rattle.working_state.specs.Seen.{IsLaterFlash};
+
+use allocator::Ring;
+use bad_blocks::BadBlocks;
+use flash_model::{Flash, Geometry};
+use fs_types::Fault;
+use history::History;
+use node_format::empty_directory;
+use node_store::{Nodes, Storage, Store};
+use open_files::OpenFiles;
+use std::alloc::Global;
+
+/// All that a mounted system keeps in memory.
+#[derive(Drop)]
+pub struct State {
+    /// The versions and checkpoints, by the blocks of their roots.
+    pub history: History<u32>,
+    /// What nodes are kept with: the bad and the used blocks, and room for a page and for a node.
+    pub storage: Storage,
+    /// The open files, each a file of the present tree.
+    pub files: OpenFiles,
+    /// Whether a call answered that the power is off; each later one does too.
+    pub is_off: bool,
+}
+
+impl State {
+    /// The working state of a fresh system of at most `limit` kept versions: an empty root is written,
+    /// and is its version of serial 1.
+    ///
+    /// [`Fault::BadGeometry`] where the sizes are out of range, else [`Fault::Invalid`] where `limit`
+    /// is not 2 to 64, else [`Fault::FlashFull`] where an operation failed in each data block,
+    /// [`Fault::ReadOnly`] where it failed in 256, [`Fault::PowerCut`], [`Fault::NoMemory`].
+    pub fn fresh<F: Flash>(alloc: Global, flash: &mut F, limit: u32) -> Result<State, Fault>
+        ensures later { IsLaterFlash (F.device flash.old) (F.device flash.new) }
+        ensures fresh { IfOk result (λ state. IsFresh (F.device flash.old) limit (moment (F.device flash.new) state)) }
+        ensures why { IfErr result (λ fault. FreshCause (F.device flash.old) limit fault (F.device flash.new)) }
+        ensures sizes { (result ≡ Err Fault.BadGeometry) ↔ ¬ IsGeometry (F.device flash.old).geometry }
+        ensures limits { (result ≡ Err Fault.Invalid) ↔ (IsGeometry (F.device flash.old).geometry × ((limit < 2) ⊎ (64 < limit))) }
+    {
+        if !flash.geometry().is_lawful() {
+            return Err(Fault::BadGeometry);
+        }
+        if limit < 2 || 64 < limit {
+            return Err(Fault::Invalid);
+        }
+        State::with_empty_root(alloc, flash, limit)
+    }
+
+    /// The same, where the sizes and the limit are lawful.
+    fn with_empty_root<F: Flash>(alloc: Global, flash: &mut F, limit: u32) -> Result<State, Fault>
+        requires lawful { IsGeometry (F.device flash.old).geometry }
+        requires at_least { 2 ≤ limit }
+        requires at_most { limit ≤ 64 }
+        ensures later { IsLaterFlash (F.device flash.old) (F.device flash.new) }
+        ensures fresh { IfOk result (λ state. IsFresh (F.device flash.old) limit (moment (F.device flash.new) state)) }
+        ensures why { IfErr result (λ fault. FreshCause (F.device flash.old) limit fault (F.device flash.new)) }
+    {
+        let mut storage = unused_storage(alloc, flash.geometry())?;
+        let root = write_root(flash, &mut storage)?;
+        let history = History::new(alloc, limit as usize, root)?;
+        Ok(State {
+            history,
+            storage,
+            files: OpenFiles::new(),
+            is_off: false,
+        })
+    }
+}
+
+/// What nodes are kept with on a flash of these sizes that nothing was written to: no block is bad or
+/// used, and the first data block is the next one.
+fn unused_storage(alloc: Global, geometry: Geometry) -> Result<Storage, Fault>
+    requires { IsGeometry geometry }
+    ensures bad { IfOk result (λ storage. storage.bad ≡ set.empty) }
+    ensures ring { IfOk result (λ storage. storage.ring ≡ unused_ring geometry.blocks) }
+    ensures page_len { IfOk result (λ storage. vec_len storage.page ≡ geometry.page) }
+    ensures node_room { IfOk result (λ storage. block_bytes geometry ≤ vec_capacity storage.node) }
+    ensures err { IfErr result (λ fault. fault ≡ Fault.NoMemory) }
+{
+    Ok(Storage {
+        bad: BadBlocks::new(),
+        ring: Ring::new(alloc, geometry.blocks, geometry.blocks - 1)?,
+        page: vec![in alloc; 0; geometry.page as usize]?,
+        node: Vec::with_capacity(alloc, geometry.block_bytes())?,
+    })
+}
+
+/// Writes an empty directory, and answers its block.
+fn write_root<F: Flash>(flash: &mut F, storage: &mut Storage) -> Result<u32, Fault>
+    requires lawful { IsGeometry (F.device flash.old).geometry }
+    requires ring_blocks { storage.old.ring.blocks ≡ (F.device flash.old).geometry.blocks }
+    requires page_len { vec_len storage.old.page ≡ (F.device flash.old).geometry.page }
+    requires node_room { block_bytes (F.device flash.old).geometry ≤ vec_capacity storage.old.node }
+    ensures written { HasWritten (F.device flash.old) storage.old 1 (F.device flash.new) storage.new }
+    ensures kept { IfOk result (λ root. set.contains storage.new.ring.used root ≡ true) }
+    ensures empty { IfOk result (λ root. entries_of (node_of (F.device flash.new) root) ≡ Some []) }
+    ensures why { IfErr result (λ fault. RootCause (parts.storage (F.device flash.old) storage.old.bad storage.old.ring) fault (parts.storage (F.device flash.new) storage.new.bad storage.new.ring)) }
+{
+    let mut store = Store::new(flash, storage);
+    write_empty(&mut store)
+}
+
+/// Writes an empty directory to a store, and answers its block.
+fn write_empty<F: Flash>(store: &mut Store<'_, F>) -> Result<u32, Fault>
+    requires { IsSound F.device store.old }
+    ensures follows { Follows F.device store.old store.new }
+    ensures written { HasWritten (F.device store.old.flash.now) store.old.storage.now 1 (F.device store.new.flash.now) store.new.storage.now }
+    ensures kept { IfOk result (λ root. set.contains store.new.storage.now.ring.used root ≡ true) }
+    ensures empty { IfOk result (λ root. entries_of (node_of (F.device store.new.flash.now) root) ≡ Some []) }
+    ensures why { IfErr result (λ fault. RootCause (parts.storage (F.device store.old.flash.now) store.old.storage.now.bad store.old.storage.now.ring) fault (parts.storage (F.device store.new.flash.now) store.new.storage.now.bad store.new.storage.now.ring)) }
+{
+    store.write(&empty_directory())
+}

@@ -1,0 +1,156 @@
+//! The calls on trees, on the working state and the flash. Each checks in order: whether an earlier
+//! call answered that the power is off; its own refusals; read-only mode; the greatest serial; and
+//! then it works.
+ghost use Rattle.std.specs.Prelude.{◌≡◌, ℕ, true, false, None, Some, List, Ok, Err, IfOk, IfErr, OnOk, IsErrOf};
+ghost use Rattle.history_machine.specs.History.{present_root};
+ghost use Rattle.fs_types.specs.Names.{is_path};
+ghost use Rattle.history_machine.specs.Machine.{refusal};
+ghost use Rattle.fs_types.specs.declared.calls.Call.{Call};
+ghost use Rattle.fs_types.specs.declared.calls.Reply.{Reply};
+ghost use Rattle.fs_types.specs.declared.faults.Fault.TheVariants.{Damaged};
+ghost use Rattle.node_format.specs.Items.{Item};
+ghost use Rattle.node_store.specs.Faults.{IsReadFault};
+ghost use Rattle.node_store.specs.NodePages.{node_of};
+ghost use Rattle.block_trees.specs.Trees.{entries_of, names_of};
+ghost use Rattle.directory.specs.declared.lookups.Found.TheVariants.{Missing};
+ghost use Rattle.directory.specs.Lookups.{look_up, is_path_fault};
+ghost use Rattle.directory.specs.Trails.{IsTrail};
+ghost use Rattle.working_state.specs.Mounted.{IsMounted, StateStep, KeepsPages};
+ghost use Rattle.working_state.specs.Opening.{IsAnswered};
+ghost use Rattle.working_state.specs.Seen.{seen_on, machine_on};
+ghost use Rattle.working_state.specs.Steps.{replied, empty, is_cut_answer, Refuses, CallStep};
+ghost use Rattle.working_state.specs.Worked.{IsLooked, WorkCause};
+
+use crate::changes::change;
+use crate::lookups::find_path;
+use crate::state::State;
+use directory::{Found, Trail, names};
+use flash_model::Flash;
+use fs_types::{Fault, Name, Path, Sequence, View};
+use node_store::Store;
+use std::alloc::Global;
+use tree_edits::Edit;
+
+impl State {
+    /// The names in a directory of the tree that a view shows.
+    pub fn list<F: Flash>(
+        &mut self,
+        alloc: Global,
+        flash: &mut F,
+        view: &View,
+        path: &Path,
+    ) -> Result<Sequence<(Name, bool)>, Fault>
+        requires { IsMounted (F.device flash.old) self.old }
+        ensures mounted { IsMounted (F.device flash.new) self.new }
+        ensures step { StateStep (F.device flash.old) self.old (Call.List view.now path.now) (replied Reply.Names result) (F.device flash.new) self.new }
+        ensures pages { (p : ℕ) → (F.device flash.new).pages p ≡ (F.device flash.old).pages p }
+    {
+        self.check_power()?;
+        let names = self.list_view(alloc, flash, view, path);
+        self.remember_cut(names)
+    }
+
+    /// The names, where no call answered before that the power is off.
+    fn list_view<F: Flash>(
+        &mut self,
+        alloc: Global,
+        flash: &mut F,
+        view: &View,
+        path: &Path,
+    ) -> Result<Sequence<(Name, bool)>, Fault>
+        requires { IsMounted (F.device flash.old) self.old }
+        ensures looked { IsLooked (F.device flash.old) self.old (F.device flash.new) self.new }
+        ensures step { CallStep (seen_on (F.device flash.old) self.old) (machine_on (F.device flash.old) self.old) false (Call.List view.now path.now) (replied Reply.Names result) (seen_on (F.device flash.new) self.new) (machine_on (F.device flash.new) self.new) (is_cut_answer result) }
+    {
+        let root = self.history.find(view)?;
+        let (found, _trail) = find_path(flash, &mut self.storage, root, path)?;
+        match found {
+            Found::Missing { .. } => Err(Fault::NoEntry),
+            Found::File { .. } => Err(Fault::NotDirectory),
+            Found::Dir { block } => self.names_in(alloc, flash, block),
+        }
+    }
+
+    /// Makes an empty directory.
+    pub fn mkdir<F: Flash>(
+        &mut self,
+        alloc: Global,
+        flash: &mut F,
+        path: &Path,
+    ) -> Result<(), Fault>
+        requires { IsMounted (F.device flash.old) self.old }
+        ensures mounted { IsMounted (F.device flash.new) self.new }
+        ensures step { StateStep (F.device flash.old) self.old (Call.Mkdir path.now) (replied empty result) (F.device flash.new) self.new }
+        ensures pages { KeepsPages (F.device flash.old) self.old.history (F.device flash.new) }
+    {
+        self.check_power()?;
+        let made = self.add_directory(alloc, flash, path);
+        self.remember_cut(made)
+    }
+
+    /// Makes it, where no call answered before that the power is off.
+    fn add_directory<F: Flash>(
+        &mut self,
+        alloc: Global,
+        flash: &mut F,
+        path: &Path,
+    ) -> Result<(), Fault>
+        requires { IsMounted (F.device flash.old) self.old }
+        ensures { IsAnswered (F.device flash.old) self.old (Call.Mkdir path.now) (replied empty result) (F.device flash.new) self.new (is_cut_answer result) }
+    {
+        let root = self.history.root();
+        let trail = self.check_missing(flash, root, path)?;
+        let edit = Edit::MakeDirectory {
+            path,
+            trail: &trail,
+        };
+        change(alloc, flash, &mut self.history, &mut self.storage, edit)
+    }
+
+    /// Refuses the root, a path where something stands, and a new name in a full directory. Answers
+    /// the directories that the path goes through.
+    fn check_missing<F: Flash>(
+        &mut self,
+        flash: &mut F,
+        root: u32,
+        path: &Path,
+    ) -> Result<Trail, Fault>
+        requires mounted { IsMounted (F.device flash.old) self.old }
+        requires present { present_root self.old.history ≡ Some root }
+        ensures looked { IsLooked (F.device flash.old) self.old (F.device flash.new) self.new }
+        ensures lawful { OnOk result (is_path path.now ≡ true) }
+        ensures way { IfOk result (IsTrail (node_of (F.device flash.new)) root path.now) }
+        ensures missing { OnOk result (look_up (node_of (F.device flash.new)) root path.now ≡ Ok (Missing false)) }
+        ensures accepted { OnOk result (refusal (machine_on (F.device flash.old) self.old) (Call.Mkdir path.now) ≡ None) }
+        ensures refused { IfErr result (λ fault. Refuses (seen_on (F.device flash.old) self.old) (machine_on (F.device flash.old) self.old) (Call.Mkdir path.now) fault (seen_on (F.device flash.new) self.new)) }
+    {
+        if path.names().is_empty() {
+            return Err(Fault::Exists);
+        }
+        let (found, trail) = find_path(flash, &mut self.storage, root, path)?;
+        match found {
+            Found::Missing { is_full: false } => Ok(trail),
+            Found::Missing { is_full: true } => Err(Fault::DirectoryFull),
+            Found::File { .. } => Err(Fault::Exists),
+            Found::Dir { .. } => Err(Fault::Exists),
+        }
+    }
+
+    /// The names in the directory of a block.
+    fn names_in<F: Flash>(
+        &mut self,
+        alloc: Global,
+        flash: &mut F,
+        block: u32,
+    ) -> Result<Sequence<(Name, bool)>, Fault>
+        requires { IsMounted (F.device flash.old) self.old }
+        ensures looked { IsLooked (F.device flash.old) self.old (F.device flash.new) self.new }
+        ensures names { IfOk result (λ names. (items : List Item) × (entries_of (node_of (F.device flash.old) block) ≡ Some items) × (names ≡ names_of items)) }
+        ensures damaged { IsErrOf result Damaged → entries_of (node_of (F.device flash.old) block) ≡ None }
+        ensures why { IfErr result (λ fault. is_path_fault fault ≡ false → WorkCause (seen_on (F.device flash.old) self.old) fault (seen_on (F.device flash.new) self.new)) }
+        ensures faults { IfErr result IsReadFault }
+    {
+        let mut store = Store::new(flash, &mut self.storage);
+        names(alloc, &mut store, block)
+    }
+}

@@ -23,12 +23,7 @@ use node_store::Store;
 
 impl State {
     /// What stands at a path of the tree that a view shows.
-    pub fn stat<F: Flash>(
-        &mut self,
-        flash: &mut F,
-        view: &View,
-        path: &Path,
-    ) -> Result<Stat, Fault>
+    pub fn stat<F: Flash>(&mut self, flash: &mut F, view: &View, path: &Path) -> Result<Stat, Fault>
         requires { IsMounted (F.device flash.old) self.old }
         ensures mounted { IsMounted (F.device flash.new) self.new }
         ensures step { StateStep (F.device flash.old) self.old (Call.Stat view.now path.now) (replied Reply.Stat result) (F.device flash.new) self.new }

@@ -50,8 +50,8 @@ edited_names old new from to next n at edit (inr names) =
     absurd (subst (λ (index : Option ℕ). BodyNames index (pointer_of (new to)) next) (directory_no_index (new to) edit.0 edit.1) names)
 
 -- what is below a place with a tree has one, of one name less a path
-pub child_tree : (room : ℕ) (f : Blocks) (depth : ℕ) (at : Place) (name : Name) (place : Place) → child f at name ≡ Some place → HasTree room f at depth → HasTree room f place (depth - 1)
-child_tree room f depth at name place is has path there leads =
+pub child_tree : (capacity : ℕ) (f : Blocks) (depth : ℕ) (at : Place) (name : Name) (place : Place) → child f at name ≡ Some place → HasTree capacity f at depth → HasTree capacity f place (depth - 1)
+child_tree capacity f depth at name place is has path there leads =
     let below = has (name ∷ path) there (ap (option_and_then (λ next. trees.leads f next path)) is ∙ leads) in
     (below.0, omega (arith, below.1))
 
@@ -124,86 +124,86 @@ module _ (old new : Blocks) (kept kept' : ℕ → Bool) (keeps : Keeps kept old 
 
   -- what stands at a path below a place, if there is one
   abbrev below_place : ℕ → Blocks → Option Place → Path → Option Entry
-  below_place room f o path = option_map (entry_at room f) (option_and_then (λ next. leads f next path) o)
+  below_place capacity f o path = option_map (entry_at capacity f) (option_and_then (λ next. leads f next path) o)
 
-  edit_tree : (room depth from to : ℕ) (n : Name) (at : Option Place) → IsHeld old kept (Dir from) → HasTree room old (Dir from) depth → IsDirectoryEdit old new from to n at
-      → (k : Name) (path : Path) → tree room new to (k ∷ path) ≡ cond (same_name n k) (tree_or_nothing room new at path) (tree room old from (k ∷ path))
-  edit_tree room depth from to n at held has edit k path =
-      ap (λ (o : Option Place). below_place room new o path) (edited_child old new from to n k at edit) ∙ on (same_name n k)
+  edit_tree : (capacity depth from to : ℕ) (n : Name) (at : Option Place) → IsHeld old kept (Dir from) → HasTree capacity old (Dir from) depth → IsDirectoryEdit old new from to n at
+      → (k : Name) (path : Path) → tree capacity new to (k ∷ path) ≡ cond (same_name n k) (tree_or_nothing capacity new at path) (tree capacity old from (k ∷ path))
+  edit_tree capacity depth from to n at held has edit k path =
+      ap (λ (o : Option Place). below_place capacity new o path) (edited_child old new from to n k at edit) ∙ on (same_name n k)
     where
-      new_place : (o : Option Place) → below_place room new o path ≡ tree_or_nothing room new o path
+      new_place : (o : Option Place) → below_place capacity new o path ≡ tree_or_nothing capacity new o path
       new_place None = refl
       new_place (Some place) = refl
 
-      old_place : (o : Option Place) → child old (Dir from) k ≡ o → below_place room new o path ≡ below_place room old o path
+      old_place : (o : Option Place) → child old (Dir from) k ≡ o → below_place capacity new o path ≡ below_place capacity old o path
       old_place None is = refl
-      old_place (Some place) is = tree_same old new kept kept' keeps room place (held_child old kept (Dir from) k place is held)
+      old_place (Some place) is = tree_same old new kept kept' keeps capacity place (held_child old kept (Dir from) k place is held)
           (λ p there leads. (has (k ∷ p) there (ap (option_and_then (λ next. trees.leads old next p)) is ∙ leads)).0) path
 
-      on : (test : Bool) → below_place room new (cond test at (child old (Dir from) k)) path ≡ cond test (tree_or_nothing room new at path) (tree room old from (k ∷ path))
+      on : (test : Bool) → below_place capacity new (cond test at (child old (Dir from) k)) path ≡ cond test (tree_or_nothing capacity new at path) (tree capacity old from (k ∷ path))
       on true = new_place at
       on false = old_place (child old (Dir from) k) refl
 
-  path_tree : (room depth : ℕ) (path : Path) (from to : ℕ) (at : Option Place) → IsHeld old kept (Dir from) → HasTree room old (Dir from) depth → IsRewritten old kept' new from to path at
-      → (q : Path) → tree room new to q ≡ graft (tree room old from) path (tree_or_nothing room new at) q
-  path_tree room depth [] from to at held has r q = absurd r
-  path_tree room depth (n ∷ []) from to at held has r [] = refl
-  path_tree room depth (n ∷ []) from to at held has (here, edit) (k ∷ q) = edit_tree room depth from to n at held has edit k q ∙ grafted_one (same_name n k)
+  path_tree : (capacity depth : ℕ) (path : Path) (from to : ℕ) (at : Option Place) → IsHeld old kept (Dir from) → HasTree capacity old (Dir from) depth → IsRewritten old kept' new from to path at
+      → (q : Path) → tree capacity new to q ≡ graft (tree capacity old from) path (tree_or_nothing capacity new at) q
+  path_tree capacity depth [] from to at held has r q = absurd r
+  path_tree capacity depth (n ∷ []) from to at held has r [] = refl
+  path_tree capacity depth (n ∷ []) from to at held has (here, edit) (k ∷ q) = edit_tree capacity depth from to n at held has edit k q ∙ grafted_one (same_name n k)
     where
-      grafted_one : (test : Bool) → cond test (tree_or_nothing room new at q) (tree room old from (k ∷ q)) ≡ grafted_at (tree room old from) (tree_or_nothing room new at) (cond test (Some q) None) (k ∷ q)
+      grafted_one : (test : Bool) → cond test (tree_or_nothing capacity new at q) (tree capacity old from (k ∷ q)) ≡ grafted_at (tree capacity old from) (tree_or_nothing capacity new at) (cond test (Some q) None) (k ∷ q)
       grafted_one true = refl
       grafted_one false = refl
-  path_tree room depth (n ∷ m ∷ path) from to at held has r [] = refl
-  path_tree room depth (n ∷ m ∷ path) from to at held has (under, next, leads, here, edit, rest) (k ∷ q) =
-      edit_tree room depth from to n (Some (Dir next)) held has edit k q
-      ∙ on (same_name n k) refl (path_tree room (depth - 1) (m ∷ path) under next at (held_child old kept (Dir from) n (Dir under) leads held) (child_tree room old depth (Dir from) n (Dir under) leads has) rest q)
+  path_tree capacity depth (n ∷ m ∷ path) from to at held has r [] = refl
+  path_tree capacity depth (n ∷ m ∷ path) from to at held has (under, next, leads, here, edit, rest) (k ∷ q) =
+      edit_tree capacity depth from to n (Some (Dir next)) held has edit k q
+      ∙ on (same_name n k) refl (path_tree capacity (depth - 1) (m ∷ path) under next at (held_child old kept (Dir from) n (Dir under) leads held) (child_tree capacity old depth (Dir from) n (Dir under) leads has) rest q)
     where
-      one_down : (o : Option Path) → tree room old under q ≡ tree room old from (k ∷ q) → grafted_at (tree room old under) (tree_or_nothing room new at) o q ≡ grafted_at (tree room old from) (tree_or_nothing room new at) o (k ∷ q)
+      one_down : (o : Option Path) → tree capacity old under q ≡ tree capacity old from (k ∷ q) → grafted_at (tree capacity old under) (tree_or_nothing capacity new at) o q ≡ grafted_at (tree capacity old from) (tree_or_nothing capacity new at) o (k ∷ q)
       one_down None e = e
       one_down (Some rest) e = refl
 
-      on : (test : Bool) → same_name n k ≡ test → tree room new next q ≡ graft (tree room old under) (m ∷ path) (tree_or_nothing room new at) q
-          → cond test (tree room new next q) (tree room old from (k ∷ q)) ≡ grafted_at (tree room old from) (tree_or_nothing room new at) (cond test (beneath (m ∷ path) q) None) (k ∷ q)
+      on : (test : Bool) → same_name n k ≡ test → tree capacity new next q ≡ graft (tree capacity old under) (m ∷ path) (tree_or_nothing capacity new at) q
+          → cond test (tree capacity new next q) (tree capacity old from (k ∷ q)) ≡ grafted_at (tree capacity old from) (tree_or_nothing capacity new at) (cond test (beneath (m ∷ path) q) None) (k ∷ q)
       on true same again =
           let leads_k : child old (Dir from) k ≡ Some (Dir under) = ap (child old (Dir from)) (sym (same_name-is n k same)) ∙ leads in
-          again ∙ one_down (beneath (m ∷ path) q) (sym (ap (λ (o : Option Place). below_place room old o q) leads_k))
+          again ∙ one_down (beneath (m ∷ path) q) (sym (ap (λ (o : Option Place). below_place capacity old o q) leads_k))
       on false differs again = refl
 
-  edit_shape : (room depth from to : ℕ) (n : Name) (at : Option Place) → 1 ≤ depth → IsHeld old kept (Dir from) → HasTree room old (Dir from) depth → IsDirectoryEdit old new from to n at
-      → HasTreeOrNothing room new at (depth - 1) → HasTree room new (Dir to) depth
-  edit_shape room depth from to n at deep held has edit below [] there is =
-      (subst (IsWhole room new) (place_is (Dir to) there is) (edit.0, edit.1), omega arith)
-  edit_shape room depth from to n at deep held has edit below (k ∷ path) there is =
+  edit_shape : (capacity depth from to : ℕ) (n : Name) (at : Option Place) → 1 ≤ depth → IsHeld old kept (Dir from) → HasTree capacity old (Dir from) depth → IsDirectoryEdit old new from to n at
+      → HasTreeOrNothing capacity new at (depth - 1) → HasTree capacity new (Dir to) depth
+  edit_shape capacity depth from to n at deep held has edit below [] there is =
+      (subst (IsWhole capacity new) (place_is (Dir to) there is) (edit.0, edit.1), omega arith)
+  edit_shape capacity depth from to n at deep held has edit below (k ∷ path) there is =
       let found = on (same_name n k) (sym (ap (option_and_then (λ next. trees.leads new next path)) (edited_child old new from to n k at edit)) ∙ is) in
       (found.0, omega (arith, found.1))
     where
-      new_place : (o : Option Place) → HasTreeOrNothing room new o (depth - 1) → option_and_then (λ next. trees.leads new next path) o ≡ Some there → IsWhole room new there × (length path ≤ depth - 1)
+      new_place : (o : Option Place) → HasTreeOrNothing capacity new o (depth - 1) → option_and_then (λ next. trees.leads new next path) o ≡ Some there → IsWhole capacity new there × (length path ≤ depth - 1)
       new_place None tree is = absurd cc
       new_place (Some next) tree is = tree path there is
 
-      old_place : (o : Option Place) → child old (Dir from) k ≡ o → option_and_then (λ next. trees.leads new next path) o ≡ Some there → IsWhole room new there × (length path ≤ depth - 1)
+      old_place : (o : Option Place) → child old (Dir from) k ≡ o → option_and_then (λ next. trees.leads new next path) o ≡ Some there → IsWhole capacity new there × (length path ≤ depth - 1)
       old_place None leads is = absurd cc
       old_place (Some next) leads is =
-          (frame_law old new kept kept' keeps).shape room (depth - 1) next (held_child old kept (Dir from) k next leads held) (child_tree room old depth (Dir from) k next leads has) path there is
+          (frame_law old new kept kept' keeps).shape capacity (depth - 1) next (held_child old kept (Dir from) k next leads held) (child_tree capacity old depth (Dir from) k next leads has) path there is
 
-      on : (test : Bool) → option_and_then (λ next. trees.leads new next path) (cond test at (child old (Dir from) k)) ≡ Some there → IsWhole room new there × (length path ≤ depth - 1)
+      on : (test : Bool) → option_and_then (λ next. trees.leads new next path) (cond test at (child old (Dir from) k)) ≡ Some there → IsWhole capacity new there × (length path ≤ depth - 1)
       on true is = new_place at below is
       on false is = old_place (child old (Dir from) k) refl is
 
-  path_shape : (room depth : ℕ) (path : Path) (from to : ℕ) (at : Option Place) → IsHeld old kept (Dir from) → HasTree room old (Dir from) depth → IsRewritten old kept' new from to path at
-      → length path ≤ depth → HasTreeOrNothing room new at (depth - length path) → HasTree room new (Dir to) depth
-  path_shape room depth [] from to at held has r deep below = absurd r
-  path_shape room depth (n ∷ []) from to at held has (here, edit) deep below = edit_shape room depth from to n at deep held has edit below
-  path_shape room depth (n ∷ m ∷ path) from to at held has (under, next, leads, here, edit, rest) deep below =
+  path_shape : (capacity depth : ℕ) (path : Path) (from to : ℕ) (at : Option Place) → IsHeld old kept (Dir from) → HasTree capacity old (Dir from) depth → IsRewritten old kept' new from to path at
+      → length path ≤ depth → HasTreeOrNothing capacity new at (depth - length path) → HasTree capacity new (Dir to) depth
+  path_shape capacity depth [] from to at held has r deep below = absurd r
+  path_shape capacity depth (n ∷ []) from to at held has (here, edit) deep below = edit_shape capacity depth from to n at deep held has edit below
+  path_shape capacity depth (n ∷ m ∷ path) from to at held has (under, next, leads, here, edit, rest) deep below =
       let left : depth - length (n ∷ m ∷ path) ≡ (depth - 1) - length (m ∷ path) = omega arith in
-      edit_shape room depth from to n (Some (Dir next)) (omega arith) held has edit
-      (path_shape room (depth - 1) (m ∷ path) under next at (held_child old kept (Dir from) n (Dir under) leads held) (child_tree room old depth (Dir from) n (Dir under) leads has) rest (omega arith)
-      (subst (HasTreeOrNothing room new at) left below))
+      edit_shape capacity depth from to n (Some (Dir next)) (omega arith) held has edit
+      (path_shape capacity (depth - 1) (m ∷ path) under next at (held_child old kept (Dir from) n (Dir under) leads held) (child_tree capacity old depth (Dir from) n (Dir under) leads has) rest (omega arith)
+      (subst (HasTreeOrNothing capacity new at) left below))
 
 pub edit_law : AllEdits
 edit_law old new kept kept' from to path at keeps held rewritten = record {
-  grafted = λ room depth has i q. path_tree old new kept kept' keeps room depth path from to at held has rewritten q i;
-  shape = λ room depth has deep below. path_shape old new kept kept' keeps room depth path from to at held has rewritten deep below;
+  grafted = λ capacity depth has i q. path_tree old new kept kept' keeps capacity depth path from to at held has rewritten q i;
+  shape = λ capacity depth has deep below. path_shape old new kept kept' keeps capacity depth path from to at held has rewritten deep below;
   held = path_held old new kept kept' keeps path from to at held rewritten;
   reached = λ fresh block. path_reached old new kept kept' keeps path from to at held rewritten fresh block;
 }
@@ -211,37 +211,37 @@ edit_law old new kept kept' from to path at keeps held rewritten = record {
 -- ---- a new empty directory
 
 -- nothing stands below a path at which nothing stands
-nothing_below : (room : ℕ) (f : Blocks) (path : Path) (at : Place) → tree_at room f at path ≡ None → (n : Name) (q : Path) → tree_at room f at (path ++ n ∷ q) ≡ None
-nothing_below room f [] at e n q = absurd cc
-nothing_below room f (k ∷ path) at e n q = on (child f at k) e (nothing_below room f path)
+nothing_below : (capacity : ℕ) (f : Blocks) (path : Path) (at : Place) → tree_at capacity f at path ≡ None → (n : Name) (q : Path) → tree_at capacity f at (path ++ n ∷ q) ≡ None
+nothing_below capacity f [] at e n q = absurd cc
+nothing_below capacity f (k ∷ path) at e n q = on (child f at k) e (nothing_below capacity f path)
   where
-    on : (o : Option Place) → option_map (entry_at room f) (option_and_then (λ next. leads f next path) o) ≡ None
-        → ((next : Place) → tree_at room f next path ≡ None → (n : Name) (q : Path) → tree_at room f next (path ++ n ∷ q) ≡ None)
-        → option_map (entry_at room f) (option_and_then (λ next. leads f next (path ++ n ∷ q)) o) ≡ None
+    on : (o : Option Place) → option_map (entry_at capacity f) (option_and_then (λ next. leads f next path) o) ≡ None
+        → ((next : Place) → tree_at capacity f next path ≡ None → (n : Name) (q : Path) → tree_at capacity f next (path ++ n ∷ q) ≡ None)
+        → option_map (entry_at capacity f) (option_and_then (λ next. leads f next (path ++ n ∷ q)) o) ≡ None
     on None e again = refl
     on (Some next) e again = again next e n q
 
 empty_child : (f : Blocks) (block : ℕ) → entries_of (f block) ≡ Some [] → (n : Name) → child f (Dir block) n ≡ None
 empty_child f block is n = ap (λ (found : Option (List Item)). named (unwrap_or found []) n) is
 
-empty_tree : (room : ℕ) (f : Blocks) (block : ℕ) → entries_of (f block) ≡ Some [] → (q : Path) → tree room f block q ≡ leaf Entry.Dir q
-empty_tree room f block is [] = refl
-empty_tree room f block is (n ∷ q) = ap (λ (o : Option Place). option_map (entry_at room f) (option_and_then (λ next. leads f next q) o)) (empty_child f block is n)
+empty_tree : (capacity : ℕ) (f : Blocks) (block : ℕ) → entries_of (f block) ≡ Some [] → (q : Path) → tree capacity f block q ≡ leaf Entry.Dir q
+empty_tree capacity f block is [] = refl
+empty_tree capacity f block is (n ∷ q) = ap (λ (o : Option Place). option_map (entry_at capacity f) (option_and_then (λ next. leads f next q) o)) (empty_child f block is n)
 
-empty_shape : (room : ℕ) (f : Blocks) (block depth : ℕ) → entries_of (f block) ≡ Some [] → HasTree room f (Dir block) depth
-empty_shape room f block depth is [] there e = (subst (IsWhole room f) (place_is (Dir block) there e) ([], is), omega arith)
-empty_shape room f block depth is (n ∷ q) there e =
+empty_shape : (capacity : ℕ) (f : Blocks) (block depth : ℕ) → entries_of (f block) ≡ Some [] → HasTree capacity f (Dir block) depth
+empty_shape capacity f block depth is [] there e = (subst (IsWhole capacity f) (place_is (Dir block) there e) ([], is), omega arith)
+empty_shape capacity f block depth is (n ∷ q) there e =
     let none : None ≡ Some there = sym (ap (option_and_then (λ next. leads f next q)) (empty_child f block is n)) ∙ e in
     absurd cc
 
 -- a new empty directory where nothing stood
 pub mkdir_law : MkdirLaw
-mkdir_law room old new kept kept' from to block path keeps held root free deep is rewritten =
+mkdir_law capacity old new kept kept' from to block path keeps held root free deep is rewritten =
     let law = edit_law old new kept kept' from to path (Some (Dir block)) keeps held rewritten in
-    let whole : IsRoot room new to = law.shape room 16 root deep (empty_shape room new block (16 - length path) is) in
-    let grafted : tree room new to ≡ graft (tree room old from) path (leaf Entry.Dir) =
-    law.grafted room 16 root ∙ ap (graft (tree room old from) path) (λ i q. empty_tree room new block is q i) in
-    let placed : plain.put (tree room old from) path Entry.Dir ≡ graft (tree room old from) path (leaf Entry.Dir) = graft_law.put (tree room old from) path Entry.Dir (nothing_below room old path (Dir from) free) in
-    let all : get (root_tree room new to) ≡ get (put (root_tree room old from) path Entry.Dir) =
-    (map_law room new to whole).same ∙ grafted ∙ sym placed ∙ ap (λ (t : Contents). plain.put t path Entry.Dir) (sym (map_law room old from root).same) ∙ sym (contents_law.put (root_tree room old from) path Entry.Dir) in
-    (whole, same_tree (root_tree room new to) (put (root_tree room old from) path Entry.Dir) (λ q i. all i q))
+    let whole : IsRoot capacity new to = law.shape capacity 16 root deep (empty_shape capacity new block (16 - length path) is) in
+    let grafted : tree capacity new to ≡ graft (tree capacity old from) path (leaf Entry.Dir) =
+    law.grafted capacity 16 root ∙ ap (graft (tree capacity old from) path) (λ i q. empty_tree capacity new block is q i) in
+    let placed : plain.put (tree capacity old from) path Entry.Dir ≡ graft (tree capacity old from) path (leaf Entry.Dir) = graft_law.put (tree capacity old from) path Entry.Dir (nothing_below capacity old path (Dir from) free) in
+    let all : get (root_tree capacity new to) ≡ get (put (root_tree capacity old from) path Entry.Dir) =
+    (map_law capacity new to whole).same ∙ grafted ∙ sym placed ∙ ap (λ (t : Contents). plain.put t path Entry.Dir) (sym (map_law capacity old from root).same) ∙ sym (contents_law.put (root_tree capacity old from) path Entry.Dir) in
+    (whole, same_tree (root_tree capacity new to) (put (root_tree capacity old from) path Entry.Dir) (λ q i. all i q))

@@ -41,52 +41,52 @@ module _ (old new : Blocks) (kept kept' : ℕ → Bool) (keeps : Keeps kept old 
 
   -- ---- bodies
 
-  data_same : (room i block : ℕ) → IsChain room old i block → Held block → data_to new i block ≡ data_to old i block
-  data_same room zero block chain held = ap data_of (same_node block held)
-  data_same room (suc i) block chain held =
+  data_same : (capacity i block : ℕ) → IsChain capacity old i block → Held block → data_to new i block ≡ data_to old i block
+  data_same capacity zero block chain held = ap data_of (same_node block held)
+  data_same capacity (suc i) block chain held =
       ap (λ (node : Option (List ℕ)). data_to new i (pointer_of node 0) ++ data_of node) (same_node block held)
-      ∙ ap (λ (bytes : List ℕ). bytes ++ data_of (old block)) (data_same room i (pointer_of (old block) 0) chain.2 (held_before i block chain.0 held))
+      ∙ ap (λ (bytes : List ℕ). bytes ++ data_of (old block)) (data_same capacity i (pointer_of (old block) 0) chain.2 (held_before i block chain.0 held))
 
-  chain_same : (room i block : ℕ) → IsChain room old i block → Held block → IsChain room new i block
-  chain_same room zero block chain held = ap index_of (same_node block held) ∙ chain
-  chain_same room (suc i) block chain held =
+  chain_same : (capacity i block : ℕ) → IsChain capacity old i block → Held block → IsChain capacity new i block
+  chain_same capacity zero block chain held = ap index_of (same_node block held) ∙ chain
+  chain_same capacity (suc i) block chain held =
       let before = held_before i block chain.0 held in
-      subst (λ (node : Option (List ℕ)). (index_of node ≡ Some (suc i)) × (length (data_of (new (pointer_of node 0))) ≡ room) × IsChain room new i (pointer_of node 0)) (sym (same_node block held))
-      (chain.0, ap (λ (node : Option (List ℕ)). length (data_of node)) (same_node (pointer_of (old block) 0) before) ∙ chain.1, chain_same room i (pointer_of (old block) 0) chain.2 before)
+      subst (λ (node : Option (List ℕ)). (index_of node ≡ Some (suc i)) × (length (data_of (new (pointer_of node 0))) ≡ capacity) × IsChain capacity new i (pointer_of node 0)) (sym (same_node block held))
+      (chain.0, ap (λ (node : Option (List ℕ)). length (data_of node)) (same_node (pointer_of (old block) 0) before) ∙ chain.1, chain_same capacity i (pointer_of (old block) 0) chain.2 before)
 
-  back_same : (room i n block : ℕ) → n ≤ i → IsChain room old i block → Held block → back new block n ≡ back old block n
-  back_same room i zero block le chain held = refl
-  back_same room zero (suc n) block le chain held = absurd (omega arith)
-  back_same room (suc i) (suc n) block le chain held =
+  back_same : (capacity i n block : ℕ) → n ≤ i → IsChain capacity old i block → Held block → back new block n ≡ back old block n
+  back_same capacity i zero block le chain held = refl
+  back_same capacity zero (suc n) block le chain held = absurd (omega arith)
+  back_same capacity (suc i) (suc n) block le chain held =
       ap (λ (node : Option (List ℕ)). back new (pointer_of node 0) n) (same_node block held)
-      ∙ back_same room i n (pointer_of (old block) 0) (omega arith) chain.2 (held_before i block chain.0 held)
+      ∙ back_same capacity i n (pointer_of (old block) 0) (omega arith) chain.2 (held_before i block chain.0 held)
 
-  linked_same : (room i block : ℕ) → IsChain room old i block → Held block → IsLinked old i block → IsLinked new i block
-  linked_same room zero block chain held linked = tt
-  linked_same room (suc i) block chain held linked =
+  linked_same : (capacity i block : ℕ) → IsChain capacity old i block → Held block → IsLinked old i block → IsLinked new i block
+  linked_same capacity zero block chain held linked = tt
+  linked_same capacity (suc i) block chain held linked =
       subst (λ (node : Option (List ℕ)). ((x : ℕ) → Divides x (suc i) → pointer_of node x ≡ back new block (2 ^ x)) × IsLinked new i (pointer_of node 0)) (sym (same_node block held)) (
-        (λ x divides. linked.0 x divides ∙ sym (back_same room (suc i) (2 ^ x) block (divides_le divides.0 (2 ^ x) i divides.1) chain held)),
-        linked_same room i (pointer_of (old block) 0) chain.2 (held_before i block chain.0 held) linked.1,
+        (λ x divides. linked.0 x divides ∙ sym (back_same capacity (suc i) (2 ^ x) block (divides_le divides.0 (2 ^ x) i divides.1) chain held)),
+        linked_same capacity i (pointer_of (old block) 0) chain.2 (held_before i block chain.0 held) linked.1,
       )
 
-  body_same : (room head size : ℕ) → IsBody room old head size → IsHeld old kept (File head size) → body room new head size ≡ body room old head size
-  body_same room head zero is held = refl
-  body_same room head (suc n) is held = ap (take (suc n)) (data_same room (head_index room (suc n)) head is.0 (held head (omega arith, refl)))
+  body_same : (capacity head size : ℕ) → IsBody capacity old head size → IsHeld old kept (File head size) → body capacity new head size ≡ body capacity old head size
+  body_same capacity head zero is held = refl
+  body_same capacity head (suc n) is held = ap (take (suc n)) (data_same capacity (head_index capacity (suc n)) head is.0 (held head (omega arith, refl)))
 
   -- ---- places
 
-  whole_same : (room : ℕ) (at : Place) → IsHeld old kept at → IsWhole room old at → IsWhole room new at
-  whole_same room (Dir block) held (items, is) = (items, ap entries_of (same_node block (held block refl)) ∙ is)
-  whole_same room (File head zero) held is = is
-  whole_same room (File head (suc n)) held is =
+  whole_same : (capacity : ℕ) (at : Place) → IsHeld old kept at → IsWhole capacity old at → IsWhole capacity new at
+  whole_same capacity (Dir block) held (items, is) = (items, ap entries_of (same_node block (held block refl)) ∙ is)
+  whole_same capacity (File head zero) held is = is
+  whole_same capacity (File head (suc n)) held is =
       let below = held head (omega arith, refl) in
-      let i = head_index room (suc n) in
-      let long : suc n ≤ length (data_to new i head) = omega (arith, is.1, ap length (data_same room i head is.0 below)) in
-      (chain_same room i head is.0 below, long, linked_same room i head is.0 below is.2)
+      let i = head_index capacity (suc n) in
+      let long : suc n ≤ length (data_to new i head) = omega (arith, is.1, ap length (data_same capacity i head is.0 below)) in
+      (chain_same capacity i head is.0 below, long, linked_same capacity i head is.0 below is.2)
 
-  entry_same : (room : ℕ) (at : Place) → IsHeld old kept at → IsWhole room old at → entry_at room new at ≡ entry_at room old at
-  entry_same room (Dir block) held is = refl
-  entry_same room (File head size) held is = ap Entry.File (body_same room head size is held)
+  entry_same : (capacity : ℕ) (at : Place) → IsHeld old kept at → IsWhole capacity old at → entry_at capacity new at ≡ entry_at capacity old at
+  entry_same capacity (Dir block) held is = refl
+  entry_same capacity (File head size) held is = ap Entry.File (body_same capacity head size is held)
 
   child_same : (at : Place) (name : Name) → IsHeld old kept at → child new at name ≡ child old at name
   child_same (Dir block) name held = ap (λ (node : Option (List ℕ)). named (items_of node) name) (same_node block (held block refl))
@@ -104,20 +104,20 @@ module _ (old new : Blocks) (kept kept' : ℕ → Bool) (keeps : Keeps kept old 
 
   -- all that paths lead to from a place is whole
   abbrev Whole : ℕ → Place → Type 0
-  Whole room at = (path : Path) (place : Place) → leads old at path ≡ Some place → IsWhole room old place
+  Whole capacity at = (path : Path) (place : Place) → leads old at path ≡ Some place → IsWhole capacity old place
 
-  pub tree_same : (room : ℕ) (at : Place) → IsHeld old kept at → Whole room at → (path : Path) → tree_at room new at path ≡ tree_at room old at path
-  tree_same room at held whole path = ap (option_map (entry_at room new)) (leads_same path at held) ∙ on (leads old at path) refl
+  pub tree_same : (capacity : ℕ) (at : Place) → IsHeld old kept at → Whole capacity at → (path : Path) → tree_at capacity new at path ≡ tree_at capacity old at path
+  tree_same capacity at held whole path = ap (option_map (entry_at capacity new)) (leads_same path at held) ∙ on (leads old at path) refl
     where
-      on : (o : Option Place) → leads old at path ≡ o → option_map (entry_at room new) o ≡ option_map (entry_at room old) o
+      on : (o : Option Place) → leads old at path ≡ o → option_map (entry_at capacity new) o ≡ option_map (entry_at capacity old) o
       on None is = refl
-      on (Some place) is = ap Some (entry_same room place (held_leads old kept path at place is held) (whole path place is))
+      on (Some place) is = ap Some (entry_same capacity place (held_leads old kept path at place is held) (whole path place is))
 
-  shape_same : (room depth : ℕ) (at : Place) → IsHeld old kept at → HasTree room old at depth → HasTree room new at depth
-  shape_same room depth at held has path place leads =
+  shape_same : (capacity depth : ℕ) (at : Place) → IsHeld old kept at → HasTree capacity old at depth → HasTree capacity new at depth
+  shape_same capacity depth at held has path place leads =
       let before = sym (leads_same path at held) ∙ leads in
       let was = has path place before in
-      (whole_same room place (held_leads old kept path at place before held) was.0, was.1)
+      (whole_same capacity place (held_leads old kept path at place before held) was.0, was.1)
 
   -- ---- what is reached
 
@@ -132,27 +132,27 @@ module _ (old new : Blocks) (kept kept' : ℕ → Bool) (keeps : Keeps kept old 
 
   -- ---- finite maps
 
-  whole_item : (room block : ℕ) (item : Item) → Contains (items_of (old block)) item → Whole room (Dir block) → Whole room item.place
-  whole_item room block item inside whole path place is =
+  whole_item : (capacity block : ℕ) (item : Item) → Contains (items_of (old block)) item → Whole capacity (Dir block) → Whole capacity item.place
+  whole_item capacity block item inside whole path place is =
       whole (item.name ∷ path) place (ap (option_and_then (λ next. leads old next path)) (entry_named (old block) item inside) ∙ is)
 
-  listed_same : (room depth : ℕ) (at : Place) → IsHeld old kept at → Whole room at → listed room new depth at ≡ listed room old depth at
-  listed_same room depth (File head size) held whole = ap (λ (bytes : List ℕ). ([], Entry.File bytes) ∷ []) (body_same room head size (whole [] (File head size) refl) held)
-  listed_same room zero (Dir block) held whole = refl
-  listed_same room (suc depth) (Dir block) held whole =
-      ap (λ (node : Option (List ℕ)). ([], Entry.Dir) ∷ flat_map (λ item. map (λ e. (item.name ∷ e.0, e.1)) (listed room new depth item.place)) (items_of node)) (same_node block (held block refl))
+  listed_same : (capacity depth : ℕ) (at : Place) → IsHeld old kept at → Whole capacity at → listed capacity new depth at ≡ listed capacity old depth at
+  listed_same capacity depth (File head size) held whole = ap (λ (bytes : List ℕ). ([], Entry.File bytes) ∷ []) (body_same capacity head size (whole [] (File head size) refl) held)
+  listed_same capacity zero (Dir block) held whole = refl
+  listed_same capacity (suc depth) (Dir block) held whole =
+      ap (λ (node : Option (List ℕ)). ([], Entry.Dir) ∷ flat_map (λ item. map (λ e. (item.name ∷ e.0, e.1)) (listed capacity new depth item.place)) (items_of node)) (same_node block (held block refl))
       ∙ ap (λ (es : List (Path × Entry)). ([], Entry.Dir) ∷ es)
-      (flat_map-same (λ item. map (λ e. (item.name ∷ e.0, e.1)) (listed room new depth item.place)) (λ item. map (λ e. (item.name ∷ e.0, e.1)) (listed room old depth item.place)) (items_of (old block))
+      (flat_map-same (λ item. map (λ e. (item.name ∷ e.0, e.1)) (listed capacity new depth item.place)) (λ item. map (λ e. (item.name ∷ e.0, e.1)) (listed capacity old depth item.place)) (items_of (old block))
       (λ item inside. ap (map (λ e. (item.name ∷ e.0, e.1)))
-      (listed_same room depth item.place (held_child old kept (Dir block) item.name item.place (entry_named (old block) item inside) held) (whole_item room block item inside whole))))
+      (listed_same capacity depth item.place (held_child old kept (Dir block) item.name item.place (entry_named (old block) item inside) held) (whole_item capacity block item inside whole))))
 
   frame : FrameLaw old new kept kept'
   frame = record {
     held = held_same;
     reached = λ root block held. reached_before root (held root refl);
     shape = shape_same;
-    same = λ room depth at held has i path. tree_same room at held (λ p place is. (has p place is).0) path i;
-    roots = λ room root held is. ap from_entries (listed_same room 16 (Dir root) held (λ p place leads. (is p place leads).0));
+    same = λ capacity depth at held has i path. tree_same capacity at held (λ p place is. (has p place is).0) path i;
+    roots = λ capacity root held is. ap from_entries (listed_same capacity 16 (Dir root) held (λ p place leads. (is p place leads).0));
   }
 
 pub frame_law : AllFrames

@@ -71,37 +71,37 @@ module _ (old new : Blocks) (kept kept' : ℕ → Bool) (keeps : Keeps kept old 
       on (inl own) = subst P own here
       on (inr (next, names, reached)) = named_next next names reached
 
-  level_shape : (room depth from to : ℕ) (items : List Item) → 1 ≤ depth → IsHeld old kept (Dir from) → HasTree room old (Dir from) depth → entries_of (new to) ≡ Some items
-      → OldOr from to (λ place. HasTree room new place (depth - 1)) → HasTree room new (Dir to) depth
-  level_shape room depth from to items deep held has spelled each [] there is = (subst (IsWhole room new) (place_is (Dir to) there is) (items, spelled), omega arith)
-  level_shape room depth from to items deep held has spelled each (k ∷ path) there is = on (child new (Dir to) k) refl is
+  level_shape : (capacity depth from to : ℕ) (items : List Item) → 1 ≤ depth → IsHeld old kept (Dir from) → HasTree capacity old (Dir from) depth → entries_of (new to) ≡ Some items
+      → OldOr from to (λ place. HasTree capacity new place (depth - 1)) → HasTree capacity new (Dir to) depth
+  level_shape capacity depth from to items deep held has spelled each [] there is = (subst (IsWhole capacity new) (place_is (Dir to) there is) (items, spelled), omega arith)
+  level_shape capacity depth from to items deep held has spelled each (k ∷ path) there is = on (child new (Dir to) k) refl is
     where
-      below : (place : Place) → (child old (Dir from) k ≡ Some place) ⊎ HasTree room new place (depth - 1) → HasTree room new place (depth - 1)
-      below place (inl leads) = (frame_law old new kept kept' keeps).shape room (depth - 1) place (held_child old kept (Dir from) k place leads held) (child_tree room old depth (Dir from) k place leads has)
+      below : (place : Place) → (child old (Dir from) k ≡ Some place) ⊎ HasTree capacity new place (depth - 1) → HasTree capacity new place (depth - 1)
+      below place (inl leads) = (frame_law old new kept kept' keeps).shape capacity (depth - 1) place (held_child old kept (Dir from) k place leads held) (child_tree capacity old depth (Dir from) k place leads has)
       below place (inr tree) = tree
 
-      on : (o : Option Place) → child new (Dir to) k ≡ o → option_and_then (λ next. trees.leads new next path) o ≡ Some there → IsWhole room new there × (length (k ∷ path) ≤ depth)
+      on : (o : Option Place) → child new (Dir to) k ≡ o → option_and_then (λ next. trees.leads new next path) o ≡ Some there → IsWhole capacity new there × (length (k ∷ path) ≤ depth)
       on None leads is = absurd cc
       on (Some place) leads is = let found = below place (each k place leads) path there is in (found.0, omega (arith, found.1))
 
   -- what stands at a path below a place, if there is one
   abbrev below_place : ℕ → Blocks → Option Place → Path → Option Entry
-  below_place room f o path = option_map (entry_at room f) (option_and_then (λ next. leads f next path) o)
+  below_place capacity f o path = option_map (entry_at capacity f) (option_and_then (λ next. leads f next path) o)
 
-  new_tree : (room to : ℕ) (k : Name) (path : Path) (at : Option Place) → child new (Dir to) k ≡ at → tree room new to (k ∷ path) ≡ tree_or_nothing room new at path
-  new_tree room to k path at is = ap (λ (o : Option Place). below_place room new o path) is ∙ on at
+  new_tree : (capacity to : ℕ) (k : Name) (path : Path) (at : Option Place) → child new (Dir to) k ≡ at → tree capacity new to (k ∷ path) ≡ tree_or_nothing capacity new at path
+  new_tree capacity to k path at is = ap (λ (o : Option Place). below_place capacity new o path) is ∙ on at
     where
-      on : (o : Option Place) → below_place room new o path ≡ tree_or_nothing room new o path
+      on : (o : Option Place) → below_place capacity new o path ≡ tree_or_nothing capacity new o path
       on None = refl
       on (Some place) = refl
 
-  old_tree : (room depth from to : ℕ) (k : Name) (path : Path) → IsHeld old kept (Dir from) → HasTree room old (Dir from) depth → child new (Dir to) k ≡ child old (Dir from) k
-      → tree room new to (k ∷ path) ≡ tree room old from (k ∷ path)
-  old_tree room depth from to k path held has is = ap (λ (o : Option Place). below_place room new o path) is ∙ on (child old (Dir from) k) refl
+  old_tree : (capacity depth from to : ℕ) (k : Name) (path : Path) → IsHeld old kept (Dir from) → HasTree capacity old (Dir from) depth → child new (Dir to) k ≡ child old (Dir from) k
+      → tree capacity new to (k ∷ path) ≡ tree capacity old from (k ∷ path)
+  old_tree capacity depth from to k path held has is = ap (λ (o : Option Place). below_place capacity new o path) is ∙ on (child old (Dir from) k) refl
     where
-      on : (o : Option Place) → child old (Dir from) k ≡ o → below_place room new o path ≡ below_place room old o path
+      on : (o : Option Place) → child old (Dir from) k ≡ o → below_place capacity new o path ≡ below_place capacity old o path
       on None leads = refl
-      on (Some place) leads = tree_same old new kept kept' keeps room place (held_child old kept (Dir from) k place leads held)
+      on (Some place) leads = tree_same old new kept kept' keeps capacity place (held_child old kept (Dir from) k place leads held)
           (λ p there is. (has (k ∷ p) there (ap (option_and_then (λ next. trees.leads old next p)) leads ∙ is)).0) path
 
   -- ---- a branch
@@ -125,25 +125,25 @@ module _ (old new : Blocks) (kept kept' : ℕ → Bool) (keeps : Keeps kept old 
       on b (inr (inl not_kept)) = free b not_kept
       on b (inr (inr (root, place, is, names, reached))) = below place is root names b reached
 
-  branch_shape : (room depth from : ℕ) (n : Name) (p : Path) (at now : Option Place) → IsHeld old kept (Dir from) → HasTree room old (Dir from) depth → length (n ∷ p) ≤ depth
-      → IsBranch old new kept kept' from n p at now → HasTreeOrNothing room new at (depth - length (n ∷ p)) → HasTreeOrNothing room new now (depth - 1)
-  branch_shape room depth from n [] at now held has deep is below = subst (λ (o : Option Place). HasTreeOrNothing room new o (depth - 1)) (sym is) below
-  branch_shape room depth from n (m ∷ p) at now held has deep (low, next, goes, is, rewritten, fresh) below =
+  branch_shape : (capacity depth from : ℕ) (n : Name) (p : Path) (at now : Option Place) → IsHeld old kept (Dir from) → HasTree capacity old (Dir from) depth → length (n ∷ p) ≤ depth
+      → IsBranch old new kept kept' from n p at now → HasTreeOrNothing capacity new at (depth - length (n ∷ p)) → HasTreeOrNothing capacity new now (depth - 1)
+  branch_shape capacity depth from n [] at now held has deep is below = subst (λ (o : Option Place). HasTreeOrNothing capacity new o (depth - 1)) (sym is) below
+  branch_shape capacity depth from n (m ∷ p) at now held has deep (low, next, goes, is, rewritten, fresh) below =
       let left : depth - length (n ∷ m ∷ p) ≡ (depth - 1) - length (m ∷ p) = omega arith in
       let law = edit_law old new kept kept' low next (m ∷ p) at keeps (held_child old kept (Dir from) n (Dir low) goes held) rewritten in
-      subst (λ (o : Option Place). HasTreeOrNothing room new o (depth - 1)) (sym is)
-      (law.shape room (depth - 1) (child_tree room old depth (Dir from) n (Dir low) goes has) (omega arith) (subst (HasTreeOrNothing room new at) left below))
+      subst (λ (o : Option Place). HasTreeOrNothing capacity new o (depth - 1)) (sym is)
+      (law.shape capacity (depth - 1) (child_tree capacity old depth (Dir from) n (Dir low) goes has) (omega arith) (subst (HasTreeOrNothing capacity new at) left below))
 
-  branch_tree : (room depth from : ℕ) (n : Name) (p : Path) (at now : Option Place) → IsHeld old kept (Dir from) → HasTree room old (Dir from) depth → IsBranch old new kept kept' from n p at now
-      → (q : Path) → tree_or_nothing room new now q ≡ graft (λ r. tree room old from (n ∷ r)) p (tree_or_nothing room new at) q
-  branch_tree room depth from n [] at now held has is q = ap (λ (o : Option Place). tree_or_nothing room new o q) is
-  branch_tree room depth from n (m ∷ p) at now held has (low, next, goes, is, rewritten, fresh) q =
+  branch_tree : (capacity depth from : ℕ) (n : Name) (p : Path) (at now : Option Place) → IsHeld old kept (Dir from) → HasTree capacity old (Dir from) depth → IsBranch old new kept kept' from n p at now
+      → (q : Path) → tree_or_nothing capacity new now q ≡ graft (λ r. tree capacity old from (n ∷ r)) p (tree_or_nothing capacity new at) q
+  branch_tree capacity depth from n [] at now held has is q = ap (λ (o : Option Place). tree_or_nothing capacity new o q) is
+  branch_tree capacity depth from n (m ∷ p) at now held has (low, next, goes, is, rewritten, fresh) q =
       let law = edit_law old new kept kept' low next (m ∷ p) at keeps (held_child old kept (Dir from) n (Dir low) goes held) rewritten in
-      let grafted = law.grafted room (depth - 1) (child_tree room old depth (Dir from) n (Dir low) goes has) in
-      let lower : tree room old low ≡ (λ r. tree room old from (n ∷ r)) = λ i r. below_place room old (sym goes i) r in
-      ap (λ (o : Option Place). tree_or_nothing room new o q) is
+      let grafted = law.grafted capacity (depth - 1) (child_tree capacity old depth (Dir from) n (Dir low) goes has) in
+      let lower : tree capacity old low ≡ (λ r. tree capacity old from (n ∷ r)) = λ i r. below_place capacity old (sym goes i) r in
+      ap (λ (o : Option Place). tree_or_nothing capacity new o q) is
       ∙ ap (λ (t : Contents). t q) grafted
-      ∙ ap (λ (t : Contents). graft t (m ∷ p) (tree_or_nothing room new at) q) lower
+      ∙ ap (λ (t : Contents). graft t (m ∷ p) (tree_or_nothing capacity new at) q) lower
 
   -- ---- a directory with one name changed, and with two
 
@@ -169,9 +169,9 @@ module _ (old new : Blocks) (kept kept' : ℕ → Bool) (keeps : Keeps kept old 
   held_of None held place is = absurd cc
   held_of (Some now) held place is = subst (IsHeld new kept') (place_is now place is) held
 
-  tree_of : (room depth : ℕ) (now : Option Place) → HasTreeOrNothing room new now depth → (place : Place) → now ≡ Some place → HasTree room new place depth
-  tree_of room depth None has place is = absurd cc
-  tree_of room depth (Some now) has place is = subst (λ (p : Place). HasTree room new p depth) (place_is now place is) has
+  tree_of : (capacity depth : ℕ) (now : Option Place) → HasTreeOrNothing capacity new now depth → (place : Place) → now ≡ Some place → HasTree capacity new place depth
+  tree_of capacity depth None has place is = absurd cc
+  tree_of capacity depth (Some now) has place is = subst (λ (p : Place). HasTree capacity new p depth) (place_is now place is) has
 
   -- ---- two paths
 
@@ -207,70 +207,70 @@ module _ (old new : Blocks) (kept kept' : ℕ → Bool) (keeps : Keeps kept old 
       (branch_reached P from n p None gone held before free (λ at is. absurd (None≢Some is)) old_branch)
       (branch_reached P from m q (Some place) came held before free (λ at is. subst (AllReached P) (place_is place at is) below) new_branch))
 
-  moved_shape : (room depth : ℕ) (p q : Path) (from to : ℕ) (place : Place) → IsHeld old kept (Dir from) → HasTree room old (Dir from) depth → length p ≤ depth → length q ≤ depth
-      → IsMoved old new kept kept' from to p q place → HasTree room new place (depth - length q) → HasTree room new (Dir to) depth
-  moved_shape room depth [] q from to place held has deep deep' r below = absurd r
-  moved_shape room depth (n ∷ p) [] from to place held has deep deep' r below = absurd r
-  moved_shape room depth (n ∷ p) (m ∷ q) from to place held has deep deep' (fresh, here, inl (same, low, next, goes, edit, rest)) below =
+  moved_shape : (capacity depth : ℕ) (p q : Path) (from to : ℕ) (place : Place) → IsHeld old kept (Dir from) → HasTree capacity old (Dir from) depth → length p ≤ depth → length q ≤ depth
+      → IsMoved old new kept kept' from to p q place → HasTree capacity new place (depth - length q) → HasTree capacity new (Dir to) depth
+  moved_shape capacity depth [] q from to place held has deep deep' r below = absurd r
+  moved_shape capacity depth (n ∷ p) [] from to place held has deep deep' r below = absurd r
+  moved_shape capacity depth (n ∷ p) (m ∷ q) from to place held has deep deep' (fresh, here, inl (same, low, next, goes, edit, rest)) below =
       let left : depth - length (m ∷ q) ≡ (depth - 1) - length q = omega arith in
-      level_shape room depth from to edit.0 (omega arith) held has edit.1
-      (edit_split (λ at. HasTree room new at (depth - 1)) from to n (Some (Dir next)) edit
-      (λ at is_at. subst (λ (x : Place). HasTree room new x (depth - 1)) (place_is (Dir next) at is_at)
-      (moved_shape room (depth - 1) p q low next place (held_child old kept (Dir from) n (Dir low) goes held) (child_tree room old depth (Dir from) n (Dir low) goes has) (omega arith) (omega arith) rest
-      (subst (HasTree room new place) left below))))
-  moved_shape room depth (n ∷ p) (m ∷ q) from to place held has deep deep' (fresh, here, inr (differs, gone, came, edit, old_branch, new_branch)) below =
-      level_shape room depth from to edit.0 (omega arith) held has edit.1
-      (second_split (λ at. HasTree room new at (depth - 1)) from to n m gone came edit
-      (tree_of room (depth - 1) gone (branch_shape room depth from n p None gone held has deep old_branch tt))
-      (tree_of room (depth - 1) came (branch_shape room depth from m q (Some place) came held has deep' new_branch below)))
+      level_shape capacity depth from to edit.0 (omega arith) held has edit.1
+      (edit_split (λ at. HasTree capacity new at (depth - 1)) from to n (Some (Dir next)) edit
+      (λ at is_at. subst (λ (x : Place). HasTree capacity new x (depth - 1)) (place_is (Dir next) at is_at)
+      (moved_shape capacity (depth - 1) p q low next place (held_child old kept (Dir from) n (Dir low) goes held) (child_tree capacity old depth (Dir from) n (Dir low) goes has) (omega arith) (omega arith) rest
+      (subst (HasTree capacity new place) left below))))
+  moved_shape capacity depth (n ∷ p) (m ∷ q) from to place held has deep deep' (fresh, here, inr (differs, gone, came, edit, old_branch, new_branch)) below =
+      level_shape capacity depth from to edit.0 (omega arith) held has edit.1
+      (second_split (λ at. HasTree capacity new at (depth - 1)) from to n m gone came edit
+      (tree_of capacity (depth - 1) gone (branch_shape capacity depth from n p None gone held has deep old_branch tt))
+      (tree_of capacity (depth - 1) came (branch_shape capacity depth from m q (Some place) came held has deep' new_branch below)))
 
-  moved_tree : (room depth : ℕ) (p q : Path) (from to : ℕ) (place : Place) → IsHeld old kept (Dir from) → HasTree room old (Dir from) depth → IsMoved old new kept kept' from to p q place
-      → (x : Path) → tree room new to x ≡ graft (graft (tree room old from) p nothing) q (tree_at room new place) x
-  moved_tree room depth [] q from to place held has r x = absurd r
-  moved_tree room depth (n ∷ p) [] from to place held has r x = absurd r
-  moved_tree room depth (n ∷ p) (m ∷ q) from to place held has r [] = refl
-  moved_tree room depth (n ∷ p) (m ∷ q) from to place held has (fresh, here, inl (same, low, next, goes, edit, rest)) (k ∷ y) =
-      on (moved_tree room (depth - 1) p q low next place (held_child old kept (Dir from) n (Dir low) goes held) (child_tree room old depth (Dir from) n (Dir low) goes has) rest y)
+  moved_tree : (capacity depth : ℕ) (p q : Path) (from to : ℕ) (place : Place) → IsHeld old kept (Dir from) → HasTree capacity old (Dir from) depth → IsMoved old new kept kept' from to p q place
+      → (x : Path) → tree capacity new to x ≡ graft (graft (tree capacity old from) p nothing) q (tree_at capacity new place) x
+  moved_tree capacity depth [] q from to place held has r x = absurd r
+  moved_tree capacity depth (n ∷ p) [] from to place held has r x = absurd r
+  moved_tree capacity depth (n ∷ p) (m ∷ q) from to place held has r [] = refl
+  moved_tree capacity depth (n ∷ p) (m ∷ q) from to place held has (fresh, here, inl (same, low, next, goes, edit, rest)) (k ∷ y) =
+      on (moved_tree capacity (depth - 1) p q low next place (held_child old kept (Dir from) n (Dir low) goes held) (child_tree capacity old depth (Dir from) n (Dir low) goes has) rest y)
     where
       t : Contents
-      t = tree room old from
+      t = tree capacity old from
 
       u : Contents
       u = graft t (n ∷ p) nothing
 
       s : Contents
-      s = tree_at room new place
+      s = tree_at capacity new place
 
       led : child new (Dir to) k ≡ cond (same_name n k) (Some (Dir next)) (child old (Dir from) k)
       led = edited_child old new from to n k (Some (Dir next)) edit
 
-      lower : tree room old low ≡ (λ r. t (n ∷ r))
-      lower = λ i r. below_place room old (sym goes i) r
+      lower : tree capacity old low ≡ (λ r. t (n ∷ r))
+      lower = λ i r. below_place capacity old (sym goes i) r
 
-      first : tree room new next y ≡ graft (graft (tree room old low) p nothing) q s y → same_name n k ≡ true → tree room new to (k ∷ y) ≡ graft u (m ∷ q) s (k ∷ y)
+      first : tree capacity new next y ≡ graft (graft (tree capacity old low) p nothing) q s y → same_name n k ≡ true → tree capacity new to (k ∷ y) ≡ graft u (m ∷ q) s (k ∷ y)
       first again is =
-          new_tree room to k y (Some (Dir next)) (led ∙ ap (λ (test : Bool). cond test (Some (Dir next)) (child old (Dir from) k)) is)
+          new_tree capacity to k y (Some (Dir next)) (led ∙ ap (λ (test : Bool). cond test (Some (Dir next)) (child old (Dir from) k)) is)
           ∙ again
           ∙ ap (λ (c : Contents). graft (graft c p nothing) q s y) lower
           ∙ ap (λ (c : Contents). graft c q s y) (λ i r. graft_down t nothing n m p r same i)
           ∙ graft_down u s m k q y (ap (λ (name : Name). same_name name k) (sym (same_name-is n m same)) ∙ is)
 
-      on : tree room new next y ≡ graft (graft (tree room old low) p nothing) q s y → tree room new to (k ∷ y) ≡ graft u (m ∷ q) s (k ∷ y)
+      on : tree capacity new next y ≡ graft (graft (tree capacity old low) p nothing) q s y → tree capacity new to (k ∷ y) ≡ graft u (m ∷ q) s (k ∷ y)
       on again = by_test (same_name n k) (first again)
-          (λ differs. old_tree room depth from to k y held has (led ∙ ap (λ (test : Bool). cond test (Some (Dir next)) (child old (Dir from) k)) differs)
+          (λ differs. old_tree capacity depth from to k y held has (led ∙ ap (λ (test : Bool). cond test (Some (Dir next)) (child old (Dir from) k)) differs)
           ∙ sym (graft_aside t nothing n k p y differs)
           ∙ sym (graft_aside u s m k q y (ap (λ (name : Name). same_name name k) (sym (same_name-is n m same)) ∙ differs)))
-  moved_tree room depth (n ∷ p) (m ∷ q) from to place held has (fresh, here, inr (differs, gone, came, edit, old_branch, new_branch)) (k ∷ y) =
+  moved_tree capacity depth (n ∷ p) (m ∷ q) from to place held has (fresh, here, inr (differs, gone, came, edit, old_branch, new_branch)) (k ∷ y) =
       by_test (same_name m k) at_new (λ aside. by_test (same_name n k) (at_old aside) (elsewhere aside))
     where
       t : Contents
-      t = tree room old from
+      t = tree capacity old from
 
       u : Contents
       u = graft t (n ∷ p) nothing
 
       s : Contents
-      s = tree_at room new place
+      s = tree_at capacity new place
 
       led : child new (Dir to) k ≡ cond (same_name m k) came (cond (same_name n k) gone (child old (Dir from) k))
       led = second_child old new from to n m k gone came edit
@@ -278,23 +278,23 @@ module _ (old new : Blocks) (kept kept' : ℕ → Bool) (keeps : Keeps kept old 
       led_aside : same_name m k ≡ false → child new (Dir to) k ≡ cond (same_name n k) gone (child old (Dir from) k)
       led_aside aside = led ∙ ap (λ (test : Bool). cond test came (cond (same_name n k) gone (child old (Dir from) k))) aside
 
-      at_new : same_name m k ≡ true → tree room new to (k ∷ y) ≡ graft u (m ∷ q) s (k ∷ y)
+      at_new : same_name m k ≡ true → tree capacity new to (k ∷ y) ≡ graft u (m ∷ q) s (k ∷ y)
       at_new is =
-          new_tree room to k y came (led ∙ ap (λ (test : Bool). cond test came (cond (same_name n k) gone (child old (Dir from) k))) is)
-          ∙ branch_tree room depth from m q (Some place) came held has new_branch y
+          new_tree capacity to k y came (led ∙ ap (λ (test : Bool). cond test came (cond (same_name n k) gone (child old (Dir from) k))) is)
+          ∙ branch_tree capacity depth from m q (Some place) came held has new_branch y
           ∙ ap (λ (c : Contents). graft c q s y) (λ i r. sym (graft_aside t nothing n m p r differs) i)
           ∙ graft_down u s m k q y is
 
-      at_old : same_name m k ≡ false → same_name n k ≡ true → tree room new to (k ∷ y) ≡ graft u (m ∷ q) s (k ∷ y)
+      at_old : same_name m k ≡ false → same_name n k ≡ true → tree capacity new to (k ∷ y) ≡ graft u (m ∷ q) s (k ∷ y)
       at_old aside is =
-          new_tree room to k y gone (led_aside aside ∙ ap (λ (test : Bool). cond test gone (child old (Dir from) k)) is)
-          ∙ branch_tree room depth from n p None gone held has old_branch y
+          new_tree capacity to k y gone (led_aside aside ∙ ap (λ (test : Bool). cond test gone (child old (Dir from) k)) is)
+          ∙ branch_tree capacity depth from n p None gone held has old_branch y
           ∙ graft_down t nothing n k p y is
           ∙ sym (graft_aside u s m k q y aside)
 
-      elsewhere : same_name m k ≡ false → same_name n k ≡ false → tree room new to (k ∷ y) ≡ graft u (m ∷ q) s (k ∷ y)
+      elsewhere : same_name m k ≡ false → same_name n k ≡ false → tree capacity new to (k ∷ y) ≡ graft u (m ∷ q) s (k ∷ y)
       elsewhere aside other =
-          old_tree room depth from to k y held has (led_aside aside ∙ ap (λ (test : Bool). cond test gone (child old (Dir from) k)) other)
+          old_tree capacity depth from to k y held has (led_aside aside ∙ ap (λ (test : Bool). cond test gone (child old (Dir from) k)) other)
           ∙ sym (graft_aside t nothing n k p y other)
           ∙ sym (graft_aside u s m k q y aside)
 
@@ -303,8 +303,8 @@ module _ (old new : Blocks) (kept kept' : ℕ → Bool) (keeps : Keeps kept old 
 pub leads_on : (f : Blocks) (at place : Place) (p q : Path) → leads f at p ≡ Some place → leads f at (p ++ q) ≡ leads f place q
 leads_on f at place p q is = leads-append f at p q ∙ ap (option_and_then (λ next. leads f next q)) is
 
-tree_there : (room depth : ℕ) (f : Blocks) (at place : Place) (path : Path) → leads f at path ≡ Some place → HasTree room f at depth → HasTree room f place depth
-tree_there room depth f at place path is has p there led =
+tree_there : (capacity depth : ℕ) (f : Blocks) (at place : Place) (path : Path) → leads f at path ≡ Some place → HasTree capacity f at depth → HasTree capacity f place depth
+tree_there capacity depth f at place path is has p there led =
     let all = has (path ++ p) there (leads_on f at place path p is ∙ led) in
     (all.0, omega (arith, all.1, length-append path p))
 
@@ -324,21 +324,21 @@ module _ (old new : Blocks) (kept kept' : ℕ → Bool) (from to : ℕ) (old_pat
   held_place : IsHeld old kept place
   held_place = held_leads old kept old_path (Dir from) place led held
 
-  tree_is : (room depth : ℕ) → HasTree room old (Dir from) depth → tree room new to ≡ plain.move (tree room old from) old_path new_path
-  tree_is room depth has =
-      let whole = tree_there room depth old (Dir from) place old_path led has in
-      let same : tree_at room new place ≡ tree_at room old place = (frame_law old new kept kept' keeps).same room depth place held_place whole in
-      let stood : tree_at room old place ≡ under (tree room old from) old_path = λ i q. option_map (entry_at room old) (sym (leads_on old (Dir from) place old_path q led) i) in
-      (λ i x. moved_tree old new kept kept' keeps room depth old_path new_path from to place held has moved x i)
-      ∙ ap (graft (graft (tree room old from) old_path nothing) new_path) (same ∙ stood)
-      ∙ sym (graft_law.moved (tree room old from) old_path new_path)
+  tree_is : (capacity depth : ℕ) → HasTree capacity old (Dir from) depth → tree capacity new to ≡ plain.move (tree capacity old from) old_path new_path
+  tree_is capacity depth has =
+      let whole = tree_there capacity depth old (Dir from) place old_path led has in
+      let same : tree_at capacity new place ≡ tree_at capacity old place = (frame_law old new kept kept' keeps).same capacity depth place held_place whole in
+      let stood : tree_at capacity old place ≡ under (tree capacity old from) old_path = λ i q. option_map (entry_at capacity old) (sym (leads_on old (Dir from) place old_path q led) i) in
+      (λ i x. moved_tree old new kept kept' keeps capacity depth old_path new_path from to place held has moved x i)
+      ∙ ap (graft (graft (tree capacity old from) old_path nothing) new_path) (same ∙ stood)
+      ∙ sym (graft_law.moved (tree capacity old from) old_path new_path)
 
-  shape_is : (room depth : ℕ) → HasTree room old (Dir from) depth → length new_path ≤ depth → IsShallow old place (depth - length new_path) → HasTree room new (Dir to) depth
-  shape_is room depth has deep shallow = moved_shape old new kept kept' keeps room depth old_path new_path from to place held has (has old_path place led).1 deep moved below
+  shape_is : (capacity depth : ℕ) → HasTree capacity old (Dir from) depth → length new_path ≤ depth → IsShallow old place (depth - length new_path) → HasTree capacity new (Dir to) depth
+  shape_is capacity depth has deep shallow = moved_shape old new kept kept' keeps capacity depth old_path new_path from to place held has (has old_path place led).1 deep moved below
     where
-      below : HasTree room new place (depth - length new_path)
+      below : HasTree capacity new place (depth - length new_path)
       below p there is =
-          let whole = (frame_law old new kept kept' keeps).shape room depth place held_place (tree_there room depth old (Dir from) place old_path led has) in
+          let whole = (frame_law old new kept kept' keeps).shape capacity depth place held_place (tree_there capacity depth old (Dir from) place old_path led has) in
           ((whole p there is).0, shallow p (ap is_some (sym (leads_same old new kept kept' keeps p place held_place) ∙ is)))
 
   reached_is : (b : ℕ) → Reached new (to ∷ []) b → Reached old (from ∷ []) b ⊎ (kept b ≡ false)
@@ -356,9 +356,9 @@ move_law old new kept kept' from to old_path new_path place keeps held led moved
 }
 
 pub rename_law : RenameLaw
-rename_law room old new kept kept' from to old_path new_path place keeps held root led deep shallow moved =
+rename_law capacity old new kept kept' from to old_path new_path place keeps held root led deep shallow moved =
     let law = move_law old new kept kept' from to old_path new_path place keeps held led moved in
-    let whole : IsRoot room new to = law.shape room 16 root deep shallow in
-    let all : get (root_tree room new to) ≡ get (move (root_tree room old from) old_path new_path) =
-    (map_law room new to whole).same ∙ law.moved room 16 root ∙ ap (λ (t : Contents). plain.move t old_path new_path) (sym (map_law room old from root).same) ∙ sym (contents_law.moved (root_tree room old from) old_path new_path) in
-    (whole, same_tree (root_tree room new to) (move (root_tree room old from) old_path new_path) (λ q i. all i q))
+    let whole : IsRoot capacity new to = law.shape capacity 16 root deep shallow in
+    let all : get (root_tree capacity new to) ≡ get (move (root_tree capacity old from) old_path new_path) =
+    (map_law capacity new to whole).same ∙ law.moved capacity 16 root ∙ ap (λ (t : Contents). plain.move t old_path new_path) (sym (map_law capacity old from root).same) ∙ sym (contents_law.moved (root_tree capacity old from) old_path new_path) in
+    (whole, same_tree (root_tree capacity new to) (move (root_tree capacity old from) old_path new_path) (λ q i. all i q))

@@ -99,14 +99,14 @@ first-items at (item ∷ items) n q h =
 
 -- ---- the entries of a tree
 
-module _ (room : ℕ) (f : Blocks) where
-  tree-below : (depth block : ℕ) (n : Name) (at : Place) → HasTree room f (Dir block) (suc depth) → child f (Dir block) n ≡ Some at → HasTree room f at depth
+module _ (capacity : ℕ) (f : Blocks) where
+  tree-below : (depth block : ℕ) (n : Name) (at : Place) → HasTree capacity f (Dir block) (suc depth) → child f (Dir block) n ≡ Some at → HasTree capacity f at depth
   tree-below depth block n at has is p to there =
       let all = has (n ∷ p) to (ap (option_and_then (λ next. leads f next p)) is ∙ there) in
       (all.0, let l : suc (length p) ≤ suc depth = all.1 in omega arith)
 
   -- no name leads on where paths have no name
-  no-child : (block : ℕ) (n : Name) → HasTree room f (Dir block) zero → child f (Dir block) n ≡ None
+  no-child : (block : ℕ) (n : Name) → HasTree capacity f (Dir block) zero → child f (Dir block) n ≡ None
   no-child block n has = go (child f (Dir block) n) refl
     where
       go : (o : Option Place) → child f (Dir block) n ≡ o → o ≡ None
@@ -114,25 +114,25 @@ module _ (room : ℕ) (f : Blocks) where
       go (Some at) is = let l : 1 ≤ 0 = (has (n ∷ []) at (ap (option_and_then (λ next. leads f next [])) is)).1 in absurd (omega arith)
 
   -- what is listed at a path is what stands there
-  pub first-listed : (depth : ℕ) (at : Place) → HasTree room f at depth → (q : Path) → first q (listed room f depth at) ≡ tree_at room f at q
+  pub first-listed : (depth : ℕ) (at : Place) → HasTree capacity f at depth → (q : Path) → first q (listed capacity f depth at) ≡ tree_at capacity f at q
   first-listed zero (File head size) has [] = refl
   first-listed zero (File head size) has (n ∷ q) = refl
   first-listed (suc depth) (File head size) has [] = refl
   first-listed (suc depth) (File head size) has (n ∷ q) = refl
   first-listed zero (Dir block) has [] = refl
-  first-listed zero (Dir block) has (n ∷ q) = ap (λ o. option_map (entry_at room f) (option_and_then (λ next. leads f next q) o)) (sym (no-child block n has))
+  first-listed zero (Dir block) has (n ∷ q) = ap (λ o. option_map (entry_at capacity f) (option_and_then (λ next. leads f next q) o)) (sym (no-child block n has))
   first-listed (suc depth) (Dir block) has [] = refl
   first-listed (suc depth) (Dir block) has (n ∷ q) =
-      first-items (listed room f depth) (items_of (f block)) n q (ascending-items (f block))
+      first-items (listed capacity f depth) (items_of (f block)) n q (ascending-items (f block))
       ∙ go (named (items_of (f block)) n) refl (λ at tree. first-listed depth at tree q)
     where
-      go : (o : Option Place) → named (items_of (f block)) n ≡ o → ((at : Place) → HasTree room f at depth → first q (listed room f depth at) ≡ tree_at room f at q)
-          → option_and_then (λ at. first q (listed room f depth at)) o ≡ option_map (entry_at room f) (option_and_then (λ next. leads f next q) o)
+      go : (o : Option Place) → named (items_of (f block)) n ≡ o → ((at : Place) → HasTree capacity f at depth → first q (listed capacity f depth at) ≡ tree_at capacity f at q)
+          → option_and_then (λ at. first q (listed capacity f depth at)) o ≡ option_map (entry_at capacity f) (option_and_then (λ next. leads f next q) o)
       go None is rest = refl
       go (Some at) is rest = rest at (tree-below depth block n at has is)
 
-  pub get-root_tree : (root : ℕ) → IsRoot room f root → (q : Path) → get (root_tree room f root) q ≡ tree room f root q
-  get-root_tree root has q = get-from_entries paths_total (listed room f 16 (Dir root)) q ∙ first-listed 16 (Dir root) has q
+  pub get-root_tree : (root : ℕ) → IsRoot capacity f root → (q : Path) → get (root_tree capacity f root) q ≡ tree capacity f root q
+  get-root_tree root has q = get-from_entries paths_total (listed capacity f 16 (Dir root)) q ∙ first-listed 16 (Dir root) has q
 
 -- ---- the names of a directory
 
@@ -145,15 +145,15 @@ pub sorted-names : (items : List Item) → is_sorted name_cmp (names_of items) �
 sorted-names [] = refl
 sorted-names (item ∷ items) = λ i. below-names item.name items i && sorted-names items i
 
-is_dir-place : (room : ℕ) (f : Blocks) (at : Place) → is_dir_place at ≡ is_dir (entry_at room f at)
-is_dir-place room f (Dir block) = refl
-is_dir-place room f (File head size) = refl
+is_dir-place : (capacity : ℕ) (f : Blocks) (at : Place) → is_dir_place at ≡ is_dir (entry_at capacity f at)
+is_dir-place capacity f (Dir block) = refl
+is_dir-place capacity f (File head size) = refl
 
-pub find-names : (room : ℕ) (f : Blocks) (items : List Item) (n : Name) → find name_cmp n (names_of items) ≡ option_map is_dir (option_map (entry_at room f) (named items n))
-find-names room f [] n = refl
-find-names room f (item ∷ items) n =
-    (λ i. cond ((sym (name_ties n item.name) ∙ same_name-turned n item.name) i) (Some (is_dir-place room f item.place i)) (find-names room f items n i))
-    ∙ elim (same_name item.name n) as (λ b. cond b (Some (is_dir (entry_at room f item.place))) (option_map is_dir (option_map (entry_at room f) (named items n))) ≡ option_map is_dir (option_map (entry_at room f) (cond b (Some item.place) (named items n)))) [ true ↦ refl | false ↦ refl ]
+pub find-names : (capacity : ℕ) (f : Blocks) (items : List Item) (n : Name) → find name_cmp n (names_of items) ≡ option_map is_dir (option_map (entry_at capacity f) (named items n))
+find-names capacity f [] n = refl
+find-names capacity f (item ∷ items) n =
+    (λ i. cond ((sym (name_ties n item.name) ∙ same_name-turned n item.name) i) (Some (is_dir-place capacity f item.place i)) (find-names capacity f items n i))
+    ∙ elim (same_name item.name n) as (λ b. cond b (Some (is_dir (entry_at capacity f item.place))) (option_map is_dir (option_map (entry_at capacity f) (named items n))) ≡ option_map is_dir (option_map (entry_at capacity f) (cond b (Some item.place) (named items n)))) [ true ↦ refl | false ↦ refl ]
 
 pub leads-append : (f : Blocks) (at : Place) (p q : Path) → leads f at (p ++ q) ≡ option_and_then (λ next. leads f next q) (leads f at p)
 leads-append f at [] q = refl
@@ -171,37 +171,37 @@ leads-child f at p block n is = leads-append f at p (n ∷ []) ∙ ap (option_an
     go None = refl
     go (Some to) = refl
 
-find-children : (room : ℕ) (f : Blocks) (root : ℕ) → IsRoot room f root → (path : Path) (block : ℕ) → leads f (Dir root) path ≡ Some (Dir block)
-    → (n : Name) → find name_cmp n (children (root_tree room f root) path) ≡ find name_cmp n (names_of (items_of (f block)))
-find-children room f root has path block is n =
-    let t = root_tree room f root in
+find-children : (capacity : ℕ) (f : Blocks) (root : ℕ) → IsRoot capacity f root → (path : Path) (block : ℕ) → leads f (Dir root) path ≡ Some (Dir block)
+    → (n : Name) → find name_cmp n (children (root_tree capacity f root) path) ≡ find name_cmp n (names_of (items_of (f block)))
+find-children capacity f root has path block is n =
+    let t = root_tree capacity f root in
     ap (find name_cmp n) (sym (entries-directory t path))
     ∙ sym (get-entries (directory t path) n)
     ∙ get-directory t path n
-    ∙ ap (option_map is_dir) (get-root_tree room f root has (path ++ n ∷ []) ∙ ap (option_map (entry_at room f)) (leads-child f (Dir root) path block n is))
-    ∙ sym (find-names room f (items_of (f block)) n)
+    ∙ ap (option_map is_dir) (get-root_tree capacity f root has (path ++ n ∷ []) ∙ ap (option_map (entry_at capacity f)) (leads-child f (Dir root) path block n is))
+    ∙ sym (find-names capacity f (items_of (f block)) n)
 
-pub children-root_tree : (room : ℕ) (f : Blocks) (root : ℕ) → IsRoot room f root → (path : Path) (block : ℕ) → leads f (Dir root) path ≡ Some (Dir block)
-    → children (root_tree room f root) path ≡ names_of (items_of (f block))
-children-root_tree room f root has path block is =
-    same_entries name_cmp names_total names_exact (children (root_tree room f root) path) (names_of (items_of (f block)))
-    (children-sorted (root_tree room f root) path)
+pub children-root_tree : (capacity : ℕ) (f : Blocks) (root : ℕ) → IsRoot capacity f root → (path : Path) (block : ℕ) → leads f (Dir root) path ≡ Some (Dir block)
+    → children (root_tree capacity f root) path ≡ names_of (items_of (f block))
+children-root_tree capacity f root has path block is =
+    same_entries name_cmp names_total names_exact (children (root_tree capacity f root) path) (names_of (items_of (f block)))
+    (children-sorted (root_tree capacity f root) path)
     (subst T (sym (sorted-names (items_of (f block)) ∙ ascending-items (f block))) tt)
-    (find-children room f root has path block is)
+    (find-children capacity f root has path block is)
 
 pub map_law : AllMaps
-map_law room f root has = record {
-  same = λ i q. get-root_tree room f root has q i;
-  lists = λ path block is. children-root_tree room f root has path block is;
+map_law capacity f root has = record {
+  same = λ i q. get-root_tree capacity f root has q i;
+  lists = λ path block is. children-root_tree capacity f root has path block is;
 }
 
 -- ---- what follows
 
 -- a directory is full where its node has 32 entries
-pub full_directory : (room : ℕ) (f : Blocks) (root : ℕ) (path : Path) (block : ℕ) → IsRoot room f root → leads f (Dir root) path ≡ Some (Dir block)
-    → is_full (root_tree room f root) path ≡ nat_le 32 (length (items_of (f block)))
-full_directory room f root path block has is =
-    ap (λ es. nat_le 32 (length es)) (children-root_tree room f root has path block is)
+pub full_directory : (capacity : ℕ) (f : Blocks) (root : ℕ) (path : Path) (block : ℕ) → IsRoot capacity f root → leads f (Dir root) path ≡ Some (Dir block)
+    → is_full (root_tree capacity f root) path ≡ nat_le 32 (length (items_of (f block)))
+full_directory capacity f root path block has is =
+    ap (λ es. nat_le 32 (length es)) (children-root_tree capacity f root has path block is)
     ∙ ap (nat_le 32) (length-map (items_of (f block)) (λ (item : Item). (item.name, is_dir_place item.place)))
 
 -- nothing stands below a directory without entries
@@ -209,16 +209,16 @@ empty-child : (f : Blocks) (block : ℕ) → entries_of (f block) ≡ Some [] �
 empty-child f block empty n = ap (λ o. named (unwrap_or o []) n) empty
 
 -- an empty directory is a root, and has the bare tree
-pub empty_root : (room : ℕ) (f : Blocks) (root : ℕ) → entries_of (f root) ≡ Some [] → IsRoot room f root × (root_tree room f root ≡ bare)
-empty_root room f root empty = (has, same_tree (root_tree room f root) bare (λ q. get-root_tree room f root has q ∙ alone q ∙ sym (get-bare q)))
+pub empty_root : (capacity : ℕ) (f : Blocks) (root : ℕ) → entries_of (f root) ≡ Some [] → IsRoot capacity f root × (root_tree capacity f root ≡ bare)
+empty_root capacity f root empty = (has, same_tree (root_tree capacity f root) bare (λ q. get-root_tree capacity f root has q ∙ alone q ∙ sym (get-bare q)))
   where
     none : (n : Name) (p : Path) → leads f (Dir root) (n ∷ p) ≡ None
     none n p = ap (option_and_then (λ next. leads f next p)) (empty-child f root empty n)
 
-    has : IsRoot room f root
-    has [] at is = (subst (IsWhole room f) (same_Some is) ([], empty), omega arith)
+    has : IsRoot capacity f root
+    has [] at is = (subst (IsWhole capacity f) (same_Some is) ([], empty), omega arith)
     has (n ∷ p) at is = absurd (None≢Some (sym (none n p) ∙ is))
 
-    alone : (q : Path) → tree room f root q ≡ leaf Entry.Dir q
+    alone : (q : Path) → tree capacity f root q ≡ leaf Entry.Dir q
     alone [] = refl
-    alone (n ∷ p) = ap (option_map (entry_at room f)) (none n p)
+    alone (n ∷ p) = ap (option_map (entry_at capacity f)) (none n p)

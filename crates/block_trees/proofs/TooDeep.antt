@@ -43,24 +43,24 @@ some_leads : {A B : Type 0} (g : A → B) (o : Option A) → IsSome (option_map 
 some_leads g None some = absurd cc
 some_leads g (Some x) some = refl
 
-module _ (room : ℕ) (f : Blocks) (root : ℕ) (old new : Path) (place : Place) (has : IsRoot room f root) (led : leads f (Dir root) old ≡ Some place) (lawful : length new ≤ 16) where
+module _ (capacity : ℕ) (f : Blocks) (root : ℕ) (old new : Path) (place : Place) (has : IsRoot capacity f root) (led : leads f (Dir root) old ≡ Some place) (lawful : length new ≤ 16) where
   -- what stands below `old` is what the place leads to
-  stands : (r : Path) → get (root_tree room f root) (old ++ r) ≡ option_map (entry_at room f) (leads f place r)
-  stands r = ap (λ (t : Path → Option Entry). t (old ++ r)) (map_law room f root has).same ∙ ap (option_map (entry_at room f)) (leads_on f (Dir root) place old r led)
+  stands : (r : Path) → get (root_tree capacity f root) (old ++ r) ≡ option_map (entry_at capacity f) (leads f place r)
+  stands r = ap (λ (t : Path → Option Entry). t (old ++ r)) (map_law capacity f root has).same ∙ ap (option_map (entry_at capacity f)) (leads_on f (Dir root) place old r led)
 
-  shallow : is_too_deep (root_tree room f root) old new ≡ false → IsShallow f place (16 - length new)
+  shallow : is_too_deep (root_tree capacity f root) old new ≡ false → IsShallow f place (16 - length new)
   shallow fits r leads_r =
-      let short = not-deep (root_tree room f root) old new r fits (subst IsSome (sym (stands r)) (some_stands (entry_at room f) (leads f place r) leads_r)) in
+      let short = not-deep (root_tree capacity f root) old new r fits (subst IsSome (sym (stands r)) (some_stands (entry_at capacity f) (leads f place r) leads_r)) in
       omega arith
 
-  fits : IsShallow f place (16 - length new) → is_too_deep (root_tree room f root) old new ≡ false
-  fits short = no_key (λ p. option_map_or (λ rest. nat_lt 16 (length new + length rest)) (beneath old p) false) (keys (root_tree room f root))
+  fits : IsShallow f place (16 - length new) → is_too_deep (root_tree capacity f root) old new ≡ false
+  fits short = no_key (λ p. option_map_or (λ rest. nat_lt 16 (length new + length rest)) (beneath old p) false) (keys (root_tree capacity f root))
       (λ q there. by_beneath old q (λ o. option_map_or (λ rest. nat_lt 16 (length new + length rest)) o false ≡ false)
       (λ r is.
-      let some : IsSome (get (root_tree room f root) (old ++ r)) = subst (λ (p : Path). IsSome (get (root_tree room f root) p)) is (contains_key-keys (root_tree room f root) q ∙ there) in
-      let most = short r (some_leads (entry_at room f) (leads f place r) (subst IsSome (stands r) some)) in
+      let some : IsSome (get (root_tree capacity f root) (old ++ r)) = subst (λ (p : Path). IsSome (get (root_tree capacity f root) p)) is (contains_key-keys (root_tree capacity f root) q ∙ there) in
+      let most = short r (some_leads (entry_at capacity f) (leads f place r) (subst IsSome (stands r) some)) in
       le-ltb 16 (length new + length r) (omega arith))
       (λ none. refl))
 
 pub depth_law : DepthLaw
-depth_law room f root old new place has led lawful = (shallow room f root old new place has led lawful, fits room f root old new place has led lawful)
+depth_law capacity f root old new place has led lawful = (shallow capacity f root old new place has led lawful, fits capacity f root old new place has led lawful)

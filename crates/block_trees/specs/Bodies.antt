@@ -1,4 +1,4 @@
--- The bodies of files: chains of nodes, each with pointers to nodes before it. `room` is the number of
+-- The bodies of files: chains of nodes, each with pointers to nodes before it. `capacity` is the number of
 -- data bytes that a node has where it is full.
 use Rattle.std.specs.Prelude.{◌≡◌, ℕ, zero, suc, ◌+◌, ◌-◌, ◌*◌, ◌/◌, ◌^◌, ◌≤◌, ◌==◌, Option, Some, None, List, [], ◌++◌, length, take, drop, if◌then◌else◌}
 use Rattle.node_format.specs.Headers.{field, body_front, body_magic}
@@ -12,7 +12,7 @@ abbrev pub index_of : Option (List ℕ) → Option ℕ
 index_of None = None
 index_of (Some bytes) = if field bytes 0 == body_magic then Some (field bytes 4) else None
 
--- the block that pointer place `x` of a body node names, of 16 places
+-- the block that slot `x` of a body node names, of 16 places
 abbrev pub pointer_of : Option (List ℕ) → ℕ → ℕ
 pointer_of None x = 0
 pointer_of (Some bytes) x = field bytes (16 + 4 * x)
@@ -34,17 +34,17 @@ data_to f (suc i) block = data_to f i (pointer_of (f block) 0) ++ data_of (f blo
 
 -- place 0 leads from the node of an index in a block down to index 0, through full nodes
 abbrev pub IsChain : ℕ → Blocks → ℕ → ℕ → Type 0
-IsChain room f zero block = index_of (f block) ≡ Some 0
-IsChain room f (suc i) block = (index_of (f block) ≡ Some (suc i)) × (length (data_of (f (pointer_of (f block) 0))) ≡ room) × IsChain room f i (pointer_of (f block) 0)
+IsChain capacity f zero block = index_of (f block) ≡ Some 0
+IsChain capacity f (suc i) block = (index_of (f block) ≡ Some (suc i)) × (length (data_of (f (pointer_of (f block) 0))) ≡ capacity) × IsChain capacity f i (pointer_of (f block) 0)
 
 -- the index of a file's last node
 abbrev pub head_index : ℕ → ℕ → ℕ
-head_index room size = (size - 1) / room
+head_index capacity size = (size - 1) / capacity
 
 -- the bytes of a file of this head and length; bytes that an earlier length left behind are not shown
 abbrev pub body : ℕ → Blocks → ℕ → ℕ → List ℕ
-body room f head zero = []
-body room f head (suc n) = take (suc n) (data_to f (head_index room (suc n)) head)
+body capacity f head zero = []
+body capacity f head (suc n) = take (suc n) (data_to f (head_index capacity (suc n)) head)
 
 -- 2 to the x divides the index
 abbrev pub Divides : ℕ → ℕ → Type 0
@@ -57,7 +57,7 @@ IsLinked f (suc i) block = ((x : ℕ) → Divides x (suc i) → pointer_of (f bl
 
 -- a file of this head and length has a body: an empty one has head 0 and no node
 abbrev pub IsBody : ℕ → Blocks → ℕ → ℕ → Type 0
-IsBody room f head zero = head ≡ 0
-IsBody room f head (suc n) =
-    IsChain room f (head_index room (suc n)) head × (suc n ≤ length (data_to f (head_index room (suc n)) head))
-    × IsLinked f (head_index room (suc n)) head
+IsBody capacity f head zero = head ≡ 0
+IsBody capacity f head (suc n) =
+    IsChain capacity f (head_index capacity (suc n)) head × (suc n ≤ length (data_to f (head_index capacity (suc n)) head))
+    × IsLinked f (head_index capacity (suc n)) head

@@ -14,12 +14,12 @@ use Rattle.block_trees.specs.Rewritten.{IsRewritten, AreFresh, IsMoved}
 
 -- what a place leads to; nothing where there is no place
 abbrev pub tree_or_nothing : ℕ → Blocks → Option Place → Contents
-tree_or_nothing room f None = nothing
-tree_or_nothing room f (Some at) = tree_at room f at
+tree_or_nothing capacity f None = nothing
+tree_or_nothing capacity f (Some at) = tree_at capacity f at
 
 abbrev pub HasTreeOrNothing : ℕ → Blocks → Option Place → ℕ → Type 0
-HasTreeOrNothing room f None depth = Unit {0}
-HasTreeOrNothing room f (Some at) depth = HasTree room f at depth
+HasTreeOrNothing capacity f None depth = Unit {0}
+HasTreeOrNothing capacity f (Some at) depth = HasTree capacity f at depth
 
 abbrev pub IsHeldOrNothing : Blocks → (ℕ → Bool) → Option Place → Type 0
 IsHeldOrNothing f kept None = Unit {0}
@@ -29,9 +29,9 @@ IsHeldOrNothing f kept (Some at) = IsHeld f kept at
 pub record FrameLaw (old new : Blocks) (kept kept' : ℕ → Bool) : Type 0 where
   pub held : (at : Place) → IsHeld old kept at → IsHeld new kept' at
   pub reached : (root block : ℕ) → IsHeld old kept (Dir root) → Reached new (root ∷ []) block → Reached old (root ∷ []) block
-  pub shape : (room depth : ℕ) (at : Place) → IsHeld old kept at → HasTree room old at depth → HasTree room new at depth
-  pub same : (room depth : ℕ) (at : Place) → IsHeld old kept at → HasTree room old at depth → tree_at room new at ≡ tree_at room old at
-  pub roots : (room root : ℕ) → IsHeld old kept (Dir root) → IsRoot room old root → root_tree room new root ≡ root_tree room old root
+  pub shape : (capacity depth : ℕ) (at : Place) → IsHeld old kept at → HasTree capacity old at depth → HasTree capacity new at depth
+  pub same : (capacity depth : ℕ) (at : Place) → IsHeld old kept at → HasTree capacity old at depth → tree_at capacity new at ≡ tree_at capacity old at
+  pub roots : (capacity root : ℕ) → IsHeld old kept (Dir root) → IsRoot capacity old root → root_tree capacity new root ≡ root_tree capacity old root
 
 abbrev pub AllFrames : Type 0
 AllFrames = (old new : Blocks) (kept kept' : ℕ → Bool) → Keeps kept old kept' new → FrameLaw old new kept kept'
@@ -40,8 +40,8 @@ AllFrames = (old new : Blocks) (kept kept' : ℕ → Bool) → Keeps kept old ke
 -- path; it is a tree where that is one; all that the new root reaches is kept, and the old root reached it, or the
 -- new entry does, or it is in a block that was not kept before
 pub record EditLaw (old new : Blocks) (kept kept' : ℕ → Bool) (from to : ℕ) (path : Path) (at : Option Place) : Type 0 where
-  pub grafted : (room depth : ℕ) → HasTree room old (Dir from) depth → tree room new to ≡ graft (tree room old from) path (tree_or_nothing room new at)
-  pub shape : (room depth : ℕ) → HasTree room old (Dir from) depth → length path ≤ depth → HasTreeOrNothing room new at (depth - length path) → HasTree room new (Dir to) depth
+  pub grafted : (capacity depth : ℕ) → HasTree capacity old (Dir from) depth → tree capacity new to ≡ graft (tree capacity old from) path (tree_or_nothing capacity new at)
+  pub shape : (capacity depth : ℕ) → HasTree capacity old (Dir from) depth → length path ≤ depth → HasTreeOrNothing capacity new at (depth - length path) → HasTree capacity new (Dir to) depth
   pub held : IsHeldOrNothing new kept' at → IsHeld new kept' (Dir to)
   pub reached : AreFresh kept kept' new to path → (block : ℕ) → Reached new (to ∷ []) block → Reached old (from ∷ []) block ⊎ (kept block ≡ false) ⊎ ((root : ℕ) × (place : Place) × (at ≡ Some place) × PlaceNames place root × Reached new (root ∷ []) block)
 
@@ -50,21 +50,21 @@ AllEdits = (old new : Blocks) (kept kept' : ℕ → Bool) (from to : ℕ) (path 
 
 -- a new empty directory at a path where nothing stood
 abbrev pub MkdirLaw : Type 0
-MkdirLaw = (room : ℕ) (old new : Blocks) (kept kept' : ℕ → Bool) (from to block : ℕ) (path : Path) → Keeps kept old kept' new → IsHeld old kept (Dir from) → IsRoot room old from
-    → tree room old from path ≡ None → length path ≤ 16 → entries_of (new block) ≡ Some [] → IsRewritten old kept' new from to path (Some (Dir block))
-    → IsRoot room new to × (root_tree room new to ≡ put (root_tree room old from) path Entry.Dir)
+MkdirLaw = (capacity : ℕ) (old new : Blocks) (kept kept' : ℕ → Bool) (from to block : ℕ) (path : Path) → Keeps kept old kept' new → IsHeld old kept (Dir from) → IsRoot capacity old from
+    → tree capacity old from path ≡ None → length path ≤ 16 → entries_of (new block) ≡ Some [] → IsRewritten old kept' new from to path (Some (Dir block))
+    → IsRoot capacity new to × (root_tree capacity new to ≡ put (root_tree capacity old from) path Entry.Dir)
 
 -- an entry taken out that nothing stands below
 abbrev pub RemoveLaw : Type 0
-RemoveLaw = (room : ℕ) (old new : Blocks) (kept kept' : ℕ → Bool) (from to : ℕ) (path : Path) → Keeps kept old kept' new → IsHeld old kept (Dir from) → IsRoot room old from
-    → IsLast (tree room old from) path → length path ≤ 16 → IsRewritten old kept' new from to path None
-    → IsRoot room new to × (root_tree room new to ≡ remove (root_tree room old from) path)
+RemoveLaw = (capacity : ℕ) (old new : Blocks) (kept kept' : ℕ → Bool) (from to : ℕ) (path : Path) → Keeps kept old kept' new → IsHeld old kept (Dir from) → IsRoot capacity old from
+    → IsLast (tree capacity old from) path → length path ≤ 16 → IsRewritten old kept' new from to path None
+    → IsRoot capacity new to × (root_tree capacity new to ≡ remove (root_tree capacity old from) path)
 
 -- a file at a path where no directory stood
 abbrev pub PutFileLaw : Type 0
-PutFileLaw = (room : ℕ) (old new : Blocks) (kept kept' : ℕ → Bool) (from to head size : ℕ) (path : Path) → Keeps kept old kept' new → IsHeld old kept (Dir from) → IsRoot room old from
-    → tree room old from path ≢ Some Entry.Dir → length path ≤ 16 → IsBody room new head size → IsRewritten old kept' new from to path (Some (File head size))
-    → IsRoot room new to × (root_tree room new to ≡ put (root_tree room old from) path (Entry.File (body room new head size)))
+PutFileLaw = (capacity : ℕ) (old new : Blocks) (kept kept' : ℕ → Bool) (from to head size : ℕ) (path : Path) → Keeps kept old kept' new → IsHeld old kept (Dir from) → IsRoot capacity old from
+    → tree capacity old from path ≢ Some Entry.Dir → length path ≤ 16 → IsBody capacity new head size → IsRewritten old kept' new from to path (Some (File head size))
+    → IsRoot capacity new to × (root_tree capacity new to ≡ put (root_tree capacity old from) path (Entry.File (body capacity new head size)))
 
 -- each path below a place has so many names at most
 abbrev pub IsShallow : Blocks → Place → ℕ → Type 0
@@ -73,8 +73,8 @@ IsShallow f at most = (path : Path) → IsSome (leads f at path) → length path
 -- what stood at one path stands at another: the new tree is the old one moved; it is a tree where no path gets too
 -- long; all that the new root reaches is kept, and the old root reached it, or it is in a block that was not kept before
 pub record MoveLaw (old new : Blocks) (kept kept' : ℕ → Bool) (from to : ℕ) (old_path new_path : Path) (place : Place) : Type 0 where
-  pub moved : (room depth : ℕ) → HasTree room old (Dir from) depth → tree room new to ≡ plain.move (tree room old from) old_path new_path
-  pub shape : (room depth : ℕ) → HasTree room old (Dir from) depth → length new_path ≤ depth → IsShallow old place (depth - length new_path) → HasTree room new (Dir to) depth
+  pub moved : (capacity depth : ℕ) → HasTree capacity old (Dir from) depth → tree capacity new to ≡ plain.move (tree capacity old from) old_path new_path
+  pub shape : (capacity depth : ℕ) → HasTree capacity old (Dir from) depth → length new_path ≤ depth → IsShallow old place (depth - length new_path) → HasTree capacity new (Dir to) depth
   pub held : IsHeld new kept' (Dir to)
   pub reached : (block : ℕ) → Reached new (to ∷ []) block → Reached old (from ∷ []) block ⊎ (kept block ≡ false)
 
@@ -84,19 +84,19 @@ AllMoves = (old new : Blocks) (kept kept' : ℕ → Bool) (from to : ℕ) (old_p
 
 -- a move as one of finite maps
 abbrev pub RenameLaw : Type 0
-RenameLaw = (room : ℕ) (old new : Blocks) (kept kept' : ℕ → Bool) (from to : ℕ) (old_path new_path : Path) (place : Place) → Keeps kept old kept' new → IsHeld old kept (Dir from) → IsRoot room old from
+RenameLaw = (capacity : ℕ) (old new : Blocks) (kept kept' : ℕ → Bool) (from to : ℕ) (old_path new_path : Path) (place : Place) → Keeps kept old kept' new → IsHeld old kept (Dir from) → IsRoot capacity old from
     → leads old (Dir from) old_path ≡ Some place → length new_path ≤ 16 → IsShallow old place (16 - length new_path) → IsMoved old new kept kept' from to old_path new_path place
-    → IsRoot room new to × (root_tree room new to ≡ move (root_tree room old from) old_path new_path)
+    → IsRoot capacity new to × (root_tree capacity new to ≡ move (root_tree capacity old from) old_path new_path)
 
 -- whether a path at `old` or below would have more than 16 names at `new`, of the finite map of a root and of its nodes
 abbrev pub DepthLaw : Type 0
-DepthLaw = (room : ℕ) (f : Blocks) (root : ℕ) (old new : Path) (place : Place) → IsRoot room f root → leads f (Dir root) old ≡ Some place → length new ≤ 16
-    → (is_too_deep (root_tree room f root) old new ≡ false) ↔ IsShallow f place (16 - length new)
+DepthLaw = (capacity : ℕ) (f : Blocks) (root : ℕ) (old new : Path) (place : Place) → IsRoot capacity f root → leads f (Dir root) old ≡ Some place → length new ≤ 16
+    → (is_too_deep (root_tree capacity f root) old new ≡ false) ↔ IsShallow f place (16 - length new)
 
 -- the finite map of a root has at each path what stands there, and lists the entries of its directories
-pub record MapLaw (room : ℕ) (f : Blocks) (root : ℕ) : Type 0 where
-  pub same : get (root_tree room f root) ≡ tree room f root
-  pub lists : (path : Path) (block : ℕ) → leads f (Dir root) path ≡ Some (Dir block) → children (root_tree room f root) path ≡ names_of (items_of (f block))
+pub record MapLaw (capacity : ℕ) (f : Blocks) (root : ℕ) : Type 0 where
+  pub same : get (root_tree capacity f root) ≡ tree capacity f root
+  pub lists : (path : Path) (block : ℕ) → leads f (Dir root) path ≡ Some (Dir block) → children (root_tree capacity f root) path ≡ names_of (items_of (f block))
 
 abbrev pub AllMaps : Type 0
-AllMaps = (room : ℕ) (f : Blocks) (root : ℕ) → IsRoot room f root → MapLaw room f root
+AllMaps = (capacity : ℕ) (f : Blocks) (root : ℕ) → IsRoot capacity f root → MapLaw capacity f root

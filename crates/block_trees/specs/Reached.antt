@@ -11,12 +11,12 @@ abbrev pub PlaceNames : Place → ℕ → Type 0
 PlaceNames (Dir block) next = block ≡ next
 PlaceNames (File head size) next = (0 < size) × (head ≡ next)
 
--- a body node names the blocks of its pointer places that are in use
+-- a body node names the blocks of its slots that are in use
 abbrev pub BodyNames : Option ℕ → (ℕ → ℕ) → ℕ → Type 0
 BodyNames None pointer next = ⊥
 BodyNames (Some index) pointer next = (x : ℕ) × (0 < index) × Divides x index × (pointer x ≡ next)
 
--- the node in a block names a block, by an entry or by a pointer place
+-- the node in a block names a block, by an entry or by a slot
 abbrev pub Names : Option (List ℕ) → ℕ → Type 0
 Names node next = ((item : Item) × Contains (items_of node) item × PlaceNames item.place next) ⊎ BodyNames (index_of node) (pointer_of node) next
 

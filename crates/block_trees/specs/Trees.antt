@@ -32,39 +32,39 @@ leads f at (n ∷ p) = option_and_then (λ next. leads f next p) (child f at n)
 
 -- a place as what stands there
 abbrev pub entry_at : ℕ → Blocks → Place → Entry
-entry_at room f (Dir block) = Entry.Dir
-entry_at room f (File head size) = Entry.File (body room f head size)
+entry_at capacity f (Dir block) = Entry.Dir
+entry_at capacity f (File head size) = Entry.File (body capacity f head size)
 
 -- what stands at each path below a place
 abbrev pub tree_at : ℕ → Blocks → Place → Contents
-tree_at room f at p = option_map (entry_at room f) (leads f at p)
+tree_at capacity f at p = option_map (entry_at capacity f) (leads f at p)
 
 -- the tree of a root
 abbrev pub tree : ℕ → Blocks → ℕ → Contents
-tree room f root = tree_at room f (Dir root)
+tree capacity f root = tree_at capacity f (Dir root)
 
 -- a directory has a directory node, a file has a body
 abbrev pub IsWhole : ℕ → Blocks → Place → Type 0
-IsWhole room f (Dir block) = (items : List Item) × (entries_of (f block) ≡ Some items)
-IsWhole room f (File head size) = IsBody room f head size
+IsWhole capacity f (Dir block) = (items : List Item) × (entries_of (f block) ≡ Some items)
+IsWhole capacity f (File head size) = IsBody capacity f head size
 
 -- all that paths lead to is whole, and no path has more names than `depth`; so no directory is below itself
 abbrev pub HasTree : ℕ → Blocks → Place → ℕ → Type 0
-HasTree room f from depth = (p : Path) (at : Place) → leads f from p ≡ Some at → IsWhole room f at × (length p ≤ depth)
+HasTree capacity f from depth = (p : Path) (at : Place) → leads f from p ≡ Some at → IsWhole capacity f at × (length p ≤ depth)
 
 -- a root has a tree of at most 16 names a path
 abbrev pub IsRoot : ℕ → Blocks → ℕ → Type 0
-IsRoot room f root = HasTree room f (Dir root) 16
+IsRoot capacity f root = HasTree capacity f (Dir root) 16
 
 -- a place with at most so many names below it: each path, with what stands there
 abbrev pub listed : ℕ → Blocks → ℕ → Place → List (Path × Entry)
-listed room f depth (File head size) = ([], Entry.File (body room f head size)) ∷ []
-listed room f zero (Dir block) = ([], Entry.Dir) ∷ []
-listed room f (suc depth) (Dir block) = ([], Entry.Dir) ∷ flat_map (λ item. map (λ e. (item.name ∷ e.0, e.1)) (listed room f depth item.place)) (items_of (f block))
+listed capacity f depth (File head size) = ([], Entry.File (body capacity f head size)) ∷ []
+listed capacity f zero (Dir block) = ([], Entry.Dir) ∷ []
+listed capacity f (suc depth) (Dir block) = ([], Entry.Dir) ∷ flat_map (λ item. map (λ e. (item.name ∷ e.0, e.1)) (listed capacity f depth item.place)) (items_of (f block))
 
 -- the tree of a root as a finite map
 abbrev pub root_tree : ℕ → Blocks → ℕ → Tree
-root_tree room f root = from_entries (listed room f 16 (Dir root))
+root_tree capacity f root = from_entries (listed capacity f 16 (Dir root))
 
 -- the names in a directory, each with whether it is a directory itself
 abbrev pub names_of : List Item → List (Name × Bool)

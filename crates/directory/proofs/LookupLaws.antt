@@ -39,8 +39,8 @@ place_found (Some items) name found e = on (named items name) ∙ ap place_of (f
 
 -- ---- the tree below a directory of a directory
 
-tree_below : (room : ℕ) (f : Blocks) (block below : ℕ) (name : Name) → child f (Dir block) name ≡ Some (Dir below) → under (tree room f block) (name ∷ []) ≡ tree room f below
-tree_below room f block below name led = λ i p. option_map (entry_at room f) (option_and_then (λ next. leads f next p) (led i))
+tree_below : (capacity : ℕ) (f : Blocks) (block below : ℕ) (name : Name) → child f (Dir block) name ≡ Some (Dir below) → under (tree capacity f block) (name ∷ []) ≡ tree capacity f below
+tree_below capacity f block below name led = λ i p. option_map (entry_at capacity f) (option_and_then (λ next. leads f next p) (led i))
 
 and_then_same : {A : Type 0} (o : Option A) → option_and_then (λ x. Some x) o ≡ o
 and_then_same None = refl
@@ -66,31 +66,31 @@ found_leads f root path block e = found_place f root path (variant.Dir block) e
 pub found_leads_file : (f : Blocks) (root : ℕ) (path : Path) (head size : ℕ) → look_up f root path ≡ Ok (variant.File head size) → leads f (Dir root) path ≡ Some (File head size)
 found_leads_file f root path head size e = found_place f root path (variant.File head size) e
 
-entry_found : (room : ℕ) (f : Blocks) (found : Found) → option_map (entry_at room f) (place_of found) ≡ entry_of room f found
-entry_found room f (variant.Missing is_full) = refl
-entry_found room f (variant.File head size) = refl
-entry_found room f (variant.Dir block) = refl
+entry_found : (capacity : ℕ) (f : Blocks) (found : Found) → option_map (entry_at capacity f) (place_of found) ≡ entry_of capacity f found
+entry_found capacity f (variant.Missing is_full) = refl
+entry_found capacity f (variant.File head size) = refl
+entry_found capacity f (variant.Dir block) = refl
 
 -- what stands at the path is what a look up finds
-pub found_stands : (room : ℕ) (f : Blocks) (root : ℕ) (path : Path) (found : Found) → look_up f root path ≡ Ok found → tree room f root path ≡ entry_of room f found
-found_stands room f root path found e = ap (λ (o : Option Place). option_map (entry_at room f) o) (found_place f root path found e) ∙ entry_found room f found
+pub found_stands : (capacity : ℕ) (f : Blocks) (root : ℕ) (path : Path) (found : Found) → look_up f root path ≡ Ok found → tree capacity f root path ≡ entry_of capacity f found
+found_stands capacity f root path found e = ap (λ (o : Option Place). option_map (entry_at capacity f) o) (found_place f root path found e) ∙ entry_found capacity f found
 
 -- the refusal of a path whose first name is a directory
-way_below : (room : ℕ) (f : Blocks) (block below : ℕ) (name next : Name) (path : Path) → child f (Dir block) name ≡ Some (Dir below)
-    → lookup_refusal (tree room f block) (name ∷ next ∷ path) ≡ lookup_refusal (tree room f below) (next ∷ path)
-way_below room f block below name next path led =
-    ap (λ (t : Contents). option_or (way_refusal (t [])) (lookup_refusal t (next ∷ path))) (tree_below room f block below name led)
+way_below : (capacity : ℕ) (f : Blocks) (block below : ℕ) (name next : Name) (path : Path) → child f (Dir block) name ≡ Some (Dir below)
+    → lookup_refusal (tree capacity f block) (name ∷ next ∷ path) ≡ lookup_refusal (tree capacity f below) (next ∷ path)
+way_below capacity f block below name next path led =
+    ap (λ (t : Contents). option_or (way_refusal (t [])) (lookup_refusal t (next ∷ path))) (tree_below capacity f block below name led)
 
-pub found_passes : (room : ℕ) (f : Blocks) (root : ℕ) (path : Path) (found : Found) → look_up f root path ≡ Ok found → lookup_refusal (tree room f root) path ≡ None
-found_passes room f root [] found e = refl
-found_passes room f root (n ∷ []) found e = refl
-found_passes room f root (n ∷ m ∷ p) found e =
+pub found_passes : (capacity : ℕ) (f : Blocks) (root : ℕ) (path : Path) (found : Found) → look_up f root path ≡ Ok found → lookup_refusal (tree capacity f root) path ≡ None
+found_passes capacity f root [] found e = refl
+found_passes capacity f root (n ∷ []) found e = refl
+found_passes capacity f root (n ∷ m ∷ p) found e =
     let step = on_below (below_in (entries_of (f root)) n) (λ below. look_up f below (m ∷ p)) found e in
-    way_below room f root step.0 n m p (child_below f root n step.0 step.1) ∙ found_passes room f step.0 (m ∷ p) found step.2
+    way_below capacity f root step.0 n m p (child_below f root n step.0 step.1) ∙ found_passes capacity f step.0 (m ∷ p) found step.2
 
 -- a look up that finds something finds what stands there, and path resolution is not refused
-pub found_is : (room : ℕ) (f : Blocks) (root : ℕ) (path : Path) (found : Found) → look_up f root path ≡ Ok found → (lookup_refusal (tree room f root) path ≡ None) × (tree room f root path ≡ entry_of room f found)
-found_is room f root path found e = (found_passes room f root path found e, found_stands room f root path found e)
+pub found_is : (capacity : ℕ) (f : Blocks) (root : ℕ) (path : Path) (found : Found) → look_up f root path ≡ Ok found → (lookup_refusal (tree capacity f root) path ≡ None) × (tree capacity f root path ≡ entry_of capacity f found)
+found_is capacity f root path found e = (found_passes capacity f root path found e, found_stands capacity f root path found e)
 
 -- ---- the directory that a name is missing from
 
@@ -120,25 +120,25 @@ missing_parent f root (n ∷ m ∷ p) is_full e =
 -- ---- a look up that is refused
 
 -- a directory of a tree has a tree
-pub has_tree_below : (room : ℕ) (f : Blocks) (depth block below : ℕ) (name : Name) → child f (Dir block) name ≡ Some (Dir below) → HasTree room f (Dir block) depth → HasTree room f (Dir below) depth
-has_tree_below room f depth block below name led has = λ p at leads_to.
+pub has_tree_below : (capacity : ℕ) (f : Blocks) (depth block below : ℕ) (name : Name) → child f (Dir block) name ≡ Some (Dir below) → HasTree capacity f (Dir block) depth → HasTree capacity f (Dir below) depth
+has_tree_below capacity f depth block below name led has = λ p at leads_to.
     let whole = has (name ∷ p) at (leads_below f block below name p led ∙ leads_to) in
     (whole.0, omega (arith, whole.1))
 
 -- a component on the way is refused for what stands there
-way_refused : (room : ℕ) (f : Blocks) (block : ℕ) (name next : Name) (path : Path) (items : List Item) (fault : Fault) → entries_of (f block) ≡ Some items → directory_at (named items name) ≡ Err fault
-    → lookup_refusal (tree room f block) (name ∷ next ∷ path) ≡ Some fault
-way_refused room f block name next path items fault spelled e = on (named items name) led e
+way_refused : (capacity : ℕ) (f : Blocks) (block : ℕ) (name next : Name) (path : Path) (items : List Item) (fault : Fault) → entries_of (f block) ≡ Some items → directory_at (named items name) ≡ Err fault
+    → lookup_refusal (tree capacity f block) (name ∷ next ∷ path) ≡ Some fault
+way_refused capacity f block name next path items fault spelled e = on (named items name) led e
   where
     led : leads f (Dir block) (name ∷ []) ≡ named items name
     led = leads_one f block name ∙ ap (λ (entries : Option (List Item)). named (unwrap_or entries []) name) spelled
 
     rest : Option Fault
-    rest = lookup_refusal (under (tree room f block) (name ∷ [])) (next ∷ path)
+    rest = lookup_refusal (under (tree capacity f block) (name ∷ [])) (next ∷ path)
 
-    on : (place : Option Place) → leads f (Dir block) (name ∷ []) ≡ place → directory_at place ≡ Err fault → option_or (way_refusal (tree room f block (name ∷ []))) rest ≡ Some fault
-    on None is e = ap (λ (o : Option Place). option_or (way_refusal (option_map (entry_at room f) o)) rest) is ∙ ap (λ (x : Fault). Some x) (fault_same NoEntry fault e)
-    on (Some (File head size)) is e = ap (λ (o : Option Place). option_or (way_refusal (option_map (entry_at room f) o)) rest) is ∙ ap (λ (x : Fault). Some x) (fault_same NotDirectory fault e)
+    on : (place : Option Place) → leads f (Dir block) (name ∷ []) ≡ place → directory_at place ≡ Err fault → option_or (way_refusal (tree capacity f block (name ∷ []))) rest ≡ Some fault
+    on None is e = ap (λ (o : Option Place). option_or (way_refusal (option_map (entry_at capacity f) o)) rest) is ∙ ap (λ (x : Fault). Some x) (fault_same NoEntry fault e)
+    on (Some (File head size)) is e = ap (λ (o : Option Place). option_or (way_refusal (option_map (entry_at capacity f) o)) rest) is ∙ ap (λ (x : Fault). Some x) (fault_same NotDirectory fault e)
     on (Some (Dir below)) is e = absurd cc
 
 abbrev SplitBelow : Result ℕ Fault → (ℕ → Result Found Fault) → Fault → Type 0
@@ -148,22 +148,22 @@ split_below : (below : Result ℕ Fault) (after : ℕ → Result Found Fault) (f
 split_below (Err other) after fault e = inl (ap (λ (x : Fault). (let r : Result ℕ Fault = Err x in r)) (fault_same other fault e))
 split_below (Ok block) after fault e = inr (block, refl, e)
 
-pub refused_at : (room : ℕ) (f : Blocks) (depth root : ℕ) (path : Path) (fault : Fault) → HasTree room f (Dir root) depth → look_up f root path ≡ Err fault → lookup_refusal (tree room f root) path ≡ Some fault
-refused_at room f depth root [] fault has e = absurd cc
-refused_at room f depth root (n ∷ []) fault has e =
+pub refused_at : (capacity : ℕ) (f : Blocks) (depth root : ℕ) (path : Path) (fault : Fault) → HasTree capacity f (Dir root) depth → look_up f root path ≡ Err fault → lookup_refusal (tree capacity f root) path ≡ Some fault
+refused_at capacity f depth root [] fault has e = absurd cc
+refused_at capacity f depth root (n ∷ []) fault has e =
     let whole = (has [] (Dir root) refl).0 in
     let spelled = whole.1 in
     let wrong : found_in (Some whole.0) n ≡ Err fault = ap (λ (entries : Option (List Item)). found_in entries n) (sym spelled) ∙ e in
     absurd cc
-refused_at room f depth root (n ∷ m ∷ p) fault has e =
+refused_at capacity f depth root (n ∷ m ∷ p) fault has e =
     let whole = (has [] (Dir root) refl).0 in
     elim (split_below (below_in (entries_of (f root)) n) (λ below. look_up f below (m ∷ p)) fault e) [
-      | inl here ↦ way_refused room f root n m p whole.0 fault whole.1 (ap (λ (entries : Option (List Item)). below_in entries n) (sym whole.1) ∙ here)
+      | inl here ↦ way_refused capacity f root n m p whole.0 fault whole.1 (ap (λ (entries : Option (List Item)). below_in entries n) (sym whole.1) ∙ here)
       | inr later ↦
           let led = child_below f root n later.0 later.1 in
-          way_below room f root later.0 n m p led ∙ refused_at room f depth later.0 (m ∷ p) fault (has_tree_below room f depth root later.0 n led has) later.2
+          way_below capacity f root later.0 n m p led ∙ refused_at capacity f depth later.0 (m ∷ p) fault (has_tree_below capacity f depth root later.0 n led has) later.2
     ]
 
 -- a look up below a root is refused as path resolution is; so no directory on the way is damaged
-pub refused_is : (room : ℕ) (f : Blocks) (root : ℕ) (path : Path) (fault : Fault) → IsRoot room f root → look_up f root path ≡ Err fault → lookup_refusal (tree room f root) path ≡ Some fault
-refused_is room f root path fault is_root e = refused_at room f 16 root path fault is_root e
+pub refused_is : (capacity : ℕ) (f : Blocks) (root : ℕ) (path : Path) (fault : Fault) → IsRoot capacity f root → look_up f root path ≡ Err fault → lookup_refusal (tree capacity f root) path ≡ Some fault
+refused_is capacity f root path fault is_root e = refused_at capacity f 16 root path fault is_root e

@@ -9,7 +9,7 @@ use Rattle.block_trees.proofs.RootMaps.{leads-append}
 use Rattle.directory.specs.Depths.{AsDeepLaw, FileLaw}
 
 pub as_deep : AsDeepLaw
-as_deep room f root old new place has led fewer path some = on (leads f place path) refl some
+as_deep capacity f root old new place has led fewer path some = on (leads f place path) refl some
   where
     on : (o : Option Place) → leads f place path ≡ o → IsSome o → length path ≤ 16 - length new
     on None is some = absurd cc

@@ -59,9 +59,9 @@ place_of (found.Dir block) = Some (Dir block)
 
 -- what was found, as what stands at the path
 abbrev pub entry_of : ℕ → Blocks → Found → Option Entry
-entry_of room f (found.Missing is_full) = None
-entry_of room f (found.File head size) = Some (Entry.File (body room f head size))
-entry_of room f (found.Dir block) = Some Entry.Dir
+entry_of capacity f (found.Missing is_full) = None
+entry_of capacity f (found.File head size) = Some (Entry.File (body capacity f head size))
+entry_of capacity f (found.Dir block) = Some Entry.Dir
 
 -- the refusals that say what the nodes hold
 abbrev pub is_path_fault : Fault → Bool

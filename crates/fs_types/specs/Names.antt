@@ -4,6 +4,7 @@ use Rattle.std.specs.List.{list_all, slice_split}
 use Rattle.std.specs.Cmp.Lexicographic.{slice_cmp}
 use Rattle.std.specs.Ordering.{nat_cmp}
 use Rattle.std.specs.declared.cmp.Ordering.{Ordering}
+use Rattle.fs_types.specs.declared.limits.TheConstants.{MAX_NAME_BYTES, MAX_NAMES, MAX_CHECKPOINT_BYTES}
 use Rattle.fs_types.specs.declared.faults.Fault.{Fault}
 use Rattle.fs_types.specs.declared.faults.Fault.TheVariants.{NoEntry, Invalid, NameTooLong}
 use lib.Pointwise.{pointwise}
@@ -39,13 +40,13 @@ is_dots name = same_name name (46 ∷ []) || same_name name (46 ∷ 46 ∷ [])
 abbrev pub is_lawful : Name → Bool
 is_lawful name = nat_lt 0 (length name) && not (is_dots name) && list_all (λ b. not (b == 0) && not (b == 47)) name
 
--- a name is lawful and has at most 64 bytes
+-- a name is lawful and not too long
 abbrev pub is_name : Name → Bool
-is_name name = is_lawful name && nat_le (length name) 64
+is_name name = is_lawful name && nat_le (length name) MAX_NAME_BYTES
 
--- at most 16 names
+-- lawful names, and not too many
 abbrev pub is_path : Path → Bool
-is_path path = list_all is_name path && nat_le (length path) 16
+is_path path = list_all is_name path && nat_le (length path) MAX_NAMES
 
 -- what stands between the slashes after the first byte; none in `/`
 abbrev pub components_of : List ℕ → Path
@@ -60,6 +61,6 @@ abbrev pub path_refusal : List ℕ → Option Fault
 path_refusal [] = Some NoEntry
 path_refusal (first ∷ rest) = if first == 47 then components_refusal (components_of (first ∷ rest)) else Some Invalid
 
--- 1 to 31 bytes from 0x21 to 0x7E
+-- at least one byte, not too many, each from 0x21 to 0x7E
 abbrev pub is_checkpoint_name : List ℕ → Bool
-is_checkpoint_name bytes = nat_lt 0 (length bytes) && nat_le (length bytes) 31 && list_all (λ b. nat_le 33 b && nat_le b 126) bytes
+is_checkpoint_name bytes = nat_lt 0 (length bytes) && nat_le (length bytes) MAX_CHECKPOINT_BYTES && list_all (λ b. nat_le 33 b && nat_le b 126) bytes

@@ -14,7 +14,10 @@ pub use calls::{Call, Reply, Stat, Version, View};
 pub use checkpoint_names::CpName;
 pub use faults::Fault;
 pub use flags::OpenFlags;
-pub use limits::{MAX_CHECKPOINT_BYTES, MAX_ENTRIES, MAX_FILE_BYTES, MAX_NAME_BYTES, MAX_NAMES};
+pub use limits::{
+    MAX_CHECKPOINT_BYTES, MAX_CHECKPOINTS, MAX_ENTRIES, MAX_FILE_BYTES, MAX_NAME_BYTES, MAX_NAMES,
+    MAX_OPEN_FILES, MAX_VERSIONS, MIN_VERSIONS,
+};
 pub use names::Name;
 pub use paths::{Path, is_lawful_name};
 pub use sequences::{Bytes, Sequence};

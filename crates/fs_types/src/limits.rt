@@ -1,4 +1,4 @@
-//! How much there may be of names, paths, directories and files.
+//! How much there may be of names, paths, directories, files, versions and open files.
 
 /// The most bytes in a name of a directory entry.
 pub const MAX_NAME_BYTES: usize = 64;
@@ -14,3 +14,15 @@ pub const MAX_ENTRIES: usize = 32;
 
 /// The most bytes in a file.
 pub const MAX_FILE_BYTES: u32 = 16_777_216;
+
+/// The fewest versions that a system may keep: one to undo, and the present one.
+pub const MIN_VERSIONS: u16 = 2;
+
+/// The most versions that a system may keep.
+pub const MAX_VERSIONS: u16 = 64;
+
+/// The most checkpoints.
+pub const MAX_CHECKPOINTS: usize = 16;
+
+/// The most open files.
+pub const MAX_OPEN_FILES: usize = 16;

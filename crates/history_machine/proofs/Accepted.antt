@@ -13,7 +13,7 @@ use Rattle.fs_types.specs.declared.flags.OpenFlags.{OpenFlags}
 use Rattle.fs_types.specs.declared.calls.Call.{Call}
 use Rattle.fs_types.specs.declared.faults.Fault.{Fault}
 use Rattle.fs_types.specs.declared.faults.Fault.TheVariants.{NoEntry, Exists, NotEmpty, Invalid, NameTooLong, BadDescriptor, TooManyOpen, Busy, DirectoryFull}
-use Rattle.history_machine.specs.Machine.{Machine, present_tree, found_refusal, descriptor_refusal, number_refusal, open_refusal, replace_refusal, move_refusal, rename_refusal, unlink_refusal, rmdir_refusal, refusal}
+use Rattle.history_machine.specs.Machine.{Machine, present_tree, found_refusal, descriptor_refusal, full_table_refusal, open_refusal, replace_refusal, move_refusal, rename_refusal, unlink_refusal, rmdir_refusal, refusal}
 use Rattle.plain_trees.proofs.Beneath.{None≢Some, same_Some, beneath-Some}
 use Rattle.fs_types.proofs.Orders.{same_path-own}
 use Rattle.plain_trees.proofs.Shapes.{last_name}
@@ -45,11 +45,11 @@ found t path refuse e =
     go None is looked fine = absurd (None≢Some (sym fine))
     go (Some x) is looked fine = record { looked = looked; entry = x; is = is; fine = fine }
 
--- a number that is open
-pub at-number : (m : Machine) (number : ℕ) (refuse : Descriptor → Option Fault) → descriptor_refusal m number refuse ≡ None → (d : Descriptor) × (descriptor_at m.descriptors number ≡ Some d) × (refuse d ≡ None)
-at-number m number refuse e = go (descriptor_at m.descriptors number) refl e
+-- a descriptor that is open
+pub at-descriptor : (m : Machine) (descriptor : ℕ) (refuse : Descriptor → Option Fault) → descriptor_refusal m descriptor refuse ≡ None → (d : Descriptor) × (descriptor_at m.descriptors descriptor ≡ Some d) × (refuse d ≡ None)
+at-descriptor m descriptor refuse e = go (descriptor_at m.descriptors descriptor) refl e
   where
-    go : (o : Option Descriptor) → descriptor_at m.descriptors number ≡ o → option_map_or refuse o (Some BadDescriptor) ≡ None → (d : Descriptor) × (descriptor_at m.descriptors number ≡ Some d) × (refuse d ≡ None)
+    go : (o : Option Descriptor) → descriptor_at m.descriptors descriptor ≡ o → option_map_or refuse o (Some BadDescriptor) ≡ None → (d : Descriptor) × (descriptor_at m.descriptors descriptor ≡ Some d) × (refuse d ≡ None)
     go None is e = absurd (None≢Some (sym e))
     go (Some d) is e = (d, is, e)
 
@@ -78,11 +78,11 @@ not-root t (n ∷ p) tree h = omega arith
 
 pub record Opened (m : Machine) (path : Path) (flags : OpenFlags) : Type 0 where
   pub looked : lookup_refusal (get (present_tree m)) path ≡ None
-  pub number : ℕ
-  pub free : least_free m.descriptors ≡ Some number
+  pub descriptor : ℕ
+  pub free : least_free m.descriptors ≡ Some descriptor
   pub what : (get (present_tree m) path ≡ None) × (is_full (present_tree m) (parent_of path) ≡ false) ⊎ ((bytes : List ℕ) × (get (present_tree m) path ≡ Some (Entry.File bytes)))
 
-numbered : (m : Machine) → number_refusal m ≡ None → (n : ℕ) × (least_free m.descriptors ≡ Some n)
+numbered : (m : Machine) → full_table_refusal m ≡ None → (n : ℕ) × (least_free m.descriptors ≡ Some n)
 numbered m e = go (least_free m.descriptors) refl e
   where
     go : (o : Option ℕ) → least_free m.descriptors ≡ o → cond (is_none o) (Some TooManyOpen) None ≡ None → (n : ℕ) × (least_free m.descriptors ≡ Some n)
@@ -98,11 +98,11 @@ open-accepted m path flags e =
     go None is looked e =
         let room = passes _ DirectoryFull _ (passes _ NoEntry _ e).1 in
         let n = numbered m room.1 in
-        record { looked = looked; number = n.0; free = n.1; what = inl (is, room.0) }
+        record { looked = looked; descriptor = n.0; free = n.1; what = inl (is, room.0) }
     go (Some Entry.Dir) is looked e = absurd (None≢Some (sym (passes _ Exists _ e).1))
     go (Some (Entry.File bytes)) is looked e =
         let n = numbered m (passes _ Exists _ e).1 in
-        record { looked = looked; number = n.0; free = n.1; what = inr (bytes, is) }
+        record { looked = looked; descriptor = n.0; free = n.1; what = inr (bytes, is) }
 
 -- mkdir
 

@@ -32,42 +32,42 @@ use Rattle.history_machine.proofs.Steps.{passes, forget-within, moved-lawful, tr
 use Rattle.plain_trees.proofs.Counts.{none-in, count-within}
 use Rattle.plain_trees.proofs.Lookups.{resolved, parent-push}
 use Rattle.plain_trees.proofs.FileTrees.{put-file_tree, remove-file_tree, move-file_tree, by_put, by_remove, by_move, Room, Replaced, Beside, Free}
-use Rattle.history_machine.proofs.Accepted.{at-number, below-file, split, not-root, Dir≢File, Opened, open-accepted, mkdir-accepted, unlink-accepted, rmdir-accepted, Renamed, rename-accepted, new-empty, renamed-apart}
+use Rattle.history_machine.proofs.Accepted.{at-descriptor, below-file, split, not-root, Dir≢File, Opened, open-accepted, mkdir-accepted, unlink-accepted, rmdir-accepted, Renamed, rename-accepted, new-empty, renamed-apart}
 
 -- Descriptors.
 
-opened-at : (ds : Descriptors) (n number : ℕ) (new d : Descriptor) → descriptor_at (opened ds n new) number ≡ Some d → (new ≡ d) ⊎ (descriptor_at ds number ≡ Some d)
-opened-at [] n number new d e = absurd (None≢Some e)
+opened-at : (ds : Descriptors) (n descriptor : ℕ) (new d : Descriptor) → descriptor_at (opened ds n new) descriptor ≡ Some d → (new ≡ d) ⊎ (descriptor_at ds descriptor ≡ Some d)
+opened-at [] n descriptor new d e = absurd (None≢Some e)
 opened-at (x ∷ ds) zero zero new d e = inl (same_Some e)
-opened-at (x ∷ ds) zero (suc number) new d e = inr e
+opened-at (x ∷ ds) zero (suc descriptor) new d e = inr e
 opened-at (x ∷ ds) (suc n) zero new d e = inr e
-opened-at (x ∷ ds) (suc n) (suc number) new d e = opened-at ds n number new d e
+opened-at (x ∷ ds) (suc n) (suc descriptor) new d e = opened-at ds n descriptor new d e
 
-closed-at : (ds : Descriptors) (n number : ℕ) (d : Descriptor) → descriptor_at (closed ds n) number ≡ Some d → descriptor_at ds number ≡ Some d
-closed-at [] n number d e = e
+closed-at : (ds : Descriptors) (n descriptor : ℕ) (d : Descriptor) → descriptor_at (closed ds n) descriptor ≡ Some d → descriptor_at ds descriptor ≡ Some d
+closed-at [] n descriptor d e = e
 closed-at (x ∷ ds) zero zero d e = absurd (None≢Some e)
-closed-at (x ∷ ds) zero (suc number) d e = e
+closed-at (x ∷ ds) zero (suc descriptor) d e = e
 closed-at (x ∷ ds) (suc n) zero d e = e
-closed-at (x ∷ ds) (suc n) (suc number) d e = closed-at ds n number d e
+closed-at (x ∷ ds) (suc n) (suc descriptor) d e = closed-at ds n descriptor d e
 
-none-passes : (test : Path → Bool) (ds : Descriptors) (number : ℕ) (d : Descriptor) → any_path test ds ≡ false → descriptor_at ds number ≡ Some d → test d.path ≡ false
-none-passes test [] number d none e = absurd (None≢Some e)
+none-passes : (test : Path → Bool) (ds : Descriptors) (descriptor : ℕ) (d : Descriptor) → any_path test ds ≡ false → descriptor_at ds descriptor ≡ Some d → test d.path ≡ false
+none-passes test [] descriptor d none e = absurd (None≢Some e)
 none-passes test (x ∷ ds) zero d none e = ap (λ o. option_map_or (λ d. test d.path) o false) (sym e) ∙ (or_parts _ (any_path test ds) none).0
-none-passes test (x ∷ ds) (suc number) d none e = none-passes test ds number d (or_parts (option_map_or (λ d. test d.path) x false) (any_path test ds) none).1 e
+none-passes test (x ∷ ds) (suc descriptor) d none e = none-passes test ds descriptor d (or_parts (option_map_or (λ d. test d.path) x false) (any_path test ds) none).1 e
 
-none-is-open : (ds : Descriptors) (number : ℕ) (d : Descriptor) → any_open ds ≡ false → descriptor_at ds number ≡ Some d → ⊥
-none-is-open [] number d none e = None≢Some e
+none-is-open : (ds : Descriptors) (descriptor : ℕ) (d : Descriptor) → any_open ds ≡ false → descriptor_at ds descriptor ≡ Some d → ⊥
+none-is-open [] descriptor d none e = None≢Some e
 none-is-open (x ∷ ds) zero d none e = true≢false (sym (ap is_some e) ∙ (or_parts (is_some x) (any_open ds) none).0)
-none-is-open (x ∷ ds) (suc number) d none e = none-is-open ds number d (or_parts (is_some x) (any_open ds) none).1 e
+none-is-open (x ∷ ds) (suc descriptor) d none e = none-is-open ds descriptor d (or_parts (is_some x) (any_open ds) none).1 e
 
-none-at : (n number : ℕ) (d : Descriptor) → descriptor_at (replicate n None) number ≡ Some d → ⊥
-none-at zero number d e = None≢Some e
+none-at : (n descriptor : ℕ) (d : Descriptor) → descriptor_at (replicate n None) descriptor ≡ Some d → ⊥
+none-at zero descriptor d e = None≢Some e
 none-at (suc n) zero d e = None≢Some e
-none-at (suc n) (suc number) d e = none-at n number d e
+none-at (suc n) (suc descriptor) d e = none-at n descriptor d e
 
 -- each open file is a file of the tree
 abbrev AreFiles : Descriptors → Tree → Type 0
-AreFiles ds t = (number : ℕ) (d : Descriptor) → descriptor_at ds number ≡ Some d → IsFile t d.path
+AreFiles ds t = (descriptor : ℕ) (d : Descriptor) → descriptor_at ds descriptor ≡ Some d → IsFile t d.path
 
 -- The present tree.
 
@@ -206,20 +206,20 @@ change-tree m (Call.Open path flags) t is good ok e = go (open_changes (present_
     go : (b : Bool) → cond b (Some (file_put (present_tree m) path [])) None ≡ Some t → IsFileTree t
     go true e = subst IsFileTree (same_Some e) (made f.what)
     go false e = absurd (None≢Some e)
-change-tree m (Call.Pwrite number offset bytes) t is good ok e =
+change-tree m (Call.Pwrite descriptor offset bytes) t is good ok e =
     let tree = present-file_tree m is in
-    let d = at-number m number (pwrite_refusal offset bytes) ok in
+    let d = at-descriptor m descriptor (pwrite_refusal offset bytes) ok in
     let w = written (length bytes == 0) (file_put (present_tree m) d.0.path (overwritten (bytes_at (present_tree m) d.0.path) offset bytes)) t (ap (option_and_then _) (sym d.1) ∙ e) in
-    let file = is.files number d.0 d.1 in
+    let file = is.files descriptor d.0 d.1 in
     let short : offset + length bytes ≤ 16777216 = pwrite-short m offset bytes d.0 d.2 w.0 in
     let old : length (bytes_at (present_tree m) d.0.path) ≤ 16777216 = short-file (present_tree m) d.0.path tree file in
     subst IsFileTree w.1 (put-bytes (present_tree m) d.0.path _ tree file (omega (arith, length-overwritten (bytes_at (present_tree m) d.0.path) bytes offset)))
-change-tree m (Call.Ftruncate number n) t is good ok e =
+change-tree m (Call.Ftruncate descriptor n) t is good ok e =
     let tree = present-file_tree m is in
-    let d = at-number m number (ftruncate_refusal n) ok in
+    let d = at-descriptor m descriptor (ftruncate_refusal n) ok in
     let w = written (length (bytes_at (present_tree m) d.0.path) == n) (file_put (present_tree m) d.0.path (resized (bytes_at (present_tree m) d.0.path) n)) t (ap (option_and_then _) (sym d.1) ∙ e) in
     let short : n ≤ 16777216 = ltb-false 16777216 n (passes _ TooBig None (passes _ Invalid _ d.2).1).0 in
-    subst IsFileTree w.1 (put-bytes (present_tree m) d.0.path (resized (bytes_at (present_tree m) d.0.path) n) tree (is.files number d.0 d.1) (subst (λ l. l ≤ 16777216) (sym (length-resized (bytes_at (present_tree m) d.0.path) n)) short))
+    subst IsFileTree w.1 (put-bytes (present_tree m) d.0.path (resized (bytes_at (present_tree m) d.0.path) n) tree (is.files descriptor d.0 d.1) (subst (λ l. l ≤ 16777216) (sym (length-resized (bytes_at (present_tree m) d.0.path) n)) short))
 change-tree m (Call.Rename old new) t is good ok e =
     let w = written (same_path old new) (move (present_tree m) old new) t e in
     subst IsFileTree w.1 (move-path m old new (present-file_tree m is) (and_parts (is_path old) (is_path new) good).1 w.0 (rename-accepted m old new ok w.0))
@@ -256,18 +256,18 @@ move-files m old new p tree f file below other = by_move (present_tree m) old ne
     at-new [] is = true≢false (sym (same_path-own new) ∙ ap (same_path new) (sym (is ∙ append-nil new)) ∙ other)
     at-new (n ∷ r) is = new-empty m old new tree f n r (ap (λ q. is_some (get (present_tree m) q)) (sym is) ∙ ap is_some file.1)
 
--- a number that was free
-number-of : (m : Machine) (path : Path) (flags : OpenFlags) → (n : ℕ) → least_free m.descriptors ≡ Some n → descriptors_after m (Call.Open path flags) ≡ opened m.descriptors n (record { path = path; flags = flags })
-number-of m path flags n e = ap (λ o. option_map_or (λ number. opened m.descriptors number (record { path = path; flags = flags })) o m.descriptors) e
+-- a descriptor that was free
+descriptor-of : (m : Machine) (path : Path) (flags : OpenFlags) → (n : ℕ) → least_free m.descriptors ≡ Some n → descriptors_after m (Call.Open path flags) ≡ opened m.descriptors n (record { path = path; flags = flags })
+descriptor-of m path flags n e = ap (λ o. option_map_or (λ descriptor. opened m.descriptors descriptor (record { path = path; flags = flags })) o m.descriptors) e
 
 open-files : (m : Machine) (path : Path) (flags : OpenFlags) (t : Tree) → refusal m (Call.Open path flags) ≡ None → IsFile t path → AreFiles m.descriptors t → AreFiles (descriptors_after m (Call.Open path flags)) t
-open-files m path flags t ok here files number d e =
+open-files m path flags t ok here files descriptor d e =
     let f = open-accepted m path flags ok in
-    go (opened-at m.descriptors f.number number (record { path = path; flags = flags }) d (ap (λ ds. descriptor_at ds number) (sym (number-of m path flags f.number f.free)) ∙ e))
+    go (opened-at m.descriptors f.descriptor descriptor (record { path = path; flags = flags }) d (ap (λ ds. descriptor_at ds descriptor) (sym (descriptor-of m path flags f.descriptor f.free)) ∙ e))
   where
-    go : (record { path = path; flags = flags } ≡ d) ⊎ (descriptor_at m.descriptors number ≡ Some d) → IsFile t d.path
+    go : (record { path = path; flags = flags } ≡ d) ⊎ (descriptor_at m.descriptors descriptor ≡ Some d) → IsFile t d.path
     go (inl is) = subst (λ c. IsFile t c.path) is here
-    go (inr is) = files number d is
+    go (inr is) = files descriptor d is
 
 -- after a change
 change-files : (m : Machine) (call : Call) (t : Tree) → IsMachine m → refusal m call ≡ None → tree_after m call ≡ Some t → AreFiles (descriptors_after m call) t
@@ -275,38 +275,38 @@ change-files m (Call.Open path flags) t is ok e = go (open_changes (present_tree
   where
     go : (b : Bool) → cond b (Some (file_put (present_tree m) path [])) None ≡ Some t → AreFiles (descriptors_after m (Call.Open path flags)) t
     go true e = subst (AreFiles (descriptors_after m (Call.Open path flags))) (same_Some e)
-        (open-files m path flags (file_put (present_tree m) path []) ok (new-file (present_tree m) path []) (λ number d at. put-files (present_tree m) path d.path [] (is.files number d at)))
+        (open-files m path flags (file_put (present_tree m) path []) ok (new-file (present_tree m) path []) (λ descriptor d at. put-files (present_tree m) path d.path [] (is.files descriptor d at)))
     go false e = absurd (None≢Some e)
-change-files m (Call.Pwrite number offset bytes) t is ok e =
-    let d = at-number m number (pwrite_refusal offset bytes) ok in
+change-files m (Call.Pwrite descriptor offset bytes) t is ok e =
+    let d = at-descriptor m descriptor (pwrite_refusal offset bytes) ok in
     let new = overwritten (bytes_at (present_tree m) d.0.path) offset bytes in
     let w = written (length bytes == 0) (file_put (present_tree m) d.0.path new) t (ap (option_and_then _) (sym d.1) ∙ e) in
-    subst (AreFiles m.descriptors) w.1 (λ number c at. put-files (present_tree m) d.0.path c.path new (is.files number c at))
-change-files m (Call.Ftruncate number n) t is ok e =
-    let d = at-number m number (ftruncate_refusal n) ok in
+    subst (AreFiles m.descriptors) w.1 (λ descriptor c at. put-files (present_tree m) d.0.path c.path new (is.files descriptor c at))
+change-files m (Call.Ftruncate descriptor n) t is ok e =
+    let d = at-descriptor m descriptor (ftruncate_refusal n) ok in
     let new = resized (bytes_at (present_tree m) d.0.path) n in
     let w = written (length (bytes_at (present_tree m) d.0.path) == n) (file_put (present_tree m) d.0.path new) t (ap (option_and_then _) (sym d.1) ∙ e) in
-    subst (AreFiles m.descriptors) w.1 (λ number c at. put-files (present_tree m) d.0.path c.path new (is.files number c at))
+    subst (AreFiles m.descriptors) w.1 (λ descriptor c at. put-files (present_tree m) d.0.path c.path new (is.files descriptor c at))
 change-files m (Call.Rename old new) t is ok e =
     let w = written (same_path old new) (move (present_tree m) old new) t e in
     let f = rename-accepted m old new ok w.0 in
-    subst (AreFiles m.descriptors) w.1 (λ number d at. move-files m old new d.path (present-file_tree m is) f (is.files number d at) (none-passes (begins old) m.descriptors number d f.free_old at) (none-passes (same_path new) m.descriptors number d f.free_new at))
+    subst (AreFiles m.descriptors) w.1 (λ descriptor d at. move-files m old new d.path (present-file_tree m is) f (is.files descriptor d at) (none-passes (begins old) m.descriptors descriptor d f.free_old at) (none-passes (same_path new) m.descriptors descriptor d f.free_new at))
 change-files m (Call.Unlink path) t is ok e =
     let f = unlink-accepted m path ok in
-    subst (AreFiles m.descriptors) (same_Some e) (λ number d at. by_remove (present_tree m) path d.path (λ o. (b : List ℕ) × (o ≡ Some (Entry.File b)))
-    (λ same. absurd (true≢false (sym (same_path-own path) ∙ ap (same_path path) same ∙ none-passes (same_path path) m.descriptors number d f.1 at)))
-    (λ _. is.files number d at))
+    subst (AreFiles m.descriptors) (same_Some e) (λ descriptor d at. by_remove (present_tree m) path d.path (λ o. (b : List ℕ) × (o ≡ Some (Entry.File b)))
+    (λ same. absurd (true≢false (sym (same_path-own path) ∙ ap (same_path path) same ∙ none-passes (same_path path) m.descriptors descriptor d f.1 at)))
+    (λ _. is.files descriptor d at))
 change-files m (Call.Mkdir path) t is ok e =
     let f = mkdir-accepted m path ok in
-    subst (AreFiles m.descriptors) (same_Some e) (λ number d at. by_put (present_tree m) path Entry.Dir d.path (λ o. (b : List ℕ) × (o ≡ Some (Entry.File b)))
-    (λ same. absurd (None≢Some (sym f.2 ∙ ap (get (present_tree m)) same ∙ (is.files number d at).1)))
-    (λ _. is.files number d at))
+    subst (AreFiles m.descriptors) (same_Some e) (λ descriptor d at. by_put (present_tree m) path Entry.Dir d.path (λ o. (b : List ℕ) × (o ≡ Some (Entry.File b)))
+    (λ same. absurd (None≢Some (sym f.2 ∙ ap (get (present_tree m)) same ∙ (is.files descriptor d at).1)))
+    (λ _. is.files descriptor d at))
 change-files m (Call.Rmdir path) t is ok e =
     let f = rmdir-accepted m path ok in
-    subst (AreFiles m.descriptors) (same_Some e) (λ number d at. by_remove (present_tree m) path d.path (λ o. (b : List ℕ) × (o ≡ Some (Entry.File b)))
-    (λ same. absurd (Dir≢File (same_Some (sym f.1 ∙ ap (get (present_tree m)) same ∙ (is.files number d at).1))))
-    (λ _. is.files number d at))
-change-files m (Call.Rollback name) t is ok e = λ number d at. absurd (none-is-open m.descriptors number d (passes (any_open m.descriptors) Busy _ ok).0 at)
+    subst (AreFiles m.descriptors) (same_Some e) (λ descriptor d at. by_remove (present_tree m) path d.path (λ o. (b : List ℕ) × (o ≡ Some (Entry.File b)))
+    (λ same. absurd (Dir≢File (same_Some (sym f.1 ∙ ap (get (present_tree m)) same ∙ (is.files descriptor d at).1))))
+    (λ _. is.files descriptor d at))
+change-files m (Call.Rollback name) t is ok e = λ descriptor d at. absurd (none-is-open m.descriptors descriptor d (passes (any_open m.descriptors) Busy _ ok).0 at)
 change-files m _ t is ok e = absurd (None≢Some e)
 
 -- what a call that makes no version leaves of the present tree
@@ -328,7 +328,7 @@ moved-files m (Call.Open path flags) is ok e =
     here : (get (present_tree m) path ≡ None) × (is_full (present_tree m) (parent_of path) ≡ false) ⊎ IsFile (present_tree m) path → tree_after m (Call.Open path flags) ≡ None → IsFile (present_tree m) path
     here (inr file) e = file
     here (inl new) e = absurd (None≢Some (sym e ∙ ap (λ o. cond (is_none o || (truncates flags && nat_lt 0 (length (bytes_of o)))) (Some (file_put (present_tree m) path [])) None) new.0))
-moved-files m (Call.Close number) is ok e = λ n d at. is.files n d (closed-at m.descriptors number n d at)
+moved-files m (Call.Close descriptor) is ok e = λ n d at. is.files n d (closed-at m.descriptors descriptor n d at)
 moved-files m Call.Undo is ok e = λ n d at. absurd (none-is-open m.descriptors n d (passes (any_open m.descriptors) Busy _ ok).0 at)
 moved-files m Call.Redo is ok e = λ n d at. absurd (none-is-open m.descriptors n d (passes (any_open m.descriptors) Busy _ ok).0 at)
 moved-files m (Call.Goto serial) is ok e = λ n d at. absurd (none-is-open m.descriptors n d (passes (any_open m.descriptors) Busy _ ok).0 at)
@@ -379,10 +379,10 @@ changed-kept h t tree k = record {
 places-after : (m : Machine) (call : Call) → length (descriptors_after m call) ≡ length m.descriptors
 places-after m (Call.Open path flags) = go (least_free m.descriptors)
   where
-    go : (o : Option ℕ) → length (option_map_or (λ number. opened m.descriptors number (record { path = path; flags = flags })) o m.descriptors) ≡ length m.descriptors
+    go : (o : Option ℕ) → length (option_map_or (λ descriptor. opened m.descriptors descriptor (record { path = path; flags = flags })) o m.descriptors) ≡ length m.descriptors
     go None = refl
     go (Some n) = length-set m.descriptors n (Some (record { path = path; flags = flags }))
-places-after m (Call.Close number) = length-set m.descriptors number None
+places-after m (Call.Close descriptor) = length-set m.descriptors descriptor None
 places-after m _ = refl
 
 -- an accepted call
@@ -438,7 +438,7 @@ bare-file_tree = record {
     no-file (k ∷ p) bytes e = None≢Some (sym (get-bare (k ∷ p)) ∙ e)
 
 pub mounted-machine : (m : Machine) → IsMachine m → IsMachine (mounted m.history)
-mounted-machine m is = record { lawful = is.lawful; trees = is.trees; kept = is.kept; named = is.named; places = refl; files = λ number d e. absurd (none-at 16 number d e) }
+mounted-machine m is = record { lawful = is.lawful; trees = is.trees; kept = is.kept; named = is.named; places = refl; files = λ descriptor d e. absurd (none-at 16 descriptor d e) }
 
 pub fresh-machine : (limit : ℕ) → 2 ≤ limit → IsMachine (mounted (fresh limit bare))
 unfolding IsStrictlySortedBy
@@ -448,7 +448,7 @@ fresh-machine limit h = record {
   kept = λ k d l. absurd (omega arith);
   named = tt;
   places = refl;
-  files = λ number d e. absurd (none-at 16 number d e);
+  files = λ descriptor d e. absurd (none-at 16 descriptor d e);
 }
 
 pub machine_law : MachineLaw

@@ -5,6 +5,7 @@ use Rattle.std.specs.Option.{option_map, option_and_then}
 use Rattle.std.specs.BTreeMap.{insert_entry, is_at}
 use Rattle.std.specs.Map.{lookup, remove_entry}
 use Rattle.fs_types.specs.Names.{name_cmp}
+use Rattle.fs_types.specs.declared.limits.TheConstants.{MAX_CHECKPOINTS}
 use Rattle.fs_types.specs.declared.calls.Version.{Version}
 use Rattle.fs_types.specs.declared.calls.View.{View}
 use Rattle.fs_types.specs.declared.calls.View.TheVariants.{Present, Serial, Checkpoint}
@@ -28,7 +29,7 @@ pub record IsLawful {R : Type 0} (p : Past R) : Type 0 where
   pub cursor_in : p.cursor < length p.versions
   pub ascending : AllPairs (λ v w. v.serial < w.serial) p.versions
   pub below_next : All (λ v. v.serial < p.next) p.versions
-  pub few : length p.checkpoints ≤ 16
+  pub few : length p.checkpoints ≤ MAX_CHECKPOINTS
 
 module _ {R : Type 0} where
   -- a fresh system: one version with serial 1
@@ -93,7 +94,7 @@ module _ {R : Type 0} where
 
   -- checkpoint: a name that is there comes before too many
   abbrev pub checkpoint_refusal : Past R → List ℕ → Option Fault
-  checkpoint_refusal p name = if is_some (checkpoint_root p name) then Some Exists else if nat_le 16 (length p.checkpoints) then Some CheckpointsFull else None
+  checkpoint_refusal p name = if is_some (checkpoint_root p name) then Some Exists else if nat_le MAX_CHECKPOINTS (length p.checkpoints) then Some CheckpointsFull else None
 
   abbrev pub with_checkpoint : Past R → List ℕ → Past R
   with_checkpoint p name = unwrap_or (option_map (λ root. record p { checkpoints = insert_entry name_cmp p.checkpoints name root }) (present_root p)) p

@@ -8,6 +8,7 @@ use Rattle.plain_trees.specs.Contents.{Entry, is_dir, begins, parent_of, lookup_
 use Rattle.plain_trees.specs.Trees.{Tree, bare, put, remove, move, children, entry_count, is_full, IsFileTree, is_too_deep, bytes_at, IsFile}
 use Rattle.history_machine.specs.Descriptors.{Descriptor, Descriptors, none_open, descriptor_at, least_free, opened, closed, any_open, is_open, is_open_within, can_read, can_write, creates, is_exclusive, truncates, are_lawful}
 use Rattle.history_machine.specs.History.{Past, IsLawful, changed, undo_refusal, undone, redo_refusal, redone, serial_refusal, gone_to, forget_refusal, forgotten, checkpoint_refusal, checkpoint_root, with_checkpoint, name_refusal, without_checkpoint, present_root, view_refusal, view_root}
+use Rattle.fs_types.specs.declared.limits.TheConstants.{MAX_OPEN_FILES, MAX_FILE_BYTES}
 use Rattle.fs_types.specs.declared.calls.Call.{Call}
 use Rattle.fs_types.specs.declared.calls.Reply.{Reply}
 use Rattle.fs_types.specs.declared.calls.Stat.{Stat}
@@ -39,8 +40,8 @@ pub record IsMachine (m : Machine) : Type 0 where
   pub trees : All (λ v. IsFileTree v.root) m.history.versions
   pub kept : All (λ e. IsFileTree e.1) m.history.checkpoints
   pub named : IsStrictlySortedBy name_cmp (map (λ e. e.0) m.history.checkpoints)
-  pub places : length m.descriptors ≡ 16
-  pub files : (number : ℕ) (d : Descriptor) → descriptor_at m.descriptors number ≡ Some d → IsFile (present_tree m) d.path
+  pub places : length m.descriptors ≡ MAX_OPEN_FILES
+  pub files : (descriptor : ℕ) (d : Descriptor) → descriptor_at m.descriptors descriptor ≡ Some d → IsFile (present_tree m) d.path
 
 -- Refusals. Each row has its checks in their order; the errors are those of POSIX.1-2017 for the call,
 -- and where POSIX leaves a choice or this project departs from it, the row says which is taken.
@@ -49,37 +50,37 @@ pub record IsMachine (m : Machine) : Type 0 where
 abbrev pub found_refusal : Tree → Path → (Entry → Option Fault) → Option Fault
 found_refusal t path refuse = option_or (lookup_refusal (get t) path) (option_map_or refuse (get t path) (Some NoEntry))
 
--- a number has to be that of an open file
+-- a descriptor has to be that of an open file
 abbrev pub descriptor_refusal : Machine → ℕ → (Descriptor → Option Fault) → Option Fault
-descriptor_refusal m number refuse = option_map_or refuse (descriptor_at m.descriptors number) (Some BadDescriptor)
+descriptor_refusal m descriptor refuse = option_map_or refuse (descriptor_at m.descriptors descriptor) (Some BadDescriptor)
 
 -- all descriptors are taken
-abbrev pub number_refusal : Machine → Option Fault
-number_refusal m = if is_none (least_free m.descriptors) then Some TooManyOpen else None
+abbrev pub full_table_refusal : Machine → Option Fault
+full_table_refusal m = if is_none (least_free m.descriptors) then Some TooManyOpen else None
 
 -- open of what stands at the path; a directory is refused for reading too
 abbrev pub open_refusal : Machine → Path → OpenFlags → Option Entry → Option Fault
 open_refusal m path flags None =
     if not (creates flags) then Some NoEntry
     else if is_full (present_tree m) (parent_of path) then Some DirectoryFull
-    else number_refusal m
+    else full_table_refusal m
 open_refusal m path flags (Some entry) =
     if creates flags && is_exclusive flags then Some Exists
     else if is_dir entry then Some IsDirectory
-    else number_refusal m
+    else full_table_refusal m
 
 -- pwrite: no bytes are always written, and many only where all of them fit
 abbrev pub pwrite_refusal : ℕ → List ℕ → Descriptor → Option Fault
 pwrite_refusal offset bytes d =
     if not (can_write d.flags) then Some BadDescriptor
     else if length bytes == 0 then None
-    else if nat_lt 16777216 (offset + length bytes) then Some TooBig
+    else if nat_lt MAX_FILE_BYTES (offset + length bytes) then Some TooBig
     else None
 
 abbrev pub ftruncate_refusal : ℕ → Descriptor → Option Fault
 ftruncate_refusal n d =
     if not (can_write d.flags) then Some Invalid
-    else if nat_lt 16777216 n then Some TooBig
+    else if nat_lt MAX_FILE_BYTES n then Some TooBig
     else None
 
 -- rename replaces only what is of the same kind, and only an empty directory
@@ -138,15 +139,15 @@ view_path_refusal m view path refuse = option_or (view_refusal m.history view) (
 -- the first refusal of a call, if any
 abbrev pub refusal : Machine → Call → Option Fault
 refusal m (Call.Open path flags) = if not (are_lawful flags) then Some Invalid else option_or (lookup_refusal (get (present_tree m)) path) (open_refusal m path flags (get (present_tree m) path))
-refusal m (Call.Close number) = descriptor_refusal m number (λ d. None)
-refusal m (Call.Pread number offset count) = descriptor_refusal m number (λ d. if can_read d.flags then None else Some BadDescriptor)
-refusal m (Call.Pwrite number offset bytes) = descriptor_refusal m number (pwrite_refusal offset bytes)
-refusal m (Call.Ftruncate number n) = descriptor_refusal m number (ftruncate_refusal n)
+refusal m (Call.Close descriptor) = descriptor_refusal m descriptor (λ d. None)
+refusal m (Call.Pread descriptor offset count) = descriptor_refusal m descriptor (λ d. if can_read d.flags then None else Some BadDescriptor)
+refusal m (Call.Pwrite descriptor offset bytes) = descriptor_refusal m descriptor (pwrite_refusal offset bytes)
+refusal m (Call.Ftruncate descriptor n) = descriptor_refusal m descriptor (ftruncate_refusal n)
 refusal m (Call.Rename old new) = found_refusal (present_tree m) old (rename_refusal m old new)
 refusal m (Call.Unlink path) = found_refusal (present_tree m) path (unlink_refusal m path)
 refusal m (Call.Mkdir path) = mkdir_refusal m path
 refusal m (Call.Rmdir path) = if length path == 0 then Some Busy else found_refusal (present_tree m) path (rmdir_refusal (present_tree m) path)
-refusal m (Call.Fsync number) = descriptor_refusal m number (λ d. None)
+refusal m (Call.Fsync descriptor) = descriptor_refusal m descriptor (λ d. None)
 refusal m Call.Sync = None
 refusal m (Call.Stat view path) = view_path_refusal m view path (λ entry. None)
 refusal m (Call.List view path) = view_path_refusal m view path (λ entry. if is_dir entry then None else Some NotDirectory)
@@ -187,8 +188,8 @@ file_put t path bytes = put t path (Entry.File bytes)
 -- the same length, rename to the same path and open with TRUNC of an empty file
 abbrev pub tree_after : Machine → Call → Option Tree
 tree_after m (Call.Open path flags) = if open_changes (present_tree m) path flags then Some (file_put (present_tree m) path []) else None
-tree_after m (Call.Pwrite number offset bytes) = option_and_then (λ d. if length bytes == 0 then None else Some (file_put (present_tree m) d.path (overwritten (bytes_at (present_tree m) d.path) offset bytes))) (descriptor_at m.descriptors number)
-tree_after m (Call.Ftruncate number n) = option_and_then (λ d. if length (bytes_at (present_tree m) d.path) == n then None else Some (file_put (present_tree m) d.path (resized (bytes_at (present_tree m) d.path) n))) (descriptor_at m.descriptors number)
+tree_after m (Call.Pwrite descriptor offset bytes) = option_and_then (λ d. if length bytes == 0 then None else Some (file_put (present_tree m) d.path (overwritten (bytes_at (present_tree m) d.path) offset bytes))) (descriptor_at m.descriptors descriptor)
+tree_after m (Call.Ftruncate descriptor n) = option_and_then (λ d. if length (bytes_at (present_tree m) d.path) == n then None else Some (file_put (present_tree m) d.path (resized (bytes_at (present_tree m) d.path) n))) (descriptor_at m.descriptors descriptor)
 tree_after m (Call.Rename old new) = if same_path old new then None else Some (move (present_tree m) old new)
 tree_after m (Call.Unlink path) = Some (remove (present_tree m) path)
 tree_after m (Call.Mkdir path) = Some (put (present_tree m) path Entry.Dir)
@@ -210,8 +211,8 @@ abbrev pub history_after : Machine → Call → Past Tree
 history_after m call = option_map_or (changed m.history) (tree_after m call) (history_moved m.history call)
 
 abbrev pub descriptors_after : Machine → Call → Descriptors
-descriptors_after m (Call.Open path flags) = option_map_or (λ number. opened m.descriptors number (record { path = path; flags = flags })) (least_free m.descriptors) m.descriptors
-descriptors_after m (Call.Close number) = closed m.descriptors number
+descriptors_after m (Call.Open path flags) = option_map_or (λ descriptor. opened m.descriptors descriptor (record { path = path; flags = flags })) (least_free m.descriptors) m.descriptors
+descriptors_after m (Call.Close descriptor) = closed m.descriptors descriptor
 descriptors_after m _ = m.descriptors
 
 -- how much of a flash is used, which the machine does not know: data blocks, bad ones and free ones among
@@ -231,8 +232,8 @@ log_of h = Reply.Log h.next h.dropped (map (λ v. v.serial) h.versions) h.cursor
 
 abbrev pub reply_of : Space → Machine → Call → Reply
 reply_of space m (Call.Open path flags) = Reply.Fd (unwrap_or (least_free m.descriptors) 0)
-reply_of space m (Call.Pread number offset count) = Reply.Bytes (option_map_or (λ d. read_from (bytes_at (present_tree m) d.path) offset count) (descriptor_at m.descriptors number) [])
-reply_of space m (Call.Pwrite number offset bytes) = Reply.Count (length bytes)
+reply_of space m (Call.Pread descriptor offset count) = Reply.Bytes (option_map_or (λ d. read_from (bytes_at (present_tree m) d.path) offset count) (descriptor_at m.descriptors descriptor) [])
+reply_of space m (Call.Pwrite descriptor offset bytes) = Reply.Count (length bytes)
 reply_of space m (Call.Stat view path) = Reply.Stat (stat_of (view_tree m view) path (get (view_tree m view) path))
 reply_of space m (Call.List view path) = Reply.Names (children (view_tree m view) path)
 reply_of space m (Call.ReadAt view path offset count) = Reply.Bytes (read_from (bytes_at (view_tree m view) path) offset count)
@@ -280,8 +281,8 @@ makes_version m call = is_accepted m call && is_some (tree_after m call)
 -- how many nodes a change may write, where a body node has room for so many data bytes
 abbrev pub change_need : ℕ → Machine → Call → ℕ
 change_need room m (Call.Open path flags) = length path
-change_need room m (Call.Pwrite number offset bytes) = option_map_or (λ d. pwrite_need room (length (bytes_at (present_tree m) d.path)) offset (length bytes) + length d.path) (descriptor_at m.descriptors number) 0
-change_need room m (Call.Ftruncate number n) = option_map_or (λ d. ftruncate_need room (length (bytes_at (present_tree m) d.path)) n + length d.path) (descriptor_at m.descriptors number) 0
+change_need room m (Call.Pwrite descriptor offset bytes) = option_map_or (λ d. pwrite_need room (length (bytes_at (present_tree m) d.path)) offset (length bytes) + length d.path) (descriptor_at m.descriptors descriptor) 0
+change_need room m (Call.Ftruncate descriptor n) = option_map_or (λ d. ftruncate_need room (length (bytes_at (present_tree m) d.path)) n + length d.path) (descriptor_at m.descriptors descriptor) 0
 change_need room m (Call.Rename old new) = length old + length new
 change_need room m (Call.Unlink path) = length path
 change_need room m (Call.Mkdir path) = length path + 1

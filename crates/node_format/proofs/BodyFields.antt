@@ -1,4 +1,4 @@
--- The fields of bytes that are added piece by piece, and the pointer places of an index.
+-- The fields of bytes that are added piece by piece, and the slots of an index.
 use Rattle.std.proofs.Common.{◌≡◌, ◌↔◌, ℕ, zero, suc, ◌+◌, ◌*◌, ◌/◌, ◌%◌, ◌^◌, ◌<◌, ◌≤◌, inl, inr, List, [], ◌++◌, length, get_or, Some, sym, ap, ◌∙◌, arith}
 use Rattle.std.specs.Prelude.{codes, slice_index, IsTrue, true, nat_eq, nat_lt, nat_le}
 use Rattle.std.proofs.Math.Nat.{div-add-mod', mod-eq_of_lt, mul-mod_left, mul-le-mul_right, one-mul}
@@ -8,7 +8,7 @@ use Rattle.std.proofs.lemmas.List.{get_or_append_left, get_or-append-add, length
 use Rattle.byteorder.specs.Endian.{little_bytes}
 use Rattle.byteorder.specs.Numbers.{little_number-reads_back}
 use Rattle.node_format.specs.Headers.{field, body_front, IsNode}
-use Rattle.node_format.specs.BodyNodes.{HasPlace, IsBodySpelling}
+use Rattle.node_format.specs.BodyNodes.{HasSlot, IsBodySpelling}
 
 -- a field of the front
 pub field_front : (xs ys : List ℕ) (place : ℕ) → place + 4 ≤ length xs → field (xs ++ ys) place ≡ field xs place
@@ -33,17 +33,17 @@ field_after xs ys place k e =
 field_last : (xs : List ℕ) (n place : ℕ) → n < 2 ^ 32 → place ≡ length xs → field (xs ++ little_bytes 4 n) place ≡ n
 field_last xs n place lt e = field_after xs (little_bytes 4 n) place 0 (omega arith) ∙ little_number-reads_back 4 n [] (omega arith)
 
--- the first places were added, each with its pointer
-pub record HasPlaces (old : List ℕ) (pointers : List ℕ) (count : ℕ) (new : List ℕ) : Type 0 where
+-- the first slots were added, each with its pointer
+pub record HasSlots (old : List ℕ) (pointers : List ℕ) (count : ℕ) (new : List ℕ) : Type 0 where
   pub before : (place : ℕ) → place + 4 ≤ length old → field new place ≡ field old place
-  pub places : (x : ℕ) → x < count → field new (length old + 4 * x) ≡ slice_index pointers x
+  pub slots : (x : ℕ) → x < count → field new (length old + 4 * x) ≡ slice_index pointers x
   pub size : length new ≡ length old + 4 * count
 
-pub one_place : (old pointers new : List ℕ) (count n : ℕ) → HasPlaces old pointers count new → n < 2 ^ 32 → n ≡ slice_index pointers count → HasPlaces old pointers (count + 1) (new ++ little_bytes 4 n)
+pub one_place : (old pointers new : List ℕ) (count n : ℕ) → HasSlots old pointers count new → n < 2 ^ 32 → n ≡ slice_index pointers count → HasSlots old pointers (count + 1) (new ++ little_bytes 4 n)
 one_place old pointers new count n has lt is = record {
   before = λ place within. field_front new (little_bytes 4 n) place (omega (arith, has.size)) ∙ has.before place within;
-  places = λ x below. elim (cases_lt x count) [
-    | inl lower ↦ field_front new (little_bytes 4 n) (length old + 4 * x) (omega (arith, has.size)) ∙ has.places x lower
+  slots = λ x below. elim (cases_lt x count) [
+    | inl lower ↦ field_front new (little_bytes 4 n) (length old + 4 * x) (omega (arith, has.size)) ∙ has.slots x lower
     | inr upper ↦ last x below upper
   ];
   size = omega (arith, length-append new (little_bytes 4 n), has.size);
@@ -59,8 +59,8 @@ abbrev pub body_header : ℕ → ℕ → List ℕ
 body_header index used = codes "UFNB" ++ (little_bytes 4 index ++ (little_bytes 4 used ++ little_bytes 4 0))
 
 pub spelled : (index : ℕ) (pointers bytes placed : List ℕ) → index < 2 ^ 32 → 1 ≤ length bytes → body_front + length bytes < 2 ^ 32
-    → HasPlaces (body_header index (length bytes)) pointers 16 placed → IsBodySpelling (placed ++ bytes) index pointers bytes
-spelled index pointers bytes placed fits some room has =
+    → HasSlots (body_header index (length bytes)) pointers 16 placed → IsBodySpelling (placed ++ bytes) index pointers bytes
+spelled index pointers bytes placed fits some capacity has =
     let header = body_header index (length bytes) in
     let long : length placed ≡ 80 = has.size in
     let at : (place : ℕ) → place + 4 ≤ 16 → field (placed ++ bytes) place ≡ field header place =
@@ -72,31 +72,31 @@ spelled index pointers bytes placed fits some room has =
       index_is = at 4 (omega arith) ∙ little_number-reads_back 4 index (little_bytes 4 (length bytes) ++ little_bytes 4 0) (omega arith);
       used = used;
       unread = at 12 (omega arith);
-      places = λ x below. field_front placed bytes (16 + 4 * x) (omega arith) ∙ has.places x below;
+      slots = λ x below. field_front placed bytes (16 + 4 * x) (omega arith) ∙ has.slots x below;
       size = size;
       data_is = drop_at placed bytes 80 long;
     }
 
 pub spelled_node : (block index : ℕ) (pointers bytes node : List ℕ) → body_front + length bytes ≤ block → IsBodySpelling node index pointers bytes → IsNode block node
-spelled_node block index pointers bytes node room s =
+spelled_node block index pointers bytes node capacity s =
     let some : nat_lt 0 (length bytes) ≡ true = lt-ltb _ _ (omega (arith, s.node.some, s.used)) in
-    let fits : nat_le (80 + length bytes) block ≡ true = le-leb _ _ room in
+    let fits : nat_le (80 + length bytes) block ≡ true = le-leb _ _ capacity in
     rw (s.node.magic, s.used, some, fits) (ap (λ (n : ℕ). Some n) (sym s.size))
 
--- ---- pointer places
+-- ---- slots
 
-pub place_divides : (index place : ℕ) → 0 < index → place < 32 → IsTrue (nat_eq (index % (1 * 2 ^ place % 4294967296)) 0) ↔ HasPlace index place
-place_divides index place some few =
+pub slot_divides : (index place : ℕ) → 0 < index → place < 32 → IsTrue (nat_eq (index % (1 * 2 ^ place % 4294967296)) 0) ↔ HasSlot index place
+slot_divides index place some few =
     let low : 2 ^ place ≤ 2 ^ 31 = pow_mono {i = place} {j = 31} (omega arith) in
     let same : 1 * 2 ^ place % 4294967296 ≡ 2 ^ place = ap (λ (n : ℕ). n % 4294967296) (one-mul (2 ^ place)) ∙ mod-eq_of_lt (omega arith) in
-    let to : index % 2 ^ place ≡ 0 → HasPlace index place = λ e. (some, (index / 2 ^ place, (omega (arith, e, div-add-mod' index (2 ^ place))))) in
-    let from : HasPlace index place → index % 2 ^ place ≡ 0 = λ h. ap (λ (n : ℕ). n % 2 ^ place) h.1.1 ∙ mul-mod_left h.1.0 (2 ^ place) in (
+    let to : index % 2 ^ place ≡ 0 → HasSlot index place = λ e. (some, (index / 2 ^ place, (omega (arith, e, div-add-mod' index (2 ^ place))))) in
+    let from : HasSlot index place → index % 2 ^ place ≡ 0 = λ h. ap (λ (n : ℕ). n % 2 ^ place) h.1.1 ∙ mul-mod_left h.1.0 (2 ^ place) in (
       λ t. to (ap (λ (n : ℕ). index % n) (sym same) ∙ eqb-true _ _ t),
       λ h. eq-eqb _ _ (ap (λ (n : ℕ). index % n) same ∙ from h),
     )
 
-pub place_beyond : (index place : ℕ) → index < 2 ^ 32 → 32 ≤ place → HasPlace index place → ⊥
-place_beyond index place fits far h = on h.1.0 h.1.1
+pub slot_beyond : (index place : ℕ) → index < 2 ^ 32 → 32 ≤ place → HasSlot index place → ⊥
+slot_beyond index place fits far h = on h.1.0 h.1.1
   where
     on : (m : ℕ) → index ≡ m * 2 ^ place → ⊥
     on zero e = omega (arith, h.0)

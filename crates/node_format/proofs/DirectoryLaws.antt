@@ -259,7 +259,7 @@ directory_again bytes items d =
 
 -- a directory is a node
 pub directory_is_node : (block : ℕ) (bytes : List ℕ) (items : List Item) → 4096 ≤ block → IsDirectory bytes items → IsNode block bytes
-directory_is_node block bytes items room d =
+directory_is_node block bytes items capacity d =
     let parts = directory_parts bytes items d in
     let few : leb (length items) 32 ≡ true = le-leb _ _ (few_entries items d.lawful) in
     let fits : leb (16 + length (items_bytes items)) block ≡ true = le-leb _ _ (omega (arith, used_most items d.lawful)) in

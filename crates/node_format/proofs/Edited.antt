@@ -161,10 +161,10 @@ edited items front back name place found bytes split d = record {
 -- how many entries there are with one put
 pub few_with : (items front back : List Item) (name : Name) (place : Place) (found : Option Place) → IsSplit items name front found back → length items ≤ 32 → (found ≡ None → length items < 32)
     → length (front ++ (entry_to name (Some place) ++ back)) ≤ 32
-few_with items front back name place None split few room =
-    let less = room refl in
+few_with items front back name place None split few capacity =
+    let less = capacity refl in
     omega (arith, ap length split.parts, length-append front back, length-append front ((record { name = name; place = place }) ∷ back))
-few_with items front back name place (Some was) split few room =
+few_with items front back name place (Some was) split few capacity =
     omega (arith, ap length split.parts, length-append front ((record { name = name; place = was }) ∷ back), length-append front ((record { name = name; place = place }) ∷ back))
 
 pub few_without : (items front back : List Item) (name : Name) (found : Option Place) → IsSplit items name front found back → length items ≤ 32 → length (front ++ back) ≤ 32
@@ -194,16 +194,16 @@ written items front back name place found fc bc fb mb bb bytes split f b lawful 
       made = is ∙ λ i. in_parts (fc + (length (entry_to name place) + bc)) (f.spelled i) (middle i) (b.spelled i);
     } in
     let d = made_directory front back name place bytes entries made in
-    record { edit = edited items front back name place found bytes split d; node = λ block room. directory_is_node block bytes new room d }
+    record { edit = edited items front back name place found bytes split d; node = λ block capacity. directory_is_node block bytes new capacity d }
 
 pub written_with : (items front back : List Item) (name : Name) (place : Place) (found : Option Place) (fc bc : ℕ) (fb mb bb bytes : List ℕ) → IsSplit items name front found back
     → length items ≤ 32 → (named items name ≡ None → length items < 32) → is_name name ≡ true → is_place place ≡ true
     → AreSpelled fc fb front → AreSpelled bc bb back → mb ≡ item_bytes (record { name = name; place = place })
     → bytes ≡ in_parts (fc + (1 + bc)) fb mb bb → IsWritten items name (Some place) bytes
-written_with items front back name place found fc bc fb mb bb bytes split few room lawful place_lawful f b middle is =
+written_with items front back name place found fc bc fb mb bb bytes split few capacity lawful place_lawful f b middle is =
     written items front back name (Some place) found fc bc fb mb bb bytes split f b (and_true _ _ lawful place_lawful)
     (middle ∙ sym (append-nil (item_bytes (record { name = name; place = place }))))
-    (few_with items front back name place found split few (λ none. room (split_named items front back name found split ∙ none))) is
+    (few_with items front back name place found split few (λ none. capacity (split_named items front back name found split ∙ none))) is
 
 pub written_without : (items front back : List Item) (name : Name) (found : Option Place) (fc bc : ℕ) (fb bb bytes : List ℕ) → IsSplit items name front found back
     → length items ≤ 32 → AreSpelled fc fb front → AreSpelled bc bb back → bytes ≡ in_parts (fc + bc) fb [] bb → IsWritten items name None bytes

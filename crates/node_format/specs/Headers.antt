@@ -2,7 +2,7 @@
 use Rattle.std.specs.Prelude.{◌≡◌, ℕ, ◌+◌, ◌==◌, nat_lt, nat_le, Option, Some, None, List, length, codes, if◌then◌else◌}
 use Rattle.byteorder.specs.Endian.{little_from}
 
--- the bytes before the data of a body node: its header and 16 pointer places of 4 bytes
+-- the bytes before the data of a body node: its header and 16 slots of 4 bytes
 abbrev pub body_front : ℕ
 body_front = 80
 
@@ -14,9 +14,9 @@ directory_front = 16
 abbrev pub most_entries : ℕ
 most_entries = 32
 
--- the number in the four bytes from a place
+-- the number in the four bytes from an offset
 abbrev pub field : List ℕ → ℕ → ℕ
-field bytes place = little_from place 4 bytes
+field bytes offset = little_from offset 4 bytes
 
 -- a body node's header: magic, index, used bytes, zero
 abbrev pub body_magic : ℕ

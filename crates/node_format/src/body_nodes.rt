@@ -2,7 +2,7 @@
 ghost use Rattle.std.specs.Prelude.{◌≡◌, ℕ, ◌+◌, ◌*◌, ◌^◌, ◌<◌, ◌≤◌, ◌++◌, ◌↔◌, IsTrue, length, drop, slice_index, codes, Some, IfSome, OnOk, IfOk};
 ghost use Rattle.byteorder.specs.Endian.{little_bytes};
 ghost use Rattle.node_format.specs.Headers.{field, body_front, IsNode};
-ghost use Rattle.node_format.specs.BodyNodes.{place_count, IsBodyNode, HasPlace, IsBodySpelling};
+ghost use Rattle.node_format.specs.BodyNodes.{slot_count, IsBodyNode, HasSlot, IsBodySpelling};
 
 use crate::headers::BODY_FRONT;
 use std::alloc::{AllocError, Global};
@@ -14,8 +14,8 @@ const MAGIC: [u8; 4] = *b"UFNB";
 /// The bytes before the data.
 const FRONT: usize = BODY_FRONT as usize;
 
-/// The pointer places.
-const PLACES: usize = 16;
+/// The slots of a body node, each for a pointer to a node before it.
+const SLOTS: usize = 16;
 
 /// A node of a file's body: a part of the file's bytes, with the blocks of nodes before it, lent from
 /// the bytes of the node.
@@ -69,14 +69,14 @@ impl<'a> BodyNode<'a> {
         number_at(self.node, 8)
     }
 
-    /// The block that a pointer place names: that of the node 2 to the `place` before this one. None
-    /// where 2 to the `place` does not divide the index, and for the first node.
-    pub fn pointer(&self, place: usize) -> Option<u32>
-        ensures found { IfSome result (λ block. (block ≡ field self.now (16 + 4 * place)) × HasPlace (field self.now 4) place) }
-        ensures only { HasPlace (field self.now 4) place → result ≡ Some (field self.now (16 + 4 * place)) }
+    /// The block that a slot names: that of the node 2 to the `slot` before this one. None where 2 to
+    /// the `slot` does not divide the index, and for the first node.
+    pub fn pointer(&self, slot: usize) -> Option<u32>
+        ensures found { IfSome result (λ block. (block ≡ field self.now (16 + 4 * slot)) × HasSlot (field self.now 4) slot) }
+        ensures only { HasSlot (field self.now 4) slot → result ≡ Some (field self.now (16 + 4 * slot)) }
     {
-        if has_place(self.index(), place) {
-            Some(number_at(self.node, 16 + 4 * place))
+        if has_slot(self.index(), slot) {
+            Some(number_at(self.node, 16 + 4 * slot))
         } else {
             None
         }
@@ -90,37 +90,37 @@ impl<'a> BodyNode<'a> {
     }
 }
 
-/// Whether the node of an index has a pointer at a place.
-fn has_place(index: u32, place: usize) -> bool
-    ensures has { IsTrue result ↔ HasPlace index place }
-    ensures few { IsTrue result → place < 32 }
+/// Whether the node of an index has a pointer at a slot.
+fn has_slot(index: u32, slot: usize) -> bool
+    ensures has { IsTrue result ↔ HasSlot index slot }
+    ensures few { IsTrue result → slot < 32 }
 {
     if index == 0 {
         return false;
     }
-    if place >= 32 {
+    if slot >= 32 {
         return false;
     }
-    index % (1 << place) == 0
+    index % (1 << slot) == 0
 }
 
 /// A byte, or 0 past the end.
-fn byte_at(bytes: &[u8], place: usize) -> u8
-    ensures { result ≡ slice_index bytes.now place }
+fn byte_at(bytes: &[u8], offset: usize) -> u8
+    ensures { result ≡ slice_index bytes.now offset }
 {
-    bytes.get(place).copied().unwrap_or(0)
+    bytes.get(offset).copied().unwrap_or(0)
 }
 
-/// The number in the four bytes from a place, where bytes past the end are 0.
-fn number_at(bytes: &[u8], place: usize) -> u32
-    requires { place < 2 ^ 32 }
-    ensures { result ≡ field bytes.now place }
+/// The number in the four bytes from an offset, where bytes past the end are 0.
+fn number_at(bytes: &[u8], offset: usize) -> u32
+    requires { offset < 2 ^ 32 }
+    ensures { result ≡ field bytes.now offset }
 {
     u32::from_le_bytes([
-        byte_at(bytes, place),
-        byte_at(bytes, place + 1),
-        byte_at(bytes, place + 2),
-        byte_at(bytes, place + 3),
+        byte_at(bytes, offset),
+        byte_at(bytes, offset + 1),
+        byte_at(bytes, offset + 2),
+        byte_at(bytes, offset + 3),
     ])
 }
 
@@ -142,19 +142,19 @@ fn header(alloc: Global, index: u32, used: u32) -> Result<Vec<u8>, AllocError>
     Ok(out)
 }
 
-/// Adds the pointer places.
-fn push_places(out: &mut Vec<u8>, pointers: &[u32]) -> Result<(), AllocError>
-    ensures old { OnOk result ((place : ℕ) → place + 4 ≤ length out.old.items → field out.new.items place ≡ field out.old.items place) }
-    ensures places { OnOk result ((x : ℕ) → x < place_count → field out.new.items (length out.old.items + 4 * x) ≡ slice_index pointers.now x) }
+/// Adds the slots, with these pointers and 0 in the others.
+fn push_slots(out: &mut Vec<u8>, pointers: &[u32]) -> Result<(), AllocError>
+    ensures old { OnOk result ((slot : ℕ) → slot + 4 ≤ length out.old.items → field out.new.items slot ≡ field out.old.items slot) }
+    ensures slots { OnOk result ((x : ℕ) → x < slot_count → field out.new.items (length out.old.items + 4 * x) ≡ slice_index pointers.now x) }
     ensures size { OnOk result (length out.new.items ≡ length out.old.items + 64) }
 {
-    for place in 0..PLACES {
-        push_number(out, pointers.get(place).copied().unwrap_or(0))?;
+    for slot in 0..SLOTS {
+        push_number(out, pointers.get(slot).copied().unwrap_or(0))?;
     }
     Ok(())
 }
 
-/// The bytes of the body node of an index, with the blocks that its first pointer places name, at most
+/// The bytes of the body node of an index, with the blocks that its first slots name, at most
 /// 16, and with its data, at least one byte.
 pub fn body_node(
     alloc: Global,
@@ -162,14 +162,14 @@ pub fn body_node(
     pointers: &[u32],
     bytes: &[u8],
 ) -> Result<Vec<u8>, AllocError>
-    requires places { length pointers.now ≤ place_count }
+    requires slots { length pointers.now ≤ slot_count }
     requires some { 1 ≤ length bytes.now }
-    requires room { body_front + length bytes.now < 2 ^ 32 }
+    requires capacity { body_front + length bytes.now < 2 ^ 32 }
     ensures spelled { IfOk result (λ node. IsBodySpelling node.items index pointers.now bytes.now) }
     ensures node { IfOk result (λ node. (block : ℕ) → body_front + length bytes.now ≤ block → IsNode block node.items) }
 {
     let mut out = header(alloc, index, bytes.len() as u32)?;
-    push_places(&mut out, pointers)?;
+    push_slots(&mut out, pointers)?;
     out.extend_from_slice(bytes)?;
     Ok(out)
 }

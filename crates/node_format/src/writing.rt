@@ -32,7 +32,7 @@ impl<'a> Entries<'a> {
     ) -> Result<Vec<u8>, AllocError>
         requires name { is_name name.now ≡ true }
         requires place { is_place place ≡ true }
-        requires room { named self.now name.now ≡ None → length self.now < 32 }
+        requires capacity { named self.now name.now ≡ None → length self.now < 32 }
         ensures edited { IfOk result (λ bytes. IsEdited self.now name.now (Some place) bytes.items) }
         ensures node { IfOk result (λ bytes. (block : ℕ) → 4096 ≤ block → IsNode block bytes.items) }
     {

@@ -77,14 +77,14 @@ impl OpenFiles {
         }
     }
 
-    /// The open file of a number.
-    pub fn get(&self, number: u64) -> Option<&OpenFile>
-        ensures { option_copied result ≡ descriptors.descriptor_at self.now number }
+    /// The open file of a descriptor.
+    pub fn get(&self, descriptor: u64) -> Option<&OpenFile>
+        ensures { option_copied result ≡ descriptors.descriptor_at self.now descriptor }
     {
-        file_at(&self.places, number as usize)
+        file_at(&self.places, descriptor as usize)
     }
 
-    /// The least free number.
+    /// The least free descriptor.
     pub fn least_free(&self) -> Option<u8>
         ensures { result ≡ descriptors.least_free self.now }
     {
@@ -94,18 +94,18 @@ impl OpenFiles {
         }
     }
 
-    /// The file is open under a number.
-    pub fn open(&mut self, number: u8, file: OpenFile)
-        ensures { self.new ≡ descriptors.opened self.old number file }
+    /// The file is open under a descriptor.
+    pub fn open(&mut self, descriptor: u8, file: OpenFile)
+        ensures { self.new ≡ descriptors.opened self.old descriptor file }
     {
-        set_place(&mut self.places, number as usize, Some(file));
+        set_place(&mut self.places, descriptor as usize, Some(file));
     }
 
-    /// The number is free.
-    pub fn close(&mut self, number: u64)
-        ensures { self.new ≡ descriptors.closed self.old number }
+    /// The descriptor is free.
+    pub fn close(&mut self, descriptor: u64)
+        ensures { self.new ≡ descriptors.closed self.old descriptor }
     {
-        set_place(&mut self.places, number as usize, None);
+        set_place(&mut self.places, descriptor as usize, None);
     }
 
     /// Whether any file is open.
@@ -130,10 +130,10 @@ impl OpenFiles {
     }
 }
 
-fn file_at(places: &[Option<OpenFile>], number: usize) -> Option<&OpenFile>
-    ensures { option_copied result ≡ descriptors.descriptor_at places.now number }
+fn file_at(places: &[Option<OpenFile>], descriptor: usize) -> Option<&OpenFile>
+    ensures { option_copied result ≡ descriptors.descriptor_at places.now descriptor }
 {
-    match places.get(number) {
+    match places.get(descriptor) {
         Some(place) => place.as_ref(),
         None => None,
     }
@@ -145,11 +145,11 @@ fn first_free(places: &[Option<OpenFile>]) -> Option<usize>
     places.iter().position(|place| place.is_none())
 }
 
-fn set_place(places: &mut [Option<OpenFile>], number: usize, file: Option<OpenFile>)
-    ensures { places.new ≡ slice_set places.old number file }
+fn set_place(places: &mut [Option<OpenFile>], descriptor: usize, file: Option<OpenFile>)
+    ensures { places.new ≡ slice_set places.old descriptor file }
 {
-    if number < places.len() {
-        places[number] = file;
+    if descriptor < places.len() {
+        places[descriptor] = file;
     }
 }
 

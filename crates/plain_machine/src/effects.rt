@@ -49,16 +49,16 @@ fn open_changes(tree: &Tree, path: &Path, flags: OpenFlags) -> bool
     flags.contains(OpenFlags::TRUNC) && !bytes_at(tree, path).is_empty()
 }
 
-fn pwrite_changes(files: &OpenFiles, number: u64, bytes: &Bytes) -> bool
-    ensures { result ≡ (is_some (descriptor_at files.now number) && not (length bytes.now == 0)) }
+fn pwrite_changes(files: &OpenFiles, descriptor: u64, bytes: &Bytes) -> bool
+    ensures { result ≡ (is_some (descriptor_at files.now descriptor) && not (length bytes.now == 0)) }
 {
-    files.get(number).is_some() && !bytes.as_slice().is_empty()
+    files.get(descriptor).is_some() && !bytes.as_slice().is_empty()
 }
 
-fn ftruncate_changes(tree: &Tree, files: &OpenFiles, number: u64, length: u64) -> bool
-    ensures { result ≡ ftruncates tree.now (descriptor_at files.now number) length }
+fn ftruncate_changes(tree: &Tree, files: &OpenFiles, descriptor: u64, length: u64) -> bool
+    ensures { result ≡ ftruncates tree.now (descriptor_at files.now descriptor) length }
 {
-    match files.get(number) {
+    match files.get(descriptor) {
         Some(file) => bytes_at(tree, file.path()).len() as u64 != length,
         None => false,
     }
@@ -150,13 +150,13 @@ fn written(
     alloc: Global,
     tree: &Tree,
     files: &OpenFiles,
-    number: u64,
+    descriptor: u64,
     offset: u64,
     bytes: &[u8],
 ) -> Result<Option<Tree>, AllocError>
-    ensures { IfOk result (λ next. next ≡ machine.tree_after (machine_at tree.now files.now) (Call.Pwrite number offset bytes.now)) }
+    ensures { IfOk result (λ next. next ≡ machine.tree_after (machine_at tree.now files.now) (Call.Pwrite descriptor offset bytes.now)) }
 {
-    let Some(file) = files.get(number) else {
+    let Some(file) = files.get(descriptor) else {
         return Ok(None);
     };
     if bytes.is_empty() {
@@ -171,12 +171,12 @@ fn truncated(
     alloc: Global,
     tree: &Tree,
     files: &OpenFiles,
-    number: u64,
+    descriptor: u64,
     length: u64,
 ) -> Result<Option<Tree>, AllocError>
-    ensures { IfOk result (λ next. next ≡ machine.tree_after (machine_at tree.now files.now) (Call.Ftruncate number length)) }
+    ensures { IfOk result (λ next. next ≡ machine.tree_after (machine_at tree.now files.now) (Call.Ftruncate descriptor length)) }
 {
-    let Some(file) = files.get(number) else {
+    let Some(file) = files.get(descriptor) else {
         return Ok(None);
     };
     let old = bytes_at(tree, file.path());
@@ -265,8 +265,8 @@ pub fn settle_files(files: &mut OpenFiles, call: &Call, file: Option<OpenFile>)
         files.close(*descriptor);
     }
     if let Some(file) = file {
-        if let Some(number) = files.least_free() {
-            files.open(number, file);
+        if let Some(descriptor) = files.least_free() {
+            files.open(descriptor, file);
         }
     }
 }

@@ -91,7 +91,7 @@ fn creation_refusal(tree: &Tree, files: &OpenFiles, path: &Path, flags: OpenFlag
     if tree.is_full(parent(path.names())) {
         return Some(Fault::DirectoryFull);
     }
-    number_refusal(files)
+    full_table_refusal(files)
 }
 
 fn reopening_refusal(files: &OpenFiles, node: &Node, flags: OpenFlags) -> Option<Fault>
@@ -103,12 +103,12 @@ fn reopening_refusal(files: &OpenFiles, node: &Node, flags: OpenFlags) -> Option
     if node.is_dir() {
         return Some(Fault::IsDirectory);
     }
-    number_refusal(files)
+    full_table_refusal(files)
 }
 
-/// Why there is no free number.
-fn number_refusal(files: &OpenFiles) -> Option<Fault>
-    ensures { result ≡ machine.number_refusal (machine_at bare files.now) }
+/// Why there is no free descriptor.
+fn full_table_refusal(files: &OpenFiles) -> Option<Fault>
+    ensures { result ≡ machine.full_table_refusal (machine_at bare files.now) }
 {
     match files.least_free() {
         None => Some(Fault::TooManyOpen),
@@ -116,28 +116,28 @@ fn number_refusal(files: &OpenFiles) -> Option<Fault>
     }
 }
 
-fn descriptor_refusal(files: &OpenFiles, number: u64) -> Option<Fault>
-    ensures { result ≡ machine.refusal (machine_at bare files.now) (Call.Close number) }
+fn descriptor_refusal(files: &OpenFiles, descriptor: u64) -> Option<Fault>
+    ensures { result ≡ machine.refusal (machine_at bare files.now) (Call.Close descriptor) }
 {
-    match files.get(number) {
+    match files.get(descriptor) {
         None => Some(Fault::BadDescriptor),
         Some(_) => None,
     }
 }
 
-fn pread_refusal(files: &OpenFiles, number: u64) -> Option<Fault>
-    ensures { result ≡ machine.refusal (machine_at bare files.now) (Call.Pread number 0 0) }
+fn pread_refusal(files: &OpenFiles, descriptor: u64) -> Option<Fault>
+    ensures { result ≡ machine.refusal (machine_at bare files.now) (Call.Pread descriptor 0 0) }
 {
-    match files.get(number) {
+    match files.get(descriptor) {
         Some(file) if file.flags().contains(OpenFlags::READ) => None,
         _ => Some(Fault::BadDescriptor),
     }
 }
 
-fn pwrite_refusal(files: &OpenFiles, number: u64, offset: u64, bytes: &Bytes) -> Option<Fault>
-    ensures { result ≡ machine.refusal (machine_at bare files.now) (Call.Pwrite number offset bytes.now) }
+fn pwrite_refusal(files: &OpenFiles, descriptor: u64, offset: u64, bytes: &Bytes) -> Option<Fault>
+    ensures { result ≡ machine.refusal (machine_at bare files.now) (Call.Pwrite descriptor offset bytes.now) }
 {
-    match files.get(number) {
+    match files.get(descriptor) {
         Some(file) if file.flags().contains(OpenFlags::WRITE) => {
             size_refusal(offset, bytes.as_slice())
         }
@@ -161,10 +161,10 @@ fn size_refusal(offset: u64, bytes: &[u8]) -> Option<Fault>
 /// The greatest length of a file in bytes.
 const MAX_LENGTH: u64 = MAX_FILE_BYTES as u64;
 
-fn ftruncate_refusal(files: &OpenFiles, number: u64, length: u64) -> Option<Fault>
-    ensures { result ≡ machine.refusal (machine_at bare files.now) (Call.Ftruncate number length) }
+fn ftruncate_refusal(files: &OpenFiles, descriptor: u64, length: u64) -> Option<Fault>
+    ensures { result ≡ machine.refusal (machine_at bare files.now) (Call.Ftruncate descriptor length) }
 {
-    let Some(file) = files.get(number) else {
+    let Some(file) = files.get(descriptor) else {
         return Some(Fault::BadDescriptor);
     };
     if !file.flags().contains(OpenFlags::WRITE) {

@@ -97,13 +97,13 @@ fn pread(
     alloc: Global,
     tree: &Tree,
     files: &OpenFiles,
-    number: u64,
+    descriptor: u64,
     offset: u64,
     count: u64,
 ) -> Result<Reply, AllocError>
-    ensures { IfOk result (λ reply. reply ≡ machine.reply_of no_space (machine_at tree.now files.now) (Call.Pread number offset count)) }
+    ensures { IfOk result (λ reply. reply ≡ machine.reply_of no_space (machine_at tree.now files.now) (Call.Pread descriptor offset count)) }
 {
-    match files.get(number) {
+    match files.get(descriptor) {
         Some(file) => {
             let bytes: &[u8] = bytes_at(tree, file.path());
             bytes_reply(alloc, read_from(bytes, offset, count))

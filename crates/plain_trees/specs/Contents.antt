@@ -110,10 +110,10 @@ read_from bytes offset count = take count (drop offset bytes)
 
 -- the body nodes of a file from the one that has the place `from` up to its last
 abbrev pub nodes_from : ℕ → ℕ → ℕ → ℕ
-nodes_from room from n = (n - 1) / room - from / room + 1
+nodes_from capacity from n = (n - 1) / capacity - from / capacity + 1
 
 abbrev pub pwrite_need : ℕ → ℕ → ℕ → ℕ → ℕ
-pwrite_need room n offset count = nodes_from room (min offset n) (max n (offset + count))
+pwrite_need capacity n offset count = nodes_from capacity (min offset n) (max n (offset + count))
 
 abbrev pub ftruncate_need : ℕ → ℕ → ℕ → ℕ
-ftruncate_need room n m = if nat_lt n m then nodes_from room n m else 0
+ftruncate_need capacity n m = if nat_lt n m then nodes_from capacity n m else 0

@@ -5,6 +5,7 @@ use Rattle.std.specs.List.{list_any}
 use Rattle.std.specs.FinMap as map
 use Rattle.fs_types.specs.Names.{Name, Path, path_cmp, is_path}
 use Rattle.plain_trees.specs.Contents.{Entry, is_dir, beneath, IsTree}
+use Rattle.fs_types.specs.declared.limits.TheConstants.{MAX_NAMES, MAX_ENTRIES, MAX_FILE_BYTES}
 
 -- a finite map from paths to what stands there
 abbrev pub Tree : Type 0
@@ -52,9 +53,9 @@ children t p = filter_map (child_of p) (map.entries t)
 abbrev pub entry_count : Tree → Path → ℕ
 entry_count t p = length (children t p)
 
--- a directory has at most 32 entries
+-- a directory has as many entries as it may
 abbrev pub is_full : Tree → Path → Bool
-is_full t p = nat_le 32 (entry_count t p)
+is_full t p = nat_le MAX_ENTRIES (entry_count t p)
 
 -- the bytes of the file at a path
 abbrev pub bytes_of : Option Entry → List ℕ
@@ -69,14 +70,13 @@ bytes_at t path = bytes_of (map.get t path)
 abbrev pub IsFile : Tree → Path → Type 0
 IsFile t path = (bytes : List ℕ) × (map.get t path ≡ Some (Entry.File bytes))
 
--- a path at `old` or below would have more than 16 names at `new`
+-- a path at `old` or below would have more names than a path may have at `new`
 abbrev pub is_too_deep : Tree → Path → Path → Bool
-is_too_deep t old new = list_any (λ p. option_map_or (λ rest. nat_lt 16 (length new + length rest)) (beneath old p) false) (map.keys t)
+is_too_deep t old new = list_any (λ p. option_map_or (λ rest. nat_lt MAX_NAMES (length new + length rest)) (beneath old p) false) (map.keys t)
 
--- a tree of directories and files within this project's limits: paths of at most 16 names of at most 64
--- bytes, at most 32 entries in a directory, and at most 16,777,216 bytes in a file
+-- a tree of directories and files within the limits of paths, of entries in a directory, and of bytes in a file
 pub record IsFileTree (t : Tree) : Type 0 where
   pub shape : IsTree (map.get t)
   pub paths : (p : Path) → IsSome (map.get t p) → is_path p ≡ true
-  pub entries : (p : Path) → entry_count t p ≤ 32
-  pub lengths : (p : Path) (bytes : List ℕ) → map.get t p ≡ Some (Entry.File bytes) → length bytes ≤ 16777216
+  pub entries : (p : Path) → entry_count t p ≤ MAX_ENTRIES
+  pub lengths : (p : Path) (bytes : List ℕ) → map.get t p ≡ Some (Entry.File bytes) → length bytes ≤ MAX_FILE_BYTES

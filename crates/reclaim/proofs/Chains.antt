@@ -12,16 +12,16 @@ back_back f (suc m) n block =
     let e : suc m + n ≡ suc (m + n) = omega arith in
     back_back f m n (pointer_of (f block) 0) ∙ ap (back f block) (sym e)
 
-pub chain_node : (room i block : ℕ) (f : Blocks) → IsChain room f i block → index_of (f block) ≡ Some i
-chain_node room zero block f chain = chain
-chain_node room (suc i) block f chain = chain.0
+pub chain_node : (capacity i block : ℕ) (f : Blocks) → IsChain capacity f i block → index_of (f block) ≡ Some i
+chain_node capacity zero block f chain = chain
+chain_node capacity (suc i) block f chain = chain.0
 
-pub chain_back : (room : ℕ) (f : Blocks) (n i block : ℕ) → n ≤ i → IsChain room f i block → IsChain room f (i - n) (back f block n)
-chain_back room f zero i block le chain = subst (λ (k : ℕ). IsChain room f k block) (omega arith) chain
-chain_back room f (suc n) zero block le chain = absurd (omega arith)
-chain_back room f (suc n) (suc i) block le chain =
+pub chain_back : (capacity : ℕ) (f : Blocks) (n i block : ℕ) → n ≤ i → IsChain capacity f i block → IsChain capacity f (i - n) (back f block n)
+chain_back capacity f zero i block le chain = subst (λ (k : ℕ). IsChain capacity f k block) (omega arith) chain
+chain_back capacity f (suc n) zero block le chain = absurd (omega arith)
+chain_back capacity f (suc n) (suc i) block le chain =
     let e : i - n ≡ suc i - suc n = omega arith in
-    subst (λ (k : ℕ). IsChain room f k (back f (pointer_of (f block) 0) n)) e (chain_back room f n i (pointer_of (f block) 0) (omega arith) chain.2)
+    subst (λ (k : ℕ). IsChain capacity f k (back f (pointer_of (f block) 0) n)) e (chain_back capacity f n i (pointer_of (f block) 0) (omega arith) chain.2)
 
 pub linked_back : (f : Blocks) (n i block : ℕ) → n ≤ i → IsLinked f i block → IsLinked f (i - n) (back f block n)
 linked_back f zero i block le linked = subst (λ (k : ℕ). IsLinked f k block) (omega arith) linked
@@ -30,13 +30,13 @@ linked_back f (suc n) (suc i) block le linked =
     let e : i - n ≡ suc i - suc n = omega arith in
     subst (λ (k : ℕ). IsLinked f k (back f (pointer_of (f block) 0) n)) e (linked_back f n i (pointer_of (f block) 0) (omega arith) linked.1)
 
-pub data_length : (room : ℕ) (f : Blocks) (i block : ℕ) → IsChain room f i block → length (data_to f i block) ≡ i * room + length (data_of (f block))
-data_length room f zero block chain = omega arith
-data_length room f (suc i) block chain =
-    let before = data_length room f i (pointer_of (f block) 0) chain.2 in
-    omega (arith, length-append (data_to f i (pointer_of (f block) 0)) (data_of (f block)), before, chain.1, suc-mul i room)
+pub data_length : (capacity : ℕ) (f : Blocks) (i block : ℕ) → IsChain capacity f i block → length (data_to f i block) ≡ i * capacity + length (data_of (f block))
+data_length capacity f zero block chain = omega arith
+data_length capacity f (suc i) block chain =
+    let before = data_length capacity f i (pointer_of (f block) 0) chain.2 in
+    omega (arith, length-append (data_to f i (pointer_of (f block) 0)) (data_of (f block)), before, chain.1, suc-mul i capacity)
 
--- ---- pointer places
+-- ---- slots
 
 pub power_double : (x : ℕ) → 2 ^ suc x ≡ 2 ^ x + 2 ^ x
 power_double x = omega arith

@@ -108,24 +108,24 @@ held_items f parent item h = on (entries_of (f parent)) refl h
     on (Some items) is h = (items, is, h)
 
 -- of the reached blocks, where they are sound, the directories have all that directories name
-pub reached_directories : (room blocks : ℕ) (f : Blocks) (roots marked : List ℕ) → ((b : ℕ) → Reached f roots b → Contains marked b) → ((b : ℕ) → Contains marked b → Reached f roots b)
-    → All (λ b. IsSoundNode room f (f b)) marked → All (IsDirectoryAt f) roots → HasDirectories f blocks roots (filter (holds_directory f) marked)
-reached_directories room blocks f roots marked has only sound directories = record { first = first; next = next }
+pub reached_directories : (capacity blocks : ℕ) (f : Blocks) (roots marked : List ℕ) → ((b : ℕ) → Reached f roots b → Contains marked b) → ((b : ℕ) → Contains marked b → Reached f roots b)
+    → All (λ b. IsSoundNode capacity f (f b)) marked → All (IsDirectoryAt f) roots → HasDirectories f blocks roots (filter (holds_directory f) marked)
+reached_directories capacity blocks f roots marked has only sound directories = record { first = first; next = next }
   where
     first : (b : ℕ) → Contains roots b → b < blocks → Contains (filter (holds_directory f) marked) b
     first b rooted below = filter_has (holds_directory f) marked b (has b (IsFirst rooted)) (is_held f b (All-contains (IsDirectoryAt f) roots b directories rooted))
 
-    place : (parent : ℕ) (item : Item) → Contains marked parent → Contains (items_of (f parent)) item → IsSoundPlace room f item.place
+    place : (parent : ℕ) (item : Item) → Contains marked parent → Contains (items_of (f parent)) item → IsSoundPlace capacity f item.place
     place parent item within h =
         let own = held_items f parent item h in
-        (All-contains (λ b. IsSoundNode room f (f b)) marked parent sound within).entries own.0 own.1 item own.2
+        (All-contains (λ b. IsSoundNode capacity f (f b)) marked parent sound within).entries own.0 own.1 item own.2
 
     next : (parent b : ℕ) → Contains (filter (holds_directory f) marked) parent → b < blocks → names_directory (items_of (f parent)) b ≡ true → Contains (filter (holds_directory f) marked) b
     next parent b held below names =
         let within = filter_only (holds_directory f) marked parent held in
         let found = any_contains (λ item. is_directory_at item.place b) (items_of (f parent)) names in
         let is : found.0.place ≡ Dir b = directory_is found.0.place b found.2 in
-        let own : IsDirectoryAt f b = subst (IsSoundPlace room f) is (place parent found.0 within found.1) in
+        let own : IsDirectoryAt f b = subst (IsSoundPlace capacity f) is (place parent found.0 within found.1) in
         let reached : Reached f roots b = IsNamed (only parent within) (inl (found.0, found.1, subst (λ (p : Place). PlaceNames p b) (sym is) refl)) in
         filter_has (holds_directory f) marked b (has b reached) (is_held f b own)
 

@@ -86,17 +86,17 @@ entry_short (Some bytes) item h = on (directory_at bytes) refl h
 -- ---- indices
 
 -- the head of a file has a small index, and so has each node before it
-pub head_short : (room n : ℕ) → suc n ≤ most_length → head_index room (suc n) * room < most_length
-head_short room n few = omega (arith, div-mul-le_self (suc n - 1) room)
+pub head_short : (capacity n : ℕ) → suc n ≤ most_length → head_index capacity (suc n) * capacity < most_length
+head_short capacity n few = omega (arith, div-mul-le_self (suc n - 1) capacity)
 
-pub shorter : (room i j : ℕ) → j ≤ i → i * room < most_length → j * room < most_length
-shorter room i j le short = omega (arith, mul-le j room i room le (omega arith), short)
+pub shorter : (capacity i j : ℕ) → j ≤ i → i * capacity < most_length → j * capacity < most_length
+shorter capacity i j le short = omega (arith, mul-le j capacity i capacity le (omega arith), short)
 
 -- a small index, where nodes are large
-pub index_small : (room index : ℕ) → 2 ^ 11 ≤ room → index * room < most_length → index < 2 ^ 13
-index_small room index large short = elim (cases_lt index (2 ^ 13)) [
+pub index_small : (capacity index : ℕ) → 2 ^ 11 ≤ capacity → index * capacity < most_length → index < 2 ^ 13
+index_small capacity index large short = elim (cases_lt index (2 ^ 13)) [
   | inl below ↦ below
-  | inr past ↦ absurd (omega (arith, mul-le (2 ^ 13) (2 ^ 11) index room past large, short))
+  | inr past ↦ absurd (omega (arith, mul-le (2 ^ 13) (2 ^ 11) index capacity past large, short))
 ]
 
 pub divides-short : (index x : ℕ) → 0 < index → index < 2 ^ 13 → Divides x index → x < 13

@@ -12,10 +12,10 @@ use Rattle.node_format.specs.declared.places.Place.{Place}
 use Rattle.block_trees.specs.Bodies.{Blocks, index_of, pointer_of, data_of, head_index}
 use Rattle.block_trees.specs.Trees.{entries_of, items_of}
 use Rattle.block_trees.proofs.Entries.{directory_no_index}
-use Rattle.reclaim.specs.Naming.{has_place}
-use Rattle.reclaim.specs.Sound.{IsDirectoryAt, IsHead, IsSoundPlace, HoldsPlace, IsSoundBody, IsSoundNode}
+use Rattle.reclaim.specs.Naming.{has_slot}
+use Rattle.reclaim.specs.Sound.{IsDirectoryAt, IsHead, IsSoundPlace, HoldsSlot, IsSoundBody, IsSoundNode}
 use Rattle.reclaim.specs.Looks.{body_of, look_reads, AreSteppedTo}
-use Rattle.reclaim.proofs.NamedLaws.{has_place-divides, divides-has_place, divides-below}
+use Rattle.reclaim.proofs.NamedLaws.{has_slot-divides, divides-has_slot, divides-below}
 use Rattle.reclaim.proofs.Lengths.{divides-short}
 
 pub never : IsTrue false → ⊥
@@ -60,23 +60,23 @@ same_pair (Some (i, n)) index held differs is equal =
 some_is : (a b : ℕ) → Some a ≡ Some b → a ≡ b
 some_is a b is = ap (λ (o : Option ℕ). unwrap_or o a) is
 
-pub head_none : (room : ℕ) (f : Blocks) (head size : ℕ) → size ≢ 0 → body_of (f head) ≡ None → IsTrue false ↔ IsHead room f head size
-head_none room f head zero some none = absurd (some refl)
-head_none room f head (suc n) some none = (λ t. absurd (never t), λ is. absurd (no_index (f head) (head_index room (suc n)) none is.0))
+pub head_none : (capacity : ℕ) (f : Blocks) (head size : ℕ) → size ≢ 0 → body_of (f head) ≡ None → IsTrue false ↔ IsHead capacity f head size
+head_none capacity f head zero some none = absurd (some refl)
+head_none capacity f head (suc n) some none = (λ t. absurd (never t), λ is. absurd (no_index (f head) (head_index capacity (suc n)) none is.0))
 
-pub head_some : (room : ℕ) (f : Blocks) (head size index held : ℕ) (good : Bool) → size ≢ 0 → body_of (f head) ≡ Some (index, held)
-    → good ≡ (nat_eq index ((size - 1) / room) && nat_lt ((size - 1) % room) held) → IsTrue good ↔ IsHead room f head size
-head_some room f head zero index held good some is same = absurd (some refl)
-head_some room f head (suc n) index held good some is same = (
+pub head_some : (capacity : ℕ) (f : Blocks) (head size index held : ℕ) (good : Bool) → size ≢ 0 → body_of (f head) ≡ Some (index, held)
+    → good ≡ (nat_eq index ((size - 1) / capacity) && nat_lt ((size - 1) % capacity) held) → IsTrue good ↔ IsHead capacity f head size
+head_some capacity f head zero index held good some is same = absurd (some refl)
+head_some capacity f head (suc n) index held good some is same = (
   λ t.
-      let both = and_parts (nat_eq index ((suc n - 1) / room)) (nat_lt ((suc n - 1) % room) held) (sym same ∙ t) in
-      let at = eqb-true index ((suc n - 1) / room) both.0 in
-      let less = ltb-true ((suc n - 1) % room) held both.1 in
-      (parts.0 ∙ ap (λ (i : ℕ). Some i) at, omega (arith, less, parts.1, div-add-mod' (suc n - 1) room)),
+      let both = and_parts (nat_eq index ((suc n - 1) / capacity)) (nat_lt ((suc n - 1) % capacity) held) (sym same ∙ t) in
+      let at = eqb-true index ((suc n - 1) / capacity) both.0 in
+      let less = ltb-true ((suc n - 1) % capacity) held both.1 in
+      (parts.0 ∙ ap (λ (i : ℕ). Some i) at, omega (arith, less, parts.1, div-add-mod' (suc n - 1) capacity)),
   λ h.
-      let at = some_is index ((suc n - 1) / room) (sym parts.0 ∙ h.0) in
-      let less : (suc n - 1) % room < held = omega (arith, h.1, parts.1, div-add-mod' (suc n - 1) room) in
-      same ∙ and_from (nat_eq index ((suc n - 1) / room)) (nat_lt ((suc n - 1) % room) held) (eq-eqb index ((suc n - 1) / room) at) (lt-ltb ((suc n - 1) % room) held less),
+      let at = some_is index ((suc n - 1) / capacity) (sym parts.0 ∙ h.0) in
+      let less : (suc n - 1) % capacity < held = omega (arith, h.1, parts.1, div-add-mod' (suc n - 1) capacity) in
+      same ∙ and_from (nat_eq index ((suc n - 1) / capacity)) (nat_lt ((suc n - 1) % capacity) held) (eq-eqb index ((suc n - 1) / capacity) at) (lt-ltb ((suc n - 1) % capacity) held less),
 )
   where
     parts : (index_of (f head) ≡ Some index) × (length (data_of (f head)) ≡ held)
@@ -94,51 +94,51 @@ directory_shown f block bytes (Some items) found is same some = (λ t. (items, a
 
 -- ---- pointers
 
-pub stepped_not : (f : Blocks) (p : ℕ → ℕ) (index x : ℕ) (holds : Bool) → x < 12 → has_place index (suc x) ≡ true → holds ≡ false
-    → (IsTrue holds ↔ HoldsPlace (f (p x)) x (p (suc x))) → IsTrue false ↔ AreSteppedTo f p index 12
+pub stepped_not : (f : Blocks) (p : ℕ → ℕ) (index x : ℕ) (holds : Bool) → x < 12 → has_slot index (suc x) ≡ true → holds ≡ false
+    → (IsTrue holds ↔ HoldsSlot (f (p x)) x (p (suc x))) → IsTrue false ↔ AreSteppedTo f p index 12
 stepped_not f p index x holds below has fails exact = (λ t. absurd (never t), λ all. sym fails ∙ exact.1 (all x below has))
 
-pub body_good : (room : ℕ) (f : Blocks) (p : ℕ → ℕ) (index : ℕ) (stepped : Bool) → index < 2 ^ 13 → index ≢ 0 → body_of (f (p 0)) ≡ Some (index - 1, room)
-    → (IsTrue stepped ↔ AreSteppedTo f p index 12) → IsTrue stepped ↔ IsSoundBody room f p index
-body_good room f p zero stepped fits some is exact = absurd (some refl)
-body_good room f p (suc i) stepped fits some is exact = (
+pub body_good : (capacity : ℕ) (f : Blocks) (p : ℕ → ℕ) (index : ℕ) (stepped : Bool) → index < 2 ^ 13 → index ≢ 0 → body_of (f (p 0)) ≡ Some (index - 1, capacity)
+    → (IsTrue stepped ↔ AreSteppedTo f p index 12) → IsTrue stepped ↔ IsSoundBody capacity f p index
+body_good capacity f p zero stepped fits some is exact = absurd (some refl)
+body_good capacity f p (suc i) stepped fits some is exact = (
   λ t. let all = exact.0 t in (
     parts.0 ∙ ap (λ (n : ℕ). Some n) less,
     parts.1,
     λ x divides.
         let below : suc x < 13 = divides-short (suc i) (suc x) (omega arith) fits divides in
-        all x (omega arith) (divides-has_place (suc i) (suc x) (omega arith) divides),
+        all x (omega arith) (divides-has_slot (suc i) (suc x) (omega arith) divides),
   ),
-  λ h. exact.1 (λ x below has. h.2 x (has_place-divides (suc i) (suc x) has).1),
+  λ h. exact.1 (λ x below has. h.2 x (has_slot-divides (suc i) (suc x) has).1),
 )
   where
     less : suc i - 1 ≡ i
     less = omega arith
 
-    parts : (index_of (f (p 0)) ≡ Some (suc i - 1)) × (length (data_of (f (p 0))) ≡ room)
-    parts = body_parts (f (p 0)) (suc i - 1) room is
+    parts : (index_of (f (p 0)) ≡ Some (suc i - 1)) × (length (data_of (f (p 0))) ≡ capacity)
+    parts = body_parts (f (p 0)) (suc i - 1) capacity is
 
 -- the node before is another
-pub body_bad : (room : ℕ) (f : Blocks) (p : ℕ → ℕ) (index : ℕ) → index ≢ 0 → body_of (f (p 0)) ≢ Some (index - 1, room)
-    → IsTrue false ↔ IsSoundBody room f p index
-body_bad room f p zero some other = absurd (some refl)
-body_bad room f p (suc i) some other = (
+pub body_bad : (capacity : ℕ) (f : Blocks) (p : ℕ → ℕ) (index : ℕ) → index ≢ 0 → body_of (f (p 0)) ≢ Some (index - 1, capacity)
+    → IsTrue false ↔ IsSoundBody capacity f p index
+body_bad capacity f p zero some other = absurd (some refl)
+body_bad capacity f p (suc i) some other = (
   λ t. absurd (never t),
   λ h.
       let less : i ≡ suc i - 1 = omega arith in
-      absurd (other (ap (option_map {U = ℕ × ℕ} (λ (n : ℕ). (n, length (data_of (f (p 0)))))) h.0 ∙ ap (λ (n : ℕ). Some (i, n)) h.1 ∙ ap (λ (n : ℕ). Some (n, room)) less)),
+      absurd (other (ap (option_map {U = ℕ × ℕ} (λ (n : ℕ). (n, length (data_of (f (p 0)))))) h.0 ∙ ap (λ (n : ℕ). Some (i, n)) h.1 ∙ ap (λ (n : ℕ). Some (n, capacity)) less)),
 )
 
 -- pointers that are the same at the first 32 places
-pub body_same : (room : ℕ) (f : Blocks) (p q : ℕ → ℕ) (index : ℕ) → index < 2 ^ 32 → ((x : ℕ) → x < 32 → p x ≡ q x) → IsSoundBody room f p index → IsSoundBody room f q index
-body_same room f p q zero fits same h = tt
-body_same room f p q (suc i) fits same h = (
+pub body_same : (capacity : ℕ) (f : Blocks) (p q : ℕ → ℕ) (index : ℕ) → index < 2 ^ 32 → ((x : ℕ) → x < 32 → p x ≡ q x) → IsSoundBody capacity f p index → IsSoundBody capacity f q index
+body_same capacity f p q zero fits same h = tt
+body_same capacity f p q (suc i) fits same h = (
   subst (λ (b : ℕ). index_of (f b) ≡ Some i) first h.0,
-  subst (λ (b : ℕ). length (data_of (f b)) ≡ room) first h.1,
+  subst (λ (b : ℕ). length (data_of (f b)) ≡ capacity) first h.1,
   λ x divides.
       let below : suc x < 32 = divides-below (suc i) (suc x) (omega arith) fits divides in
       let before : x < 32 = omega (arith, below) in
-      subst (λ (b : ℕ). HoldsPlace (f b) x (q (suc x))) (same x before) (subst (HoldsPlace (f (p x)) x) (same (suc x) below) (h.2 x divides)),
+      subst (λ (b : ℕ). HoldsSlot (f b) x (q (suc x))) (same x before) (subst (HoldsSlot (f (p x)) x) (same (suc x) below) (h.2 x divides)),
 )
   where
     first : p 0 ≡ q 0
@@ -148,7 +148,7 @@ body_same room f p q (suc i) fits same h = (
 
 -- the entries of a node are sound
 abbrev pub AreSoundEntries : ℕ → Blocks → Option (List ℕ) → Type 0
-AreSoundEntries room f node = (items : List Item) → entries_of node ≡ Some items → (item : Item) → Contains items item → IsSoundPlace room f item.place
+AreSoundEntries capacity f node = (items : List Item) → entries_of node ≡ Some items → (item : Item) → Contains items item → IsSoundPlace capacity f item.place
 
 places_back : (P : Place → Type 0) (items : List Item) → All P (map (λ (item : Item). item.place) items) → All (λ (item : Item). P item.place) items
 places_back P [] all = All-nil (λ (item : Item). P item.place)
@@ -156,36 +156,36 @@ places_back P (item ∷ items) all =
     let rest = map (λ (item : Item). item.place) items in
     All-cons (λ (item : Item). P item.place) item items (All-head P item.place rest all) (places_back P items (All-tail P item.place rest all))
 
-pub entries_all : (room : ℕ) (f : Blocks) (node : Option (List ℕ)) (places : List Place) → places ≡ map (λ (item : Item). item.place) (items_of node)
-    → All (IsSoundPlace room f) places → AreSoundEntries room f node
-entries_all room f node places is all items some item within =
+pub entries_all : (capacity : ℕ) (f : Blocks) (node : Option (List ℕ)) (places : List Place) → places ≡ map (λ (item : Item). item.place) (items_of node)
+    → All (IsSoundPlace capacity f) places → AreSoundEntries capacity f node
+entries_all capacity f node places is all items some item within =
     let own : items_of node ≡ items = ap (λ (o : Option (List Item)). unwrap_or o []) some in
-    let here : All (IsSoundPlace room f) (map (λ (item : Item). item.place) items) =
-    subst (λ (l : List Item). All (IsSoundPlace room f) (map (λ (item : Item). item.place) l)) own (subst (All (IsSoundPlace room f)) is all) in
-    All-contains (λ (item : Item). IsSoundPlace room f item.place) items item (places_back (IsSoundPlace room f) items here) within
+    let here : All (IsSoundPlace capacity f) (map (λ (item : Item). item.place) items) =
+    subst (λ (l : List Item). All (IsSoundPlace capacity f) (map (λ (item : Item). item.place) l)) own (subst (All (IsSoundPlace capacity f)) is all) in
+    All-contains (λ (item : Item). IsSoundPlace capacity f item.place) items item (places_back (IsSoundPlace capacity f) items here) within
 
-pub all_entries : (room : ℕ) (f : Blocks) (node : Option (List ℕ)) (places : List Place) → places ≡ map (λ (item : Item). item.place) (items_of node)
-    → AreSoundEntries room f node → All (IsSoundPlace room f) places
-all_entries room f node places is sound = subst (All (IsSoundPlace room f)) (sym is) (on (entries_of node) sound)
+pub all_entries : (capacity : ℕ) (f : Blocks) (node : Option (List ℕ)) (places : List Place) → places ≡ map (λ (item : Item). item.place) (items_of node)
+    → AreSoundEntries capacity f node → All (IsSoundPlace capacity f) places
+all_entries capacity f node places is sound = subst (All (IsSoundPlace capacity f)) (sym is) (on (entries_of node) sound)
   where
-    on : (o : Option (List Item)) → ((items : List Item) → o ≡ Some items → (item : Item) → Contains items item → IsSoundPlace room f item.place)
-        → All (IsSoundPlace room f) (map (λ (item : Item). item.place) (unwrap_or o []))
-    on None sound = All-nil (IsSoundPlace room f)
+    on : (o : Option (List Item)) → ((items : List Item) → o ≡ Some items → (item : Item) → Contains items item → IsSoundPlace capacity f item.place)
+        → All (IsSoundPlace capacity f) (map (λ (item : Item). item.place) (unwrap_or o []))
+    on None sound = All-nil (IsSoundPlace capacity f)
     on (Some items) sound =
-        All-map (IsSoundPlace room f) (λ (item : Item). item.place) items
-        (All-weaker (Contains items) (λ (item : Item). IsSoundPlace room f item.place) (sound items refl) items (All-contains_itself items))
+        All-map (IsSoundPlace capacity f) (λ (item : Item). item.place) items
+        (All-weaker (Contains items) (λ (item : Item). IsSoundPlace capacity f item.place) (sound items refl) items (All-contains_itself items))
 
 -- ---- nodes
 
-pub node_bad : (room : ℕ) (f : Blocks) (node : Option (List ℕ)) (places : List Place) (good : Bool) → places ≡ map (λ (item : Item). item.place) (items_of node)
-    → (IsTrue good ↔ All (IsSoundPlace room f) places) → good ≡ false → IsTrue false ↔ IsSoundNode room f node
-node_bad room f node places good is exact bad = (λ t. absurd (never t), λ h. sym bad ∙ exact.1 (all_entries room f node places is h.entries))
+pub node_bad : (capacity : ℕ) (f : Blocks) (node : Option (List ℕ)) (places : List Place) (good : Bool) → places ≡ map (λ (item : Item). item.place) (items_of node)
+    → (IsTrue good ↔ All (IsSoundPlace capacity f) places) → good ≡ false → IsTrue false ↔ IsSoundNode capacity f node
+node_bad capacity f node places good is exact bad = (λ t. absurd (never t), λ h. sym bad ∙ exact.1 (all_entries capacity f node places is h.entries))
 
-pub node_plain : (room : ℕ) (f : Blocks) (node : Option (List ℕ)) (places : List Place) (good : Bool) → places ≡ map (λ (item : Item). item.place) (items_of node)
-    → (IsTrue good ↔ All (IsSoundPlace room f) places) → good ≡ true → index_of node ≡ None → IsTrue true ↔ IsSoundNode room f node
-node_plain room f node places good is exact well none = (
+pub node_plain : (capacity : ℕ) (f : Blocks) (node : Option (List ℕ)) (places : List Place) (good : Bool) → places ≡ map (λ (item : Item). item.place) (items_of node)
+    → (IsTrue good ↔ All (IsSoundPlace capacity f) places) → good ≡ true → index_of node ≡ None → IsTrue true ↔ IsSoundNode capacity f node
+node_plain capacity f node places good is exact well none = (
   λ t. record {
-    entries = entries_all room f node places is (exact.0 well);
+    entries = entries_all capacity f node places is (exact.0 well);
     pointers = λ index some. absurd (true≢false (ap is_some (sym some ∙ none)));
     short = λ index some. absurd (true≢false (ap is_some (sym some ∙ none)));
   },
@@ -193,23 +193,23 @@ node_plain room f node places good is exact well none = (
 )
 
 -- no file has a node of such an index
-pub node_long : (room : ℕ) (f : Blocks) (held : Option (List ℕ)) (index : ℕ) (short : Bool) → index_of held ≡ Some index → short ≡ nat_lt (index * room) most_length
-    → short ≡ false → IsTrue false ↔ IsSoundNode room f held
-node_long room f held index short has is long = (λ t. absurd (never t), λ h. sym long ∙ is ∙ lt-ltb (index * room) most_length (h.short index has))
+pub node_long : (capacity : ℕ) (f : Blocks) (held : Option (List ℕ)) (index : ℕ) (short : Bool) → index_of held ≡ Some index → short ≡ nat_lt (index * capacity) most_length
+    → short ≡ false → IsTrue false ↔ IsSoundNode capacity f held
+node_long capacity f held index short has is long = (λ t. absurd (never t), λ h. sym long ∙ is ∙ lt-ltb (index * capacity) most_length (h.short index has))
 
-pub node_body : (room : ℕ) (f : Blocks) (node : Option (List ℕ)) (places : List Place) (good : Bool) → places ≡ map (λ (item : Item). item.place) (items_of node)
-    → (IsTrue good ↔ All (IsSoundPlace room f) places) → good ≡ true
-    → (index : ℕ) (pointers : ℕ → ℕ) (sound : Bool) → index_of node ≡ Some index → index < 2 ^ 32 → ((x : ℕ) → x < 32 → pointers x ≡ pointer_of node x) → index * room < most_length
-    → (IsTrue sound ↔ IsSoundBody room f pointers index) → IsTrue sound ↔ IsSoundNode room f node
-node_body room f node places good is exact well index pointers sound has fits same short body = (
+pub node_body : (capacity : ℕ) (f : Blocks) (node : Option (List ℕ)) (places : List Place) (good : Bool) → places ≡ map (λ (item : Item). item.place) (items_of node)
+    → (IsTrue good ↔ All (IsSoundPlace capacity f) places) → good ≡ true
+    → (index : ℕ) (pointers : ℕ → ℕ) (sound : Bool) → index_of node ≡ Some index → index < 2 ^ 32 → ((x : ℕ) → x < 32 → pointers x ≡ pointer_of node x) → index * capacity < most_length
+    → (IsTrue sound ↔ IsSoundBody capacity f pointers index) → IsTrue sound ↔ IsSoundNode capacity f node
+node_body capacity f node places good is exact well index pointers sound has fits same short body = (
   λ t. record {
-    entries = entries_all room f node places is (exact.0 well);
+    entries = entries_all capacity f node places is (exact.0 well);
     pointers = λ i some.
         let own : index ≡ i = some_is index i (sym has ∙ some) in
-        subst (IsSoundBody room f (pointer_of node)) own (body_same room f pointers (pointer_of node) index fits same (body.0 t));
-    short = λ i some. subst (λ (k : ℕ). k * room < most_length) (some_is index i (sym has ∙ some)) short;
+        subst (IsSoundBody capacity f (pointer_of node)) own (body_same capacity f pointers (pointer_of node) index fits same (body.0 t));
+    short = λ i some. subst (λ (k : ℕ). k * capacity < most_length) (some_is index i (sym has ∙ some)) short;
   },
-  λ h. body.1 (body_same room f (pointer_of node) pointers index fits (λ x below. sym (same x below)) (h.pointers index has)),
+  λ h. body.1 (body_same capacity f (pointer_of node) pointers index fits (λ x below. sym (same x below)) (h.pointers index has)),
 )
 
 -- ---- reads of a look

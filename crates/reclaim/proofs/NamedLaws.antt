@@ -8,11 +8,11 @@ use Rattle.std.proofs.lemmas.List.Elements.{Contains-append_left, Contains-appen
 use Rattle.node_format.specs.Items.{Item}
 use Rattle.node_format.specs.declared.places.Place.{Place}
 use Rattle.node_format.specs.declared.places.Place.TheVariants.{Dir, File}
-use Rattle.node_format.proofs.BodyFields.{place_beyond}
+use Rattle.node_format.proofs.BodyFields.{slot_beyond}
 use Rattle.block_trees.specs.Bodies.{index_of, pointer_of, Divides}
 use Rattle.block_trees.specs.Trees.{items_of}
 use Rattle.block_trees.specs.Reached.{PlaceNames, BodyNames, Names}
-use Rattle.reclaim.specs.Naming.{place_names, item_names, has_place, places_named, body_named}
+use Rattle.reclaim.specs.Naming.{place_names, item_names, has_slot, slots_named, body_named}
 
 -- ---- entries
 
@@ -65,76 +65,76 @@ items_from (first ∷ items) item b (zero, lt, is) names =
 items_from (first ∷ items) item b (suc k, lt, is) names =
     Contains-append_right (item_names first) (flat_map item_names items) b (items_from items item b (k, omega arith, is) names)
 
--- ---- pointer places
+-- ---- slots
 
 -- one place more
-pub places_named-has : (index : ℕ) (pointer : ℕ → ℕ) (x : ℕ) → has_place index x ≡ true
-    → places_named index pointer (x + 1) ≡ places_named index pointer x ++ pointer x ∷ []
-unfolding places_named
-places_named-has index pointer x has =
+pub slots_named-has : (index : ℕ) (pointer : ℕ → ℕ) (x : ℕ) → has_slot index x ≡ true
+    → slots_named index pointer (x + 1) ≡ slots_named index pointer x ++ pointer x ∷ []
+unfolding slots_named
+slots_named-has index pointer x has =
     let e : x + 1 ≡ suc x = omega arith in
-    ap (places_named index pointer) e ∙ ap (λ b. cond b (places_named index pointer x ++ pointer x ∷ []) (places_named index pointer x)) has
+    ap (slots_named index pointer) e ∙ ap (λ b. cond b (slots_named index pointer x ++ pointer x ∷ []) (slots_named index pointer x)) has
 
-pub places_named-lacks : (index : ℕ) (pointer : ℕ → ℕ) (x : ℕ) → has_place index x ≡ false
-    → places_named index pointer (x + 1) ≡ places_named index pointer x
-unfolding places_named
-places_named-lacks index pointer x lacks =
+pub slots_named-lacks : (index : ℕ) (pointer : ℕ → ℕ) (x : ℕ) → has_slot index x ≡ false
+    → slots_named index pointer (x + 1) ≡ slots_named index pointer x
+unfolding slots_named
+slots_named-lacks index pointer x lacks =
     let e : x + 1 ≡ suc x = omega arith in
-    ap (places_named index pointer) e ∙ ap (λ b. cond b (places_named index pointer x ++ pointer x ∷ []) (places_named index pointer x)) lacks
+    ap (slots_named index pointer) e ∙ ap (λ b. cond b (slots_named index pointer x ++ pointer x ∷ []) (slots_named index pointer x)) lacks
 
-pub places_named-none : (index : ℕ) (pointer : ℕ → ℕ) → places_named index pointer 0 ≡ []
-unfolding places_named
-places_named-none index pointer = refl
+pub slots_named-none : (index : ℕ) (pointer : ℕ → ℕ) → slots_named index pointer 0 ≡ []
+unfolding slots_named
+slots_named-none index pointer = refl
 
 -- the node has a pointer at a place below n, to the block
 abbrev HasPointer : ℕ → (ℕ → ℕ) → ℕ → ℕ → Type 0
-HasPointer index pointer n b = (x : ℕ) × (x < n) × (has_place index x ≡ true) × (pointer x ≡ b)
+HasPointer index pointer n b = (x : ℕ) × (x < n) × (has_slot index x ≡ true) × (pointer x ≡ b)
 
-places_to : (index : ℕ) (pointer : ℕ → ℕ) (n b : ℕ) → Contains (places_named index pointer n) b → HasPointer index pointer n b
-unfolding places_named
+places_to : (index : ℕ) (pointer : ℕ → ℕ) (n b : ℕ) → Contains (slots_named index pointer n) b → HasPointer index pointer n b
+unfolding slots_named
 places_to index pointer zero b h = absurd (in_none b h)
-places_to index pointer (suc n) b h = on (has_place index n) refl h (places_to index pointer n b)
+places_to index pointer (suc n) b h = on (has_slot index n) refl h (places_to index pointer n b)
   where
     more : HasPointer index pointer n b → HasPointer index pointer (suc n) b
     more (x, lt, has, is) = (x, omega arith, has, is)
 
-    last : has_place index n ≡ true → Contains (places_named index pointer n) b ⊎ (pointer n ≡ b)
-        → (Contains (places_named index pointer n) b → HasPointer index pointer n b) → HasPointer index pointer (suc n) b
+    last : has_slot index n ≡ true → Contains (slots_named index pointer n) b ⊎ (pointer n ≡ b)
+        → (Contains (slots_named index pointer n) b → HasPointer index pointer n b) → HasPointer index pointer (suc n) b
     last has (inl before) again = more (again before)
     last has (inr same) again = (n, omega arith, has, same)
 
-    on : (t : Bool) → has_place index n ≡ t → Contains (cond t (places_named index pointer n ++ pointer n ∷ []) (places_named index pointer n)) b
-        → (Contains (places_named index pointer n) b → HasPointer index pointer n b) → HasPointer index pointer (suc n) b
-    on true has h again = last has (Contains-push_cases (places_named index pointer n) (pointer n) b h) again
+    on : (t : Bool) → has_slot index n ≡ t → Contains (cond t (slots_named index pointer n ++ pointer n ∷ []) (slots_named index pointer n)) b
+        → (Contains (slots_named index pointer n) b → HasPointer index pointer n b) → HasPointer index pointer (suc n) b
+    on true has h again = last has (Contains-push_cases (slots_named index pointer n) (pointer n) b h) again
     on false lacks h again = more (again h)
 
-places_from : (index : ℕ) (pointer : ℕ → ℕ) (n x : ℕ) → x < n → has_place index x ≡ true → Contains (places_named index pointer n) (pointer x)
-unfolding places_named
+places_from : (index : ℕ) (pointer : ℕ → ℕ) (n x : ℕ) → x < n → has_slot index x ≡ true → Contains (slots_named index pointer n) (pointer x)
+unfolding slots_named
 places_from index pointer zero x lt has = absurd (omega arith)
 places_from index pointer (suc n) x lt has =
     elim (cases_lt x n) [
-      | inl before ↦ on (has_place index n) (places_from index pointer n x before has)
+      | inl before ↦ on (has_slot index n) (places_from index pointer n x before has)
       | inr past ↦
           let same : n ≡ x = omega arith in
-          let here : has_place index n ≡ true = ap (has_place index) same ∙ has in
-          subst (λ (t : Bool). Contains (cond t (places_named index pointer n ++ pointer n ∷ []) (places_named index pointer n)) (pointer x)) (sym here)
-          (subst (λ (k : ℕ). Contains (places_named index pointer n ++ pointer n ∷ []) (pointer k)) same (Contains-push (places_named index pointer n) (pointer n)))
+          let here : has_slot index n ≡ true = ap (has_slot index) same ∙ has in
+          subst (λ (t : Bool). Contains (cond t (slots_named index pointer n ++ pointer n ∷ []) (slots_named index pointer n)) (pointer x)) (sym here)
+          (subst (λ (k : ℕ). Contains (slots_named index pointer n ++ pointer n ∷ []) (pointer k)) same (Contains-push (slots_named index pointer n) (pointer n)))
     ]
   where
-    on : (t : Bool) → Contains (places_named index pointer n) (pointer x)
-        → Contains (cond t (places_named index pointer n ++ pointer n ∷ []) (places_named index pointer n)) (pointer x)
-    on true h = Contains-append_left (places_named index pointer n) (pointer n ∷ []) (pointer x) h
+    on : (t : Bool) → Contains (slots_named index pointer n) (pointer x)
+        → Contains (cond t (slots_named index pointer n ++ pointer n ∷ []) (slots_named index pointer n)) (pointer x)
+    on true h = Contains-append_left (slots_named index pointer n) (pointer n ∷ []) (pointer x) h
     on false h = h
 
 -- the test of a place
-pub has_place-divides : (index x : ℕ) → has_place index x ≡ true → (0 < index) × Divides x index
-has_place-divides index x has =
+pub has_slot-divides : (index x : ℕ) → has_slot index x ≡ true → (0 < index) × Divides x index
+has_slot-divides index x has =
     let parts = and_parts (nat_lt 0 index) (index % 2 ^ x == 0) has in
     let e : index % 2 ^ x ≡ 0 = eqb-true (index % 2 ^ x) 0 parts.1 in
     (ltb-true 0 index parts.0, (index / 2 ^ x, omega (arith, e, div-add-mod' index (2 ^ x))))
 
-pub divides-has_place : (index x : ℕ) → 0 < index → Divides x index → has_place index x ≡ true
-divides-has_place index x some (m, is) =
+pub divides-has_slot : (index x : ℕ) → 0 < index → Divides x index → has_slot index x ≡ true
+divides-has_slot index x some (m, is) =
     let e : index % 2 ^ x ≡ 0 = ap (λ (n : ℕ). n % 2 ^ x) is ∙ mul-mod_left m (2 ^ x) in
     and_from (nat_lt 0 index) (index % 2 ^ x == 0) (lt-ltb 0 index some) (eq-eqb (index % 2 ^ x) 0 e)
 
@@ -143,21 +143,21 @@ pub divides-below : (index x : ℕ) → 0 < index → index < 2 ^ 32 → Divides
 divides-below index x some fits divides =
     elim (cases_lt x 32) [
       | inl below ↦ below
-      | inr past ↦ absurd (place_beyond index x fits past (some, divides))
+      | inr past ↦ absurd (slot_beyond index x fits past (some, divides))
     ]
 
 body_to : (o : Option ℕ) (pointer : ℕ → ℕ) (b : ℕ) → Contains (body_named o pointer) b → BodyNames o pointer b
 body_to None pointer b h = absurd (in_none b h)
 body_to (Some index) pointer b h =
     let found = places_to index pointer 32 b h in
-    let has = has_place-divides index found.0 found.2 in
+    let has = has_slot-divides index found.0 found.2 in
     (found.0, has.0, has.1, found.3)
 
 body_from : (o : Option ℕ) (pointer : ℕ → ℕ) (b : ℕ) → IfSome o (λ index. index < 2 ^ 32) → BodyNames o pointer b → Contains (body_named o pointer) b
 body_from None pointer b fits h = absurd h
 body_from (Some index) pointer b fits (x, some, divides, is) =
-    subst (Contains (places_named index pointer 32)) is
-    (places_from index pointer 32 x (divides-below index x some fits divides) (divides-has_place index x some divides))
+    subst (Contains (slots_named index pointer 32)) is
+    (places_from index pointer 32 x (divides-below index x some fits divides) (divides-has_slot index x some divides))
 
 -- ---- both
 

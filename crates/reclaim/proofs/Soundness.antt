@@ -14,7 +14,7 @@ use Rattle.block_trees.specs.Trees.{items_of, entries_of, child, leads, IsWhole,
 use Rattle.block_trees.specs.Reached.{PlaceNames, BodyNames, Names, Reached, IsFirst, IsNamed}
 use Rattle.block_trees.proofs.Entries.{entry_named, directory_no_index, place_is}
 use Rattle.block_trees.proofs.Reaching.{before_named}
-use Rattle.reclaim.specs.Sound.{IsDirectoryAt, IsHead, IsSoundPlace, HoldsPlace, AreStepped, IsSoundBody, IsSoundNode, SoundHasTrees, TreesAreSound, TreesHoldNodes}
+use Rattle.reclaim.specs.Sound.{IsDirectoryAt, IsHead, IsSoundPlace, HoldsSlot, AreStepped, IsSoundBody, IsSoundNode, SoundHasTrees, TreesAreSound, TreesHoldNodes}
 use Rattle.reclaim.proofs.Lengths.{entry_short, head_short, shorter}
 use Rattle.reclaim.proofs.Chains.{chain_node, chain_back, linked_back, data_length, half_divides, divides_least, fewer_divides, some_before, back_twice}
 
@@ -25,7 +25,7 @@ some_items o items is = ap (λ (p : Option (List Item)). unwrap_or p []) is
 
 -- one place more
 place_more : (f : Blocks) (i block x : ℕ) → IsLinked f i (pointer_of (f block) 0) → Divides (suc x) (suc i)
-    → pointer_of (f block) x ≡ back f block (2 ^ x) → HoldsPlace (f (pointer_of (f block) x)) x (pointer_of (f block) (suc x))
+    → pointer_of (f block) x ≡ back f block (2 ^ x) → HoldsSlot (f (pointer_of (f block) x)) x (pointer_of (f block) (suc x))
     → pointer_of (f block) (suc x) ≡ back f block (2 ^ suc x)
 place_more f i block x linked divides so_far (bytes, held, next) = on (2 ^ x) refl (suc i - 2 ^ x) refl
   where
@@ -51,17 +51,17 @@ places_linked f i block linked stepped (suc x) divides =
     place_more f i block x linked divides (places_linked f i block linked stepped x (fewer_divides x (suc i) divides)) (stepped x divides)
 
 -- the node in a block is part of a linked chain, of full nodes before it
-pub record IsLinkedChain (room : ℕ) (f : Blocks) (i block : ℕ) : Type 0 where
-  pub chain : IsChain room f i block
+pub record IsLinkedChain (capacity : ℕ) (f : Blocks) (i block : ℕ) : Type 0 where
+  pub chain : IsChain capacity f i block
   pub linked : IsLinked f i block
-  pub short : i * room < most_length
+  pub short : i * capacity < most_length
 
-chain_sound : (room : ℕ) (f : Blocks) (roots : List ℕ) → ((b : ℕ) → Reached f roots b → IsSoundNode room f (f b))
-    → (i block : ℕ) → Reached f roots block → index_of (f block) ≡ Some i → IsLinkedChain room f i block
-chain_sound room f roots sound zero block reached is = record { chain = is; linked = tt; short = (sound block reached).short 0 is }
-chain_sound room f roots sound (suc i) block reached is =
+chain_sound : (capacity : ℕ) (f : Blocks) (roots : List ℕ) → ((b : ℕ) → Reached f roots b → IsSoundNode capacity f (f b))
+    → (i block : ℕ) → Reached f roots block → index_of (f block) ≡ Some i → IsLinkedChain capacity f i block
+chain_sound capacity f roots sound zero block reached is = record { chain = is; linked = tt; short = (sound block reached).short 0 is }
+chain_sound capacity f roots sound (suc i) block reached is =
     let own = (sound block reached).pointers (suc i) is in
-    let before = chain_sound room f roots sound i (pointer_of (f block) 0) (IsNamed reached (before_named f i block is)) own.0 in
+    let before = chain_sound capacity f roots sound i (pointer_of (f block) 0) (IsNamed reached (before_named f i block is)) own.0 in
     record {
       chain = (is, own.1, before.chain);
       linked = (places_linked f i block before.linked own.2, before.linked);
@@ -72,90 +72,90 @@ chain_sound room f roots sound (suc i) block reached is =
 
 -- what a path of a sound tree leads to
 abbrev IsGood : ℕ → Blocks → List ℕ → Place → Type 0
-IsGood room f roots (Dir block) = Reached f roots block × IsDirectoryAt f block
-IsGood room f roots (File head size) = IsBody room f head size
+IsGood capacity f roots (Dir block) = Reached f roots block × IsDirectoryAt f block
+IsGood capacity f roots (File head size) = IsBody capacity f head size
 
-head_body : (room : ℕ) (f : Blocks) (roots : List ℕ) → ((b : ℕ) → Reached f roots b → IsSoundNode room f (f b))
+head_body : (capacity : ℕ) (f : Blocks) (roots : List ℕ) → ((b : ℕ) → Reached f roots b → IsSoundNode capacity f (f b))
     → (block head size : ℕ) → Reached f roots block → ((b : ℕ) → PlaceNames (File head size) b → Names (f block) b)
-    → IsHead room f head size → IsBody room f head size
-head_body room f roots sound block head zero reached names is = is
-head_body room f roots sound block head (suc n) reached names is =
-    let whole = chain_sound room f roots sound (head_index room (suc n)) head (IsNamed reached (names head (omega arith, refl))) is.0 in
-    (whole.chain, omega (arith, is.1, data_length room f (head_index room (suc n)) head whole.chain), whole.linked)
+    → IsHead capacity f head size → IsBody capacity f head size
+head_body capacity f roots sound block head zero reached names is = is
+head_body capacity f roots sound block head (suc n) reached names is =
+    let whole = chain_sound capacity f roots sound (head_index capacity (suc n)) head (IsNamed reached (names head (omega arith, refl))) is.0 in
+    (whole.chain, omega (arith, is.1, data_length capacity f (head_index capacity (suc n)) head whole.chain), whole.linked)
 
 -- an entry of a directory names what its place names
 item_names : (f : Blocks) (block b : ℕ) (item : Item) → Contains (items_of (f block)) item → PlaceNames item.place b → Names (f block) b
 item_names f block b item within names = inl (item, within, names)
 
-good_place : (room : ℕ) (f : Blocks) (roots : List ℕ) → ((b : ℕ) → Reached f roots b → IsSoundNode room f (f b))
-    → (block : ℕ) (at : Place) → Reached f roots block → ((b : ℕ) → PlaceNames at b → Names (f block) b) → IsSoundPlace room f at → IsGood room f roots at
-good_place room f roots sound block (Dir next) reached names is = (IsNamed reached (names next refl), is)
-good_place room f roots sound block (File head size) reached names is = head_body room f roots sound block head size reached names is
+good_place : (capacity : ℕ) (f : Blocks) (roots : List ℕ) → ((b : ℕ) → Reached f roots b → IsSoundNode capacity f (f b))
+    → (block : ℕ) (at : Place) → Reached f roots block → ((b : ℕ) → PlaceNames at b → Names (f block) b) → IsSoundPlace capacity f at → IsGood capacity f roots at
+good_place capacity f roots sound block (Dir next) reached names is = (IsNamed reached (names next refl), is)
+good_place capacity f roots sound block (File head size) reached names is = head_body capacity f roots sound block head size reached names is
 
-good_child : (room : ℕ) (f : Blocks) (roots : List ℕ) → ((b : ℕ) → Reached f roots b → IsSoundNode room f (f b))
-    → (from : Place) (name : Name) (at : Place) → IsGood room f roots from → child f from name ≡ Some at → IsGood room f roots at
-good_child room f roots sound (File head size) name at good is = absurd cc
-good_child room f roots sound (Dir block) name at good is =
+good_child : (capacity : ℕ) (f : Blocks) (roots : List ℕ) → ((b : ℕ) → Reached f roots b → IsSoundNode capacity f (f b))
+    → (from : Place) (name : Name) (at : Place) → IsGood capacity f roots from → child f from name ≡ Some at → IsGood capacity f roots at
+good_child capacity f roots sound (File head size) name at good is = absurd cc
+good_child capacity f roots sound (Dir block) name at good is =
     let found = named-contained (items_of (f block)) name at is in
     let items = good.1.0 in
     let within : Contains items found.0 = subst (λ (l : List Item). Contains l found.0) (some_items (entries_of (f block)) items good.1.1) found.1 in
-    let own : IsSoundPlace room f at = subst (IsSoundPlace room f) found.2 ((sound block good.0).entries items good.1.1 found.0 within) in
-    good_place room f roots sound block at good.0
+    let own : IsSoundPlace capacity f at = subst (IsSoundPlace capacity f) found.2 ((sound block good.0).entries items good.1.1 found.0 within) in
+    good_place capacity f roots sound block at good.0
     (λ b names. item_names f block b found.0 found.1 (subst (λ (p : Place). PlaceNames p b) (sym found.2) names)) own
 
 -- a path of one name more
-through : (room : ℕ) (f : Blocks) (roots : List ℕ) → ((b : ℕ) → Reached f roots b → IsSoundNode room f (f b))
-    → (from : Place) (name : Name) (at : Place) → IsGood room f roots from → (path : Path) (o : Option Place) → child f from name ≡ o
+through : (capacity : ℕ) (f : Blocks) (roots : List ℕ) → ((b : ℕ) → Reached f roots b → IsSoundNode capacity f (f b))
+    → (from : Place) (name : Name) (at : Place) → IsGood capacity f roots from → (path : Path) (o : Option Place) → child f from name ≡ o
     → option_and_then (λ next. leads f next path) o ≡ Some at
-    → ((from at : Place) → IsGood room f roots from → leads f from path ≡ Some at → IsGood room f roots at) → IsGood room f roots at
-through room f roots sound from name at good path None e is again = absurd cc
-through room f roots sound from name at good path (Some next) e is again = again next at (good_child room f roots sound from name next good e) is
+    → ((from at : Place) → IsGood capacity f roots from → leads f from path ≡ Some at → IsGood capacity f roots at) → IsGood capacity f roots at
+through capacity f roots sound from name at good path None e is again = absurd cc
+through capacity f roots sound from name at good path (Some next) e is again = again next at (good_child capacity f roots sound from name next good e) is
 
-good_leads : (room : ℕ) (f : Blocks) (roots : List ℕ) → ((b : ℕ) → Reached f roots b → IsSoundNode room f (f b))
-    → (path : Path) (from at : Place) → IsGood room f roots from → leads f from path ≡ Some at → IsGood room f roots at
-good_leads room f roots sound [] from at good is = subst (IsGood room f roots) (place_is from at is) good
-good_leads room f roots sound (name ∷ path) from at good is =
-    through room f roots sound from name at good path (child f from name) refl is (good_leads room f roots sound path)
+good_leads : (capacity : ℕ) (f : Blocks) (roots : List ℕ) → ((b : ℕ) → Reached f roots b → IsSoundNode capacity f (f b))
+    → (path : Path) (from at : Place) → IsGood capacity f roots from → leads f from path ≡ Some at → IsGood capacity f roots at
+good_leads capacity f roots sound [] from at good is = subst (IsGood capacity f roots) (place_is from at is) good
+good_leads capacity f roots sound (name ∷ path) from at good is =
+    through capacity f roots sound from name at good path (child f from name) refl is (good_leads capacity f roots sound path)
 
-good_whole : (room : ℕ) (f : Blocks) (roots : List ℕ) (at : Place) → IsGood room f roots at → IsWhole room f at
-good_whole room f roots (Dir block) good = good.1
-good_whole room f roots (File head size) good = good
+good_whole : (capacity : ℕ) (f : Blocks) (roots : List ℕ) (at : Place) → IsGood capacity f roots at → IsWhole capacity f at
+good_whole capacity f roots (Dir block) good = good.1
+good_whole capacity f roots (File head size) good = good
 
 leads_some : (o : Option Place) (at : Place) → o ≡ Some at → IsSome o
 leads_some o at is = subst IsSome (sym is) refl
 
 pub sound_has_trees : SoundHasTrees
-sound_has_trees room f roots are root within path at is = (
-  good_whole room f roots at (good_leads room f roots are.nodes path (Dir root) at (IsFirst within, are.directories root within) is),
+sound_has_trees capacity f roots are root within path at is = (
+  good_whole capacity f roots at (good_leads capacity f roots are.nodes path (Dir root) at (IsFirst within, are.directories root within) is),
   are.shallow root within path (leads_some (leads f (Dir root) path) at is),
 )
 
 -- ---- trees are sound
 
-tree_directory : (room : ℕ) (f : Blocks) (block depth : ℕ) → HasTree room f (Dir block) depth → IsDirectoryAt f block
-tree_directory room f block depth tree = (tree [] (Dir block) refl).0
+tree_directory : (capacity : ℕ) (f : Blocks) (block depth : ℕ) → HasTree capacity f (Dir block) depth → IsDirectoryAt f block
+tree_directory capacity f block depth tree = (tree [] (Dir block) refl).0
 
-tree_body : (room : ℕ) (f : Blocks) (head size depth : ℕ) → HasTree room f (File head size) depth → IsBody room f head size
-tree_body room f head size depth tree = (tree [] (File head size) refl).0
+tree_body : (capacity : ℕ) (f : Blocks) (head size depth : ℕ) → HasTree capacity f (File head size) depth → IsBody capacity f head size
+tree_body capacity f head size depth tree = (tree [] (File head size) refl).0
 
 -- what an entry of a tree's directory leads to has a tree
-entry_tree : (room : ℕ) (f : Blocks) (block depth : ℕ) (item : Item) → HasTree room f (Dir block) depth → Contains (items_of (f block)) item → HasTree room f item.place depth
-entry_tree room f block depth item tree within = λ path at is.
+entry_tree : (capacity : ℕ) (f : Blocks) (block depth : ℕ) (item : Item) → HasTree capacity f (Dir block) depth → Contains (items_of (f block)) item → HasTree capacity f item.place depth
+entry_tree capacity f block depth item tree within = λ path at is.
     let whole = tree (item.name ∷ path) at (ap (option_and_then (λ next. leads f next path)) (entry_named (f block) item within) ∙ is) in
     (whole.0, omega (arith, whole.1))
 
 -- a block with a tree below it, or in a linked chain
 abbrev IsShaped : ℕ → Blocks → ℕ → Type 0
-IsShaped room f block = ((depth : ℕ) × HasTree room f (Dir block) depth) ⊎ ((i : ℕ) × IsLinkedChain room f i block)
+IsShaped capacity f block = ((depth : ℕ) × HasTree capacity f (Dir block) depth) ⊎ ((i : ℕ) × IsLinkedChain capacity f i block)
 
-body_shape : (room : ℕ) (f : Blocks) (head n : ℕ) → suc n ≤ most_length → IsBody room f head (suc n) → IsShaped room f head
-body_shape room f head n few whole = inr (head_index room (suc n), record { chain = whole.0; linked = whole.2; short = head_short room n few })
+body_shape : (capacity : ℕ) (f : Blocks) (head n : ℕ) → suc n ≤ most_length → IsBody capacity f head (suc n) → IsShaped capacity f head
+body_shape capacity f head n few whole = inr (head_index capacity (suc n), record { chain = whole.0; linked = whole.2; short = head_short capacity n few })
 
-place_shape : (room : ℕ) (f : Blocks) (place : Place) (depth next : ℕ) → size_of place ≤ most_length → HasTree room f place depth → PlaceNames place next → IsShaped room f next
-place_shape room f (Dir block) depth next few tree same = subst (IsShaped room f) same (inl (depth, tree))
-place_shape room f (File head zero) depth next few tree names = absurd (omega (arith, names.0))
-place_shape room f (File head (suc n)) depth next few tree names =
-    subst (IsShaped room f) names.1 (body_shape room f head n few (tree_body room f head (suc n) depth tree))
+place_shape : (capacity : ℕ) (f : Blocks) (place : Place) (depth next : ℕ) → size_of place ≤ most_length → HasTree capacity f place depth → PlaceNames place next → IsShaped capacity f next
+place_shape capacity f (Dir block) depth next few tree same = subst (IsShaped capacity f) same (inl (depth, tree))
+place_shape capacity f (File head zero) depth next few tree names = absurd (omega (arith, names.0))
+place_shape capacity f (File head (suc n)) depth next few tree names =
+    subst (IsShaped capacity f) names.1 (body_shape capacity f head n few (tree_body capacity f head (suc n) depth tree))
 
 abbrev some_number : ℕ → Option ℕ
 some_number n = Some n
@@ -174,89 +174,89 @@ no_entry node i item is within = on (entries_of node) refl within
     on None e (k, lt, at) = omega arith
     on (Some items) e within = no_number i (sym is ∙ directory_no_index node items e)
 
--- a node before one of a chain, by a pointer place
-pointed : (room : ℕ) (f : Blocks) (i block x next : ℕ) → IsLinkedChain room f i block → 0 < i → Divides x i → pointer_of (f block) x ≡ next → IsShaped room f next
-pointed room f zero block x next c some divides is = absurd (omega arith)
-pointed room f (suc i) block x next c some divides is =
+-- a node before one of a chain, by a slot
+pointed : (capacity : ℕ) (f : Blocks) (i block x next : ℕ) → IsLinkedChain capacity f i block → 0 < i → Divides x i → pointer_of (f block) x ≡ next → IsShaped capacity f next
+pointed capacity f zero block x next c some divides is = absurd (omega arith)
+pointed capacity f (suc i) block x next c some divides is =
     let le : 2 ^ x ≤ suc i = divides_least x (suc i) some divides in
-    subst (IsShaped room f) (sym (c.linked.0 x divides) ∙ is)
-    (inr (suc i - 2 ^ x, record { chain = chain_back room f (2 ^ x) (suc i) block le c.chain; linked = linked_back f (2 ^ x) (suc i) block le c.linked; short = shorter room (suc i) (suc i - 2 ^ x) (omega arith) c.short }))
+    subst (IsShaped capacity f) (sym (c.linked.0 x divides) ∙ is)
+    (inr (suc i - 2 ^ x, record { chain = chain_back capacity f (2 ^ x) (suc i) block le c.chain; linked = linked_back f (2 ^ x) (suc i) block le c.linked; short = shorter capacity (suc i) (suc i - 2 ^ x) (omega arith) c.short }))
 
-named_shape : (room : ℕ) (f : Blocks) (block next : ℕ) → IsShaped room f block → Names (f block) next → IsShaped room f next
-named_shape room f block next (inl (depth, tree)) (inl (item, within, names)) =
-    place_shape room f item.place depth next (entry_short (f block) item within) (entry_tree room f block depth item tree within) names
-named_shape room f block next (inl (depth, tree)) (inr names) =
-    let own = tree_directory room f block depth tree in
+named_shape : (capacity : ℕ) (f : Blocks) (block next : ℕ) → IsShaped capacity f block → Names (f block) next → IsShaped capacity f next
+named_shape capacity f block next (inl (depth, tree)) (inl (item, within, names)) =
+    place_shape capacity f item.place depth next (entry_short (f block) item within) (entry_tree capacity f block depth item tree within) names
+named_shape capacity f block next (inl (depth, tree)) (inr names) =
+    let own = tree_directory capacity f block depth tree in
     absurd (subst (λ (o : Option ℕ). BodyNames o (pointer_of (f block)) next) (directory_no_index (f block) own.0 own.1) names)
-named_shape room f block next (inr (i, c)) (inl (item, within, names)) = absurd (no_entry (f block) i item (chain_node room i block f c.chain) within)
-named_shape room f block next (inr (i, c)) (inr names) =
-    let own = subst (λ (o : Option ℕ). BodyNames o (pointer_of (f block)) next) (chain_node room i block f c.chain) names in
-    pointed room f i block own.0 next c own.1 own.2 own.3
+named_shape capacity f block next (inr (i, c)) (inl (item, within, names)) = absurd (no_entry (f block) i item (chain_node capacity i block f c.chain) within)
+named_shape capacity f block next (inr (i, c)) (inr names) =
+    let own = subst (λ (o : Option ℕ). BodyNames o (pointer_of (f block)) next) (chain_node capacity i block f c.chain) names in
+    pointed capacity f i block own.0 next c own.1 own.2 own.3
 
-reached_shape : (room : ℕ) (f : Blocks) (roots : List ℕ) → ((root : ℕ) → Contains roots root → IsRoot room f root) → {b : ℕ} → Reached f roots b → IsShaped room f b
-reached_shape room f roots trees {b} (IsFirst within) = inl (16, trees b within)
-reached_shape room f roots trees {b} (IsNamed {block = block} reached names) = named_shape room f block b (reached_shape room f roots trees reached) names
+reached_shape : (capacity : ℕ) (f : Blocks) (roots : List ℕ) → ((root : ℕ) → Contains roots root → IsRoot capacity f root) → {b : ℕ} → Reached f roots b → IsShaped capacity f b
+reached_shape capacity f roots trees {b} (IsFirst within) = inl (16, trees b within)
+reached_shape capacity f roots trees {b} (IsNamed {block = block} reached names) = named_shape capacity f block b (reached_shape capacity f roots trees reached) names
 
 -- ---- what has such a shape is sound
 
-body_head : (room : ℕ) (f : Blocks) (head size : ℕ) → IsBody room f head size → IsHead room f head size
-body_head room f head zero is = is
-body_head room f head (suc n) is =
-    (chain_node room (head_index room (suc n)) head f is.0, omega (arith, is.1, data_length room f (head_index room (suc n)) head is.0))
+body_head : (capacity : ℕ) (f : Blocks) (head size : ℕ) → IsBody capacity f head size → IsHead capacity f head size
+body_head capacity f head zero is = is
+body_head capacity f head (suc n) is =
+    (chain_node capacity (head_index capacity (suc n)) head f is.0, omega (arith, is.1, data_length capacity f (head_index capacity (suc n)) head is.0))
 
-place_sound : (room : ℕ) (f : Blocks) (place : Place) (depth : ℕ) → HasTree room f place depth → IsSoundPlace room f place
-place_sound room f (Dir block) depth tree = tree_directory room f block depth tree
-place_sound room f (File head size) depth tree = body_head room f head size (tree_body room f head size depth tree)
+place_sound : (capacity : ℕ) (f : Blocks) (place : Place) (depth : ℕ) → HasTree capacity f place depth → IsSoundPlace capacity f place
+place_sound capacity f (Dir block) depth tree = tree_directory capacity f block depth tree
+place_sound capacity f (File head size) depth tree = body_head capacity f head size (tree_body capacity f head size depth tree)
 
 some_node : (node : Option (List ℕ)) (i : ℕ) → index_of node ≡ Some i → (bytes : List ℕ) × (node ≡ Some bytes)
 some_node None i is = absurd (no_number i (sym is))
 some_node (Some bytes) i is = (bytes, refl)
 
-place_held : (node : Option (List ℕ)) (x next i : ℕ) → index_of node ≡ Some i → pointer_of node x ≡ next → HoldsPlace node x next
+place_held : (node : Option (List ℕ)) (x next i : ℕ) → index_of node ≡ Some i → pointer_of node x ≡ next → HoldsSlot node x next
 place_held node x next i is at =
     let found = some_node node i is in
     (found.0, found.1, ap (λ (o : Option (List ℕ)). pointer_of o x) (sym found.1) ∙ at)
 
-chain_stepped : (room : ℕ) (f : Blocks) (i block : ℕ) → IsLinkedChain room f (suc i) block → AreStepped f (pointer_of (f block)) (suc i)
-chain_stepped room f i block c x divides = on (suc i - 2 ^ x) refl
+chain_stepped : (capacity : ℕ) (f : Blocks) (i block : ℕ) → IsLinkedChain capacity f (suc i) block → AreStepped f (pointer_of (f block)) (suc i)
+chain_stepped capacity f i block c x divides = on (suc i - 2 ^ x) refl
   where
-    on : (j : ℕ) → suc i - 2 ^ x ≡ j → HoldsPlace (f (pointer_of (f block) x)) x (pointer_of (f block) (suc x))
+    on : (j : ℕ) → suc i - 2 ^ x ≡ j → HoldsSlot (f (pointer_of (f block) x)) x (pointer_of (f block) (suc x))
     on zero e = absurd (omega (arith, some_before x i divides))
     on (suc j) e =
         let le : 2 ^ x ≤ suc i = omega (arith, some_before x i divides) in
         let here : pointer_of (f block) x ≡ back f block (2 ^ x) = c.linked.0 x (fewer_divides x (suc i) divides) in
-        let chain = chain_back room f (2 ^ x) (suc i) block le c.chain in
+        let chain = chain_back capacity f (2 ^ x) (suc i) block le c.chain in
         let own : IsLinked f (suc j) (back f block (2 ^ x)) =
         subst (λ (k : ℕ). IsLinked f k (back f block (2 ^ x))) e (linked_back f (2 ^ x) (suc i) block le c.linked) in
         let step : pointer_of (f (back f block (2 ^ x))) x ≡ back f (back f block (2 ^ x)) (2 ^ x) =
         own.0 x (subst (Divides x) e (half_divides x (suc i) divides)) in
-        subst (λ (b : ℕ). HoldsPlace (f b) x (pointer_of (f block) (suc x))) (sym here)
+        subst (λ (b : ℕ). HoldsSlot (f b) x (pointer_of (f block) (suc x))) (sym here)
         (place_held (f (back f block (2 ^ x))) x (pointer_of (f block) (suc x)) (suc i - 2 ^ x)
-        (chain_node room (suc i - 2 ^ x) (back f block (2 ^ x)) f chain)
+        (chain_node capacity (suc i - 2 ^ x) (back f block (2 ^ x)) f chain)
         (step ∙ back_twice f x block ∙ sym (c.linked.0 (suc x) divides)))
 
-chain_body : (room : ℕ) (f : Blocks) (i block : ℕ) → IsLinkedChain room f i block → IsSoundBody room f (pointer_of (f block)) i
-chain_body room f zero block c = tt
-chain_body room f (suc i) block c =
-    (chain_node room i (pointer_of (f block) 0) f c.chain.2, c.chain.1, chain_stepped room f i block c)
+chain_body : (capacity : ℕ) (f : Blocks) (i block : ℕ) → IsLinkedChain capacity f i block → IsSoundBody capacity f (pointer_of (f block)) i
+chain_body capacity f zero block c = tt
+chain_body capacity f (suc i) block c =
+    (chain_node capacity i (pointer_of (f block) 0) f c.chain.2, c.chain.1, chain_stepped capacity f i block c)
 
-shape_sound : (room : ℕ) (f : Blocks) (block : ℕ) → IsShaped room f block → IsSoundNode room f (f block)
-shape_sound room f block (inl (depth, tree)) =
-    let own = tree_directory room f block depth tree in
+shape_sound : (capacity : ℕ) (f : Blocks) (block : ℕ) → IsShaped capacity f block → IsSoundNode capacity f (f block)
+shape_sound capacity f block (inl (depth, tree)) =
+    let own = tree_directory capacity f block depth tree in
     record {
       entries = λ items is item within.
-          place_sound room f item.place depth
-          (entry_tree room f block depth item tree (subst (λ (l : List Item). Contains l item) (sym (some_items (entries_of (f block)) items is)) within));
+          place_sound capacity f item.place depth
+          (entry_tree capacity f block depth item tree (subst (λ (l : List Item). Contains l item) (sym (some_items (entries_of (f block)) items is)) within));
       pointers = λ index is. absurd (no_number index (sym is ∙ directory_no_index (f block) own.0 own.1));
       short = λ index is. absurd (no_number index (sym is ∙ directory_no_index (f block) own.0 own.1));
     }
-shape_sound room f block (inr (i, c)) =
-    let node = chain_node room i block f c.chain in
+shape_sound capacity f block (inr (i, c)) =
+    let node = chain_node capacity i block f c.chain in
     record {
       entries = λ items is item within. absurd (no_number i (sym node ∙ directory_no_index (f block) items is));
       pointers = λ index is.
-          subst (IsSoundBody room f (pointer_of (f block))) (number_is i index (sym node ∙ is)) (chain_body room f i block c);
-      short = λ index is. subst (λ (k : ℕ). k * room < most_length) (number_is i index (sym node ∙ is)) c.short;
+          subst (IsSoundBody capacity f (pointer_of (f block))) (number_is i index (sym node ∙ is)) (chain_body capacity f i block c);
+      short = λ index is. subst (λ (k : ℕ). k * capacity < most_length) (number_is i index (sym node ∙ is)) c.short;
     }
 
 found_place : (o : Option Place) → IsSome o → (at : Place) × (o ≡ Some at)
@@ -264,9 +264,9 @@ found_place None some = absurd cc
 found_place (Some at) some = (at, refl)
 
 pub trees_are_sound : TreesAreSound
-trees_are_sound room f roots trees = record {
-  nodes = λ b reached. shape_sound room f b (reached_shape room f roots trees reached);
-  directories = λ root within. tree_directory room f root 16 (trees root within);
+trees_are_sound capacity f roots trees = record {
+  nodes = λ b reached. shape_sound capacity f b (reached_shape capacity f roots trees reached);
+  directories = λ root within. tree_directory capacity f root 16 (trees root within);
   shallow = λ root within path some. let found = found_place (leads f (Dir root) path) some in (trees root within path found.0 found.1).1;
 }
 
@@ -276,11 +276,11 @@ some_list items = Some items
 no_list : (items : List Item) → some_list items ≡ None → ⊥
 no_list items e = cc
 
-shape_holds : (room : ℕ) (f : Blocks) (block : ℕ) → IsShaped room f block → f block ≢ None
-shape_holds room f block (inl (depth, tree)) none =
-    let own = tree_directory room f block depth tree in
+shape_holds : (capacity : ℕ) (f : Blocks) (block : ℕ) → IsShaped capacity f block → f block ≢ None
+shape_holds capacity f block (inl (depth, tree)) none =
+    let own = tree_directory capacity f block depth tree in
     no_list own.0 (sym own.1 ∙ ap entries_of none)
-shape_holds room f block (inr (i, c)) none = no_number i (sym (chain_node room i block f c.chain) ∙ ap index_of none)
+shape_holds capacity f block (inr (i, c)) none = no_number i (sym (chain_node capacity i block f c.chain) ∙ ap index_of none)
 
 pub trees_hold_nodes : TreesHoldNodes
-trees_hold_nodes room f roots trees b reached = shape_holds room f b (reached_shape room f roots trees reached)
+trees_hold_nodes capacity f roots trees b reached = shape_holds capacity f b (reached_shape capacity f roots trees reached)

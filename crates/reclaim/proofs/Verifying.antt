@@ -46,8 +46,8 @@ shallow_exact f roots false deeper shallow = (λ t. all_of (λ root. IsShallow f
 -- ---- roots
 
 -- all that the marked blocks and the roots are asked
-pub record AreAsked (room : ℕ) (f : Blocks) (roots marked : List ℕ) : Type 0 where
-  pub nodes : All (λ b. IsSoundNode room f (f b)) marked
+pub record AreAsked (capacity : ℕ) (f : Blocks) (roots marked : List ℕ) : Type 0 where
+  pub nodes : All (λ b. IsSoundNode capacity f (f b)) marked
   pub directories : All (IsDirectoryAt f) roots
   pub shallow : All (λ root. IsShallow f (Dir root) 16) roots
 

@@ -6,8 +6,8 @@ use Rattle.fs_types.specs.declared.faults.Fault.TheVariants.{Damaged}
 use Rattle.node_store.specs.Faults.{is_read_fault}
 use Rattle.block_trees.specs.Bodies.{Blocks, index_of, data_of}
 use Rattle.block_trees.specs.Trees.{entries_of}
-use Rattle.reclaim.specs.Naming.{has_place}
-use Rattle.reclaim.specs.Sound.{HoldsPlace}
+use Rattle.reclaim.specs.Naming.{has_slot}
+use Rattle.reclaim.specs.Sound.{HoldsSlot}
 
 -- the index of a body node, and how many data bytes it has
 abbrev pub body_of : Option (List ℕ) → Option (ℕ × ℕ)
@@ -27,4 +27,4 @@ look_reads node = option_map_or (λ items. 1 + length items) (entries_of node) 1
 
 -- the pointers of an index are stepped at the places below n
 abbrev pub AreSteppedTo : Blocks → (ℕ → ℕ) → ℕ → ℕ → Type 0
-AreSteppedTo f pointer index n = (x : ℕ) → x < n → has_place index (suc x) ≡ true → HoldsPlace (f (pointer x)) x (pointer (suc x))
+AreSteppedTo f pointer index n = (x : ℕ) → x < n → has_slot index (suc x) ≡ true → HoldsSlot (f (pointer x)) x (pointer (suc x))

@@ -14,16 +14,16 @@ abbrev pub item_names : Item → List ℕ
 item_names item = place_names item.place
 
 -- whether the node of an index has a pointer at place x
-abbrev pub has_place : ℕ → ℕ → Bool
-has_place index x = nat_lt 0 index && (index % 2 ^ x == 0)
+abbrev pub has_slot : ℕ → ℕ → Bool
+has_slot index x = nat_lt 0 index && (index % 2 ^ x == 0)
 
 -- the blocks of the pointers of an index at its first places, so many
-unfoldable pub places_named : ℕ → (ℕ → ℕ) → ℕ → List ℕ
-places_named index pointer zero = []
-places_named index pointer (suc x) =
-    if has_place index x then places_named index pointer x ++ pointer x ∷ [] else places_named index pointer x
+unfoldable pub slots_named : ℕ → (ℕ → ℕ) → ℕ → List ℕ
+slots_named index pointer zero = []
+slots_named index pointer (suc x) =
+    if has_slot index x then slots_named index pointer x ++ pointer x ∷ [] else slots_named index pointer x
 
 -- the blocks of the pointers of a body node
 abbrev pub body_named : Option ℕ → (ℕ → ℕ) → List ℕ
 body_named None pointer = []
-body_named (Some index) pointer = places_named index pointer 32
+body_named (Some index) pointer = slots_named index pointer 32

@@ -15,49 +15,49 @@ IsDirectoryAt f block = (items : List Item) × (entries_of (f block) ≡ Some it
 
 -- the head of a file has the index that the length asks, and bytes enough
 abbrev pub IsHead : ℕ → Blocks → ℕ → ℕ → Type 0
-IsHead room f head zero = head ≡ 0
-IsHead room f head (suc n) =
-    (index_of (f head) ≡ Some (head_index room (suc n))) × (suc n ≤ head_index room (suc n) * room + length (data_of (f head)))
+IsHead capacity f head zero = head ≡ 0
+IsHead capacity f head (suc n) =
+    (index_of (f head) ≡ Some (head_index capacity (suc n))) × (suc n ≤ head_index capacity (suc n) * capacity + length (data_of (f head)))
 
 -- an entry leads to a directory node, or to the head of its file
 abbrev pub IsSoundPlace : ℕ → Blocks → Place → Type 0
-IsSoundPlace room f (Dir block) = IsDirectoryAt f block
-IsSoundPlace room f (File head size) = IsHead room f head size
+IsSoundPlace capacity f (Dir block) = IsDirectoryAt f block
+IsSoundPlace capacity f (File head size) = IsHead capacity f head size
 
--- pointer place x of a node names this block
-abbrev pub HoldsPlace : Option (List ℕ) → ℕ → ℕ → Type 0
-HoldsPlace node x next = (bytes : List ℕ) × (node ≡ Some bytes) × (pointer_of (Some bytes) x ≡ next)
+-- slot x of a node names this block
+abbrev pub HoldsSlot : Option (List ℕ) → ℕ → ℕ → Type 0
+HoldsSlot node x next = (bytes : List ℕ) × (node ≡ Some bytes) × (pointer_of (Some bytes) x ≡ next)
 
 -- each place is the one before it of the node that the one before it names
 abbrev pub AreStepped : Blocks → (ℕ → ℕ) → ℕ → Type 0
-AreStepped f pointer index = (x : ℕ) → Divides (suc x) index → HoldsPlace (f (pointer x)) x (pointer (suc x))
+AreStepped f pointer index = (x : ℕ) → Divides (suc x) index → HoldsSlot (f (pointer x)) x (pointer (suc x))
 
 -- the node before is full and has the index before, and the places are stepped
 abbrev pub IsSoundBody : ℕ → Blocks → (ℕ → ℕ) → ℕ → Type 0
-IsSoundBody room f pointer zero = Unit {0}
-IsSoundBody room f pointer (suc i) =
-    (index_of (f (pointer 0)) ≡ Some i) × (length (data_of (f (pointer 0))) ≡ room) × AreStepped f pointer (suc i)
+IsSoundBody capacity f pointer zero = Unit {0}
+IsSoundBody capacity f pointer (suc i) =
+    (index_of (f (pointer 0)) ≡ Some i) × (length (data_of (f (pointer 0))) ≡ capacity) × AreStepped f pointer (suc i)
 
 -- a directory's entries are sound, and so are a body node's pointers; its index is one that a file can have
-pub record IsSoundNode (room : ℕ) (f : Blocks) (node : Option (List ℕ)) : Type 0 where
-  pub entries : (items : List Item) → entries_of node ≡ Some items → (item : Item) → Contains items item → IsSoundPlace room f item.place
-  pub pointers : (index : ℕ) → index_of node ≡ Some index → IsSoundBody room f (pointer_of node) index
-  pub short : (index : ℕ) → index_of node ≡ Some index → index * room < most_length
+pub record IsSoundNode (capacity : ℕ) (f : Blocks) (node : Option (List ℕ)) : Type 0 where
+  pub entries : (items : List Item) → entries_of node ≡ Some items → (item : Item) → Contains items item → IsSoundPlace capacity f item.place
+  pub pointers : (index : ℕ) → index_of node ≡ Some index → IsSoundBody capacity f (pointer_of node) index
+  pub short : (index : ℕ) → index_of node ≡ Some index → index * capacity < most_length
 
 -- all that the roots reach is sound, and they are directories below which no path has more than 16 names
-pub record AreSound (room : ℕ) (f : Blocks) (roots : List ℕ) : Type 0 where
-  pub nodes : (b : ℕ) → Reached f roots b → IsSoundNode room f (f b)
+pub record AreSound (capacity : ℕ) (f : Blocks) (roots : List ℕ) : Type 0 where
+  pub nodes : (b : ℕ) → Reached f roots b → IsSoundNode capacity f (f b)
   pub directories : (root : ℕ) → Contains roots root → IsDirectoryAt f root
   pub shallow : (root : ℕ) → Contains roots root → IsShallow f (Dir root) 16
 
 -- then each root has a tree
 abbrev pub SoundHasTrees : Type 0
-SoundHasTrees = (room : ℕ) (f : Blocks) (roots : List ℕ) → AreSound room f roots → (root : ℕ) → Contains roots root → IsRoot room f root
+SoundHasTrees = (capacity : ℕ) (f : Blocks) (roots : List ℕ) → AreSound capacity f roots → (root : ℕ) → Contains roots root → IsRoot capacity f root
 
 -- where each root has a tree, all of it is sound
 abbrev pub TreesAreSound : Type 0
-TreesAreSound = (room : ℕ) (f : Blocks) (roots : List ℕ) → ((root : ℕ) → Contains roots root → IsRoot room f root) → AreSound room f roots
+TreesAreSound = (capacity : ℕ) (f : Blocks) (roots : List ℕ) → ((root : ℕ) → Contains roots root → IsRoot capacity f root) → AreSound capacity f roots
 
 -- and each reached block holds a node
 abbrev pub TreesHoldNodes : Type 0
-TreesHoldNodes = (room : ℕ) (f : Blocks) (roots : List ℕ) → ((root : ℕ) → Contains roots root → IsRoot room f root) → (b : ℕ) → Reached f roots b → f b ≢ None
+TreesHoldNodes = (capacity : ℕ) (f : Blocks) (roots : List ℕ) → ((root : ℕ) → Contains roots root → IsRoot capacity f root) → (b : ℕ) → Reached f roots b → f b ≢ None

@@ -1,4 +1,4 @@
-//! The index and the pointer places of any bytes with the magic of a body node.
+//! The index and the slots of any bytes with the magic of a body node.
 ghost use Rattle.std.specs.Prelude.{◌≡◌, ℕ, ◌+◌, ◌*◌, ◌^◌, ◌<◌, Some, IfSome, slice_index};
 ghost use Rattle.node_format.specs.Headers.{field};
 ghost use Rattle.block_trees.specs.Bodies.{index_of, pointer_of};
@@ -11,25 +11,25 @@ const MAGIC: [u8; 4] = *b"UFNB";
 pub const FRONT: u32 = 80;
 
 /// No power of two from this one on divides a number of four bytes, but 0.
-pub const PLACES: usize = 32;
+pub const SLOTS: usize = 32;
 
 // A byte, or 0 past the end.
-fn byte_at(bytes: &[u8], place: usize) -> u8
-    ensures { result ≡ slice_index bytes.now place }
+fn byte_at(bytes: &[u8], offset: usize) -> u8
+    ensures { result ≡ slice_index bytes.now offset }
 {
-    bytes.get(place).copied().unwrap_or(0)
+    bytes.get(offset).copied().unwrap_or(0)
 }
 
-// The number in the four bytes from a place, where bytes past the end are 0.
-fn number_at(bytes: &[u8], place: usize) -> u32
-    requires { place < 2 ^ 32 }
-    ensures { result ≡ field bytes.now place }
+// The number in the four bytes from an offset, where bytes past the end are 0.
+fn number_at(bytes: &[u8], offset: usize) -> u32
+    requires { offset < 2 ^ 32 }
+    ensures { result ≡ field bytes.now offset }
 {
     u32::from_le_bytes([
-        byte_at(bytes, place),
-        byte_at(bytes, place + 1),
-        byte_at(bytes, place + 2),
-        byte_at(bytes, place + 3),
+        byte_at(bytes, offset),
+        byte_at(bytes, offset + 1),
+        byte_at(bytes, offset + 2),
+        byte_at(bytes, offset + 3),
     ])
 }
 
@@ -45,18 +45,18 @@ pub fn index_in(bytes: &[u8]) -> Option<u32>
     }
 }
 
-/// The block in a pointer place.
-pub fn pointer_in(bytes: &[u8], place: usize) -> u32
-    requires { place < 32 }
-    ensures { result ≡ pointer_of (Some bytes.now) place }
+/// The block in a slot.
+pub fn pointer_in(bytes: &[u8], slot: usize) -> u32
+    requires { slot < 32 }
+    ensures { result ≡ pointer_of (Some bytes.now) slot }
 {
-    number_at(bytes, 16 + 4 * place)
+    number_at(bytes, 16 + 4 * slot)
 }
 
-/// Whether the node of an index has a pointer at a place.
-pub fn has_pointer(index: u32, place: usize) -> bool
-    requires { place < 32 }
-    ensures { result ≡ spec.has_place index place }
+/// Whether the node of an index has a pointer at a slot.
+pub fn has_pointer(index: u32, slot: usize) -> bool
+    requires { slot < 32 }
+    ensures { result ≡ spec.has_slot index slot }
 {
-    index > 0 && index as u64 % (1 << place) == 0
+    index > 0 && index as u64 % (1 << slot) == 0
 }

@@ -5,11 +5,11 @@ ghost use Rattle.node_format.specs.declared.places.Place.TheVariants.{Dir, File}
 ghost use Rattle.node_format.specs.Items.{most_length};
 ghost use Rattle.block_trees.specs.Bodies.{index_of, pointer_of, data_of};
 ghost use Rattle.block_trees.specs.Trees.{entries_of, items_of};
-ghost use Rattle.reclaim.specs.Sound.{IsDirectoryAt, IsHead, IsSoundPlace, HoldsPlace, IsSoundBody, IsSoundNode, AreStepped};
+ghost use Rattle.reclaim.specs.Sound.{IsDirectoryAt, IsHead, IsSoundPlace, HoldsSlot, IsSoundBody, IsSoundNode, AreStepped};
 ghost use Rattle.reclaim.specs.Looks as spec;
 ghost use Rattle.node_store.specs.Frames.{OnlyLooks};
 
-use crate::fields::{FRONT, PLACES, has_pointer, index_in, pointer_in};
+use crate::fields::{FRONT, SLOTS, has_pointer, index_in, pointer_in};
 use fs_types::Fault;
 use node_format::{Entries, Place};
 use node_store::Nodes;
@@ -73,19 +73,19 @@ fn body_at<N: Nodes>(nodes: &mut N, block: u32) -> Result<Option<(u32, usize)>, 
 }
 
 /// Whether the last node of a file, whose length is not 0, has the index and bytes enough.
-fn ends_file(room: u32, index: u32, held: usize, length: u32) -> bool
-    requires room { 0 < room }
+fn ends_file(capacity: u32, index: u32, held: usize, length: u32) -> bool
+    requires capacity { 0 < capacity }
     requires some { 0 < length }
-    ensures { result ≡ (nat_eq index ((length - 1) / room) && nat_lt ((length - 1) % room) held) }
+    ensures { result ≡ (nat_eq index ((length - 1) / capacity) && nat_lt ((length - 1) % capacity) held) }
 {
-    index == (length - 1) / room && (((length - 1) % room) as usize) < held
+    index == (length - 1) / capacity && (((length - 1) % capacity) as usize) < held
 }
 
 /// Whether a block holds the last node of a file of a length; an empty file has head 0.
-fn is_head<N: Nodes>(nodes: &mut N, room: u32, head: u32, length: u32) -> Result<bool, Fault>
+fn is_head<N: Nodes>(nodes: &mut N, capacity: u32, head: u32, length: u32) -> Result<bool, Fault>
     requires sound { N.is_sound nodes.old }
-    requires room { 0 < room }
-    ensures exact { IfOk result (λ good. IsTrue good ↔ IsHead room (N.node nodes.old) head length) }
+    requires capacity { 0 < capacity }
+    ensures exact { IfOk result (λ good. IsTrue good ↔ IsHead capacity (N.node nodes.old) head length) }
     ensures why { IfErr result (λ fault. N.causes nodes.old nodes.new fault) }
     ensures faults { IfErr result spec.IsLookFault }
     ensures looks { OnlyLooks N.node N.kept N.writes N.follows N.is_sound N.limit N.blocks nodes.old nodes.new }
@@ -98,14 +98,14 @@ fn is_head<N: Nodes>(nodes: &mut N, room: u32, head: u32, length: u32) -> Result
     let Some((index, held)) = found else {
         return Ok(false);
     };
-    Ok(ends_file(room, index, held, length))
+    Ok(ends_file(capacity, index, held, length))
 }
 
 /// Whether a place leads to a directory node, or to the head of its file.
-fn is_sound_place<N: Nodes>(nodes: &mut N, room: u32, place: Place) -> Result<bool, Fault>
+fn is_sound_place<N: Nodes>(nodes: &mut N, capacity: u32, place: Place) -> Result<bool, Fault>
     requires sound { N.is_sound nodes.old }
-    requires room { 0 < room }
-    ensures exact { IfOk result (λ good. IsTrue good ↔ IsSoundPlace room (N.node nodes.old) place) }
+    requires capacity { 0 < capacity }
+    ensures exact { IfOk result (λ good. IsTrue good ↔ IsSoundPlace capacity (N.node nodes.old) place) }
     ensures why { IfErr result (λ fault. N.causes nodes.old nodes.new fault) }
     ensures faults { IfErr result spec.IsLookFault }
     ensures looks { OnlyLooks N.node N.kept N.writes N.follows N.is_sound N.limit N.blocks nodes.old nodes.new }
@@ -113,7 +113,7 @@ fn is_sound_place<N: Nodes>(nodes: &mut N, room: u32, place: Place) -> Result<bo
 {
     match place {
         Place::Dir { block } => is_directory(nodes, block),
-        Place::File { head, length } => is_head(nodes, room, head, length),
+        Place::File { head, length } => is_head(nodes, capacity, head, length),
     }
 }
 
@@ -138,17 +138,17 @@ fn push_places_of(out: &mut Vec<Place>, entries: Entries<'_>) -> Result<(), Allo
 }
 
 /// Whether all places are sound.
-fn are_sound_places<N: Nodes>(nodes: &mut N, room: u32, places: &[Place]) -> Result<bool, Fault>
+fn are_sound_places<N: Nodes>(nodes: &mut N, capacity: u32, places: &[Place]) -> Result<bool, Fault>
     requires sound { N.is_sound nodes.old }
-    requires room { 0 < room }
-    ensures exact { IfOk result (λ good. IsTrue good ↔ All (IsSoundPlace room (N.node nodes.old)) places.now) }
+    requires capacity { 0 < capacity }
+    ensures exact { IfOk result (λ good. IsTrue good ↔ All (IsSoundPlace capacity (N.node nodes.old)) places.now) }
     ensures why { IfErr result (λ fault. N.causes nodes.old nodes.new fault) }
     ensures faults { IfErr result spec.IsLookFault }
     ensures looks { OnlyLooks N.node N.kept N.writes N.follows N.is_sound N.limit N.blocks nodes.old nodes.new }
     ensures reads { N.reads nodes.new ≤ N.reads nodes.old + length places.now }
 {
     for place in places {
-        let good = is_sound_place(nodes, room, *place)?;
+        let good = is_sound_place(nodes, capacity, *place)?;
         if !good {
             return Ok(false);
         }
@@ -156,23 +156,23 @@ fn are_sound_places<N: Nodes>(nodes: &mut N, room: u32, places: &[Place]) -> Res
     Ok(true)
 }
 
-/// What stands in the pointer places of a node, those that are not in use too.
+/// What stands in the slots of a node, those that are not in use too.
 fn pointers_in(alloc: Global, bytes: &[u8]) -> Result<Vec<u32>, AllocError>
     ensures count { IfOk result (λ v. length v.items ≡ 32) }
     ensures each { IfOk result (λ v. (x : ℕ) → x < 32 → slice_index v.items x ≡ pointer_of (Some bytes.now) x) }
 {
     let mut out = Vec::new(alloc);
-    for place in 0..PLACES {
-        out.push(pointer_in(bytes, place))?;
+    for slot in 0..SLOTS {
+        out.push(pointer_in(bytes, slot))?;
     }
     Ok(out)
 }
 
-/// Whether a pointer place of the node in a block names a block.
-fn holds_place<N: Nodes>(nodes: &mut N, block: u32, place: usize, next: u32) -> Result<bool, Fault>
+/// Whether a slot of the node in a block names a block.
+fn holds_slot<N: Nodes>(nodes: &mut N, block: u32, slot: usize, next: u32) -> Result<bool, Fault>
     requires sound { N.is_sound nodes.old }
-    requires place { place < 32 }
-    ensures exact { IfOk result (λ holds. IsTrue holds ↔ HoldsPlace (N.node nodes.old block) place next) }
+    requires slot { slot < 32 }
+    ensures exact { IfOk result (λ holds. IsTrue holds ↔ HoldsSlot (N.node nodes.old block) slot next) }
     ensures why { IfErr result (λ fault. N.causes nodes.old nodes.new fault) }
     ensures faults { IfErr result spec.IsLookFault }
     ensures looks { OnlyLooks N.node N.kept N.writes N.follows N.is_sound N.limit N.blocks nodes.old nodes.new }
@@ -182,7 +182,7 @@ fn holds_place<N: Nodes>(nodes: &mut N, block: u32, place: usize, next: u32) -> 
     if !brought {
         return Ok(false);
     }
-    Ok(pointer_in(nodes.lent(), place) == next)
+    Ok(pointer_in(nodes.lent(), slot) == next)
 }
 
 /// Whether each pointer of an index below 2^13 is the one before it of the node that the one before it
@@ -196,9 +196,9 @@ fn are_stepped<N: Nodes>(nodes: &mut N, pointers: &[u32], index: u32) -> Result<
     ensures looks { OnlyLooks N.node N.kept N.writes N.follows N.is_sound N.limit N.blocks nodes.old nodes.new }
     ensures reads { N.reads nodes.new ≤ N.reads nodes.old + 12 }
 {
-    for place in 0..12 {
-        if has_pointer(index, place + 1) {
-            let holds = holds_place(nodes, pointers[place], place, pointers[place + 1])?;
+    for slot in 0..12 {
+        if has_pointer(index, slot + 1) {
+            let holds = holds_slot(nodes, pointers[slot], slot, pointers[slot + 1])?;
             if !holds {
                 return Ok(false);
             }
@@ -210,14 +210,14 @@ fn are_stepped<N: Nodes>(nodes: &mut N, pointers: &[u32], index: u32) -> Result<
 /// Whether the node before is full and has the index before, and the pointers are stepped.
 fn is_sound_body<N: Nodes>(
     nodes: &mut N,
-    room: u32,
+    capacity: u32,
     pointers: &[u32],
     index: u32,
 ) -> Result<bool, Fault>
     requires sound { N.is_sound nodes.old }
     requires count { length pointers.now ≡ 32 }
     requires short { index < 2 ^ 13 }
-    ensures exact { IfOk result (λ good. IsTrue good ↔ IsSoundBody room (N.node nodes.old) (slice_index pointers.now) index) }
+    ensures exact { IfOk result (λ good. IsTrue good ↔ IsSoundBody capacity (N.node nodes.old) (slice_index pointers.now) index) }
     ensures why { IfErr result (λ fault. N.causes nodes.old nodes.new fault) }
     ensures faults { IfErr result spec.IsLookFault }
     ensures looks { OnlyLooks N.node N.kept N.writes N.follows N.is_sound N.limit N.blocks nodes.old nodes.new }
@@ -227,7 +227,7 @@ fn is_sound_body<N: Nodes>(
         return Ok(true);
     }
     let found = body_at(nodes, pointers[0])?;
-    if found != Some((index - 1, room as usize)) {
+    if found != Some((index - 1, capacity as usize)) {
         return Ok(false);
     }
     let stepped = are_stepped(nodes, pointers, index)?;
@@ -235,17 +235,22 @@ fn is_sound_body<N: Nodes>(
 }
 
 /// Whether a file can have a node of an index.
-fn is_short(room: u32, index: u32) -> bool
-    ensures { result ≡ nat_lt (index * room) most_length }
+fn is_short(capacity: u32, index: u32) -> bool
+    ensures { result ≡ nat_lt (index * capacity) most_length }
 {
-    index as u64 * (room as u64) < MOST_LENGTH
+    index as u64 * (capacity as u64) < MOST_LENGTH
 }
 
 /// Whether a directory's entries are sound, or a body node's pointers.
-pub fn look<N: Nodes>(alloc: Global, nodes: &mut N, room: u32, block: u32) -> Result<bool, Fault>
+pub fn look<N: Nodes>(
+    alloc: Global,
+    nodes: &mut N,
+    capacity: u32,
+    block: u32,
+) -> Result<bool, Fault>
     requires sound { N.is_sound nodes.old }
-    requires room { 2 ^ 11 ≤ room }
-    ensures exact { IfOk result (λ good. IsTrue good ↔ IsSoundNode room (N.node nodes.old) (N.node nodes.old block)) }
+    requires capacity { 2 ^ 11 ≤ capacity }
+    ensures exact { IfOk result (λ good. IsTrue good ↔ IsSoundNode capacity (N.node nodes.old) (N.node nodes.old block)) }
     ensures why { IfErr result (λ fault. N.causes nodes.old nodes.new fault) }
     ensures faults { IfErr result spec.IsLookFault }
     ensures looks { OnlyLooks N.node N.kept N.writes N.follows N.is_sound N.limit N.blocks nodes.old nodes.new }
@@ -258,16 +263,16 @@ pub fn look<N: Nodes>(alloc: Global, nodes: &mut N, room: u32, block: u32) -> Re
     let places = places_in(alloc, nodes.lent())?;
     let pointers = pointers_in(alloc, nodes.lent())?;
     let index = index_in(nodes.lent());
-    let good = are_sound_places(nodes, room, &places)?;
+    let good = are_sound_places(nodes, capacity, &places)?;
     if !good {
         return Ok(false);
     }
     let Some(index) = index else {
         return Ok(true);
     };
-    if !is_short(room, index) {
+    if !is_short(capacity, index) {
         return Ok(false);
     }
-    let sound = is_sound_body(nodes, room, &pointers, index)?;
+    let sound = is_sound_body(nodes, capacity, &pointers, index)?;
     Ok(sound)
 }

@@ -4,9 +4,9 @@ ghost use Rattle.std.specs.List.{flat_map};
 ghost use Rattle.block_trees.specs.Bodies.{index_of, pointer_of};
 ghost use Rattle.block_trees.specs.Trees.{items_of};
 ghost use Rattle.block_trees.specs.Reached.{Names};
-ghost use Rattle.reclaim.specs.Naming.{place_names, item_names, places_named, body_named};
+ghost use Rattle.reclaim.specs.Naming.{place_names, item_names, slots_named, body_named};
 
-use crate::fields::{PLACES, has_pointer, index_in, pointer_in};
+use crate::fields::{SLOTS, has_pointer, index_in, pointer_in};
 use fs_types::Fault;
 use node_format::{Entries, Place};
 use std::alloc::{AllocError, Global};
@@ -33,12 +33,12 @@ fn push_entries(out: &mut Vec<u32>, entries: Entries<'_>) -> Result<(), AllocErr
     Ok(())
 }
 
-fn push_places(out: &mut Vec<u32>, index: u32, bytes: &[u8]) -> Result<(), AllocError>
-    ensures { OnOk result (out.new.items ≡ out.old.items ++ places_named index (pointer_of (Some bytes.now)) 32) }
+fn push_slots(out: &mut Vec<u32>, index: u32, bytes: &[u8]) -> Result<(), AllocError>
+    ensures { OnOk result (out.new.items ≡ out.old.items ++ slots_named index (pointer_of (Some bytes.now)) 32) }
 {
-    for place in 0..PLACES {
-        if has_pointer(index, place) {
-            out.push(pointer_in(bytes, place))?;
+    for slot in 0..SLOTS {
+        if has_pointer(index, slot) {
+            out.push(pointer_in(bytes, slot))?;
         }
     }
     Ok(())
@@ -60,10 +60,10 @@ fn push_body(out: &mut Vec<u32>, bytes: &[u8]) -> Result<(), AllocError>
     let Some(index) = index_in(bytes) else {
         return Ok(());
     };
-    push_places(out, index, bytes)
+    push_slots(out, index, bytes)
 }
 
-/// The blocks that the node of some bytes names, by an entry or by a pointer place. A block may be
+/// The blocks that the node of some bytes names, by an entry or by a slot. A block may be
 /// there more than once; bytes of no node name none.
 pub fn named(alloc: Global, bytes: &[u8]) -> Result<Vec<u32>, Fault>
     ensures names { IfOk result (λ v. (b : ℕ) → Contains v.items b ↔ Names (Some bytes.now) b) }

@@ -45,17 +45,22 @@ fn are_data_blocks(blocks: u32, list: &[u32]) -> bool
 }
 
 // Whether a look at each block of a list finds it sound.
-fn are_sound<N: Nodes>(alloc: Global, nodes: &mut N, room: u32, list: &[u32]) -> Result<bool, Fault>
+fn are_sound<N: Nodes>(
+    alloc: Global,
+    nodes: &mut N,
+    capacity: u32,
+    list: &[u32],
+) -> Result<bool, Fault>
     requires sound { N.is_sound nodes.old }
-    requires room { 2 ^ 11 ≤ room }
-    ensures exact { IfOk result (λ good. IsTrue good ↔ All (λ b. IsSoundNode room (N.node nodes.old) (N.node nodes.old b)) list.now) }
+    requires capacity { 2 ^ 11 ≤ capacity }
+    ensures exact { IfOk result (λ good. IsTrue good ↔ All (λ b. IsSoundNode capacity (N.node nodes.old) (N.node nodes.old b)) list.now) }
     ensures why { IfErr result (λ fault. N.causes nodes.old nodes.new fault) }
     ensures faults { IfErr result IsLookFault }
     ensures looks { OnlyLooks N.node N.kept N.writes N.follows N.is_sound N.limit N.blocks nodes.old nodes.new }
     ensures reads { N.reads nodes.new ≤ N.reads nodes.old + sum_by (λ b. look_reads (N.node nodes.old b)) list.now }
 {
     for block in list {
-        let good = look(alloc, nodes, room, *block)?;
+        let good = look(alloc, nodes, capacity, *block)?;
         if !good {
             return Ok(false);
         }
@@ -110,8 +115,8 @@ fn have_trees<N: Nodes>(
     ensures looks { OnlyLooks N.node N.kept N.writes N.follows N.is_sound N.limit N.blocks nodes.old nodes.new }
     ensures reads { N.reads nodes.new ≤ N.reads nodes.old + sum_by (λ b. 18 + 2 * length (items_of (N.node nodes.old b))) marked.now }
 {
-    let room = nodes.block_bytes() - FRONT;
-    let are_sound = are_sound(alloc, nodes, room, marked)?;
+    let capacity = nodes.block_bytes() - FRONT;
+    let are_sound = are_sound(alloc, nodes, capacity, marked)?;
     if !are_sound {
         return Ok(false);
     }

@@ -3,7 +3,7 @@ use Rattle.std.proofs.Common.{◌≡◌, ℕ, zero, suc, ◌+◌, ◌-◌, ◌*�
 use Rattle.std.proofs.Math.Nat.{one-le-pow}
 use Rattle.std.proofs.lemmas.Bool.{eqb-true, ltb-true}
 use Rattle.node_format.specs.Headers.{field, body_magic, body_size, IsNode}
-use Rattle.node_format.specs.BodyNodes.{IsBodyNode, HasPlace}
+use Rattle.node_format.specs.BodyNodes.{IsBodyNode, HasSlot}
 use Rattle.block_trees.specs.Bodies.{Blocks, index_of, pointer_of, back, Divides, IsChain, IsLinked}
 use Rattle.skip_list_file.specs.Reading.{IsUseful, IsLargest}
 use Rattle.skip_list_file.proofs.Hops.{Hops, next_hop}
@@ -42,8 +42,8 @@ body_at limit index held bytes is whole indexed =
     record { is_node = record { magic = eqb-true _ _ magic.0; some = omega (arith, size.0); size = size.1 }; index_is = magic.1; bytes_are = is }
 
 -- the block before a node that is not the first
-pub place_zero : (held : Option (List ℕ)) (index : ℕ) (bytes : List ℕ) (found : Option ℕ) → IsBodyAt held index bytes → 0 < index → (HasPlace (field bytes 4) 0 → found ≡ Some (field bytes (16 + 4 * 0))) → found ≡ Some (pointer_of held 0)
-place_zero held index bytes found at some only =
+pub slot_zero : (held : Option (List ℕ)) (index : ℕ) (bytes : List ℕ) (found : Option ℕ) → IsBodyAt held index bytes → 0 < index → (HasSlot (field bytes 4) 0 → found ≡ Some (field bytes (16 + 4 * 0))) → found ≡ Some (pointer_of held 0)
+slot_zero held index bytes found at some only =
     only (omega (arith, at.index_is), (field bytes 4, omega arith)) ∙ ap (λ (n : Option (List ℕ)). Some (pointer_of n 0)) (sym at.bytes_are)
 
 -- ---- nodes before
@@ -56,16 +56,16 @@ back_back f (suc m) n block =
     let e : suc m + n ≡ suc (m + n) = omega arith in
     back_back f m n (pointer_of (f block) 0) ∙ ap (back f block) (sym e)
 
-pub chain_node : (room i block : ℕ) (f : Blocks) → IsChain room f i block → index_of (f block) ≡ Some i
-chain_node room zero block f chain = chain
-chain_node room (suc i) block f chain = chain.0
+pub chain_node : (capacity i block : ℕ) (f : Blocks) → IsChain capacity f i block → index_of (f block) ≡ Some i
+chain_node capacity zero block f chain = chain
+chain_node capacity (suc i) block f chain = chain.0
 
-pub chain_back : (room : ℕ) (f : Blocks) (n i block : ℕ) → n ≤ i → IsChain room f i block → IsChain room f (i - n) (back f block n)
-chain_back room f zero i block le chain = subst (λ (k : ℕ). IsChain room f k block) (omega arith) chain
-chain_back room f (suc n) zero block le chain = absurd (omega arith)
-chain_back room f (suc n) (suc i) block le chain =
+pub chain_back : (capacity : ℕ) (f : Blocks) (n i block : ℕ) → n ≤ i → IsChain capacity f i block → IsChain capacity f (i - n) (back f block n)
+chain_back capacity f zero i block le chain = subst (λ (k : ℕ). IsChain capacity f k block) (omega arith) chain
+chain_back capacity f (suc n) zero block le chain = absurd (omega arith)
+chain_back capacity f (suc n) (suc i) block le chain =
     let e : i - n ≡ suc i - suc n = omega arith in
-    subst (λ (k : ℕ). IsChain room f k (back f (pointer_of (f block) 0) n)) e (chain_back room f n i (pointer_of (f block) 0) (omega arith) chain.2)
+    subst (λ (k : ℕ). IsChain capacity f k (back f (pointer_of (f block) 0) n)) e (chain_back capacity f n i (pointer_of (f block) 0) (omega arith) chain.2)
 
 pub linked_back : (f : Blocks) (n i block : ℕ) → n ≤ i → IsLinked f i block → IsLinked f (i - n) (back f block n)
 linked_back f zero i block le linked = subst (λ (k : ℕ). IsLinked f k block) (omega arith) linked
@@ -81,20 +81,20 @@ pointer_back f x (suc i) block some divides linked = linked.0 x divides
 -- ---- the way to a node
 
 -- the node of an index was come to, on the way from a head to a node before it
-pub record IsOnWay (room : ℕ) (f : Blocks) (head head_index index at block : ℕ) : Type 0 where
-  pub chain : IsChain room f at block
+pub record IsOnWay (capacity : ℕ) (f : Blocks) (head head_index index at block : ℕ) : Type 0 where
+  pub chain : IsChain capacity f at block
   pub linked : IsLinked f at block
   pub back_is : block ≡ back f head (head_index - at)
   pub above : index ≤ at
   pub below : at ≤ head_index
 
-pub way_on : (room : ℕ) (f : Blocks) (head head_index index at block x next : ℕ) → IsOnWay room f head head_index index at block → IsUseful x at index → next ≡ pointer_of (f block) x → IsOnWay room f head head_index index (at - 2 ^ x) next
-way_on room f head head_index index at block x next way useful is =
+pub way_on : (capacity : ℕ) (f : Blocks) (head head_index index at block x next : ℕ) → IsOnWay capacity f head head_index index at block → IsUseful x at index → next ≡ pointer_of (f block) x → IsOnWay capacity f head head_index index (at - 2 ^ x) next
+way_on capacity f head head_index index at block x next way useful is =
     let le : 2 ^ x ≤ at = omega (arith, useful.1) in
     let to : next ≡ back f block (2 ^ x) = is ∙ pointer_back f x at block (omega (arith, power, useful.1)) useful.0 way.linked in
     let e : (head_index - at) + 2 ^ x ≡ head_index - (at - 2 ^ x) = omega (arith, way.below) in
     record {
-      chain = subst (λ (b : ℕ). IsChain room f (at - 2 ^ x) b) (sym to) (chain_back room f (2 ^ x) at block le way.chain);
+      chain = subst (λ (b : ℕ). IsChain capacity f (at - 2 ^ x) b) (sym to) (chain_back capacity f (2 ^ x) at block le way.chain);
       linked = subst (λ (b : ℕ). IsLinked f (at - 2 ^ x) b) (sym to) (linked_back f (2 ^ x) at block le way.linked);
       back_is = to ∙ ap (λ (b : ℕ). back f b (2 ^ x)) way.back_is ∙ back_back f (head_index - at) (2 ^ x) head ∙ ap (back f head) e;
       above = omega (arith, useful.1);

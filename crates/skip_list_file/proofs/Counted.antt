@@ -10,107 +10,107 @@ use Rattle.skip_list_file.specs.Writing.{KeepsNone}
 use Rattle.skip_list_file.proofs.Parts.{count_some, count_none, div_mono}
 
 -- the reads so far: the nodes after the edit are listed by one read each, and read once each
-pub record AreFew (room size end first index before now : ℕ) : Type 0 where
-  pub all : (digits : ℕ) → head_index room size < 2 ^ digits → now ≤ before + (nodes_between room end size + (nodes_between room end size - (head_index room size + 1 - index)) + (1 + 5 * digits))
-  pub none : (digits : ℕ) → head_index room size < 2 ^ digits → index ≤ first → now ≤ before + (nodes_between room end size + 3 * digits)
+pub record AreFew (capacity size end first index before now : ℕ) : Type 0 where
+  pub all : (digits : ℕ) → head_index capacity size < 2 ^ digits → now ≤ before + (nodes_between capacity end size + (nodes_between capacity end size - (head_index capacity size + 1 - index)) + (1 + 5 * digits))
+  pub none : (digits : ℕ) → head_index capacity size < 2 ^ digits → index ≤ first → now ≤ before + (nodes_between capacity end size + 3 * digits)
 
-pub few_first : (room size offset first digits : ℕ) → 0 < room → first ≡ min offset size / room → head_index room size < 2 ^ digits → first ≤ 2 ^ digits
-few_first room size offset first digits least is small = on first is
+pub few_first : (capacity size offset first digits : ℕ) → 0 < capacity → first ≡ min offset size / capacity → head_index capacity size < 2 ^ digits → first ≤ 2 ^ digits
+few_first capacity size offset first digits least is small = on first is
   where
-    on : (k : ℕ) → k ≡ min offset size / room → k ≤ 2 ^ digits
+    on : (k : ℕ) → k ≡ min offset size / capacity → k ≤ 2 ^ digits
     on zero e = omega arith
     on (suc k) e =
-        let rows : suc k * room ≤ min offset size = omega (arith, mul-le (suc k) room (min offset size / room) room (omega arith) (omega arith), div-mul-le_self (min offset size) room) in
-        let before : k ≤ (size - 1) / room = le-div k (size - 1) room least (omega (arith, suc-mul k room)) in
+        let rows : suc k * capacity ≤ min offset size = omega (arith, mul-le (suc k) capacity (min offset size / capacity) capacity (omega arith) (omega arith), div-mul-le_self (min offset size) capacity) in
+        let before : k ≤ (size - 1) / capacity = le-div k (size - 1) capacity least (omega (arith, suc-mul k capacity)) in
         omega arith
 
-pub few_begun : (room size offset end first before front table now : ℕ) → 0 < room → first ≡ min offset size / room
-    → ((digits : ℕ) → head_index room size < 2 ^ digits → front ≤ before + 2 * digits) → ((digits : ℕ) → first ≤ 2 ^ digits → table ≤ front + digits) → now ≤ table + nodes_between room end size
-    → AreFew room size end first first before now
-few_begun room size offset end first before front table now least is by_front by_table by_list = record {
+pub few_begun : (capacity size offset end first before front table now : ℕ) → 0 < capacity → first ≡ min offset size / capacity
+    → ((digits : ℕ) → head_index capacity size < 2 ^ digits → front ≤ before + 2 * digits) → ((digits : ℕ) → first ≤ 2 ^ digits → table ≤ front + digits) → now ≤ table + nodes_between capacity end size
+    → AreFew capacity size end first first before now
+few_begun capacity size offset end first before front table now least is by_front by_table by_list = record {
   all = λ digits small. (let few = all digits small in omega arith);
   none = λ digits small at. all digits small;
 }
   where
-    all : (digits : ℕ) → head_index room size < 2 ^ digits → now ≤ before + (nodes_between room end size + 3 * digits)
-    all digits small = (let a = by_front digits small in let b = by_table digits (few_first room size offset first digits least is small) in omega arith)
+    all : (digits : ℕ) → head_index capacity size < 2 ^ digits → now ≤ before + (nodes_between capacity end size + 3 * digits)
+    all digits small = (let a = by_front digits small in let b = by_table digits (few_first capacity size offset first digits least is small) in omega arith)
 
 -- one node more
-pub few_on : (room size offset end first index count before now now' blocks : ℕ) → 0 < room → first ≡ min offset size / room → first ≤ index → count ≤ room → blocks ≡ nodes_between room end size
-    → (KeepsNone size offset end (index * room) (index * room + count) → now' ≡ now) → (head_index room size - index < blocks → now' ≤ now + 1) → ((digits : ℕ) → head_index room size < 2 ^ digits → now' ≤ now + (1 + 2 * digits))
-    → AreFew room size end first index before now → AreFew room size end first (index + 1) before now'
-few_on room size offset end first index count before now now' blocks least is from fits counted unread listed any few = record {
-  all = λ digits small. all digits small (cases_lt (index * room) size) (cases_lt first index);
+pub few_on : (capacity size offset end first index count before now now' blocks : ℕ) → 0 < capacity → first ≡ min offset size / capacity → first ≤ index → count ≤ capacity → blocks ≡ nodes_between capacity end size
+    → (KeepsNone size offset end (index * capacity) (index * capacity + count) → now' ≡ now) → (head_index capacity size - index < blocks → now' ≤ now + 1) → ((digits : ℕ) → head_index capacity size < 2 ^ digits → now' ≤ now + (1 + 2 * digits))
+    → AreFew capacity size end first index before now → AreFew capacity size end first (index + 1) before now'
+few_on capacity size offset end first index count before now now' blocks least is from fits counted unread listed any few = record {
+  all = λ digits small. all digits small (cases_lt (index * capacity) size) (cases_lt first index);
   none = λ digits small at. absurd (omega arith);
 }
   where
-    same : (digits : ℕ) → head_index room size < 2 ^ digits → now' ≡ now → now' ≤ before + (nodes_between room end size + (nodes_between room end size - (head_index room size + 1 - (index + 1))) + (1 + 5 * digits))
+    same : (digits : ℕ) → head_index capacity size < 2 ^ digits → now' ≡ now → now' ≤ before + (nodes_between capacity end size + (nodes_between capacity end size - (head_index capacity size + 1 - (index + 1))) + (1 + 5 * digits))
     same digits small e = (let most = few.all digits small in omega arith)
 
-    one : (digits : ℕ) → head_index room size < 2 ^ digits → index ≤ head_index room size → head_index room size - index < nodes_between room end size → now' ≤ now + 1
-        → now' ≤ before + (nodes_between room end size + (nodes_between room end size - (head_index room size + 1 - (index + 1))) + (1 + 5 * digits))
+    one : (digits : ℕ) → head_index capacity size < 2 ^ digits → index ≤ head_index capacity size → head_index capacity size - index < nodes_between capacity end size → now' ≤ now + 1
+        → now' ≤ before + (nodes_between capacity end size + (nodes_between capacity end size - (head_index capacity size + 1 - (index + 1))) + (1 + 5 * digits))
     one digits small le lt e = (let most = few.all digits small in omega arith)
 
     -- the edit begins before a node after the first
-    begins : first < index → index * room < size → offset ≤ index * room
+    begins : first < index → index * capacity < size → offset ≤ index * capacity
     begins lt within =
-        let rest : min offset size < (first + 1) * room = over in
-        let rows : (first + 1) * room ≤ index * room = mul-le (first + 1) room index room (omega arith) (omega arith) in
+        let rest : min offset size < (first + 1) * capacity = over in
+        let rows : (first + 1) * capacity ≤ index * capacity = mul-le (first + 1) capacity index capacity (omega arith) (omega arith) in
         omega arith
       where
-        over : min offset size < (first + 1) * room
+        over : min offset size < (first + 1) * capacity
         over =
-            let parts : min offset size / room * room + min offset size % room ≡ min offset size = div-add-mod' (min offset size) room in
-            let left : min offset size % room < room = mod_below (min offset size) room least in
-            let rows : (min offset size / room + 1) * room ≡ min offset size / room * room + room = grind arith in
-            let again : (first + 1) * room ≡ (min offset size / room + 1) * room = ap (λ (k : ℕ). (k + 1) * room) is in
+            let parts : min offset size / capacity * capacity + min offset size % capacity ≡ min offset size = div-add-mod' (min offset size) capacity in
+            let left : min offset size % capacity < capacity = mod_below (min offset size) capacity least in
+            let rows : (min offset size / capacity + 1) * capacity ≡ min offset size / capacity * capacity + capacity = grind arith in
+            let again : (first + 1) * capacity ≡ (min offset size / capacity + 1) * capacity = ap (λ (k : ℕ). (k + 1) * capacity) is in
             omega arith
 
-    ends : nodes_between room end size ≤ head_index room size - index → index ≤ head_index room size → min (index * room + count) size ≤ end
+    ends : nodes_between capacity end size ≤ head_index capacity size - index → index ≤ head_index capacity size → min (index * capacity + count) size ≤ end
     ends le at = on (cases_lt end size)
       where
-        on : (end < size) ⊎ (size ≤ end) → min (index * room + count) size ≤ end
+        on : (end < size) ⊎ (size ≤ end) → min (index * capacity + count) size ≤ end
         on (inr past) = omega arith
         on (inl lt) =
-            let number : nodes_between room end size ≡ (size - 1) / room + 1 - end / room = count_some room end size lt in
-            let below : end / room ≤ (size - 1) / room = div_mono room end (size - 1) least (omega arith) in
-            let next : index + 1 ≤ end / room = omega arith in
-            let rows : (index + 1) * room ≤ end / room * room = mul-le (index + 1) room (end / room) room next (omega arith) in
-            let parts : (index + 1) * room ≡ index * room + room = grind arith in
-            omega (arith, div-mul-le_self end room)
+            let number : nodes_between capacity end size ≡ (size - 1) / capacity + 1 - end / capacity = count_some capacity end size lt in
+            let below : end / capacity ≤ (size - 1) / capacity = div_mono capacity end (size - 1) least (omega arith) in
+            let next : index + 1 ≤ end / capacity = omega arith in
+            let rows : (index + 1) * capacity ≤ end / capacity * capacity = mul-le (index + 1) capacity (end / capacity) capacity next (omega arith) in
+            let parts : (index + 1) * capacity ≡ index * capacity + capacity = grind arith in
+            omega (arith, div-mul-le_self end capacity)
 
-    all : (digits : ℕ) → head_index room size < 2 ^ digits → (index * room < size) ⊎ (size ≤ index * room) → (first < index) ⊎ (index ≤ first)
-        → now' ≤ before + (nodes_between room end size + (nodes_between room end size - (head_index room size + 1 - (index + 1))) + (1 + 5 * digits))
+    all : (digits : ℕ) → head_index capacity size < 2 ^ digits → (index * capacity < size) ⊎ (size ≤ index * capacity) → (first < index) ⊎ (index ≤ first)
+        → now' ≤ before + (nodes_between capacity end size + (nodes_between capacity end size - (head_index capacity size + 1 - (index + 1))) + (1 + 5 * digits))
     all digits small (inr past) other = same digits small (unread (inl past))
     all digits small (inl within) (inr at) = (let begun = few.none digits small at in let more = any digits small in omega arith)
     all digits small (inl within) (inl lt) =
-        let le : index ≤ head_index room size = le-div index (size - 1) room least (omega arith) in
-        on le (cases_lt (head_index room size - index) (nodes_between room end size))
+        let le : index ≤ head_index capacity size = le-div index (size - 1) capacity least (omega arith) in
+        on le (cases_lt (head_index capacity size - index) (nodes_between capacity end size))
       where
-        on : index ≤ head_index room size → (head_index room size - index < nodes_between room end size) ⊎ (nodes_between room end size ≤ head_index room size - index)
-            → now' ≤ before + (nodes_between room end size + (nodes_between room end size - (head_index room size + 1 - (index + 1))) + (1 + 5 * digits))
+        on : index ≤ head_index capacity size → (head_index capacity size - index < nodes_between capacity end size) ⊎ (nodes_between capacity end size ≤ head_index capacity size - index)
+            → now' ≤ before + (nodes_between capacity end size + (nodes_between capacity end size - (head_index capacity size + 1 - (index + 1))) + (1 + 5 * digits))
         on le (inl in_list) = one digits small le in_list (listed (omega arith))
         on le (inr not_in_list) = same digits small (unread (inr (begins lt within, ends not_in_list le)))
 
 -- in all
-pub few_all : (room size end first index before now digits : ℕ) → AreFew room size end first index before now → head_index room size < 2 ^ digits → now ≤ before + (2 * nodes_between room end size + (1 + 5 * digits))
-few_all room size end first index before now digits few small = (let most = few.all digits small in omega arith)
+pub few_all : (capacity size end first index before now digits : ℕ) → AreFew capacity size end first index before now → head_index capacity size < 2 ^ digits → now ≤ before + (2 * nodes_between capacity end size + (1 + 5 * digits))
+few_all capacity size end first index before now digits few small = (let most = few.all digits small in omega arith)
 
 abbrev pub AreAll : ℕ → ℕ → ℕ → ℕ → ℕ → Type 0
-AreAll size end before now room = (digits : ℕ) → head_index room size < 2 ^ digits → now ≤ before + (2 * nodes_between room end size + (1 + 5 * digits))
+AreAll size end before now capacity = (digits : ℕ) → head_index capacity size < 2 ^ digits → now ≤ before + (2 * nodes_between capacity end size + (1 + 5 * digits))
 
 -- no more nodes are listed than there are
-pub few_listed : (room size end count room' : ℕ) → room ≡ room' → count ≡ nodes_between room end size → count ≤ head_index room' size + 1
-few_listed room size end count room' same is = subst (λ (r : ℕ). count ≤ head_index r size + 1) same (on (cases_lt end size))
+pub few_listed : (capacity size end count capacity' : ℕ) → capacity ≡ capacity' → count ≡ nodes_between capacity end size → count ≤ head_index capacity' size + 1
+few_listed capacity size end count capacity' same is = subst (λ (r : ℕ). count ≤ head_index r size + 1) same (on (cases_lt end size))
   where
-    on : (end < size) ⊎ (size ≤ end) → count ≤ head_index room size + 1
-    on (inl lt) = omega (arith, is, count_some room end size lt)
-    on (inr le) = omega (arith, is, count_none room end size le)
+    on : (end < size) ⊎ (size ≤ end) → count ≤ head_index capacity size + 1
+    on (inl lt) = omega (arith, is, count_some capacity end size lt)
+    on (inr le) = omega (arith, is, count_none capacity end size le)
 
 -- a file has few nodes
-pub few_indices : (room size : ℕ) → 4016 ≤ room → size ≤ 16777216 → (size - 1) / room < 2 ^ 15
-few_indices room size least most = on (cases_lt ((size - 1) / room) 32768)
+pub few_indices : (capacity size : ℕ) → 4016 ≤ capacity → size ≤ 16777216 → (size - 1) / capacity < 2 ^ 15
+few_indices capacity size least most = on (cases_lt ((size - 1) / capacity) 32768)
   where
-    on : ((size - 1) / room < 32768) ⊎ (32768 ≤ (size - 1) / room) → (size - 1) / room < 2 ^ 15
+    on : ((size - 1) / capacity < 32768) ⊎ (32768 ≤ (size - 1) / capacity) → (size - 1) / capacity < 2 ^ 15
     on (inl lt) = lt
-    on (inr le) = absurd (omega (arith, mul-le 32768 4016 ((size - 1) / room) room le least, div-mul-le_self (size - 1) room))
+    on (inr le) = absurd (omega (arith, mul-le 32768 4016 ((size - 1) / capacity) capacity le least, div-mul-le_self (size - 1) capacity))

@@ -17,86 +17,86 @@ use Rattle.block_trees.proofs.Frames.{frame_law}
 use Rattle.block_trees.proofs.Reaching.{reached_own, reached_below, before_named}
 use Rattle.skip_list_file.specs.declared.bodies.Body.{Body}
 use Rattle.skip_list_file.specs.Reading.{AreBlocks}
-use Rattle.skip_list_file.specs.Writing.{place_before, AreLinked, IsFront, IsGrown, IsWritten, OnlyReaches}
+use Rattle.skip_list_file.specs.Writing.{slot_before, AreLinked, IsFront, IsGrown, IsWritten, OnlyReaches}
 use Rattle.skip_list_file.proofs.Fronts.{has_head, body_length}
 use Rattle.skip_list_file.proofs.Chains.{chain_node}
 use Rattle.skip_list_file.proofs.Parts.{data_length}
 use Rattle.skip_list_file.proofs.EditedBytes.{resized_cut}
 use Rattle.skip_list_file.proofs.Appended.{IsNext, IsAppended, append_node, index_at, divides_least}
-use Rattle.skip_list_file.proofs.Places.{few_places}
+use Rattle.skip_list_file.proofs.Places.{few_slots}
 use Rattle.skip_list_file.proofs.NodeBytes.{data_fits}
 
 -- ---- what is held stays
 
-file_tree : (room : ℕ) (f : Blocks) (head size : ℕ) → IsBody room f head size → HasTree room f (File head size) 0
-file_tree room f head size is [] (Dir block) leads = absurd cc
-file_tree room f head size is [] (File other length) leads = (subst (IsWhole room f) (place_is (File head size) (File other length) leads) is, omega arith)
-file_tree room f head size is (n ∷ path) at leads = absurd cc
+file_tree : (capacity : ℕ) (f : Blocks) (head size : ℕ) → IsBody capacity f head size → HasTree capacity f (File head size) 0
+file_tree capacity f head size is [] (Dir block) leads = absurd cc
+file_tree capacity f head size is [] (File other length) leads = (subst (IsWhole capacity f) (place_is (File head size) (File other length) leads) is, omega arith)
+file_tree capacity f head size is (n ∷ path) at leads = absurd cc
 
 shown_bytes : (x y : List ℕ) → (let a : Option Entry = Some (Entry.File x) in let b : Option Entry = Some (Entry.File y) in a ≡ b) → x ≡ y
 shown_bytes x y e = cc
 
 -- a held body stays: whole, with its bytes, held, and reaching nothing new
-pub record Stays (room : ℕ) (old new : Blocks) (kept' : ℕ → Bool) (head size : ℕ) : Type 0 where
-  pub whole : IsBody room new head size
-  pub shown : body room new head size ≡ body room old head size
+pub record Stays (capacity : ℕ) (old new : Blocks) (kept' : ℕ → Bool) (head size : ℕ) : Type 0 where
+  pub whole : IsBody capacity new head size
+  pub shown : body capacity new head size ≡ body capacity old head size
   pub held : IsHeld new kept' (File head size)
   pub reached : 0 < size → (b : ℕ) → Reached new (head ∷ []) b → Reached old (head ∷ []) b
 
-pub body_stays : (room : ℕ) (old new : Blocks) (kept kept' : ℕ → Bool) (head size : ℕ) → Keeps kept old kept' new → IsBody room old head size → IsHeld old kept (File head size) → Stays room old new kept' head size
-body_stays room old new kept kept' head size keeps is held =
+pub body_stays : (capacity : ℕ) (old new : Blocks) (kept kept' : ℕ → Bool) (head size : ℕ) → Keeps kept old kept' new → IsBody capacity old head size → IsHeld old kept (File head size) → Stays capacity old new kept' head size
+body_stays capacity old new kept kept' head size keeps is held =
     let law = frame_law old new kept kept' keeps in
-    let was = file_tree room old head size is in
+    let was = file_tree capacity old head size is in
     record {
-      whole = (law.shape room 0 (File head size) held was [] (File head size) refl).0;
-      shown = let same = law.same room 0 (File head size) held was in shown_bytes (body room new head size) (body room old head size) (ap (λ (t : Path → Option Entry). t []) same);
+      whole = (law.shape capacity 0 (File head size) held was [] (File head size) refl).0;
+      shown = let same = law.same capacity 0 (File head size) held was in shown_bytes (body capacity new head size) (body capacity old head size) (ap (λ (t : Path → Option Entry). t []) same);
       held = law.held (File head size) held;
       reached = λ some b r. law.reached head b (λ root is block below. held root (some, is) block below) r;
     }
 
 -- so do the nodes before a held one
-pub back_stays : (room : ℕ) (old new : Blocks) (kept kept' : ℕ → Bool) → Keeps kept old kept' new → (i n block : ℕ) → n ≤ i → IsChain room old i block → ((b : ℕ) → Reached old (block ∷ []) b → kept b ≡ true) → back new block n ≡ back old block n
-back_stays room old new kept kept' keeps i zero block le chain held = refl
-back_stays room old new kept kept' keeps zero (suc n) block le chain held = absurd (omega arith)
-back_stays room old new kept kept' keeps (suc i) (suc n) block le chain held =
+pub back_stays : (capacity : ℕ) (old new : Blocks) (kept kept' : ℕ → Bool) → Keeps kept old kept' new → (i n block : ℕ) → n ≤ i → IsChain capacity old i block → ((b : ℕ) → Reached old (block ∷ []) b → kept b ≡ true) → back new block n ≡ back old block n
+back_stays capacity old new kept kept' keeps i zero block le chain held = refl
+back_stays capacity old new kept kept' keeps zero (suc n) block le chain held = absurd (omega arith)
+back_stays capacity old new kept kept' keeps (suc i) (suc n) block le chain held =
     let before = pointer_of (old block) 0 in
     ap (λ (node : Option (List ℕ)). back new (pointer_of node 0) n) (keeps.same block (held block (reached_own old block)))
-    ∙ back_stays room old new kept kept' keeps i n before (omega arith) chain.2 (λ b reached. held b (reached_below old block before (before_named old i block chain.0) reached))
+    ∙ back_stays capacity old new kept kept' keeps i n before (omega arith) chain.2 (λ b reached. held b (reached_below old block before (before_named old i block chain.0) reached))
 
 -- so do the blocks of its last nodes
-pub blocks_stay : (room : ℕ) (old new : Blocks) (kept kept' : ℕ → Bool) (head size : ℕ) (blocks : List ℕ) → Keeps kept old kept' new → IsBody room old head size → IsHeld old kept (File head size)
-    → length blocks ≤ head_index room size + 1 → AreBlocks old head blocks → AreBlocks new head blocks
-blocks_stay room old new kept kept' head zero blocks keeps is held few listed k lt = listed k lt ∙ sym (none_back k (omega arith))
+pub blocks_stay : (capacity : ℕ) (old new : Blocks) (kept kept' : ℕ → Bool) (head size : ℕ) (blocks : List ℕ) → Keeps kept old kept' new → IsBody capacity old head size → IsHeld old kept (File head size)
+    → length blocks ≤ head_index capacity size + 1 → AreBlocks old head blocks → AreBlocks new head blocks
+blocks_stay capacity old new kept kept' head zero blocks keeps is held few listed k lt = listed k lt ∙ sym (none_back k (omega arith))
   where
     none_back : (k : ℕ) → k < 1 → back new head k ≡ back old head k
     none_back zero lt = refl
     none_back (suc k) lt = absurd (omega arith)
-blocks_stay room old new kept kept' head (suc n) blocks keeps is held few listed k lt =
-    listed k lt ∙ sym (back_stays room old new kept kept' keeps (head_index room (suc n)) k head (omega arith) is.0 (held head (omega arith, refl)))
+blocks_stay capacity old new kept kept' head (suc n) blocks keeps is held few listed k lt =
+    listed k lt ∙ sym (back_stays capacity old new kept kept' keeps (head_index capacity (suc n)) k head (omega arith) is.0 (held head (omega arith, refl)))
 
 -- ---- one node more
 
-pub product_some : (room i : ℕ) → 0 < room → 0 < i → 0 < i * room
-product_some room zero least some = absurd (omega arith)
-product_some room (suc i) least some = omega (arith, suc-mul i room)
+pub product_some : (capacity i : ℕ) → 0 < capacity → 0 < i → 0 < i * capacity
+product_some capacity zero least some = absurd (omega arith)
+product_some capacity (suc i) least some = omega (arith, suc-mul i capacity)
 
 -- the nodes of a body of full nodes are linked
-pub are_linked : (room : ℕ) (f : Blocks) (head i : ℕ) → 0 < room → IsBody room f head (i * room) → AreLinked room f head i
-are_linked room f head zero least is = tt
-are_linked room f head (suc i) least is =
-    let index : head_index room (suc i * room) ≡ i = index_at room i room (suc i * room) least (omega arith) (omega (arith, suc-mul i room)) in
-    let h = has_head room f i head (suc i * room) (product_some room (suc i) least (omega arith)) index is in
+pub are_linked : (capacity : ℕ) (f : Blocks) (head i : ℕ) → 0 < capacity → IsBody capacity f head (i * capacity) → AreLinked capacity f head i
+are_linked capacity f head zero least is = tt
+are_linked capacity f head (suc i) least is =
+    let index : head_index capacity (suc i * capacity) ≡ i = index_at capacity i capacity (suc i * capacity) least (omega arith) (omega (arith, suc-mul i capacity)) in
+    let h = has_head capacity f i head (suc i * capacity) (product_some capacity (suc i) least (omega arith)) index is in
     (h.chain, h.linked)
 
-places_stay : (room : ℕ) (old new : Blocks) (kept kept' : ℕ → Bool) (head i : ℕ) → Keeps kept old kept' new → AreLinked room old head i → (0 < i → (b : ℕ) → Reached old (head ∷ []) b → kept b ≡ true)
-    → (x : ℕ) → 0 < i → Divides x i → place_before old head x ≡ place_before new head x
-places_stay room old new kept kept' head zero keeps linked held x some divides = absurd (omega arith)
-places_stay room old new kept kept' head (suc i) keeps linked held x some divides =
-    sym (back_stays room old new kept kept' keeps i (2 ^ x - 1) head (omega (arith, divides_least x (suc i) some divides)) linked.0 (held some))
+slots_stay : (capacity : ℕ) (old new : Blocks) (kept kept' : ℕ → Bool) (head i : ℕ) → Keeps kept old kept' new → AreLinked capacity old head i → (0 < i → (b : ℕ) → Reached old (head ∷ []) b → kept b ≡ true)
+    → (x : ℕ) → 0 < i → Divides x i → slot_before old head x ≡ slot_before new head x
+slots_stay capacity old new kept kept' head zero keeps linked held x some divides = absurd (omega arith)
+slots_stay capacity old new kept kept' head (suc i) keeps linked held x some divides =
+    sym (back_stays capacity old new kept kept' keeps i (2 ^ x - 1) head (omega (arith, divides_least x (suc i) some divides)) linked.0 (held some))
 
-pub grown : (room : ℕ) (old new : Blocks) (kept kept' : ℕ → Bool) (head i next : ℕ) (bytes : List ℕ) → Keeps kept old kept' new → IsBody room old head (i * room) → IsHeld old kept (File head (i * room))
-    → (0 < i → length (data_of (old head)) ≡ room) → 0 < length bytes → length bytes ≤ room → IsNext old new head i next bytes → kept next ≡ false → kept' next ≡ true → IsGrown room old new kept kept' head i next bytes
-grown room old new kept kept' head i next bytes keeps whole held full some fits node was_free is_kept =
+pub grown : (capacity : ℕ) (old new : Blocks) (kept kept' : ℕ → Bool) (head i next : ℕ) (bytes : List ℕ) → Keeps kept old kept' new → IsBody capacity old head (i * capacity) → IsHeld old kept (File head (i * capacity))
+    → (0 < i → length (data_of (old head)) ≡ capacity) → 0 < length bytes → length bytes ≤ capacity → IsNext old new head i next bytes → kept next ≡ false → kept' next ≡ true → IsGrown capacity old new kept kept' head i next bytes
+grown capacity old new kept kept' head i next bytes keeps whole held full some fits node was_free is_kept =
     record {
       whole = more.whole;
       shown = more.shown ∙ ap (λ (front : List ℕ). front ++ bytes) stays.shown;
@@ -104,21 +104,21 @@ grown room old new kept kept' head i next bytes keeps whole held full some fits 
       reached = λ b r. fresh b (more.reached b r);
     }
   where
-    stays : Stays room old new kept' head (i * room)
-    stays = body_stays room old new kept kept' head (i * room) keeps whole held
+    stays : Stays capacity old new kept' head (i * capacity)
+    stays = body_stays capacity old new kept kept' head (i * capacity) keeps whole held
 
-    size : 0 < i → 0 < i * room
-    size below = product_some room i (omega arith) below
+    size : 0 < i → 0 < i * capacity
+    size below = product_some capacity i (omega arith) below
 
     same_head : 0 < i → new head ≡ old head
     same_head below = keeps.same head (held head (size below, refl) head (reached_own old head))
 
-    more : IsAppended room new head i next bytes
-    more = append_node room new head i next bytes some fits stays.whole (λ below. ap (λ (n : Option (List ℕ)). length (data_of n)) (same_head below) ∙ full below) (record {
+    more : IsAppended capacity new head i next bytes
+    more = append_node capacity new head i next bytes some fits stays.whole (λ below. ap (λ (n : Option (List ℕ)). length (data_of n)) (same_head below) ∙ full below) (record {
       index = node.index;
       bytes = node.bytes;
       places = λ x below divides. node.places x below divides
-          ∙ places_stay room old new kept kept' head i keeps (are_linked room old head i (omega arith) whole) (λ there b reached. held head (size there, refl) b reached) x below divides;
+          ∙ slots_stay capacity old new kept kept' head i keeps (are_linked capacity old head i (omega arith) whole) (λ there b reached. held head (size there, refl) b reached) x below divides;
     })
 
     all_kept : (b : ℕ) → (next ≡ b) ⊎ ((0 < i) × Reached new (head ∷ []) b) → kept' b ≡ true
@@ -131,43 +131,43 @@ grown room old new kept kept' head i next bytes keeps whole held full some fits 
 
 -- the node of a block from the bytes that were written
 pub is_next : (old new : Blocks) (head i next : ℕ) (pointers bytes node : List ℕ) → new next ≡ Some node → IsBodySpelling node i pointers bytes → i < 2 ^ 15
-    → ((x : ℕ) → 0 < i → Divides x i → slice_index pointers x ≡ place_before old head x) → IsNext old new head i next bytes
-is_next old new head i next pointers bytes node is spelled few places = record {
+    → ((x : ℕ) → 0 < i → Divides x i → slice_index pointers x ≡ slot_before old head x) → IsNext old new head i next bytes
+is_next old new head i next pointers bytes node is spelled few slots = record {
   index = ap index_of is ∙ found (field node 0) spelled.node.magic ∙ ap (λ (n : ℕ). Some n) spelled.index_is;
   bytes = ap data_of is ∙ spelled.data_is;
-  places = λ x some divides. ap (λ (n : Option (List ℕ)). pointer_of n x) is ∙ spelled.places x (few_places x i some few divides) ∙ places x some divides;
+  places = λ x some divides. ap (λ (n : Option (List ℕ)). pointer_of n x) is ∙ spelled.slots x (few_slots x i some few divides) ∙ places x some divides;
 }
   where
     found : (magic : ℕ) → magic ≡ body_magic → (if magic == body_magic then Some (field node 4) else None) ≡ Some (field node 4)
     found magic e = ap (λ (m : ℕ). if m == body_magic then Some (field node 4) else None) e
 
 -- the head of a body of full nodes is full
-pub is_full : (room : ℕ) (f : Blocks) (head i : ℕ) → 0 < room → IsBody room f head (i * room) → length (data_of (f head)) ≤ room → 0 < i → length (data_of (f head)) ≡ room
-is_full room f head zero least is fits some = absurd (omega arith)
-is_full room f head (suc i) least is fits some =
-    let index : head_index room (suc i * room) ≡ i = index_at room i room (suc i * room) least (omega arith) (omega (arith, suc-mul i room)) in
-    let h = has_head room f i head (suc i * room) (product_some room (suc i) least some) index is in
-    omega (arith, h.long, data_length room f i head h.chain, suc-mul i room)
+pub is_full : (capacity : ℕ) (f : Blocks) (head i : ℕ) → 0 < capacity → IsBody capacity f head (i * capacity) → length (data_of (f head)) ≤ capacity → 0 < i → length (data_of (f head)) ≡ capacity
+is_full capacity f head zero least is fits some = absurd (omega arith)
+is_full capacity f head (suc i) least is fits some =
+    let index : head_index capacity (suc i * capacity) ≡ i = index_at capacity i capacity (suc i * capacity) least (omega arith) (omega (arith, suc-mul i capacity)) in
+    let h = has_head capacity f i head (suc i * capacity) (product_some capacity (suc i) least some) index is in
+    omega (arith, h.long, data_length capacity f i head h.chain, suc-mul i capacity)
 
-pub head_full : (block room : ℕ) (f : Blocks) (head i : ℕ) → room ≡ block - body_front → 0 < room → IsBody room f head (i * room) → ((bytes : List ℕ) → f head ≡ Some bytes → IsNode block bytes) → 0 < i → length (data_of (f head)) ≡ room
-head_full block room f head zero room_is least is whole some = absurd (omega arith)
-head_full block room f head (suc i) room_is least is whole some =
-    let fits = data_fits block (f head) i whole (chain_node room i head f (are_linked room f head (suc i) least is).0) in
-    is_full room f head (suc i) least is (omega arith) some
+pub head_full : (block capacity : ℕ) (f : Blocks) (head i : ℕ) → capacity ≡ block - body_front → 0 < capacity → IsBody capacity f head (i * capacity) → ((bytes : List ℕ) → f head ≡ Some bytes → IsNode block bytes) → 0 < i → length (data_of (f head)) ≡ capacity
+head_full block capacity f head zero capacity_is least is whole some = absurd (omega arith)
+head_full block capacity f head (suc i) capacity_is least is whole some =
+    let fits = data_fits block (f head) i whole (chain_node capacity i head f (are_linked capacity f head (suc i) least is).0) in
+    is_full capacity f head (suc i) least is (omega arith) some
 
 -- ---- a body made node by node
 
 -- the first bytes of what is wanted stand in a body that reaches what the old one did, and blocks that were not kept
-pub record IsBegun (room : ℕ) (f0 : Blocks) (kept0 : ℕ → Bool) (from : Body) (bytes : List ℕ) (f : Blocks) (kept : ℕ → Bool) (head size : ℕ) : Type 0 where
-  pub whole : IsBody room f head size
-  pub shown : body room f head size ≡ take size bytes
+pub record IsBegun (capacity : ℕ) (f0 : Blocks) (kept0 : ℕ → Bool) (from : Body) (bytes : List ℕ) (f : Blocks) (kept : ℕ → Bool) (head size : ℕ) : Type 0 where
+  pub whole : IsBody capacity f head size
+  pub shown : body capacity f head size ≡ take size bytes
   pub held : IsHeld f kept (File head size)
   pub reached : 0 < size → (b : ℕ) → Reached f (head ∷ []) b → ((0 < from.length) × Reached f0 (from.head ∷ []) b) ⊎ (kept0 b ≡ false)
 
 -- the nodes of the old body before the edit
-pub begun_front : (room : ℕ) (f : Blocks) (kept : ℕ → Bool) (from : Body) (bytes : List ℕ) (front size : ℕ) → size ≤ from.length → IsHeld f kept (File from.head from.length)
-    → IsFront room f from.head from.length front size → take size bytes ≡ take size (body room f from.head from.length) → IsBegun room f kept from bytes f kept front size
-begun_front room f kept from bytes front size le held is same = record {
+pub begun_front : (capacity : ℕ) (f : Blocks) (kept : ℕ → Bool) (from : Body) (bytes : List ℕ) (front size : ℕ) → size ≤ from.length → IsHeld f kept (File from.head from.length)
+    → IsFront capacity f from.head from.length front size → take size bytes ≡ take size (body capacity f from.head from.length) → IsBegun capacity f kept from bytes f kept front size
+begun_front capacity f kept from bytes front size le held is same = record {
   whole = is.whole;
   shown = is.shown ∙ sym same;
   held = λ root names b r. held from.head (omega (arith, names.0), refl) b (is.reached names.0 b (subst (λ (n : ℕ). Reached f (n ∷ []) b) (sym names.1) r));
@@ -175,75 +175,75 @@ begun_front room f kept from bytes front size le held is same = record {
 }
 
 -- one node more
-pub begun_more : (room : ℕ) (f0 f f' : Blocks) (kept0 kept kept' : ℕ → Bool) (from : Body) (bytes : List ℕ) (head i next : ℕ) (chunk : List ℕ) (count size : ℕ) → 0 < room
-    → IsBegun room f0 kept0 from bytes f kept head (i * room) → IsGrown room f f' kept kept' head i next chunk → ((b : ℕ) → kept b ≡ false → kept0 b ≡ false)
-    → chunk ≡ take count (drop (i * room) bytes) → length chunk ≡ count → size ≡ i * room + count → IsBegun room f0 kept0 from bytes f' kept' next size
-begun_more room f0 f f' kept0 kept kept' from bytes head i next chunk count size least begun more was chunk_is counted size_is =
-    let long : i * room + length chunk ≡ size = omega arith in
-    let added : i * room + count ≡ size = omega arith in
+pub begun_more : (capacity : ℕ) (f0 f f' : Blocks) (kept0 kept kept' : ℕ → Bool) (from : Body) (bytes : List ℕ) (head i next : ℕ) (chunk : List ℕ) (count size : ℕ) → 0 < capacity
+    → IsBegun capacity f0 kept0 from bytes f kept head (i * capacity) → IsGrown capacity f f' kept kept' head i next chunk → ((b : ℕ) → kept b ≡ false → kept0 b ≡ false)
+    → chunk ≡ take count (drop (i * capacity) bytes) → length chunk ≡ count → size ≡ i * capacity + count → IsBegun capacity f0 kept0 from bytes f' kept' next size
+begun_more capacity f0 f f' kept0 kept kept' from bytes head i next chunk count size least begun more was chunk_is counted size_is =
+    let long : i * capacity + length chunk ≡ size = omega arith in
+    let added : i * capacity + count ≡ size = omega arith in
     record {
-      whole = subst (IsBody room f' next) long more.whole;
-      shown = ap (body room f' next) (sym long) ∙ more.shown ∙ ap (λ (front : List ℕ). front ++ chunk) begun.shown ∙ ap (λ (rest : List ℕ). take (i * room) bytes ++ rest) chunk_is
-          ∙ sym (take-add (i * room) count bytes) ∙ ap (λ (n : ℕ). take n bytes) added;
+      whole = subst (IsBody capacity f' next) long more.whole;
+      shown = ap (body capacity f' next) (sym long) ∙ more.shown ∙ ap (λ (front : List ℕ). front ++ chunk) begun.shown ∙ ap (λ (rest : List ℕ). take (i * capacity) bytes ++ rest) chunk_is
+          ∙ sym (take-add (i * capacity) count bytes) ∙ ap (λ (n : ℕ). take n bytes) added;
       held = subst (λ (n : ℕ). IsHeld f' kept' (File next n)) long more.held;
       reached = λ some b r. on b (more.reached b r);
     }
   where
     on : (b : ℕ) → (kept b ≡ false) ⊎ ((0 < i) × Reached f (head ∷ []) b) → ((0 < from.length) × Reached f0 (from.head ∷ []) b) ⊎ (kept0 b ≡ false)
     on b (inl fresh) = inr (was b fresh)
-    on b (inr (below, reached)) = begun.reached (product_some room i least below) b reached
+    on b (inr (below, reached)) = begun.reached (product_some capacity i least below) b reached
 
-before_end : (room i last size : ℕ) → last * room < size → i ≤ last → i * room < size
-before_end room i last size lt le =
-    let rows = mul-le i room last room le (omega arith) in
+before_end : (capacity i last size : ℕ) → last * capacity < size → i ≤ last → i * capacity < size
+before_end capacity i last size lt le =
+    let rows = mul-le i capacity last capacity le (omega arith) in
     omega arith
 
 -- a node that is to be written begins before the end
-pub starts_within : (room i size : ℕ) → 0 < room → 0 < size → i < (size - 1) / room + 1 → i * room < size
-starts_within room i size least some lt =
-    let last : ℕ = (size - 1) / room in
-    let below : last * room < size = omega (arith, div-add-mod' (size - 1) room) in
-    before_end room i last size below (omega arith)
+pub starts_within : (capacity i size : ℕ) → 0 < capacity → 0 < size → i < (size - 1) / capacity + 1 → i * capacity < size
+starts_within capacity i size least some lt =
+    let last : ℕ = (size - 1) / capacity in
+    let below : last * capacity < size = omega (arith, div-add-mod' (size - 1) capacity) in
+    before_end capacity i last size below (omega arith)
 
 -- and the node after the last would begin at the end or past it
-pub ends_past : (room size : ℕ) → 0 < room → size ≤ ((size - 1) / room + 1) * room
-ends_past room size least =
-    let last : ℕ = (size - 1) / room in
-    let rest : (size - 1) % room < room = mod_below (size - 1) room least in
-    let more : (last + 1) * room ≡ last * room + room = omega arith in
-    omega (arith, div-add-mod' (size - 1) room)
+pub ends_past : (capacity size : ℕ) → 0 < capacity → size ≤ ((size - 1) / capacity + 1) * capacity
+ends_past capacity size least =
+    let last : ℕ = (size - 1) / capacity in
+    let rest : (size - 1) % capacity < capacity = mod_below (size - 1) capacity least in
+    let more : (last + 1) * capacity ≡ last * capacity + capacity = omega arith in
+    omega (arith, div-add-mod' (size - 1) capacity)
 
 -- the first node that is written is not past the last
-pub starts_before : (room from size : ℕ) → 0 < room → from < size → from / room ≤ (size - 1) / room
-starts_before room from size least lt = le-div (from / room) (size - 1) room least (omega (arith, div-add-mod' from room))
+pub starts_before : (capacity from size : ℕ) → 0 < capacity → from < size → from / capacity ≤ (size - 1) / capacity
+starts_before capacity from size least lt = le-div (from / capacity) (size - 1) capacity least (omega (arith, div-add-mod' from capacity))
 
 pub part_length : (bytes : List ℕ) (start count size : ℕ) → length bytes ≡ size → start + count ≤ size → length (take count (drop start bytes)) ≡ count
 part_length bytes start count size is fits = length-take-le count (drop start bytes) (omega (arith, length-drop start bytes))
 
 -- one turn: a node of these bytes more, or what is left of them
-pub turn : (room : ℕ) (f0 f f' f'' : Blocks) (kept0 kept kept' kept'' : ℕ → Bool) (from : Body) (bytes : List ℕ) (head i next : ℕ) (chunk : List ℕ) (count size : ℕ) → 0 < room → i * room < size → count ≡ min room (size - i * room)
-    → length bytes ≡ size → IsBegun room f0 kept0 from bytes f kept head (min (i * room) size) → f' ≡ f → kept' ≡ kept → IsGrown room f' f'' kept' kept'' head i next chunk → ((b : ℕ) → kept b ≡ false → kept0 b ≡ false)
-    → chunk ≡ take count (drop (i * room) bytes) → IsBegun room f0 kept0 from bytes f'' kept'' next (min ((i + 1) * room) size)
-turn room f0 f f' f'' kept0 kept kept' kept'' from bytes head i next chunk count size least within count_is long begun same_nodes same_kept more was chunk_is =
-    let so_far : min (i * room) size ≡ i * room = omega arith in
-    let rows : (i + 1) * room ≡ i * room + room = omega arith in
-    let here = subst (IsBegun room f0 kept0 from bytes f kept head) so_far begun in
-    let grown_here : IsGrown room f f'' kept kept'' head i next chunk =
-    subst (λ (k : ℕ → Bool). IsGrown room f f'' k kept'' head i next chunk) same_kept (subst (λ (g : Blocks). IsGrown room g f'' kept' kept'' head i next chunk) same_nodes more) in
-    let counted : length chunk ≡ count = ap length chunk_is ∙ part_length bytes (i * room) count size long (omega arith) in
-    begun_more room f0 f f'' kept0 kept kept'' from bytes head i next chunk count (min ((i + 1) * room) size) least here grown_here was chunk_is counted (omega arith)
+pub turn : (capacity : ℕ) (f0 f f' f'' : Blocks) (kept0 kept kept' kept'' : ℕ → Bool) (from : Body) (bytes : List ℕ) (head i next : ℕ) (chunk : List ℕ) (count size : ℕ) → 0 < capacity → i * capacity < size → count ≡ min capacity (size - i * capacity)
+    → length bytes ≡ size → IsBegun capacity f0 kept0 from bytes f kept head (min (i * capacity) size) → f' ≡ f → kept' ≡ kept → IsGrown capacity f' f'' kept' kept'' head i next chunk → ((b : ℕ) → kept b ≡ false → kept0 b ≡ false)
+    → chunk ≡ take count (drop (i * capacity) bytes) → IsBegun capacity f0 kept0 from bytes f'' kept'' next (min ((i + 1) * capacity) size)
+turn capacity f0 f f' f'' kept0 kept kept' kept'' from bytes head i next chunk count size least within count_is long begun same_nodes same_kept more was chunk_is =
+    let so_far : min (i * capacity) size ≡ i * capacity = omega arith in
+    let rows : (i + 1) * capacity ≡ i * capacity + capacity = omega arith in
+    let here = subst (IsBegun capacity f0 kept0 from bytes f kept head) so_far begun in
+    let grown_here : IsGrown capacity f f'' kept kept'' head i next chunk =
+    subst (λ (k : ℕ → Bool). IsGrown capacity f f'' k kept'' head i next chunk) same_kept (subst (λ (g : Blocks). IsGrown capacity g f'' kept' kept'' head i next chunk) same_nodes more) in
+    let counted : length chunk ≡ count = ap length chunk_is ∙ part_length bytes (i * capacity) count size long (omega arith) in
+    begun_more capacity f0 f f'' kept0 kept kept'' from bytes head i next chunk count (min ((i + 1) * capacity) size) least here grown_here was chunk_is counted (omega arith)
 
 -- all of the bytes
-pub written_whole : (room : ℕ) (f0 f : Blocks) (kept0 kept : ℕ → Bool) (from to : Body) (bytes : List ℕ) → IsBegun room f0 kept0 from bytes f kept to.head to.length → to.length ≡ length bytes → IsWritten room f kept to bytes
-written_whole room f0 f kept0 kept from to bytes begun counted = record {
+pub written_whole : (capacity : ℕ) (f0 f : Blocks) (kept0 kept : ℕ → Bool) (from to : Body) (bytes : List ℕ) → IsBegun capacity f0 kept0 from bytes f kept to.head to.length → to.length ≡ length bytes → IsWritten capacity f kept to bytes
+written_whole capacity f0 f kept0 kept from to bytes begun counted = record {
   whole = begun.whole;
   shown = begun.shown ∙ take_all to.length bytes (omega arith);
   held = begun.held;
   counted = counted;
 }
 
-pub written_reaches : (room : ℕ) (f0 f : Blocks) (kept0 kept : ℕ → Bool) (from to : Body) (bytes : List ℕ) → IsBegun room f0 kept0 from bytes f kept to.head to.length → OnlyReaches f0 f kept0 from to
-written_reaches room f0 f kept0 kept from to bytes begun root b names r =
+pub written_reaches : (capacity : ℕ) (f0 f : Blocks) (kept0 kept : ℕ → Bool) (from to : Body) (bytes : List ℕ) → IsBegun capacity f0 kept0 from bytes f kept to.head to.length → OnlyReaches f0 f kept0 from to
+written_reaches capacity f0 f kept0 kept from to bytes begun root b names r =
     on (begun.reached names.0 b (subst (λ (n : ℕ). Reached f (n ∷ []) b) (sym names.1) r))
   where
     on : ((0 < from.length) × Reached f0 (from.head ∷ []) b) ⊎ (kept0 b ≡ false) → ((first : ℕ) × PlaceNames (File from.head from.length) first × Reached f0 (first ∷ []) b) ⊎ (kept0 b ≡ false)
@@ -253,14 +253,14 @@ written_reaches room f0 f kept0 kept from to bytes begun root b names r =
 -- ---- a body cut
 
 -- a front, found by reads alone, is the body cut to its length
-pub cut_begun : (room : ℕ) (f f' : Blocks) (kept kept' : ℕ → Bool) (from : Body) (front size : ℕ) → f' ≡ f → kept' ≡ kept → size ≤ from.length → IsHeld f kept (File from.head from.length) → IsBody room f from.head from.length
-    → IsFront room f from.head from.length front size → IsBegun room f kept from (resized (body room f from.head from.length) size) f' kept' front size
-cut_begun room f f' kept kept' from front size same_nodes same_kept le held whole is =
-    let old = body room f from.head from.length in
-    let cut : resized old size ≡ take size old = resized_cut old size (omega (arith, body_length room f from.head from.length whole)) in
-    let begun = begun_front room f kept from (resized old size) front size le held is (ap (take size) cut ∙ take-take size size old (omega arith)) in
-    subst (λ (g : Blocks). IsBegun room f kept from (resized old size) g kept' front size) (sym same_nodes)
-    (subst (λ (k : ℕ → Bool). IsBegun room f kept from (resized old size) f k front size) (sym same_kept) begun)
+pub cut_begun : (capacity : ℕ) (f f' : Blocks) (kept kept' : ℕ → Bool) (from : Body) (front size : ℕ) → f' ≡ f → kept' ≡ kept → size ≤ from.length → IsHeld f kept (File from.head from.length) → IsBody capacity f from.head from.length
+    → IsFront capacity f from.head from.length front size → IsBegun capacity f kept from (resized (body capacity f from.head from.length) size) f' kept' front size
+cut_begun capacity f f' kept kept' from front size same_nodes same_kept le held whole is =
+    let old = body capacity f from.head from.length in
+    let cut : resized old size ≡ take size old = resized_cut old size (omega (arith, body_length capacity f from.head from.length whole)) in
+    let begun = begun_front capacity f kept from (resized old size) front size le held is (ap (take size) cut ∙ take-take size size old (omega arith)) in
+    subst (λ (g : Blocks). IsBegun capacity f kept from (resized old size) g kept' front size) (sym same_nodes)
+    (subst (λ (k : ℕ → Bool). IsBegun capacity f kept from (resized old size) f k front size) (sym same_kept) begun)
 
 -- ---- what calls answered
 

@@ -31,38 +31,38 @@ more_listed f head block step blocks size is listed k lt = on (cases_lt k (lengt
         ap (slice_index (blocks ++ block ∷ [])) same ∙ get_or-append_right blocks (block ∷ []) (length blocks) (length blocks) 0 refl (omega arith)
         ∙ (let none : length blocks - length blocks ≡ 0 = omega arith in ap (slice_index (block ∷ [])) none) ∙ is ∙ ap (back f head) (sym size ∙ sym same)
 
-pub listed_chain : (room : ℕ) (f : Blocks) (head size step : ℕ) → 0 < size → IsBody room f head size → step ≤ head_index room size → IsChain room f (head_index room size - step) (back f head step)
-listed_chain room f head size step some is le = front_chain room f step (head_index room size - step) (head_index room size) head (omega arith) (whole_body room f head size some is).chain
+pub listed_chain : (capacity : ℕ) (f : Blocks) (head size step : ℕ) → 0 < size → IsBody capacity f head size → step ≤ head_index capacity size → IsChain capacity f (head_index capacity size - step) (back f head step)
+listed_chain capacity f head size step some is le = front_chain capacity f step (head_index capacity size - step) (head_index capacity size) head (omega arith) (whole_body capacity f head size some is).chain
 
-pub listed_pointer : (room : ℕ) (f : Blocks) (head size step : ℕ) → 0 < size → IsBody room f head size → step < head_index room size → HasPointer (f (back f head step)) 0
-listed_pointer room f head size step some is lt =
-    let left : ℕ = head_index room size - step in
-    (left, chain_node room left (back f head step) f (listed_chain room f head size step some is (omega arith)), (omega arith, (left, omega arith)))
+pub listed_pointer : (capacity : ℕ) (f : Blocks) (head size step : ℕ) → 0 < size → IsBody capacity f head size → step < head_index capacity size → HasPointer (f (back f head step)) 0
+listed_pointer capacity f head size step some is lt =
+    let left : ℕ = head_index capacity size - step in
+    (left, chain_node capacity left (back f head step) f (listed_chain capacity f head size step some is (omega arith)), (omega arith, (left, omega arith)))
 
 pub listed_next : (f : Blocks) (head step : ℕ) → pointer_of (f (back f head step)) 0 ≡ back f head (step + 1)
 listed_next f head step = back_back f step 1 head
 
 -- ---- the bytes of one node
 
-pub record IsPart (room : ℕ) (f : Blocks) (head size index n block : ℕ) : Type 0 where
+pub record IsPart (capacity : ℕ) (f : Blocks) (head size index n block : ℕ) : Type 0 where
   pub long : n ≤ length (data_of (f block))
-  pub bytes : take n (data_of (f block)) ≡ read_from (body room f head size) (index * room) n
+  pub bytes : take n (data_of (f block)) ≡ read_from (body capacity f head size) (index * capacity) n
 
-pub part_of : (room : ℕ) (f : Blocks) (head size index n block : ℕ) → 0 < room → IsBody room f head size → 0 < n → n ≤ room → index * room + n ≤ size → block ≡ back f head ((size - 1) / room - index) → IsPart room f head size index n block
-part_of room f head size index n block least is some fits within found =
-    let end : ℕ = index * room + n in
-    let last : (end - 1) / room ≡ index = index_at room index n end some fits refl in
-    let at : block ≡ back f head ((size - 1) / room - (end - 1) / room) = found ∙ ap (λ (i : ℕ). back f head ((size - 1) / room - i)) (sym last) in
-    let range : IsRange room f head size (index * room) end block = range_found room room f head size (index * room) end block refl least (omega arith) within is at in
-    let chain : IsChain room f index block = subst (λ (i : ℕ). IsChain room f i block) last range.chain in
+pub part_of : (capacity : ℕ) (f : Blocks) (head size index n block : ℕ) → 0 < capacity → IsBody capacity f head size → 0 < n → n ≤ capacity → index * capacity + n ≤ size → block ≡ back f head ((size - 1) / capacity - index) → IsPart capacity f head size index n block
+part_of capacity f head size index n block least is some fits within found =
+    let end : ℕ = index * capacity + n in
+    let last : (end - 1) / capacity ≡ index = index_at capacity index n end some fits refl in
+    let at : block ≡ back f head ((size - 1) / capacity - (end - 1) / capacity) = found ∙ ap (λ (i : ℕ). back f head ((size - 1) / capacity - i)) (sym last) in
+    let range : IsRange capacity f head size (index * capacity) end block = range_found capacity capacity f head size (index * capacity) end block refl least (omega arith) within is at in
+    let chain : IsChain capacity f index block = subst (λ (i : ℕ). IsChain capacity f i block) last range.chain in
     let long : end ≤ length (data_to f index block) = subst (λ (i : ℕ). end ≤ length (data_to f i block)) last range.within in
-    let split = data_split room f index block chain in
-    let count : end - index * room ≡ n = omega arith in
-    let own : drop (index * room) (data_to f index block) ≡ data_of (f block) = ap (drop (index * room)) split.parts ∙ drop_at split.front (data_of (f block)) (index * room) split.size in
+    let split = data_split capacity f index block chain in
+    let count : end - index * capacity ≡ n = omega arith in
+    let own : drop (index * capacity) (data_to f index block) ≡ data_of (f block) = ap (drop (index * capacity)) split.parts ∙ drop_at split.front (data_of (f block)) (index * capacity) split.size in
     record {
-      long = omega (arith, data_length room f index block chain);
-      bytes = ap (take n) (sym own) ∙ ap (λ (k : ℕ). take k (drop (index * room) (data_to f index block))) (sym count) ∙ ap (λ (i : ℕ). take (end - index * room) (drop (index * room) (data_to f i block))) (sym last)
-          ∙ body_read room room f head size (index * room) n end block refl (omega arith) (omega arith) is range;
+      long = omega (arith, data_length capacity f index block chain);
+      bytes = ap (take n) (sym own) ∙ ap (λ (k : ℕ). take k (drop (index * capacity) (data_to f index block))) (sym count) ∙ ap (λ (i : ℕ). take (end - index * capacity) (drop (index * capacity) (data_to f i block))) (sym last)
+          ∙ body_read capacity capacity f head size (index * capacity) n end block refl (omega arith) (omega arith) is range;
     }
 
 -- ---- the bytes that an edit keeps

@@ -8,11 +8,11 @@ use Rattle.std.proofs.lemmas.Nat.{pow_pos, mul-le, le-div, mod_below, mod-mul-ad
 use Rattle.std.proofs.Math.Nat.{div-mul-le_self}
 use Rattle.std.proofs.Math.Pow.{pow_mono}
 use Rattle.block_trees.specs.Bodies.{Blocks, pointer_of, back, Divides, IsChain, IsLinked}
-use Rattle.skip_list_file.specs.Writing.{place_before, AreLinked, IsTable}
+use Rattle.skip_list_file.specs.Writing.{slot_before, AreLinked, IsTable}
 use Rattle.skip_list_file.proofs.Chains.{back_back, chain_node, pointer_back}
 use Rattle.skip_list_file.proofs.Fronts.{front_chain, front_linked}
 use Rattle.skip_list_file.proofs.Appended.{power_double}
-use Rattle.skip_list_file.proofs.Places.{HasPointer, divides_by, divides_below, few_places, split_power}
+use Rattle.skip_list_file.proofs.Places.{HasPointer, divides_by, divides_below, few_slots, split_power}
 
 -- ---- what is left after a power, and after twice the power
 
@@ -46,14 +46,14 @@ mod_next n x = ap (λ (p : ℕ). n % p) (power_double x) ∙ mod_double n (2 ^ x
 
 -- ---- the nodes that a power divides
 
-pub linked_before : (room : ℕ) (f : Blocks) (head index : ℕ) → 0 < index → AreLinked room f head index → IsChain room f (index - 1) head × IsLinked f (index - 1) head
-linked_before room f head zero some linked = absurd (omega arith)
-linked_before room f head (suc i) some linked =
+pub linked_before : (capacity : ℕ) (f : Blocks) (head index : ℕ) → 0 < index → AreLinked capacity f head index → IsChain capacity f (index - 1) head × IsLinked f (index - 1) head
+linked_before capacity f head zero some linked = absurd (omega arith)
+linked_before capacity f head (suc i) some linked =
     let e : i ≡ suc i - 1 = omega arith in
-    (subst (λ (k : ℕ). IsChain room f k head) e linked.0, subst (λ (k : ℕ). IsLinked f k head) e linked.1)
+    (subst (λ (k : ℕ). IsChain capacity f k head) e linked.0, subst (λ (k : ℕ). IsLinked f k head) e linked.1)
 
-pub mark_chain : (room : ℕ) (f : Blocks) (head n x : ℕ) → IsChain room f n head → IsChain room f (n / 2 ^ x * 2 ^ x) (back f head (n % 2 ^ x))
-mark_chain room f head n x chain = front_chain room f (n % 2 ^ x) (n / 2 ^ x * 2 ^ x) n head (omega (arith, div-add-mod' n (2 ^ x))) chain
+pub mark_chain : (capacity : ℕ) (f : Blocks) (head n x : ℕ) → IsChain capacity f n head → IsChain capacity f (n / 2 ^ x * 2 ^ x) (back f head (n % 2 ^ x))
+mark_chain capacity f head n x chain = front_chain capacity f (n % 2 ^ x) (n / 2 ^ x * 2 ^ x) n head (omega (arith, div-add-mod' n (2 ^ x))) chain
 
 pub mark_linked : (f : Blocks) (head n x : ℕ) → IsLinked f n head → IsLinked f (n / 2 ^ x * 2 ^ x) (back f head (n % 2 ^ x))
 mark_linked f head n x linked = front_linked f (n % 2 ^ x) (n / 2 ^ x * 2 ^ x) n head (omega (arith, div-add-mod' n (2 ^ x))) linked
@@ -67,8 +67,8 @@ some_multiple : (q p : ℕ) → 0 < p → (q % 2 ≡ 0 → ⊥) → 0 < q * p
 some_multiple zero p some odd = absurd (odd (omega arith))
 some_multiple (suc q) p some odd = omega (arith, mul-le 1 p (suc q) p (omega arith) (omega arith))
 
-pub odd_pointer : (room : ℕ) (f : Blocks) (block n x : ℕ) → IsChain room f (n / 2 ^ x * 2 ^ x) block → (n / 2 ^ x % 2 ≡ 0 → ⊥) → HasPointer (f block) x
-odd_pointer room f block n x chain odd = (n / 2 ^ x * 2 ^ x, chain_node room (n / 2 ^ x * 2 ^ x) block f chain, (some_multiple (n / 2 ^ x) (2 ^ x) (pow_pos x) odd, (n / 2 ^ x, refl)))
+pub odd_pointer : (capacity : ℕ) (f : Blocks) (block n x : ℕ) → IsChain capacity f (n / 2 ^ x * 2 ^ x) block → (n / 2 ^ x % 2 ≡ 0 → ⊥) → HasPointer (f block) x
+odd_pointer capacity f block n x chain odd = (n / 2 ^ x * 2 ^ x, chain_node capacity (n / 2 ^ x * 2 ^ x) block f chain, (some_multiple (n / 2 ^ x) (2 ^ x) (pow_pos x) odd, (n / 2 ^ x, refl)))
 
 pub odd_next : (f : Blocks) (block n x next : ℕ) → IsLinked f (n / 2 ^ x * 2 ^ x) block → (n / 2 ^ x % 2 ≡ 0 → ⊥) → next ≡ pointer_of (f block) x → next ≡ back f block (n / 2 ^ x % 2 * 2 ^ x)
 odd_next f block n x next linked odd is =
@@ -118,8 +118,8 @@ before_multiple x index some (suc m, e) =
     ap (λ (n : ℕ). n % p) parts ∙ mod-mul-add m p (p - 1) (omega arith)
 
 -- the places of the next node
-pub table_places : (f : Blocks) (head index last : ℕ) (table : List ℕ) → index ≤ last → IsTable f head index last table → (x : ℕ) → 0 < index → Divides x index → slice_index table x ≡ place_before f head x
-table_places f head index last table le is x some divides = is x index some (omega arith) le divides ∙ ap (back f head) (before_multiple x index some divides)
+pub table_slots : (f : Blocks) (head index last : ℕ) (table : List ℕ) → index ≤ last → IsTable f head index last table → (x : ℕ) → 0 < index → Divides x index → slice_index table x ≡ slot_before f head x
+table_slots f head index last table le is x some divides = is x index some (omega arith) le divides ∙ ap (back f head) (before_multiple x index some divides)
 
 chosen : (n block old : ℕ) → n ≡ 0 → (if n == 0 then block else old) ≡ block
 chosen n block old e = ap (λ (m : ℕ). if m == 0 then block else old) e
@@ -154,7 +154,7 @@ mod_after n p some more not = on (n % p) refl
 pub table_on : (f f' : Blocks) (head next index last : ℕ) (table table' : List ℕ) → last < 2 ^ 15 → IsTable f head index last table → ((x : ℕ) → x < 16 → slice_index table' x ≡ (if index % 2 ^ x == 0 then next else slice_index table x))
     → (0 < index → pointer_of (f' next) 0 ≡ head) → ((n : ℕ) → 0 < index → n < index → back f' head n ≡ back f head n) → IsTable f' next (index + 1) last table'
 table_on f f' head next index last table table' few is moved before stays x k some from to divides =
-    let within : x < 16 = few_places x k (omega arith) (omega arith) divides in
+    let within : x < 16 = few_slots x k (omega arith) (omega arith) divides in
     let same : index + 1 - 1 ≡ index = omega arith in
     moved x within ∙ at_index (index % 2 ^ x) refl ∙ ap (λ (n : ℕ). back f' next (n % 2 ^ x)) (sym same)
   where

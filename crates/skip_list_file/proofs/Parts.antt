@@ -36,80 +36,80 @@ drop_past xs ys n le =
 -- ---- the data of a chain
 
 -- the data up to a node is that of the nodes before it, and its own
-pub record IsSplit (room : ℕ) (f : Blocks) (i block : ℕ) : Type 0 where
+pub record IsSplit (capacity : ℕ) (f : Blocks) (i block : ℕ) : Type 0 where
   pub front : List ℕ
   pub parts : data_to f i block ≡ front ++ data_of (f block)
-  pub size : length front ≡ i * room
+  pub size : length front ≡ i * capacity
 
-pub data_length : (room : ℕ) (f : Blocks) (i block : ℕ) → IsChain room f i block → length (data_to f i block) ≡ i * room + length (data_of (f block))
-data_length room f zero block chain = omega arith
-data_length room f (suc i) block chain =
-    let before = data_length room f i (pointer_of (f block) 0) chain.2 in
-    omega (arith, length-append (data_to f i (pointer_of (f block) 0)) (data_of (f block)), before, chain.1, suc-mul i room)
+pub data_length : (capacity : ℕ) (f : Blocks) (i block : ℕ) → IsChain capacity f i block → length (data_to f i block) ≡ i * capacity + length (data_of (f block))
+data_length capacity f zero block chain = omega arith
+data_length capacity f (suc i) block chain =
+    let before = data_length capacity f i (pointer_of (f block) 0) chain.2 in
+    omega (arith, length-append (data_to f i (pointer_of (f block) 0)) (data_of (f block)), before, chain.1, suc-mul i capacity)
 
-pub data_split : (room : ℕ) (f : Blocks) (i block : ℕ) → IsChain room f i block → IsSplit room f i block
-data_split room f zero block chain = record { front = []; parts = refl; size = omega arith }
-data_split room f (suc i) block chain = record {
+pub data_split : (capacity : ℕ) (f : Blocks) (i block : ℕ) → IsChain capacity f i block → IsSplit capacity f i block
+data_split capacity f zero block chain = record { front = []; parts = refl; size = omega arith }
+data_split capacity f (suc i) block chain = record {
   front = data_to f i (pointer_of (f block) 0);
   parts = refl;
-  size = omega (arith, data_length room f i (pointer_of (f block) 0) chain.2, chain.1, suc-mul i room);
+  size = omega (arith, data_length capacity f i (pointer_of (f block) 0) chain.2, chain.1, suc-mul i capacity);
 }
 
 -- ---- indices
 
-pub div_mono : (room a b : ℕ) → 0 < room → a ≤ b → a / room ≤ b / room
-div_mono room a b some le = le-div (a / room) b room some (omega (arith, div-mul-le_self a room))
+pub div_mono : (capacity a b : ℕ) → 0 < capacity → a ≤ b → a / capacity ≤ b / capacity
+div_mono capacity a b some le = le-div (a / capacity) b capacity some (omega (arith, div-mul-le_self a capacity))
 
 -- where the node of the last byte begins, and ends
-pub record IsLast (room end index : ℕ) : Type 0 where
-  pub starts : index * room < end
-  pub ends : end ≤ index * room + room
+pub record IsLast (capacity end index : ℕ) : Type 0 where
+  pub starts : index * capacity < end
+  pub ends : end ≤ index * capacity + capacity
 
-pub last_of : (room end : ℕ) → 0 < room → 0 < end → IsLast room end ((end - 1) / room)
-last_of room end some more = record { starts = omega (arith, div-mul-le_self (end - 1) room); ends = (let h = lt-div-mul-add {a = end - 1} {b = room} some in omega arith) }
+pub last_of : (capacity end : ℕ) → 0 < capacity → 0 < end → IsLast capacity end ((end - 1) / capacity)
+last_of capacity end some more = record { starts = omega (arith, div-mul-le_self (end - 1) capacity); ends = (let h = lt-div-mul-add {a = end - 1} {b = capacity} some in omega arith) }
 
 -- the byte before a node's first is the last one of the node before it
-pub before_start : (room j : ℕ) → 0 < room → (suc j * room - 1) / room ≡ j
-before_start room j some =
-    let e : suc j * room - 1 ≡ j * room + (room - 1) = omega (arith, suc-mul j room) in
-    ap (λ (n : ℕ). n / room) e ∙ div-mul-add j room (room - 1) (omega arith)
+pub before_start : (capacity j : ℕ) → 0 < capacity → (suc j * capacity - 1) / capacity ≡ j
+before_start capacity j some =
+    let e : suc j * capacity - 1 ≡ j * capacity + (capacity - 1) = omega (arith, suc-mul j capacity) in
+    ap (λ (n : ℕ). n / capacity) e ∙ div-mul-add j capacity (capacity - 1) (omega arith)
 
 -- ---- what is left to read
 
 -- the chain to the node of the last byte that is left, and what is left and what was filled are what is wanted
-pub record IsLeft (room : ℕ) (f : Blocks) (start end index block : ℕ) (out wanted : List ℕ) : Type 0 where
-  pub last : start < end → IsLast room end index
-  pub chain : start < end → IsChain room f index block
+pub record IsLeft (capacity : ℕ) (f : Blocks) (start end index block : ℕ) (out wanted : List ℕ) : Type 0 where
+  pub last : start < end → IsLast capacity end index
+  pub chain : start < end → IsChain capacity f index block
   pub within : start < end → end ≤ length (data_to f index block)
   pub above : start ≤ end
   pub size : end - start ≤ length out
   pub left : take (end - start) (drop start (data_to f index block)) ++ drop (end - start) out ≡ wanted
 
 -- one node was read: the piece of its data was filled in
-pub record IsStep (room : ℕ) (f : Blocks) (start end index block from next : ℕ) (out out' : List ℕ) : Type 0 where
+pub record IsStep (capacity : ℕ) (f : Blocks) (start end index block from next : ℕ) (out out' : List ℕ) : Type 0 where
   pub piece : List ℕ
-  pub is_from : from ≡ max start (index * room)
-  pub copied : piece ≡ take (end - from) (drop (from - index * room) (data_of (f block)))
+  pub is_from : from ≡ max start (index * capacity)
+  pub copied : piece ≡ take (end - from) (drop (from - index * capacity) (data_of (f block)))
   pub filled : out' ≡ take (from - start) out ++ (piece ++ drop (end - start) out)
   pub before : 0 < index → next ≡ pointer_of (f block) 0
 
-pub finished : (room : ℕ) (f : Blocks) (start end index block : ℕ) (out wanted : List ℕ) → end ≤ start → IsLeft room f start end index block out wanted → out ≡ wanted
-finished room f start end index block out wanted done left =
+pub finished : (capacity : ℕ) (f : Blocks) (start end index block : ℕ) (out wanted : List ℕ) → end ≤ start → IsLeft capacity f start end index block out wanted → out ≡ wanted
+finished capacity f start end index block out wanted done left =
     let e : end - start ≡ 0 = omega arith in
     subst (λ (n : ℕ). take n (drop start (data_to f index block)) ++ drop n out ≡ wanted) e left.left
 
 -- the node of the last byte has the bytes up to it
-pub piece_length : (room : ℕ) (f : Blocks) (start end index block : ℕ) (out wanted : List ℕ) → start < end → IsLeft room f start end index block out wanted → end ≤ index * room + length (data_of (f block))
-piece_length room f start end index block out wanted lt left = omega (arith, left.within lt, data_length room f index block (left.chain lt))
+pub piece_length : (capacity : ℕ) (f : Blocks) (start end index block : ℕ) (out wanted : List ℕ) → start < end → IsLeft capacity f start end index block out wanted → end ≤ index * capacity + length (data_of (f block))
+piece_length capacity f start end index block out wanted lt left = omega (arith, left.within lt, data_length capacity f index block (left.chain lt))
 
-so_far : (room : ℕ) (f : Blocks) (start end index block from next : ℕ) (out out' wanted : List ℕ) → start < end → IsLeft room f start end index block out wanted → IsStep room f start end index block from next out out'
+so_far : (capacity : ℕ) (f : Blocks) (start end index block from next : ℕ) (out out' wanted : List ℕ) → start < end → IsLeft capacity f start end index block out wanted → IsStep capacity f start end index block from next out out'
     → take (from - start) (drop start (data_to f index block)) ++ drop (from - start) out' ≡ wanted
-so_far room f start end index block from next out out' wanted lt left step =
+so_far capacity f start end index block from next out out' wanted lt left step =
     let last = left.last lt in
-    let split = data_split room f index block (left.chain lt) in
+    let split = data_split capacity f index block (left.chain lt) in
     let le : start ≤ from = omega (arith, step.is_from) in
     let le' : from ≤ end = omega (arith, step.is_from, last.starts) in
-    let after : drop from (data_to f index block) ≡ drop (from - index * room) (data_of (f block)) =
+    let after : drop from (data_to f index block) ≡ drop (from - index * capacity) (data_of (f block)) =
     ap (drop from) split.parts ∙ drop_past split.front (data_of (f block)) from (omega (arith, split.size, step.is_from))
     ∙ ap (λ (n : ℕ). drop (from - n) (data_of (f block))) split.size in
     let piece : take (end - from) (drop from (data_to f index block)) ≡ step.piece = ap (take (end - from)) after ∙ sym step.copied in
@@ -123,9 +123,9 @@ so_far room f start end index block from next out out' wanted lt left step =
     ∙ ap (λ (ys : List ℕ). ys ++ rest) (sym (range_parts (data_to f index block) start from end le le'))
     ∙ left.left
 
-pub step_left : (room : ℕ) (f : Blocks) (start end index block from next : ℕ) (out out' wanted : List ℕ) (index' : ℕ) → 0 < room → start < end → IsLeft room f start end index block out wanted → IsStep room f start end index block from next out out'
-    → length out' ≡ length out → index' ≡ (from - 1) / room → IsLeft room f start from index' next out' wanted
-step_left room f start end index block from next out out' wanted index' some lt left step same is = elim (cases_lt start from) [
+pub step_left : (capacity : ℕ) (f : Blocks) (start end index block from next : ℕ) (out out' wanted : List ℕ) (index' : ℕ) → 0 < capacity → start < end → IsLeft capacity f start end index block out wanted → IsStep capacity f start end index block from next out out'
+    → length out' ≡ length out → index' ≡ (from - 1) / capacity → IsLeft capacity f start from index' next out' wanted
+step_left capacity f start end index block from next out out' wanted index' some lt left step same is = elim (cases_lt start from) [
   | inl more ↦ inner index refl more
   | inr done ↦ record {
     last = λ more. absurd (omega arith);
@@ -135,21 +135,21 @@ step_left room f start end index block from next out out' wanted index' some lt 
     size = omega (arith, left.size);
     left = (let none : from - start ≡ 0 = omega arith in
         subst (λ (n : ℕ). take n (drop start (data_to f index' next)) ++ drop n out' ≡ wanted) (sym none)
-        (subst (λ (n : ℕ). take n (drop start (data_to f index block)) ++ drop n out' ≡ wanted) none (so_far room f start end index block from next out out' wanted lt left step)));
+        (subst (λ (n : ℕ). take n (drop start (data_to f index block)) ++ drop n out' ≡ wanted) none (so_far capacity f start end index block from next out out' wanted lt left step)));
   }
 ]
   where
-    at : (j : ℕ) → index ≡ suc j → start < from → IsLeft room f start from j next out' wanted
+    at : (j : ℕ) → index ≡ suc j → start < from → IsLeft capacity f start from j next out' wanted
     at j e more =
         let last = left.last lt in
-        let chain = subst (λ (i : ℕ). IsChain room f i block) e (left.chain lt) in
-        let begins : from ≡ suc j * room = omega (arith, step.is_from, ap (λ (i : ℕ). i * room) e) in
+        let chain = subst (λ (i : ℕ). IsChain capacity f i block) e (left.chain lt) in
+        let begins : from ≡ suc j * capacity = omega (arith, step.is_from, ap (λ (i : ℕ). i * capacity) e) in
         let to : next ≡ pointer_of (f block) 0 = step.before (omega (arith, e)) in
-        let size : length (data_to f j (pointer_of (f block) 0)) ≡ from = omega (arith, data_length room f j (pointer_of (f block) 0) chain.2, chain.1, begins, suc-mul j room) in
-        let all = subst (λ (i : ℕ). take (from - start) (drop start (data_to f i block)) ++ drop (from - start) out' ≡ wanted) e (so_far room f start end index block from next out out' wanted lt left step) in
+        let size : length (data_to f j (pointer_of (f block) 0)) ≡ from = omega (arith, data_length capacity f j (pointer_of (f block) 0) chain.2, chain.1, begins, suc-mul j capacity) in
+        let all = subst (λ (i : ℕ). take (from - start) (drop start (data_to f i block)) ++ drop (from - start) out' ≡ wanted) e (so_far capacity f start end index block from next out out' wanted lt left step) in
         let front = range_front (data_to f j (pointer_of (f block) 0)) (data_of (f block)) start from (omega arith) (omega (arith, size)) in
-        subst (λ (b : ℕ). IsLeft room f start from j b out' wanted) (sym to) (record {
-          last = λ _. record { starts = omega (arith, begins, suc-mul j room); ends = omega (arith, begins, suc-mul j room) };
+        subst (λ (b : ℕ). IsLeft capacity f start from j b out' wanted) (sym to) (record {
+          last = λ _. record { starts = omega (arith, begins, suc-mul j capacity); ends = omega (arith, begins, suc-mul j capacity) };
           chain = λ _. chain.2;
           within = λ _. omega (arith, size);
           above = omega arith;
@@ -157,29 +157,29 @@ step_left room f start end index block from next out out' wanted index' some lt 
           left = ap (λ (ys : List ℕ). ys ++ drop (from - start) out') (sym front) ∙ all;
         })
 
-    inner : (i : ℕ) → index ≡ i → start < from → IsLeft room f start from index' next out' wanted
-    inner zero e more = absurd (omega (arith, step.is_from, ap (λ (i : ℕ). i * room) e))
+    inner : (i : ℕ) → index ≡ i → start < from → IsLeft capacity f start from index' next out' wanted
+    inner zero e more = absurd (omega (arith, step.is_from, ap (λ (i : ℕ). i * capacity) e))
     inner (suc j) e more =
-        let begins : from ≡ suc j * room = omega (arith, step.is_from, ap (λ (i : ℕ). i * room) e) in
-        let k : index' ≡ j = is ∙ ap (λ (n : ℕ). (n - 1) / room) begins ∙ before_start room j some in
-        subst (λ (i : ℕ). IsLeft room f start from i next out' wanted) (sym k) (at j e more)
+        let begins : from ≡ suc j * capacity = omega (arith, step.is_from, ap (λ (i : ℕ). i * capacity) e) in
+        let k : index' ≡ j = is ∙ ap (λ (n : ℕ). (n - 1) / capacity) begins ∙ before_start capacity j some in
+        subst (λ (i : ℕ). IsLeft capacity f start from i next out' wanted) (sym k) (at j e more)
 
 -- the piece that is filled in is as long as the bytes that the node has of what is left
 pub part_length : (start end from : ℕ) (out : List ℕ) → start ≤ from → from ≤ end → end - start ≤ length out → length (take (end - start - (from - start)) (drop (from - start) out)) ≡ end - from
 part_length start end from out le le' size =
     length-take-le (end - start - (from - start)) (drop (from - start) out) (omega (arith, length-drop (from - start) out)) ∙ (let e : end - start - (from - start) ≡ end - from = omega arith in e)
 
-pub step_of : (room : ℕ) (f : Blocks) (start end index block from next : ℕ) (out ys out' : List ℕ) → start < end → IsLast room end index → end - start ≤ length out → from ≡ max start (index * room)
-    → ys ≡ take (length (take (end - start - (from - start)) (drop (from - start) out))) (drop (from - index * room) (data_of (f block))) → out' ≡ put_mid (from - start) (end - start - (from - start)) out ys
-    → (0 < index → next ≡ pointer_of (f block) 0) → IsStep room f start end index block from next out out'
-step_of room f start end index block from next out ys out' lt last size is copied filled before =
+pub step_of : (capacity : ℕ) (f : Blocks) (start end index block from next : ℕ) (out ys out' : List ℕ) → start < end → IsLast capacity end index → end - start ≤ length out → from ≡ max start (index * capacity)
+    → ys ≡ take (length (take (end - start - (from - start)) (drop (from - start) out))) (drop (from - index * capacity) (data_of (f block))) → out' ≡ put_mid (from - start) (end - start - (from - start)) out ys
+    → (0 < index → next ≡ pointer_of (f block) 0) → IsStep capacity f start end index block from next out out'
+step_of capacity f start end index block from next out ys out' lt last size is copied filled before =
     let le : start ≤ from = omega (arith, is) in
     let le' : from ≤ end = omega (arith, is, last.starts) in
     let e : (from - start) + (end - start - (from - start)) ≡ end - start = omega arith in
     record {
       piece = ys;
       is_from = is;
-      copied = copied ∙ ap (λ (n : ℕ). take n (drop (from - index * room) (data_of (f block)))) (part_length start end from out le le' size);
+      copied = copied ∙ ap (λ (n : ℕ). take n (drop (from - index * capacity) (data_of (f block)))) (part_length start end from out le le' size);
       filled = filled ∙ ap (λ (rest : List ℕ). take (from - start) out ++ (ys ++ rest)) (drop-drop (end - start - (from - start)) (from - start) out ∙ ap (λ (n : ℕ). drop n out) e);
       before = before;
     }
@@ -197,42 +197,42 @@ filled_length a k out ys within long =
 
 -- ---- reads
 
-pub count_some : (room start end : ℕ) → start < end → nodes_between room start end ≡ (end - 1) / room + 1 - start / room
-count_some room start end lt = rw (lt-ltb start end lt) refl
+pub count_some : (capacity start end : ℕ) → start < end → nodes_between capacity start end ≡ (end - 1) / capacity + 1 - start / capacity
+count_some capacity start end lt = rw (lt-ltb start end lt) refl
 
-pub count_none : (room start end : ℕ) → end ≤ start → nodes_between room start end ≡ 0
-count_none room start end le = rw (le-ltb start end le) refl
+pub count_none : (capacity start end : ℕ) → end ≤ start → nodes_between capacity start end ≡ 0
+count_none capacity start end le = rw (le-ltb start end le) refl
 
 -- each node that is read is one fewer that is left
-pub one_fewer : (room start end from : ℕ) → 0 < room → start < end → from ≡ max start ((end - 1) / room * room) → nodes_between room start from + 1 ≤ nodes_between room start end
-one_fewer room start end from some lt is = elim (cases_lt start from) [ inl more ↦ inner ((end - 1) / room) refl more | inr done ↦ rw (count_none room start from done, count_some room start end lt) (omega (arith, div_mono room start (end - 1) some (omega arith))) ]
+pub one_fewer : (capacity start end from : ℕ) → 0 < capacity → start < end → from ≡ max start ((end - 1) / capacity * capacity) → nodes_between capacity start from + 1 ≤ nodes_between capacity start end
+one_fewer capacity start end from some lt is = elim (cases_lt start from) [ inl more ↦ inner ((end - 1) / capacity) refl more | inr done ↦ rw (count_none capacity start from done, count_some capacity start end lt) (omega (arith, div_mono capacity start (end - 1) some (omega arith))) ]
   where
-    inner : (i : ℕ) → (end - 1) / room ≡ i → start < from → nodes_between room start from + 1 ≤ nodes_between room start end
-    inner zero e more = absurd (omega (arith, is, ap (λ (i : ℕ). i * room) e))
+    inner : (i : ℕ) → (end - 1) / capacity ≡ i → start < from → nodes_between capacity start from + 1 ≤ nodes_between capacity start end
+    inner zero e more = absurd (omega (arith, is, ap (λ (i : ℕ). i * capacity) e))
     inner (suc j) e more =
-        let begins : from ≡ suc j * room = omega (arith, is, ap (λ (i : ℕ). i * room) e) in
-        let k : (from - 1) / room ≡ j = ap (λ (n : ℕ). (n - 1) / room) begins ∙ before_start room j some in
-        rw (count_some room start from more, count_some room start end lt) (omega (arith, k, e, div_mono room start (from - 1) some (omega arith)))
+        let begins : from ≡ suc j * capacity = omega (arith, is, ap (λ (i : ℕ). i * capacity) e) in
+        let k : (from - 1) / capacity ≡ j = ap (λ (n : ℕ). (n - 1) / capacity) begins ∙ before_start capacity j some in
+        rw (count_some capacity start from more, count_some capacity start end lt) (omega (arith, k, e, div_mono capacity start (from - 1) some (omega arith)))
 
 -- ---- a range of a body
 
 -- a body that is not empty, by the chain of its nodes
-pub record IsWholeBody (room : ℕ) (f : Blocks) (head size : ℕ) : Type 0 where
-  pub chain : IsChain room f (head_index room size) head
-  pub long : size ≤ length (data_to f (head_index room size) head)
-  pub linked : IsLinked f (head_index room size) head
-  pub body_is : body room f head size ≡ take size (data_to f (head_index room size) head)
+pub record IsWholeBody (capacity : ℕ) (f : Blocks) (head size : ℕ) : Type 0 where
+  pub chain : IsChain capacity f (head_index capacity size) head
+  pub long : size ≤ length (data_to f (head_index capacity size) head)
+  pub linked : IsLinked f (head_index capacity size) head
+  pub body_is : body capacity f head size ≡ take size (data_to f (head_index capacity size) head)
 
-pub whole_body : (room : ℕ) (f : Blocks) (head size : ℕ) → 0 < size → IsBody room f head size → IsWholeBody room f head size
-whole_body room f head zero some is = absurd (omega arith)
-whole_body room f head (suc n) some is = record { chain = is.0; long = is.1; linked = is.2; body_is = refl }
+pub whole_body : (capacity : ℕ) (f : Blocks) (head size : ℕ) → 0 < size → IsBody capacity f head size → IsWholeBody capacity f head size
+whole_body capacity f head zero some is = absurd (omega arith)
+whole_body capacity f head (suc n) some is = record { chain = is.0; long = is.1; linked = is.2; body_is = refl }
 
 -- the data up to a node before another is the beginning of what is up to that one
-data_front : (room : ℕ) (f : Blocks) (n i block : ℕ) → n ≤ i → IsChain room f i block → (rest : List ℕ) × (data_to f i block ≡ data_to f (i - n) (back f block n) ++ rest)
-data_front room f zero i block le chain = ([], ap (λ (k : ℕ). data_to f k block) (let e : i ≡ i - 0 = omega arith in e) ∙ sym (append-nil (data_to f (i - 0) block)))
-data_front room f (suc n) zero block le chain = absurd (omega arith)
-data_front room f (suc n) (suc i) block le chain =
-    let before = data_front room f n i (pointer_of (f block) 0) (omega arith) chain.2 in
+data_front : (capacity : ℕ) (f : Blocks) (n i block : ℕ) → n ≤ i → IsChain capacity f i block → (rest : List ℕ) × (data_to f i block ≡ data_to f (i - n) (back f block n) ++ rest)
+data_front capacity f zero i block le chain = ([], ap (λ (k : ℕ). data_to f k block) (let e : i ≡ i - 0 = omega arith in e) ∙ sym (append-nil (data_to f (i - 0) block)))
+data_front capacity f (suc n) zero block le chain = absurd (omega arith)
+data_front capacity f (suc n) (suc i) block le chain =
+    let before = data_front capacity f n i (pointer_of (f block) 0) (omega arith) chain.2 in
     let e : i - n ≡ suc i - suc n = omega arith in
     let front = data_to f (i - n) (back f (pointer_of (f block) 0) n) in (
       before.0 ++ data_of (f block),
@@ -241,20 +241,20 @@ data_front room f (suc n) (suc i) block le chain =
     )
 
 -- each node before the head is full
-full_back : (room : ℕ) (f : Blocks) (n i block : ℕ) → n < i → IsChain room f i block → length (data_of (f (back f block (suc n)))) ≡ room
-full_back room f zero zero block lt chain = absurd (omega arith)
-full_back room f zero (suc i) block lt chain = chain.1
-full_back room f (suc n) zero block lt chain = absurd (omega arith)
-full_back room f (suc n) (suc i) block lt chain = full_back room f n i (pointer_of (f block) 0) (omega arith) chain.2
+full_back : (capacity : ℕ) (f : Blocks) (n i block : ℕ) → n < i → IsChain capacity f i block → length (data_of (f (back f block (suc n)))) ≡ capacity
+full_back capacity f zero zero block lt chain = absurd (omega arith)
+full_back capacity f zero (suc i) block lt chain = chain.1
+full_back capacity f (suc n) zero block lt chain = absurd (omega arith)
+full_back capacity f (suc n) (suc i) block lt chain = full_back capacity f n i (pointer_of (f block) 0) (omega arith) chain.2
 
 -- the chain to the node of the last byte of a range
-pub record IsRange (room : ℕ) (f : Blocks) (head size start end block : ℕ) : Type 0 where
-  pub chain : IsChain room f ((end - 1) / room) block
-  pub within : end ≤ length (data_to f ((end - 1) / room) block)
-  pub bytes : take (end - start) (drop start (take size (data_to f (head_index room size) head))) ≡ take (end - start) (drop start (data_to f ((end - 1) / room) block))
+pub record IsRange (capacity : ℕ) (f : Blocks) (head size start end block : ℕ) : Type 0 where
+  pub chain : IsChain capacity f ((end - 1) / capacity) block
+  pub within : end ≤ length (data_to f ((end - 1) / capacity) block)
+  pub bytes : take (end - start) (drop start (take size (data_to f (head_index capacity size) head))) ≡ take (end - start) (drop start (data_to f ((end - 1) / capacity) block))
 
-pub range_of : (room : ℕ) (f : Blocks) (head size start end block : ℕ) → 0 < room → start < end → end ≤ size → IsWholeBody room f head size → block ≡ back f head (head_index room size - (end - 1) / room) → IsRange room f head size start end block
-range_of room f head size start end block some lt le whole is = record {
+pub range_of : (capacity : ℕ) (f : Blocks) (head size start end block : ℕ) → 0 < capacity → start < end → end ≤ size → IsWholeBody capacity f head size → block ≡ back f head (head_index capacity size - (end - 1) / capacity) → IsRange capacity f head size start end block
+range_of capacity f head size start end block some lt le whole is = record {
   chain = chain;
   within = within;
   bytes = sym (range_front (take size (data_to f i head)) (drop size (data_to f i head)) start end (omega arith) (omega (arith, length-take-le size (data_to f i head) whole.long)))
@@ -263,25 +263,25 @@ range_of room f head size start end block some lt le whole is = record {
 }
   where
     i : ℕ
-    i = head_index room size
+    i = head_index capacity size
 
     k : ℕ
-    k = (end - 1) / room
+    k = (end - 1) / capacity
 
     before : k ≤ i
-    before = div_mono room (end - 1) (size - 1) some (omega arith)
+    before = div_mono capacity (end - 1) (size - 1) some (omega arith)
 
     e : i - (i - k) ≡ k
     e = omega (arith, before)
 
     front : (rest : List ℕ) × (data_to f i head ≡ data_to f (i - (i - k)) (back f head (i - k)) ++ rest)
-    front = data_front room f (i - k) i head (omega arith) whole.chain
+    front = data_front capacity f (i - k) i head (omega arith) whole.chain
 
     parts : data_to f i head ≡ data_to f k block ++ front.0
     parts = front.1 ∙ (λ j. data_to f (e j) (sym is j) ++ front.0)
 
-    chain : IsChain room f k block
-    chain = subst (λ (n : ℕ). IsChain room f n block) e (subst (λ (b : ℕ). IsChain room f (i - (i - k)) b) (sym is) (chain_back room f (i - k) i head (omega arith) whole.chain))
+    chain : IsChain capacity f k block
+    chain = subst (λ (n : ℕ). IsChain capacity f n block) e (subst (λ (b : ℕ). IsChain capacity f (i - (i - k)) b) (sym is) (chain_back capacity f (i - k) i head (omega arith) whole.chain))
 
     inner : (n : ℕ) → i - k ≡ n → end ≤ length (data_to f k block)
     inner zero z =
@@ -290,8 +290,8 @@ range_of room f head size start end block some lt le whole is = record {
         let all : data_to f k block ≡ data_to f i head = λ j. data_to f (same j) (here j) in
         omega (arith, ap length all, whole.long)
     inner (suc n) z =
-        let full : length (data_of (f block)) ≡ room = ap (λ (b : ℕ). length (data_of (f b))) (is ∙ ap (back f head) z) ∙ full_back room f n i head (omega (arith, z)) whole.chain in
-        omega (arith, data_length room f k block chain, full, (last_of room end some (omega arith)).ends)
+        let full : length (data_of (f block)) ≡ capacity = ap (λ (b : ℕ). length (data_of (f b))) (is ∙ ap (back f head) z) ∙ full_back capacity f n i head (omega (arith, z)) whole.chain in
+        omega (arith, data_length capacity f k block chain, full, (last_of capacity end some (omega arith)).ends)
 
     within : end ≤ length (data_to f k block)
     within = inner (i - k) refl
@@ -303,19 +303,19 @@ range_read bytes size offset count end long is lt =
     sym (take_min count (drop offset bytes)) ∙ ap (λ (n : ℕ). take n (drop offset bytes)) few
 
 -- the node of the last byte was found
-pub range_found : (room room' : ℕ) (f : Blocks) (head size start end block : ℕ) → room' ≡ room → 0 < room' → start < end → end ≤ size → IsBody room f head size → block ≡ back f head ((size - 1) / room' - (end - 1) / room') → IsRange room' f head size start end block
-range_found room room' f head size start end block same some lt le is found =
-    range_of room' f head size start end block some lt le (whole_body room' f head size (omega arith) (subst (λ (r : ℕ). IsBody r f head size) (sym same) is)) found
+pub range_found : (capacity capacity' : ℕ) (f : Blocks) (head size start end block : ℕ) → capacity' ≡ capacity → 0 < capacity' → start < end → end ≤ size → IsBody capacity f head size → block ≡ back f head ((size - 1) / capacity' - (end - 1) / capacity') → IsRange capacity' f head size start end block
+range_found capacity capacity' f head size start end block same some lt le is found =
+    range_of capacity' f head size start end block some lt le (whole_body capacity' f head size (omega arith) (subst (λ (r : ℕ). IsBody r f head size) (sym same) is)) found
 
-pub body_read : (room room' : ℕ) (f : Blocks) (head size offset count end block : ℕ) → room' ≡ room → end ≡ min size (offset + count) → offset < end → IsBody room f head size → IsRange room' f head size offset end block
-    → take (end - offset) (drop offset (data_to f ((end - 1) / room') block)) ≡ read_from (body room f head size) offset count
-body_read room room' f head size offset count end block same is lt has range =
-    let whole = whole_body room' f head size (omega arith) (subst (λ (r : ℕ). IsBody r f head size) (sym same) has) in
-    let bytes = take size (data_to f (head_index room' size) head) in
-    sym range.bytes ∙ sym (range_read bytes size offset count end (length-take-le size (data_to f (head_index room' size) head) whole.long) is lt)
+pub body_read : (capacity capacity' : ℕ) (f : Blocks) (head size offset count end block : ℕ) → capacity' ≡ capacity → end ≡ min size (offset + count) → offset < end → IsBody capacity f head size → IsRange capacity' f head size offset end block
+    → take (end - offset) (drop offset (data_to f ((end - 1) / capacity') block)) ≡ read_from (body capacity f head size) offset count
+body_read capacity capacity' f head size offset count end block same is lt has range =
+    let whole = whole_body capacity' f head size (omega arith) (subst (λ (r : ℕ). IsBody r f head size) (sym same) has) in
+    let bytes = take size (data_to f (head_index capacity' size) head) in
+    sym range.bytes ∙ sym (range_read bytes size offset count end (length-take-le size (data_to f (head_index capacity' size) head) whole.long) is lt)
     ∙ ap (λ (xs : List ℕ). read_from xs offset count) (sym whole.body_is ∙ ap (λ (r : ℕ). body r f head size) same)
 
 -- where there is a byte to read, there is a node that holds it
-pub some_nodes : (room size offset count : ℕ) → 0 < room → offset < min size (offset + count) → 1 ≤ nodes_of_range room size offset count
-some_nodes room size offset count some lt =
-    rw (count_some room offset (min size (offset + count)) lt) (omega (arith, div_mono room offset (min size (offset + count) - 1) some (omega arith)))
+pub some_nodes : (capacity size offset count : ℕ) → 0 < capacity → offset < min size (offset + count) → 1 ≤ nodes_of_range capacity size offset count
+some_nodes capacity size offset count some lt =
+    rw (count_some capacity offset (min size (offset + count)) lt) (omega (arith, div_mono capacity offset (min size (offset + count) - 1) some (omega arith)))

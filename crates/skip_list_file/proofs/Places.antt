@@ -2,7 +2,7 @@
 use Rattle.std.proofs.Common.{◌≡◌, ℕ, ◌+◌, ◌-◌, ◌*◌, ◌/◌, ◌%◌, ◌^◌, ◌<◌, ◌≤◌, ◌⊎◌, inl, inr, Option, Some, List, ap, ◌∙◌, arith}
 use Rattle.std.proofs.lemmas.Bool.{cases_lt}
 use Rattle.std.proofs.lemmas.Nat.{pow_pos, pow_below, pow-add, mod-mul-add, div-add-mod'}
-use Rattle.node_format.specs.BodyNodes.{HasPlace}
+use Rattle.node_format.specs.BodyNodes.{HasSlot}
 use Rattle.block_trees.specs.Bodies.{index_of, Divides}
 use Rattle.skip_list_file.proofs.Appended.{divides_least}
 
@@ -26,8 +26,8 @@ divides_below x place index not (m, e) = on (cases_lt x place)
     on (inl lt) = lt
     on (inr le) = absurd (not (multiple m (2 ^ (x - place)) (2 ^ place) index (e ∙ ap (λ (p : ℕ). m * p) (split_power place x le)) (pow_pos place)))
 
-pub few_places : (x index : ℕ) → 0 < index → index < 2 ^ 15 → Divides x index → x < 16
-few_places x index some few divides = on (cases_lt x 16)
+pub few_slots : (x index : ℕ) → 0 < index → index < 2 ^ 15 → Divides x index → x < 16
+few_slots x index some few divides = on (cases_lt x 16)
   where
     on : (x < 16) ⊎ (16 ≤ x) → x < 16
     on (inl lt) = lt
@@ -37,4 +37,4 @@ few_places x index some few divides = on (cases_lt x 16)
 
 -- a body node has a pointer at a place
 abbrev pub HasPointer : Option (List ℕ) → ℕ → Type 0
-HasPointer node x = (i : ℕ) × (index_of node ≡ Some i) × HasPlace i x
+HasPointer node x = (i : ℕ) × (index_of node ≡ Some i) × HasSlot i x

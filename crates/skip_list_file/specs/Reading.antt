@@ -5,7 +5,7 @@ use Rattle.fs_types.specs.declared.faults.Fault.TheVariants.{Damaged}
 use Rattle.node_store.specs.Faults.{is_read_fault}
 use Rattle.block_trees.specs.Bodies.{Blocks, back, Divides}
 
--- pointer place x leads from index i towards index j, and not past it
+-- slot x leads from index i towards index j, and not past it
 abbrev pub IsUseful : ℕ → ℕ → ℕ → Type 0
 IsUseful x i j = Divides x i × (j + 2 ^ x ≤ i)
 
@@ -15,11 +15,11 @@ IsLargest x i j = IsUseful x i j × ((y : ℕ) → IsUseful y i j → y ≤ x)
 
 -- how many nodes hold the bytes from one place to another
 abbrev pub nodes_between : ℕ → ℕ → ℕ → ℕ
-nodes_between room from to = if nat_lt from to then (to - 1) / room + 1 - from / room else 0
+nodes_between capacity from to = if nat_lt from to then (to - 1) / capacity + 1 - from / capacity else 0
 
 -- how many nodes hold what is read from an offset on of a file of this length, at most so many bytes
 abbrev pub nodes_of_range : ℕ → ℕ → ℕ → ℕ → ℕ
-nodes_of_range room size offset count = nodes_between room offset (min size (offset + count))
+nodes_of_range capacity size offset count = nodes_between capacity offset (min size (offset + count))
 
 -- blocks of the last nodes of a body, from its head back
 abbrev pub AreBlocks : Blocks → ℕ → List ℕ → Type 0

@@ -10,9 +10,9 @@ use Rattle.block_trees.specs.Reached.{Reached, IsHeld, PlaceNames}
 use Rattle.skip_list_file.specs.declared.bodies.Body.{Body}
 
 -- a body has these bytes, and all that it reaches is kept
-pub record IsWritten (room : ℕ) (f : Blocks) (kept : ℕ → Bool) (body : Body) (bytes : List ℕ) : Type 0 where
-  pub whole : IsBody room f body.head body.length
-  pub shown : bodies.body room f body.head body.length ≡ bytes
+pub record IsWritten (capacity : ℕ) (f : Blocks) (kept : ℕ → Bool) (body : Body) (bytes : List ℕ) : Type 0 where
+  pub whole : IsBody capacity f body.head body.length
+  pub shown : bodies.body capacity f body.head body.length ≡ bytes
   pub held : IsHeld f kept (File body.head body.length)
   pub counted : body.length ≡ length bytes
 
@@ -43,14 +43,14 @@ KeepsNone size offset end from to = (size ≤ from) ⊎ ((offset ≤ from) × (m
 abbrev pub byte_after : List ℕ → ℕ → ℕ → List ℕ → ℕ → ℕ
 byte_after old start offset bytes place = if nat_le offset place && nat_lt place (offset + length bytes) then slice_index bytes (place - offset) else slice_index old (place - start)
 
--- the block that pointer place x of the node after a head names: the node 2 to the x before it
-abbrev pub place_before : Blocks → ℕ → ℕ → ℕ
-place_before f head x = back f head (2 ^ x - 1)
+-- the block that slot x of the node after a head names: the node 2 to the x before it
+abbrev pub slot_before : Blocks → ℕ → ℕ → ℕ
+slot_before f head x = back f head (2 ^ x - 1)
 
 -- the nodes before an index, of which the last is the head, are linked
 abbrev pub AreLinked : ℕ → Blocks → ℕ → ℕ → Type 0
-AreLinked room f head zero = Unit {0}
-AreLinked room f head (suc i) = IsChain room f i head × IsLinked f i head
+AreLinked capacity f head zero = Unit {0}
+AreLinked capacity f head (suc i) = IsChain capacity f i head × IsLinked f i head
 
 -- a table for the nodes from the one after a head, of this index, to the last: place x is the block of
 -- the greatest index below it that 2 to the x divides, for each place that one of those nodes has
@@ -59,14 +59,14 @@ IsTable f head index last table =
     (x k : ℕ) → 0 < index → index ≤ k → k ≤ last → Divides x k → slice_index table x ≡ back f head ((index - 1) % 2 ^ x)
 
 -- the front of a body: its first bytes, in the nodes that hold them
-pub record IsFront (room : ℕ) (f : Blocks) (head size front part : ℕ) : Type 0 where
-  pub whole : IsBody room f front part
-  pub shown : bodies.body room f front part ≡ take part (bodies.body room f head size)
+pub record IsFront (capacity : ℕ) (f : Blocks) (head size front part : ℕ) : Type 0 where
+  pub whole : IsBody capacity f front part
+  pub shown : bodies.body capacity f front part ≡ take part (bodies.body capacity f head size)
   pub reached : 0 < part → (b : ℕ) → Reached f (front ∷ []) b → Reached f (head ∷ []) b
 
 -- one node more: the body of full nodes goes on by these bytes, and reaches that node and what it reached
-pub record IsGrown (room : ℕ) (old new : Blocks) (kept kept' : ℕ → Bool) (head i next : ℕ) (bytes : List ℕ) : Type 0 where
-  pub whole : IsBody room new next (i * room + length bytes)
-  pub shown : bodies.body room new next (i * room + length bytes) ≡ bodies.body room old head (i * room) ++ bytes
-  pub held : IsHeld new kept' (File next (i * room + length bytes))
+pub record IsGrown (capacity : ℕ) (old new : Blocks) (kept kept' : ℕ → Bool) (head i next : ℕ) (bytes : List ℕ) : Type 0 where
+  pub whole : IsBody capacity new next (i * capacity + length bytes)
+  pub shown : bodies.body capacity new next (i * capacity + length bytes) ≡ bodies.body capacity old head (i * capacity) ++ bytes
+  pub held : IsHeld new kept' (File next (i * capacity + length bytes))
   pub reached : (b : ℕ) → Reached new (next ∷ []) b → (kept b ≡ false) ⊎ ((0 < i) × Reached old (head ∷ []) b)

@@ -19,17 +19,17 @@ use std::alloc::Global;
 pub(crate) fn list_blocks<N: Nodes>(
     alloc: Global,
     nodes: &mut N,
-    room: u32,
+    capacity: u32,
     body: Body,
     from: u32,
 ) -> Result<Vec<u32>, Fault>
     requires sound { N.is_sound nodes.old }
-    requires room { room ≡ N.limit nodes.old - body_front }
-    requires least { 0 < room }
-    requires whole { IsBody room (N.node nodes.old) body.head body.length }
+    requires capacity { capacity ≡ N.limit nodes.old - body_front }
+    requires least { 0 < capacity }
+    requires whole { IsBody capacity (N.node nodes.old) body.head body.length }
     ensures listed { IfOk result (λ blocks. spec.AreBlocks (N.node nodes.old) body.head blocks.items) }
-    ensures count { IfOk result (λ blocks. length blocks.items ≡ nodes_between room from body.length) }
-    ensures reads { N.reads nodes.new ≤ N.reads nodes.old + nodes_between room from body.length }
+    ensures count { IfOk result (λ blocks. length blocks.items ≡ nodes_between capacity from body.length) }
+    ensures reads { N.reads nodes.new ≤ N.reads nodes.old + nodes_between capacity from body.length }
     ensures why { IfErr result (λ fault. N.causes nodes.old nodes.new fault) }
     ensures faults { IfErr result IsWritingFault }
     ensures looks { OnlyLooks N.node N.kept N.writes N.follows N.is_sound N.limit N.blocks nodes.old nodes.new }
@@ -37,7 +37,7 @@ pub(crate) fn list_blocks<N: Nodes>(
     if from >= body.length {
         return Ok(Vec::new(alloc));
     }
-    let count = (body.length - 1) / room + 1 - from / room;
+    let count = (body.length - 1) / capacity + 1 - from / capacity;
     let mut blocks = Vec::with_capacity(alloc, count as usize)?;
     let mut block = body.head;
     blocks.push(block)?;
@@ -78,7 +78,7 @@ fn find_listed<N: Nodes>(
 /// the first byte of the node of an index on. The node is read where there is one, and then once.
 pub(crate) fn read_kept<N: Nodes>(
     nodes: &mut N,
-    room: u32,
+    capacity: u32,
     body: Body,
     blocks: &[u32],
     offset: u32,
@@ -87,22 +87,22 @@ pub(crate) fn read_kept<N: Nodes>(
     out: &mut [u8],
 ) -> Result<(), Fault>
     requires sound { N.is_sound nodes.old }
-    requires room { room ≡ N.limit nodes.old - body_front }
-    requires least { 0 < room }
-    requires whole { IsBody room (N.node nodes.old) body.head body.length }
+    requires capacity { capacity ≡ N.limit nodes.old - body_front }
+    requires least { 0 < capacity }
+    requires whole { IsBody capacity (N.node nodes.old) body.head body.length }
     requires blocks { spec.AreBlocks (N.node nodes.old) body.head blocks.now }
     requires zeros { out.old ≡ replicate (length out.old) 0 }
-    requires size { length out.old ≤ room }
-    requires fits { index * room + length out.old < 2 ^ 32 }
-    ensures kept { OnOk result ((i : ℕ) → i < length out.old → (index * room + i < offset) ⊎ (end ≤ index * room + i) → slice_index out.new i ≡ slice_index (trees.body room (N.node nodes.old) body.head body.length) (index * room + i)) }
-    ensures unread { KeepsNone body.length offset end (index * room) (index * room + length out.old) → N.reads nodes.new ≡ N.reads nodes.old }
-    ensures listed { head_index room body.length - index < length blocks.now → N.reads nodes.new ≤ N.reads nodes.old + 1 }
-    ensures reads { (digits : ℕ) → head_index room body.length < 2 ^ digits → N.reads nodes.new ≤ N.reads nodes.old + (1 + 2 * digits) }
+    requires size { length out.old ≤ capacity }
+    requires fits { index * capacity + length out.old < 2 ^ 32 }
+    ensures kept { OnOk result ((i : ℕ) → i < length out.old → (index * capacity + i < offset) ⊎ (end ≤ index * capacity + i) → slice_index out.new i ≡ slice_index (trees.body capacity (N.node nodes.old) body.head body.length) (index * capacity + i)) }
+    ensures unread { KeepsNone body.length offset end (index * capacity) (index * capacity + length out.old) → N.reads nodes.new ≡ N.reads nodes.old }
+    ensures listed { head_index capacity body.length - index < length blocks.now → N.reads nodes.new ≤ N.reads nodes.old + 1 }
+    ensures reads { (digits : ℕ) → head_index capacity body.length < 2 ^ digits → N.reads nodes.new ≤ N.reads nodes.old + (1 + 2 * digits) }
     ensures why { IfErr result (λ fault. N.causes nodes.old nodes.new fault) }
     ensures faults { IfErr result spec.IsBodyFault }
     ensures looks { OnlyLooks N.node N.kept N.writes N.follows N.is_sound N.limit N.blocks nodes.old nodes.new }
 {
-    let start = index * room;
+    let start = index * capacity;
     let kept = body.length.saturating_sub(start).min(out.len() as u32);
     if kept == 0 {
         return Ok(());
@@ -110,7 +110,13 @@ pub(crate) fn read_kept<N: Nodes>(
     if offset <= start && start + kept <= end {
         return Ok(());
     }
-    let block = find_listed(nodes, body.head, (body.length - 1) / room, blocks, index)?;
+    let block = find_listed(
+        nodes,
+        body.head,
+        (body.length - 1) / capacity,
+        blocks,
+        index,
+    )?;
     copy_data(nodes, block, 0, &mut out[..kept as usize])?;
     Ok(())
 }

@@ -2,7 +2,7 @@
 ghost use Rattle.std.specs.Prelude.{◌≡◌, ℕ, ◌+◌, ◌-◌, ◌*◌, ◌/◌, ◌^◌, ◌<◌, ◌≤◌, length, take, drop, Some, OnOk, IfOk, IfErr};
 ghost use Rattle.plain_trees.specs.Contents.{read_from};
 ghost use Rattle.node_format.specs.Headers.{body_front};
-ghost use Rattle.node_format.specs.BodyNodes.{HasPlace};
+ghost use Rattle.node_format.specs.BodyNodes.{HasSlot};
 ghost use Rattle.block_trees.specs.Bodies.{index_of, pointer_of, data_of, back, data_to, head_index, IsChain, IsLinked, IsBody};
 ghost use Rattle.block_trees.specs.Bodies as trees;
 ghost use Rattle.skip_list_file.specs.Reading as spec;
@@ -14,19 +14,19 @@ use node_format::{BODY_FRONT, BodyNode};
 use node_store::Nodes;
 use std::alloc::Global;
 
-/// The farthest pointer place that leads from an index to one before it, or to one between.
-fn farthest_place(index: u32, before: u32) -> u32
+/// The farthest slot that leads from an index to one before it, or to one between.
+fn farthest_slot(index: u32, before: u32) -> u32
     requires { before < index }
     ensures { spec.IsLargest result index before }
 {
     index.trailing_zeros().min((index - before).ilog2())
 }
 
-/// The block that a pointer place of a body node names, of a place that it has.
-pub(crate) fn pointer_at<N: Nodes>(nodes: &mut N, block: u32, place: u32) -> Result<u32, Fault>
+/// The block that a slot of a body node names, of a slot that it has.
+pub(crate) fn pointer_at<N: Nodes>(nodes: &mut N, block: u32, slot: u32) -> Result<u32, Fault>
     requires sound { N.is_sound nodes.old }
-    requires place { (index : ℕ) × (index_of (N.node nodes.old block) ≡ Some index) × HasPlace index place }
-    ensures found { IfOk result (λ next. next ≡ pointer_of (N.node nodes.old block) place) }
+    requires slot { (index : ℕ) × (index_of (N.node nodes.old block) ≡ Some index) × HasSlot index slot }
+    ensures found { IfOk result (λ next. next ≡ pointer_of (N.node nodes.old block) slot) }
     ensures why { IfErr result (λ fault. N.causes nodes.old nodes.new fault) }
     ensures faults { IfErr result spec.IsBodyFault }
     ensures looks { OnlyLooks N.node N.kept N.writes N.follows N.is_sound N.limit N.blocks nodes.old nodes.new }
@@ -36,7 +36,7 @@ pub(crate) fn pointer_at<N: Nodes>(nodes: &mut N, block: u32, place: u32) -> Res
     let Some(node) = BodyNode::of(nodes.lent()) else {
         unreachable!()
     };
-    let Some(next) = node.pointer(place as usize) else {
+    let Some(next) = node.pointer(slot as usize) else {
         unreachable!()
     };
     Ok(next)
@@ -65,9 +65,9 @@ pub(crate) fn find<N: Nodes>(
     let mut block = head;
     let mut at = head_index;
     while at > index {
-        let place = farthest_place(at, index);
-        block = pointer_at(nodes, block, place)?;
-        at -= 2u32.pow(place);
+        let slot = farthest_slot(at, index);
+        block = pointer_at(nodes, block, slot)?;
+        at -= 2u32.pow(slot);
     }
     Ok(block)
 }
@@ -103,20 +103,20 @@ pub(crate) fn copy_data<N: Nodes>(
 /// the block. The nodes are read from the last one back, each once.
 fn fill<N: Nodes>(
     nodes: &mut N,
-    room: u32,
+    capacity: u32,
     block: u32,
     start: u32,
     end: u32,
     out: &mut [u8],
 ) -> Result<(), Fault>
     requires sound { N.is_sound nodes.old }
-    requires room { 0 < room }
+    requires capacity { 0 < capacity }
     requires order { start < end }
-    requires chain { IsChain room (N.node nodes.old) ((end - 1) / room) block }
-    requires within { end ≤ length (data_to (N.node nodes.old) ((end - 1) / room) block) }
+    requires chain { IsChain capacity (N.node nodes.old) ((end - 1) / capacity) block }
+    requires within { end ≤ length (data_to (N.node nodes.old) ((end - 1) / capacity) block) }
     requires size { length out.old ≡ end - start }
-    ensures filled { OnOk result (out.new ≡ take (end - start) (drop start (data_to (N.node nodes.old) ((end - 1) / room) block))) }
-    ensures reads { N.reads nodes.new ≤ N.reads nodes.old + spec.nodes_between room start end }
+    ensures filled { OnOk result (out.new ≡ take (end - start) (drop start (data_to (N.node nodes.old) ((end - 1) / capacity) block))) }
+    ensures reads { N.reads nodes.new ≤ N.reads nodes.old + spec.nodes_between capacity start end }
     ensures why { IfErr result (λ fault. N.causes nodes.old nodes.new fault) }
     ensures faults { IfErr result spec.IsBodyFault }
     ensures looks { OnlyLooks N.node N.kept N.writes N.follows N.is_sound N.limit N.blocks nodes.old nodes.new }
@@ -124,19 +124,19 @@ fn fill<N: Nodes>(
     let mut block = block;
     let mut end = end;
     while start < end {
-        let place = (end - 1) / room * room;
-        let from = start.max(place);
+        let first = (end - 1) / capacity * capacity;
+        let from = start.max(first);
         let part = &mut out[(from - start) as usize..(end - start) as usize];
-        block = copy_data(nodes, block, from - place, part)?;
+        block = copy_data(nodes, block, from - first, part)?;
         end = from;
     }
     Ok(())
 }
 
 /// The data bytes of a full node.
-pub(crate) fn room_in<N: Nodes>(nodes: &N) -> u32
+pub(crate) fn capacity_in<N: Nodes>(nodes: &N) -> u32
     requires { N.is_sound nodes.now }
-    ensures room { result ≡ N.limit nodes.now - body_front }
+    ensures capacity { result ≡ N.limit nodes.now - body_front }
     ensures some { 0 < result }
 {
     nodes.block_bytes() - BODY_FRONT
@@ -168,9 +168,14 @@ pub fn read_range<N: Nodes>(
         return Ok(Bytes::new(alloc));
     }
     let (start, end) = (offset as u32, end as u32);
-    let room = room_in(nodes);
+    let capacity = capacity_in(nodes);
     let mut bytes = vec![in alloc; 0; (end - start) as usize]?;
-    let block = find(nodes, body.head, (body.length - 1) / room, (end - 1) / room)?;
-    fill(nodes, room, block, start, end, &mut bytes)?;
+    let block = find(
+        nodes,
+        body.head,
+        (body.length - 1) / capacity,
+        (end - 1) / capacity,
+    )?;
+    fill(nodes, capacity, block, start, end, &mut bytes)?;
     Ok(Bytes::from_vec(bytes))
 }

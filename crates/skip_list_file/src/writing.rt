@@ -20,29 +20,29 @@ use node_format::{BODY_FRONT, body_node};
 use node_store::Nodes;
 use std::alloc::Global;
 
-/// Writes one node after a body of full nodes, of `room` data bytes each, and answers its block. Its
-/// pointer places are those of the table, which takes it in.
+/// Writes one node after a body of full nodes, of `capacity` data bytes each, and answers its block. Its
+/// slots are those of the table, which takes it in.
 fn append<N: Nodes>(
     alloc: Global,
     nodes: &mut N,
-    room: u32,
+    capacity: u32,
     table: &mut Table,
     head: u32,
     index: u32,
     bytes: &[u8],
 ) -> Result<u32, Fault>
     requires sound { N.is_sound nodes.old }
-    requires room { room ≡ N.limit nodes.old - body_front }
-    requires whole { IsBody room (N.node nodes.old) head (index * room) }
-    requires held { IsHeld (N.node nodes.old) (N.kept nodes.old) (File head (index * room)) }
-    requires most { room < 2 ^ 18 }
+    requires capacity { capacity ≡ N.limit nodes.old - body_front }
+    requires whole { IsBody capacity (N.node nodes.old) head (index * capacity) }
+    requires held { IsHeld (N.node nodes.old) (N.kept nodes.old) (File head (index * capacity)) }
+    requires most { capacity < 2 ^ 18 }
     requires few { index < 2 ^ 15 }
     requires some { 0 < length bytes.now }
-    requires fits { length bytes.now ≤ room }
-    requires places { (x : ℕ) → 0 < index → Divides x index → slice_index table.old.blocks x ≡ spec.place_before (N.node nodes.old) head x }
+    requires fits { length bytes.now ≤ capacity }
+    requires places { (x : ℕ) → 0 < index → Divides x index → slice_index table.old.blocks x ≡ spec.slot_before (N.node nodes.old) head x }
     ensures table { IfOk result (λ next. (last : ℕ) → last < 2 ^ 15 → spec.IsTable (N.node nodes.old) head index last table.old.blocks → spec.IsTable (N.node nodes.new) next (index + 1) last table.new.blocks) }
     ensures reads { N.reads nodes.new ≡ N.reads nodes.old }
-    ensures grown { IfOk result (λ next. spec.IsGrown room (N.node nodes.old) (N.node nodes.new) (N.kept nodes.old) (N.kept nodes.new) head index next bytes.now) }
+    ensures grown { IfOk result (λ next. spec.IsGrown capacity (N.node nodes.old) (N.node nodes.new) (N.kept nodes.old) (N.kept nodes.new) head index next bytes.now) }
     ensures why { IfErr result (λ fault. N.causes nodes.old nodes.new fault) }
     ensures faults { IfErr result spec.IsWritingFault }
     ensures one { IfOk result (λ _. N.writes nodes.new ≡ N.writes nodes.old + 1) }
@@ -56,14 +56,14 @@ fn append<N: Nodes>(
 }
 
 /// The head of a body's front of so many bytes, 0 of none.
-fn front<N: Nodes>(nodes: &mut N, room: u32, body: Body, part: u32) -> Result<u32, Fault>
+fn front<N: Nodes>(nodes: &mut N, capacity: u32, body: Body, part: u32) -> Result<u32, Fault>
     requires sound { N.is_sound nodes.old }
-    requires room { room ≡ N.limit nodes.old - body_front }
-    requires least { 0 < room }
-    requires whole { IsBody room (N.node nodes.old) body.head body.length }
+    requires capacity { capacity ≡ N.limit nodes.old - body_front }
+    requires least { 0 < capacity }
+    requires whole { IsBody capacity (N.node nodes.old) body.head body.length }
     requires within { part ≤ body.length }
-    ensures reads { (digits : ℕ) → head_index room body.length < 2 ^ digits → N.reads nodes.new ≤ N.reads nodes.old + 2 * digits }
-    ensures front { IfOk result (λ front. spec.IsFront room (N.node nodes.old) body.head body.length front part) }
+    ensures reads { (digits : ℕ) → head_index capacity body.length < 2 ^ digits → N.reads nodes.new ≤ N.reads nodes.old + 2 * digits }
+    ensures front { IfOk result (λ front. spec.IsFront capacity (N.node nodes.old) body.head body.length front part) }
     ensures why { IfErr result (λ fault. N.causes nodes.old nodes.new fault) }
     ensures faults { IfErr result spec.IsWritingFault }
     ensures looks { OnlyLooks N.node N.kept N.writes N.follows N.is_sound N.limit N.blocks nodes.old nodes.new }
@@ -71,15 +71,15 @@ fn front<N: Nodes>(nodes: &mut N, room: u32, body: Body, part: u32) -> Result<u3
     if part == 0 {
         return Ok(0);
     }
-    let head_index = (body.length - 1) / room;
-    let index = (part - 1) / room;
+    let head_index = (body.length - 1) / capacity;
+    let index = (part - 1) / capacity;
     find(nodes, body.head, head_index, index)
 }
 
 /// Puts the bytes that stand from `offset` on over those of a slice that stand from `start` on, where
 /// the two meet.
 fn overlay(out: &mut [u8], start: u32, offset: u32, bytes: &[u8])
-    requires room { start + length out.old < 2 ^ 32 }
+    requires capacity { start + length out.old < 2 ^ 32 }
     requires fits { offset + length bytes.now < 2 ^ 32 }
     ensures { (i : ℕ) → i < length out.old → slice_index out.new i ≡ spec.byte_after out.old start offset bytes.now (start + i) }
 {
@@ -94,7 +94,7 @@ fn overlay(out: &mut [u8], start: u32, offset: u32, bytes: &[u8])
 /// Fills a slice of zeros with bytes of a body that is edited: those of the node of an index.
 fn edit_into<N: Nodes>(
     nodes: &mut N,
-    room: u32,
+    capacity: u32,
     body: Body,
     blocks: &[u32],
     offset: u32,
@@ -103,25 +103,25 @@ fn edit_into<N: Nodes>(
     out: &mut [u8],
 ) -> Result<(), Fault>
     requires sound { N.is_sound nodes.old }
-    requires room { room ≡ N.limit nodes.old - body_front }
-    requires least { 0 < room }
-    requires whole { IsBody room (N.node nodes.old) body.head body.length }
+    requires capacity { capacity ≡ N.limit nodes.old - body_front }
+    requires least { 0 < capacity }
+    requires whole { IsBody capacity (N.node nodes.old) body.head body.length }
     requires blocks { AreBlocks (N.node nodes.old) body.head blocks.now }
     requires zeros { out.old ≡ replicate (length out.old) 0 }
-    requires size { length out.old ≤ room }
-    requires fits { index * room + length out.old < 2 ^ 32 }
+    requires size { length out.old ≤ capacity }
+    requires fits { index * capacity + length out.old < 2 ^ 32 }
     requires written { offset + length bytes.now < 2 ^ 32 }
-    ensures edited { OnOk result ((size : ℕ) → index * room + length out.old ≤ size → out.new ≡ read_from (spec.edited (bodies.body room (N.node nodes.old) body.head body.length) offset bytes.now size) (index * room) (length out.old)) }
-    ensures unread { spec.KeepsNone body.length offset (offset + length bytes.now) (index * room) (index * room + length out.old) → N.reads nodes.new ≡ N.reads nodes.old }
-    ensures listed { head_index room body.length - index < length blocks.now → N.reads nodes.new ≤ N.reads nodes.old + 1 }
-    ensures reads { (digits : ℕ) → head_index room body.length < 2 ^ digits → N.reads nodes.new ≤ N.reads nodes.old + (1 + 2 * digits) }
+    ensures edited { OnOk result ((size : ℕ) → index * capacity + length out.old ≤ size → out.new ≡ read_from (spec.edited (bodies.body capacity (N.node nodes.old) body.head body.length) offset bytes.now size) (index * capacity) (length out.old)) }
+    ensures unread { spec.KeepsNone body.length offset (offset + length bytes.now) (index * capacity) (index * capacity + length out.old) → N.reads nodes.new ≡ N.reads nodes.old }
+    ensures listed { head_index capacity body.length - index < length blocks.now → N.reads nodes.new ≤ N.reads nodes.old + 1 }
+    ensures reads { (digits : ℕ) → head_index capacity body.length < 2 ^ digits → N.reads nodes.new ≤ N.reads nodes.old + (1 + 2 * digits) }
     ensures why { IfErr result (λ fault. N.causes nodes.old nodes.new fault) }
     ensures faults { IfErr result spec.IsWritingFault }
     ensures looks { OnlyLooks N.node N.kept N.writes N.follows N.is_sound N.limit N.blocks nodes.old nodes.new }
 {
     let end = offset + bytes.len() as u32;
-    read_kept(nodes, room, body, blocks, offset, end, index, out)?;
-    overlay(out, index * room, offset, bytes);
+    read_kept(nodes, capacity, body, blocks, offset, end, index, out)?;
+    overlay(out, index * capacity, offset, bytes);
     Ok(())
 }
 
@@ -129,7 +129,7 @@ fn edit_into<N: Nodes>(
 fn edited_bytes<N: Nodes>(
     alloc: Global,
     nodes: &mut N,
-    room: u32,
+    capacity: u32,
     body: Body,
     blocks: &[u32],
     offset: u32,
@@ -138,23 +138,25 @@ fn edited_bytes<N: Nodes>(
     count: u32,
 ) -> Result<Vec<u8>, Fault>
     requires sound { N.is_sound nodes.old }
-    requires room { room ≡ N.limit nodes.old - body_front }
-    requires least { 0 < room }
-    requires whole { IsBody room (N.node nodes.old) body.head body.length }
+    requires capacity { capacity ≡ N.limit nodes.old - body_front }
+    requires least { 0 < capacity }
+    requires whole { IsBody capacity (N.node nodes.old) body.head body.length }
     requires blocks { AreBlocks (N.node nodes.old) body.head blocks.now }
-    requires size { count ≤ room }
-    requires fits { index * room + count < 2 ^ 32 }
+    requires size { count ≤ capacity }
+    requires fits { index * capacity + count < 2 ^ 32 }
     requires written { offset + length bytes.now < 2 ^ 32 }
-    ensures edited { IfOk result (λ new. (size : ℕ) → index * room + count ≤ size → new.items ≡ read_from (spec.edited (bodies.body room (N.node nodes.old) body.head body.length) offset bytes.now size) (index * room) count) }
-    ensures unread { spec.KeepsNone body.length offset (offset + length bytes.now) (index * room) (index * room + count) → N.reads nodes.new ≡ N.reads nodes.old }
-    ensures listed { head_index room body.length - index < length blocks.now → N.reads nodes.new ≤ N.reads nodes.old + 1 }
-    ensures reads { (digits : ℕ) → head_index room body.length < 2 ^ digits → N.reads nodes.new ≤ N.reads nodes.old + (1 + 2 * digits) }
+    ensures edited { IfOk result (λ new. (size : ℕ) → index * capacity + count ≤ size → new.items ≡ read_from (spec.edited (bodies.body capacity (N.node nodes.old) body.head body.length) offset bytes.now size) (index * capacity) count) }
+    ensures unread { spec.KeepsNone body.length offset (offset + length bytes.now) (index * capacity) (index * capacity + count) → N.reads nodes.new ≡ N.reads nodes.old }
+    ensures listed { head_index capacity body.length - index < length blocks.now → N.reads nodes.new ≤ N.reads nodes.old + 1 }
+    ensures reads { (digits : ℕ) → head_index capacity body.length < 2 ^ digits → N.reads nodes.new ≤ N.reads nodes.old + (1 + 2 * digits) }
     ensures why { IfErr result (λ fault. N.causes nodes.old nodes.new fault) }
     ensures faults { IfErr result spec.IsWritingFault }
     ensures looks { OnlyLooks N.node N.kept N.writes N.follows N.is_sound N.limit N.blocks nodes.old nodes.new }
 {
     let mut new = vec![in alloc; 0; count as usize]?;
-    edit_into(nodes, room, body, blocks, offset, bytes, index, &mut new)?;
+    edit_into(
+        nodes, capacity, body, blocks, offset, bytes, index, &mut new,
+    )?;
     Ok(new)
 }
 
@@ -184,18 +186,18 @@ fn edited<N: Nodes>(
     ensures writes { N.writes nodes.new ≤ N.writes nodes.old + nodes_from (N.limit nodes.old - body_front) (min offset body.length) size }
     ensures works { Works N.follows N.is_sound N.limit N.blocks nodes.old nodes.new }
 {
-    let room = nodes.block_bytes() - BODY_FRONT;
-    let first = offset.min(body.length) / room;
-    let last = (size - 1) / room;
-    let mut head = front(nodes, room, body, first * room)?;
+    let capacity = nodes.block_bytes() - BODY_FRONT;
+    let first = offset.min(body.length) / capacity;
+    let last = (size - 1) / capacity;
+    let mut head = front(nodes, capacity, body, first * capacity)?;
     let mut table = start_table(nodes, head, first, last)?;
-    let old = list_blocks(alloc, nodes, room, body, offset + bytes.len() as u32)?;
+    let old = list_blocks(alloc, nodes, capacity, body, offset + bytes.len() as u32)?;
     for index in first..last + 1 {
-        let count = room.min(size - index * room);
+        let count = capacity.min(size - index * capacity);
         let data = edited_bytes(
             alloc,
             nodes,
-            room,
+            capacity,
             body,
             old.as_slice(),
             offset,
@@ -203,7 +205,7 @@ fn edited<N: Nodes>(
             index,
             count,
         )?;
-        head = append(alloc, nodes, room, &mut table, head, index, &data)?;
+        head = append(alloc, nodes, capacity, &mut table, head, index, &data)?;
     }
     Ok(Body { head, length: size })
 }
@@ -273,7 +275,7 @@ pub fn set_length<N: Nodes>(
     if length > body.length {
         return edited(alloc, nodes, body, body.length, &[], length);
     }
-    let room = nodes.block_bytes() - BODY_FRONT;
-    let head = front(nodes, room, body, length)?;
+    let capacity = nodes.block_bytes() - BODY_FRONT;
+    let head = front(nodes, capacity, body, length)?;
     Ok(Body { head, length })
 }

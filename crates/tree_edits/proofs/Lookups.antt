@@ -33,10 +33,10 @@ file_room f root path (found.File head size) led takes = ap has_room led
 file_room f root path (found.Dir block) led takes = absurd takes
 
 -- and no directory stands there
-pub no_directory : (room : ℕ) (f : Blocks) (root : ℕ) (path : Path) (x : Found) → look_up f root path ≡ Ok x → TakesFile x → tree room f root path ≢ Some Entry.Dir
-no_directory room f root path (found.Missing full) led takes is = let there = sym (found_is room f root path (found.Missing full) led).1 ∙ is in cc
-no_directory room f root path (found.File head size) led takes is = let there = sym (found_is room f root path (found.File head size) led).1 ∙ is in cc
-no_directory room f root path (found.Dir block) led takes is = absurd takes
+pub no_directory : (capacity : ℕ) (f : Blocks) (root : ℕ) (path : Path) (x : Found) → look_up f root path ≡ Ok x → TakesFile x → tree capacity f root path ≢ Some Entry.Dir
+no_directory capacity f root path (found.Missing full) led takes is = let there = sym (found_is capacity f root path (found.Missing full) led).1 ∙ is in cc
+no_directory capacity f root path (found.File head size) led takes is = let there = sym (found_is capacity f root path (found.File head size) led).1 ∙ is in cc
+no_directory capacity f root path (found.Dir block) led takes is = absurd takes
 
 -- what can be taken out stands there
 pub removable_stands : (f : Blocks) (root : ℕ) (path : Path) (x : Found) → look_up f root path ≡ Ok x → IsRemovable f x → IsSome (leads f (Dir root) path)

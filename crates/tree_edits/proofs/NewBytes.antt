@@ -45,23 +45,23 @@ body_fault _ is = absurd is
 
 -- ---- a body stays where nothing of it changes
 
-file_shape : (room : ℕ) (f : Blocks) (head size : ℕ) → IsBody room f head size → HasTree room f (File head size) 0
-file_shape room f head size is [] there e = (subst (IsWhole room f) (place_is (File head size) there e) is, omega arith)
-file_shape room f head size is (n ∷ q) there e = absurd cc
+file_shape : (capacity : ℕ) (f : Blocks) (head size : ℕ) → IsBody capacity f head size → HasTree capacity f (File head size) 0
+file_shape capacity f head size is [] there e = (subst (IsWhole capacity f) (place_is (File head size) there e) is, omega arith)
+file_shape capacity f head size is (n ∷ q) there e = absurd cc
 
-record StaysBody (room : ℕ) (new : Blocks) (kept : ℕ → Bool) (head size : ℕ) (bytes : List ℕ) : Type 0 where
-  whole : IsBody room new head size
-  shown : body room new head size ≡ bytes
+record StaysBody (capacity : ℕ) (new : Blocks) (kept : ℕ → Bool) (head size : ℕ) (bytes : List ℕ) : Type 0 where
+  whole : IsBody capacity new head size
+  shown : body capacity new head size ≡ bytes
   held : IsHeld new kept (File head size)
 
-stays_body : (room : ℕ) (old new : Blocks) (kept kept' : ℕ → Bool) (x : Body) (bytes : List ℕ) → Keeps kept old kept' new → IsWritten room old kept x bytes → StaysBody room new kept' x.head x.length bytes
-stays_body room old new kept kept' x bytes keeps written =
+stays_body : (capacity : ℕ) (old new : Blocks) (kept kept' : ℕ → Bool) (x : Body) (bytes : List ℕ) → Keeps kept old kept' new → IsWritten capacity old kept x bytes → StaysBody capacity new kept' x.head x.length bytes
+stays_body capacity old new kept kept' x bytes keeps written =
     let law = frame_law old new kept kept' keeps in
     let at = File x.head x.length in
-    let has = file_shape room old x.head x.length written.whole in
+    let has = file_shape capacity old x.head x.length written.whole in
     record {
-      whole = (law.shape room 0 at written.held has [] at refl).0;
-      shown = ap (λ (t : Contents). bytes_of (t [])) (law.same room 0 at written.held has) ∙ written.shown;
+      whole = (law.shape capacity 0 at written.held has [] at refl).0;
+      shown = ap (λ (t : Contents). bytes_of (t [])) (law.same capacity 0 at written.held has) ∙ written.shown;
       held = law.held at written.held;
     }
 
@@ -100,20 +100,20 @@ from_file old mid kept from path x y led only root block names reached = elim (o
 -- ---- the new root
 
 -- the body was written from `old` to `mid`, and the path to it from there to `new`
-pub file_root : (room : ℕ) (old mid new : Blocks) (kept held_mid kept' : ℕ → Bool) (from to : ℕ) (path : Path) (found_there : Found) (x : Body) (bytes : List ℕ) → Keeps kept old held_mid mid → Keeps held_mid mid kept' new
-    → IsHeld old kept (Dir from) → IsRoot room old from → is_path path ≡ true → look_up old from path ≡ Ok found_there → TakesFile found_there
-    → IsWritten room mid held_mid x bytes → IsFrom old kept from mid x → IsRewritten mid kept' new from to path (Some (File x.head x.length)) → directories.OnlyReaches mid new held_mid from to (Some (File x.head x.length))
-    → IsNewRoot room old kept new kept' from to (put (root_tree room old from) path (Entry.File bytes))
-file_root room old mid new kept held_mid kept' from to path found_there x bytes first second held rooted lawful led takes written is_from rewritten reaches =
+pub file_root : (capacity : ℕ) (old mid new : Blocks) (kept held_mid kept' : ℕ → Bool) (from to : ℕ) (path : Path) (found_there : Found) (x : Body) (bytes : List ℕ) → Keeps kept old held_mid mid → Keeps held_mid mid kept' new
+    → IsHeld old kept (Dir from) → IsRoot capacity old from → is_path path ≡ true → look_up old from path ≡ Ok found_there → TakesFile found_there
+    → IsWritten capacity mid held_mid x bytes → IsFrom old kept from mid x → IsRewritten mid kept' new from to path (Some (File x.head x.length)) → directories.OnlyReaches mid new held_mid from to (Some (File x.head x.length))
+    → IsNewRoot capacity old kept new kept' from to (put (root_tree capacity old from) path (Entry.File bytes))
+file_root capacity old mid new kept held_mid kept' from to path found_there x bytes first second held rooted lawful led takes written is_from rewritten reaches =
     let both : Keeps kept old kept' new = record { same = λ b k. second.same b (first.stays b k) ∙ first.same b k; stays = λ b k. second.stays b (first.stays b k) } in
-    let stays = stays_body room mid new held_mid kept' x bytes second written in
+    let stays = stays_body capacity mid new held_mid kept' x bytes second written in
     let whole = rewritten_before old mid new kept held_mid kept' first path from to (Some (File x.head x.length)) held rewritten in
     let edit = edit_law old new kept kept' from to path (Some (File x.head x.length)) both held whole in
-    let law = put_file_law room old new kept kept' from to x.head x.length path both held rooted (no_directory room old from path found_there led takes) (path_within path lawful) stays.whole whole in
+    let law = put_file_law capacity old new kept kept' from to x.head x.length path both held rooted (no_directory capacity old from path found_there led takes) (path_within path lawful) stays.whole whole in
     record {
       rooted = law.0;
       held = edit.held stays.held;
-      shows = law.1 ∙ ap (λ (bs : List ℕ). put (root_tree room old from) path (Entry.File bs)) stays.shown;
+      shows = law.1 ∙ ap (λ (bs : List ℕ). put (root_tree capacity old from) path (Entry.File bs)) stays.shown;
       reached = λ block r. on block (reaches block r);
     }
   where
@@ -132,23 +132,23 @@ file_root room old mid new kept held_mid kept' from to path found_there x bytes 
         let own : IsHeld mid held_mid (Dir root) = λ other same. written.held other (subst (λ (r : ℕ). PlaceNames (File x.head x.length) r) same named) in
         is_from root block named ((frame_law mid new held_mid kept' second).reached root block own below)
 
-pub file_result : (room : ℕ) (old mid new : Blocks) (kept held_mid kept' : ℕ → Bool) (from : ℕ) (path : Path) (found_there : Found) (x : Body) (bytes : List ℕ) (result : Result ℕ Fault) → Keeps kept old held_mid mid → Keeps held_mid mid kept' new
-    → IsHeld old kept (Dir from) → IsRoot room old from → is_path path ≡ true → look_up old from path ≡ Ok found_there → TakesFile found_there
-    → IsWritten room mid held_mid x bytes → IsFrom old kept from mid x → IfOk result (λ to. IsRewritten mid kept' new from to path (Some (File x.head x.length)))
+pub file_result : (capacity : ℕ) (old mid new : Blocks) (kept held_mid kept' : ℕ → Bool) (from : ℕ) (path : Path) (found_there : Found) (x : Body) (bytes : List ℕ) (result : Result ℕ Fault) → Keeps kept old held_mid mid → Keeps held_mid mid kept' new
+    → IsHeld old kept (Dir from) → IsRoot capacity old from → is_path path ≡ true → look_up old from path ≡ Ok found_there → TakesFile found_there
+    → IsWritten capacity mid held_mid x bytes → IsFrom old kept from mid x → IfOk result (λ to. IsRewritten mid kept' new from to path (Some (File x.head x.length)))
     → IfOk result (λ to. directories.OnlyReaches mid new held_mid from to (Some (File x.head x.length)))
-    → IfOk result (λ to. IsNewRoot room old kept new kept' from to (put (root_tree room old from) path (Entry.File bytes)))
-file_result room old mid new kept held_mid kept' from path found_there x bytes (Ok to) first second held rooted lawful led takes written is_from rewritten reaches =
-    file_root room old mid new kept held_mid kept' from to path found_there x bytes first second held rooted lawful led takes written is_from rewritten reaches
-file_result room old mid new kept held_mid kept' from path found_there x bytes (Err fault) first second held rooted lawful led takes written is_from rewritten reaches = tt
+    → IfOk result (λ to. IsNewRoot capacity old kept new kept' from to (put (root_tree capacity old from) path (Entry.File bytes)))
+file_result capacity old mid new kept held_mid kept' from path found_there x bytes (Ok to) first second held rooted lawful led takes written is_from rewritten reaches =
+    file_root capacity old mid new kept held_mid kept' from to path found_there x bytes first second held rooted lawful led takes written is_from rewritten reaches
+file_result capacity old mid new kept held_mid kept' from path found_there x bytes (Err fault) first second held rooted lawful led takes written is_from rewritten reaches = tt
 
 pub keeps_itself : (kept : ℕ → Bool) (f : Blocks) → Keeps kept f kept f
 keeps_itself kept f = record { same = λ b k. refl; stays = λ b k. k }
 
 -- an empty file has no body
-pub empty_written : (room : ℕ) (f : Blocks) (kept : ℕ → Bool) (x : Body) → x.head ≡ 0 → x.length ≡ 0 → IsWritten room f kept x []
-empty_written room f kept x none short = record {
-  whole = subst (λ (n : ℕ). IsBody room f x.head n) (sym short) none;
-  shown = ap (body room f x.head) short;
+pub empty_written : (capacity : ℕ) (f : Blocks) (kept : ℕ → Bool) (x : Body) → x.head ≡ 0 → x.length ≡ 0 → IsWritten capacity f kept x []
+empty_written capacity f kept x none short = record {
+  whole = subst (λ (n : ℕ). IsBody capacity f x.head n) (sym short) none;
+  shown = ap (body capacity f x.head) short;
   held = λ root names block reached. let some = names.0 in absurd (omega arith);
   counted = short;
 }
@@ -159,26 +159,26 @@ empty_from old kept from mid x short root block names reached = let some = names
 -- ---- the file that is there
 
 -- a body is as long as its file
-body_length : (room : ℕ) (f : Blocks) (head size : ℕ) → IsBody room f head size → length (body room f head size) ≡ size
-body_length room f head zero is = refl
-body_length room f head (suc n) is =
-    let enough : suc n ≤ length (data_to f (head_index room (suc n)) head) = is.1 in
-    omega (arith, length-take (suc n) (data_to f (head_index room (suc n)) head))
+body_length : (capacity : ℕ) (f : Blocks) (head size : ℕ) → IsBody capacity f head size → length (body capacity f head size) ≡ size
+body_length capacity f head zero is = refl
+body_length capacity f head (suc n) is =
+    let enough : suc n ≤ length (data_to f (head_index capacity (suc n)) head) = is.1 in
+    omega (arith, length-take (suc n) (data_to f (head_index capacity (suc n)) head))
 
-pub file_whole : (room : ℕ) (f : Blocks) (root : ℕ) (path : Path) (head size : ℕ) → IsRoot room f root → look_up f root path ≡ Ok (found.File head size) → IsBody room f head size
-file_whole room f root path head size rooted led = (rooted path (File head size) (found_leads_file f root path head size led)).0
+pub file_whole : (capacity : ℕ) (f : Blocks) (root : ℕ) (path : Path) (head size : ℕ) → IsRoot capacity f root → look_up f root path ≡ Ok (found.File head size) → IsBody capacity f head size
+file_whole capacity f root path head size rooted led = (rooted path (File head size) (found_leads_file f root path head size led)).0
 
 pub file_held : (f : Blocks) (kept : ℕ → Bool) (root : ℕ) (path : Path) (head size : ℕ) → IsHeld f kept (Dir root) → look_up f root path ≡ Ok (found.File head size) → IsHeld f kept (File head size)
 file_held f kept root path head size held led = held_leads f kept path (Dir root) (File head size) (found_leads_file f root path head size led) held
 
-pub file_bytes : (room : ℕ) (f : Blocks) (root : ℕ) (path : Path) (head size : ℕ) → IsRoot room f root → look_up f root path ≡ Ok (found.File head size) → body room f head size ≡ bytes_at (root_tree room f root) path
-file_bytes room f root path head size rooted led =
-    sym (ap bytes_of (ap (λ (t : Contents). t path) (map_law room f root rooted).same ∙ (found_is room f root path (found.File head size) led).1))
+pub file_bytes : (capacity : ℕ) (f : Blocks) (root : ℕ) (path : Path) (head size : ℕ) → IsRoot capacity f root → look_up f root path ≡ Ok (found.File head size) → body capacity f head size ≡ bytes_at (root_tree capacity f root) path
+file_bytes capacity f root path head size rooted led =
+    sym (ap bytes_of (ap (λ (t : Contents). t path) (map_law capacity f root rooted).same ∙ (found_is capacity f root path (found.File head size) led).1))
 
 -- an overwritten body is no longer than the most bytes of a file
-pub overwritten_short : (room : ℕ) (f : Blocks) (head size offset n : ℕ) (bytes : List ℕ) → IsBody room f head size → n ≡ length (overwritten (body room f head size) offset bytes) → size ≤ 16777216 → offset + length bytes ≤ 16777216 → n ≤ 16777216
-overwritten_short room f head size offset n bytes whole is short fits =
-    omega (arith, body_length room f head size whole, length-overwritten (body room f head size) bytes offset)
+pub overwritten_short : (capacity : ℕ) (f : Blocks) (head size offset n : ℕ) (bytes : List ℕ) → IsBody capacity f head size → n ≡ length (overwritten (body capacity f head size) offset bytes) → size ≤ 16777216 → offset + length bytes ≤ 16777216 → n ≤ 16777216
+overwritten_short capacity f head size offset n bytes whole is short fits =
+    omega (arith, body_length capacity f head size whole, length-overwritten (body capacity f head size) bytes offset)
 
 pub resized_short : (old : List ℕ) (size n : ℕ) → n ≡ length (resized old size) → size ≤ 16777216 → n ≤ 16777216
 resized_short old size n is fits = omega (arith, length-resized old size)

@@ -39,13 +39,13 @@ without_entry_reaches old new kept from to block reaches r = elim (reaches block
 
 -- ---- a new directory
 
-pub made_root : (room : ℕ) (old new : Blocks) (kept kept' : ℕ → Bool) (from to : ℕ) (path : Path) → Keeps kept old kept' new → IsHeld old kept (Dir from) → IsRoot room old from → is_path path ≡ true
+pub made_root : (capacity : ℕ) (old new : Blocks) (kept kept' : ℕ → Bool) (from to : ℕ) (path : Path) → Keeps kept old kept' new → IsHeld old kept (Dir from) → IsRoot capacity old from → is_path path ≡ true
     → look_up old from path ≡ Ok (found.Missing false) → IsMade old new kept kept' from to path → OnlyReaches old new kept from to None
-    → IsNewRoot room old kept new kept' from to (put (root_tree room old from) path Entry.Dir)
-made_root room old new kept kept' from to path keeps held rooted lawful missing made reaches =
-    let nothing = (found_is room old from path (found.Missing false) missing).1 in
+    → IsNewRoot capacity old kept new kept' from to (put (root_tree capacity old from) path Entry.Dir)
+made_root capacity old new kept kept' from to path keeps held rooted lawful missing made reaches =
+    let nothing = (found_is capacity old from path (found.Missing false) missing).1 in
     let edit = edit_law old new kept kept' from to path (Some (Dir made.block)) keeps held made.rewritten in
-    let law = mkdir_law room old new kept kept' from to made.block path keeps held rooted nothing (path_within path lawful) made.empty made.rewritten in
+    let law = mkdir_law capacity old new kept kept' from to made.block path keeps held rooted nothing (path_within path lawful) made.empty made.rewritten in
     record {
       rooted = law.0;
       held = edit.held (empty_held new made.block made.empty kept' made.is_kept);
@@ -53,27 +53,27 @@ made_root room old new kept kept' from to path keeps held rooted lawful missing 
       reached = λ block. without_entry_reaches old new kept from to block reaches;
     }
 
-pub made_result : (room : ℕ) (old new : Blocks) (kept kept' : ℕ → Bool) (from : ℕ) (path : Path) (result : Result ℕ Fault) → Keeps kept old kept' new → IsHeld old kept (Dir from) → IsRoot room old from → is_path path ≡ true
+pub made_result : (capacity : ℕ) (old new : Blocks) (kept kept' : ℕ → Bool) (from : ℕ) (path : Path) (result : Result ℕ Fault) → Keeps kept old kept' new → IsHeld old kept (Dir from) → IsRoot capacity old from → is_path path ≡ true
     → look_up old from path ≡ Ok (found.Missing false) → IfOk result (λ to. IsMade old new kept kept' from to path) → IfOk result (λ to. OnlyReaches old new kept from to None)
-    → IfOk result (λ to. IsNewRoot room old kept new kept' from to (put (root_tree room old from) path Entry.Dir))
-made_result room old new kept kept' from path (Ok to) keeps held rooted lawful missing made reaches = made_root room old new kept kept' from to path keeps held rooted lawful missing made reaches
-made_result room old new kept kept' from path (Err fault) keeps held rooted lawful missing made reaches = tt
+    → IfOk result (λ to. IsNewRoot capacity old kept new kept' from to (put (root_tree capacity old from) path Entry.Dir))
+made_result capacity old new kept kept' from path (Ok to) keeps held rooted lawful missing made reaches = made_root capacity old new kept kept' from to path keeps held rooted lawful missing made reaches
+made_result capacity old new kept kept' from path (Err fault) keeps held rooted lawful missing made reaches = tt
 
 -- ---- an entry taken out
 
 -- nothing stands below what can be taken out
-removable_last : (room : ℕ) (f : Blocks) (root : ℕ) (path : Path) (x : Found) → look_up f root path ≡ Ok x → IsRemovable f x → IsLast (tree room f root) path
-removable_last room f root path (found.Missing is_full) led removable = absurd removable
-removable_last room f root path (found.File head size) led removable = last_at room f path (Dir root) (File head size) (found_leads_file f root path head size led) (λ n. refl)
-removable_last room f root path (found.Dir block) led removable =
-    last_at room f path (Dir root) (Dir block) (found_leads f root path block led) (λ n. ap (λ (o : Option (List Item)). named (unwrap_or o []) n) removable)
+removable_last : (capacity : ℕ) (f : Blocks) (root : ℕ) (path : Path) (x : Found) → look_up f root path ≡ Ok x → IsRemovable f x → IsLast (tree capacity f root) path
+removable_last capacity f root path (found.Missing is_full) led removable = absurd removable
+removable_last capacity f root path (found.File head size) led removable = last_at capacity f path (Dir root) (File head size) (found_leads_file f root path head size led) (λ n. refl)
+removable_last capacity f root path (found.Dir block) led removable =
+    last_at capacity f path (Dir root) (Dir block) (found_leads f root path block led) (λ n. ap (λ (o : Option (List Item)). named (unwrap_or o []) n) removable)
 
-pub removed_root : (room : ℕ) (old new : Blocks) (kept kept' : ℕ → Bool) (from to : ℕ) (path : Path) (x : Found) → Keeps kept old kept' new → IsHeld old kept (Dir from) → IsRoot room old from → is_path path ≡ true
+pub removed_root : (capacity : ℕ) (old new : Blocks) (kept kept' : ℕ → Bool) (from to : ℕ) (path : Path) (x : Found) → Keeps kept old kept' new → IsHeld old kept (Dir from) → IsRoot capacity old from → is_path path ≡ true
     → look_up old from path ≡ Ok x → IsRemovable old x → IsRewritten old kept' new from to path None → OnlyReaches old new kept from to None
-    → IsNewRoot room old kept new kept' from to (remove (root_tree room old from) path)
-removed_root room old new kept kept' from to path x keeps held rooted lawful led removable rewritten reaches =
+    → IsNewRoot capacity old kept new kept' from to (remove (root_tree capacity old from) path)
+removed_root capacity old new kept kept' from to path x keeps held rooted lawful led removable rewritten reaches =
     let edit = edit_law old new kept kept' from to path None keeps held rewritten in
-    let law = remove_law room old new kept kept' from to path keeps held rooted (removable_last room old from path x led removable) (path_within path lawful) rewritten in
+    let law = remove_law capacity old new kept kept' from to path keeps held rooted (removable_last capacity old from path x led removable) (path_within path lawful) rewritten in
     record {
       rooted = law.0;
       held = edit.held tt;
@@ -81,25 +81,25 @@ removed_root room old new kept kept' from to path x keeps held rooted lawful led
       reached = λ block. without_entry_reaches old new kept from to block reaches;
     }
 
-pub removed_result : (room : ℕ) (old new : Blocks) (kept kept' : ℕ → Bool) (from : ℕ) (path : Path) (x : Found) (result : Result ℕ Fault) → Keeps kept old kept' new → IsHeld old kept (Dir from) → IsRoot room old from → is_path path ≡ true
+pub removed_result : (capacity : ℕ) (old new : Blocks) (kept kept' : ℕ → Bool) (from : ℕ) (path : Path) (x : Found) (result : Result ℕ Fault) → Keeps kept old kept' new → IsHeld old kept (Dir from) → IsRoot capacity old from → is_path path ≡ true
     → look_up old from path ≡ Ok x → IsRemovable old x → IfOk result (λ to. IsRewritten old kept' new from to path None) → IfOk result (λ to. OnlyReaches old new kept from to None)
-    → IfOk result (λ to. IsNewRoot room old kept new kept' from to (remove (root_tree room old from) path))
-removed_result room old new kept kept' from path x (Ok to) keeps held rooted lawful led removable rewritten reaches = removed_root room old new kept kept' from to path x keeps held rooted lawful led removable rewritten reaches
-removed_result room old new kept kept' from path x (Err fault) keeps held rooted lawful led removable rewritten reaches = tt
+    → IfOk result (λ to. IsNewRoot capacity old kept new kept' from to (remove (root_tree capacity old from) path))
+removed_result capacity old new kept kept' from path x (Ok to) keeps held rooted lawful led removable rewritten reaches = removed_root capacity old new kept kept' from to path x keeps held rooted lawful led removable rewritten reaches
+removed_result capacity old new kept kept' from path x (Err fault) keeps held rooted lawful led removable rewritten reaches = tt
 
 -- ---- an entry moved
 
-pub moved_root : (room : ℕ) (old new : Blocks) (kept kept' : ℕ → Bool) (from to : ℕ) (old_path new_path : Path) {old_trail new_trail : List ℕ} (place : Place) → Keeps kept old kept' new → IsHeld old kept (Dir from) → IsRoot room old from
+pub moved_root : (capacity : ℕ) (old new : Blocks) (kept kept' : ℕ → Bool) (from to : ℕ) (old_path new_path : Path) {old_trail new_trail : List ℕ} (place : Place) → Keeps kept old kept' new → IsHeld old kept (Dir from) → IsRoot capacity old from
     → IsMovable old from old_path old_trail new_path new_trail place → IsMoved old new kept kept' from to old_path new_path place
-    → IsNewRoot room old kept new kept' from to (move (root_tree room old from) old_path new_path)
-moved_root room old new kept kept' from to old_path new_path place keeps held rooted movable moved =
+    → IsNewRoot capacity old kept new kept' from to (move (root_tree capacity old from) old_path new_path)
+moved_root capacity old new kept kept' from to old_path new_path place keeps held rooted movable moved =
     let short = path_within new_path (and_parts (is_path old_path) (is_path new_path) movable.lawful).1 in
     let all = move_law old new kept kept' from to old_path new_path place keeps held movable.stands moved in
-    let law = rename_law room old new kept kept' from to old_path new_path place keeps held rooted movable.stands short movable.shallow moved in
+    let law = rename_law capacity old new kept kept' from to old_path new_path place keeps held rooted movable.stands short movable.shallow moved in
     record { rooted = law.0; held = all.held; shows = law.1; reached = all.reached }
 
-pub moved_result : (room : ℕ) (old new : Blocks) (kept kept' : ℕ → Bool) (from : ℕ) (old_path new_path : Path) {old_trail new_trail : List ℕ} (place : Place) (result : Result ℕ Fault) → Keeps kept old kept' new → IsHeld old kept (Dir from) → IsRoot room old from
+pub moved_result : (capacity : ℕ) (old new : Blocks) (kept kept' : ℕ → Bool) (from : ℕ) (old_path new_path : Path) {old_trail new_trail : List ℕ} (place : Place) (result : Result ℕ Fault) → Keeps kept old kept' new → IsHeld old kept (Dir from) → IsRoot capacity old from
     → IsMovable old from old_path old_trail new_path new_trail place → IfOk result (λ to. IsMoved old new kept kept' from to old_path new_path place)
-    → IfOk result (λ to. IsNewRoot room old kept new kept' from to (move (root_tree room old from) old_path new_path))
-moved_result room old new kept kept' from old_path new_path place (Ok to) keeps held rooted movable moved = moved_root room old new kept kept' from to old_path new_path place keeps held rooted movable moved
-moved_result room old new kept kept' from old_path new_path place (Err fault) keeps held rooted movable moved = tt
+    → IfOk result (λ to. IsNewRoot capacity old kept new kept' from to (move (root_tree capacity old from) old_path new_path))
+moved_result capacity old new kept kept' from old_path new_path place (Ok to) keeps held rooted movable moved = moved_root capacity old new kept kept' from to old_path new_path place keeps held rooted movable moved
+moved_result capacity old new kept kept' from old_path new_path place (Err fault) keeps held rooted movable moved = tt

@@ -39,19 +39,19 @@ pub record IsMovable (f : Blocks) (root : ℕ) (old : Path) (old_trail : List �
   pub new_way : IsTrail f root new new_trail
   pub stands : leads f (Dir root) old ≡ Some place
   pub shallow : IsShallow f place (16 - length new)
-  pub room : same_path (parent_of old) (parent_of new) ≡ false → has_room (look_up f root new) ≡ true
+  pub capacity : same_path (parent_of old) (parent_of new) ≡ false → has_room (look_up f root new) ≡ true
 
 -- what look ups told of an edit of the tree of a root
 abbrev pub IsEditable : ℕ → Blocks → (ℕ → Bool) → ℕ → Edit → Type 0
-IsEditable room f kept root (Edit.MakeDirectory path trail) = (is_path path.now ≡ true) × IsTrail f root path.now trail.now × (look_up f root path.now ≡ Ok (found.Missing false))
-IsEditable room f kept root (Edit.PutEmptyFile path trail) = (is_path path.now ≡ true) × IsTrail f root path.now trail.now × (x : Found) × (look_up f root path.now ≡ Ok x) × TakesFile x
-IsEditable room f kept root (Edit.Overwrite path trail body offset bytes) =
+IsEditable capacity f kept root (Edit.MakeDirectory path trail) = (is_path path.now ≡ true) × IsTrail f root path.now trail.now × (look_up f root path.now ≡ Ok (found.Missing false))
+IsEditable capacity f kept root (Edit.PutEmptyFile path trail) = (is_path path.now ≡ true) × IsTrail f root path.now trail.now × (x : Found) × (look_up f root path.now ≡ Ok x) × TakesFile x
+IsEditable capacity f kept root (Edit.Overwrite path trail body offset bytes) =
     (is_path path.now ≡ true) × IsTrail f root path.now trail.now × (look_up f root path.now ≡ Ok (found.File body.head body.length)) × (body.length ≤ 16777216) × (0 < length bytes.now) × (offset + length bytes.now ≤ 16777216)
-IsEditable room f kept root (Edit.SetLength path trail body size) =
+IsEditable capacity f kept root (Edit.SetLength path trail body size) =
     (is_path path.now ≡ true) × IsTrail f root path.now trail.now × (look_up f root path.now ≡ Ok (found.File body.head body.length)) × (size ≤ 16777216)
-IsEditable room f kept root (Edit.Remove path trail) = (is_path path.now ≡ true) × IsTrail f root path.now trail.now × (0 < length path.now) × (x : Found) × (look_up f root path.now ≡ Ok x) × IsRemovable f x
-IsEditable room f kept root (Edit.Move old old_trail new new_trail place) = Apart old.now new.now × IsMovable f root old.now old_trail.now new.now new_trail.now place
-IsEditable room f kept root (Edit.Restore other) = IsHeld f kept (Dir other) × IsRoot room f other
+IsEditable capacity f kept root (Edit.Remove path trail) = (is_path path.now ≡ true) × IsTrail f root path.now trail.now × (0 < length path.now) × (x : Found) × (look_up f root path.now ≡ Ok x) × IsRemovable f x
+IsEditable capacity f kept root (Edit.Move old old_trail new new_trail place) = Apart old.now new.now × IsMovable f root old.now old_trail.now new.now new_trail.now place
+IsEditable capacity f kept root (Edit.Restore other) = IsHeld f kept (Dir other) × IsRoot capacity f other
 
 -- the tree that an edit makes of a tree, where each root has this tree
 abbrev pub effect : (ℕ → Tree) → Edit → Tree → Tree
@@ -70,18 +70,18 @@ source root _ = root
 
 -- how many nodes an edit writes, where a body node has room for so many data bytes
 abbrev pub need : ℕ → Edit → ℕ
-need room (Edit.MakeDirectory path trail) = length path.now + 1
-need room (Edit.PutEmptyFile path trail) = length path.now
-need room (Edit.Overwrite path trail body offset bytes) = pwrite_need room body.length offset (length bytes.now) + length path.now
-need room (Edit.SetLength path trail body size) = ftruncate_need room body.length size + length path.now
-need room (Edit.Remove path trail) = length path.now
-need room (Edit.Move old old_trail new new_trail place) = directories_along old.now new.now
-need room (Edit.Restore other) = 0
+need capacity (Edit.MakeDirectory path trail) = length path.now + 1
+need capacity (Edit.PutEmptyFile path trail) = length path.now
+need capacity (Edit.Overwrite path trail body offset bytes) = pwrite_need capacity body.length offset (length bytes.now) + length path.now
+need capacity (Edit.SetLength path trail body size) = ftruncate_need capacity body.length size + length path.now
+need capacity (Edit.Remove path trail) = length path.now
+need capacity (Edit.Move old old_trail new new_trail place) = directories_along old.now new.now
+need capacity (Edit.Restore other) = 0
 
 -- how many nodes are read at most to overwrite a body of this length up to an end, where the index of its head has so
 -- many binary digits
 abbrev pub overwrite_reads : ℕ → ℕ → ℕ → ℕ → ℕ
-overwrite_reads room size end digits = 2 * nodes_between room end size + (1 + 5 * digits)
+overwrite_reads capacity size end digits = 2 * nodes_between capacity end size + (1 + 5 * digits)
 
 -- and to give a body another length
 abbrev pub resize_reads : ℕ → ℕ
@@ -89,11 +89,11 @@ resize_reads digits = 1 + 5 * digits
 
 -- an edit read few nodes: each directory that is written anew once, and of a file what its body's write asks
 abbrev pub ReadsFew : ℕ → Edit → ℕ → ℕ → Type 0
-ReadsFew room (Edit.MakeDirectory path trail) before after = after ≤ before + length path.now
-ReadsFew room (Edit.PutEmptyFile path trail) before after = after ≤ before + length path.now
-ReadsFew room (Edit.Overwrite path trail body offset bytes) before after =
-    (digits : ℕ) → head_index room body.length < 2 ^ digits → after ≤ before + (overwrite_reads room body.length (offset + length bytes.now) digits + length path.now)
-ReadsFew room (Edit.SetLength path trail body size) before after = (digits : ℕ) → head_index room body.length < 2 ^ digits → after ≤ before + (resize_reads digits + length path.now)
-ReadsFew room (Edit.Remove path trail) before after = after ≤ before + length path.now
-ReadsFew room (Edit.Move old old_trail new new_trail place) before after = after ≤ before + directories_along old.now new.now
-ReadsFew room (Edit.Restore other) before after = after ≡ before
+ReadsFew capacity (Edit.MakeDirectory path trail) before after = after ≤ before + length path.now
+ReadsFew capacity (Edit.PutEmptyFile path trail) before after = after ≤ before + length path.now
+ReadsFew capacity (Edit.Overwrite path trail body offset bytes) before after =
+    (digits : ℕ) → head_index capacity body.length < 2 ^ digits → after ≤ before + (overwrite_reads capacity body.length (offset + length bytes.now) digits + length path.now)
+ReadsFew capacity (Edit.SetLength path trail body size) before after = (digits : ℕ) → head_index capacity body.length < 2 ^ digits → after ≤ before + (resize_reads digits + length path.now)
+ReadsFew capacity (Edit.Remove path trail) before after = after ≤ before + length path.now
+ReadsFew capacity (Edit.Move old old_trail new new_trail place) before after = after ≤ before + directories_along old.now new.now
+ReadsFew capacity (Edit.Restore other) before after = after ≡ before

@@ -8,8 +8,8 @@ use Rattle.block_trees.specs.Trees.{IsRoot, root_tree}
 
 -- a root has this tree; all that it reaches is kept, and another root reached it before, or it is in a block that was
 -- not kept
-pub record IsNewRoot (room : ℕ) (old : Blocks) (kept : ℕ → Bool) (new : Blocks) (kept' : ℕ → Bool) (from to : ℕ) (tree : Tree) : Type 0 where
-  pub rooted : IsRoot room new to
+pub record IsNewRoot (capacity : ℕ) (old : Blocks) (kept : ℕ → Bool) (new : Blocks) (kept' : ℕ → Bool) (from to : ℕ) (tree : Tree) : Type 0 where
+  pub rooted : IsRoot capacity new to
   pub held : IsHeld new kept' (Dir to)
-  pub shows : root_tree room new to ≡ tree
+  pub shows : root_tree capacity new to ≡ tree
   pub reached : (block : ℕ) → Reached new (to ∷ []) block → Reached old (from ∷ []) block ⊎ (kept block ≡ false)

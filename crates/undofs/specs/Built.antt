@@ -5,10 +5,10 @@ use Rattle.fs_types.specs.declared.calls.Call.{Call}
 -- a call that is built
 abbrev pub is_built : Call → Bool
 is_built (Call.Open path flags) = true
-is_built (Call.Close number) = true
-is_built (Call.Pread number offset count) = true
-is_built (Call.Pwrite number offset bytes) = true
-is_built (Call.Ftruncate number n) = true
+is_built (Call.Close descriptor) = true
+is_built (Call.Pread descriptor offset count) = true
+is_built (Call.Pwrite descriptor offset bytes) = true
+is_built (Call.Ftruncate descriptor n) = true
 is_built (Call.Mkdir path) = true
 is_built (Call.Rmdir path) = true
 is_built (Call.Unlink path) = true

@@ -33,7 +33,7 @@ Shows w m = (s : State) × (w.state ≡ Some s) × (machine_on w.device s ≡ m)
 
 -- calls that commit the history
 abbrev pub is_sync : Call → Bool
-is_sync (Call.Fsync number) = true
+is_sync (Call.Fsync descriptor) = true
 is_sync Call.Sync = true
 is_sync _ = false
 

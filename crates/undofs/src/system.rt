@@ -84,7 +84,7 @@ impl<'f, F: Flash> Fs<'f, F> {
         Fs { flash, state }
     }
 
-    /// Opens the file at a path, and answers its number, the least that is free (POSIX.1-2017 `open`,
+    /// Opens the file at a path, and answers its descriptor, the least that is free (POSIX.1-2017 `open`,
     /// without a mode; a directory is refused for reading too).
     pub fn open(&mut self, alloc: Global, path: &Path, flags: OpenFlags) -> Result<u8, Fault>
         ensures step { Steps self.old (Call.Open path.now flags) (replied Reply.Fd result) self.new }
@@ -94,39 +94,40 @@ impl<'f, F: Flash> Fs<'f, F> {
         self.state.open(alloc, self.flash, path, flags)
     }
 
-    /// Closes the open file of a number, which is free then.
-    pub fn close(&mut self, number: u64) -> Result<(), Fault>
-        ensures step { Steps self.old (Call.Close number) (replied empty result) self.new }
+    /// Closes the open file of a descriptor, which is free then.
+    pub fn close(&mut self, descriptor: u64) -> Result<(), Fault>
+        ensures step { Steps self.old (Call.Close descriptor) (replied empty result) self.new }
         ensures still { F.device self.new.flash.now ≡ F.device self.old.flash.now }
         ensures same_flash { flash_name self.new ≡ flash_name self.old }
     {
-        self.state.close(number)
+        self.state.close(descriptor)
     }
 
-    /// Writes these bytes at an offset of the open file of a number, all or none, and answers how many
+    /// Writes these bytes at an offset of the open file of a descriptor, all or none, and answers how many
     /// (POSIX.1-2017 `pwrite`). A gap past the end of the file is zeros; no bytes make no version.
     pub fn pwrite(
         &mut self,
         alloc: Global,
-        number: u64,
+        descriptor: u64,
         offset: u64,
         bytes: &[u8],
     ) -> Result<u64, Fault>
-        ensures step { Steps self.old (Call.Pwrite number offset bytes.now) (replied Reply.Count result) self.new }
+        ensures step { Steps self.old (Call.Pwrite descriptor offset bytes.now) (replied Reply.Count result) self.new }
         ensures pages { KeepsAllPages self.old self.new }
         ensures same_flash { flash_name self.new ≡ flash_name self.old }
     {
-        self.state.pwrite(alloc, self.flash, number, offset, bytes)
+        self.state
+            .pwrite(alloc, self.flash, descriptor, offset, bytes)
     }
 
-    /// The length in bytes of the open file of a number becomes this (POSIX.1-2017 `ftruncate`); what is
+    /// The length in bytes of the open file of a descriptor becomes this (POSIX.1-2017 `ftruncate`); what is
     /// new of it is zeros. The same length makes no version, and is no refusal in read-only mode.
-    pub fn ftruncate(&mut self, alloc: Global, number: u64, length: u64) -> Result<(), Fault>
-        ensures step { Steps self.old (Call.Ftruncate number length) (replied empty result) self.new }
+    pub fn ftruncate(&mut self, alloc: Global, descriptor: u64, length: u64) -> Result<(), Fault>
+        ensures step { Steps self.old (Call.Ftruncate descriptor length) (replied empty result) self.new }
         ensures pages { KeepsAllPages self.old self.new }
         ensures same_flash { flash_name self.new ≡ flash_name self.old }
     {
-        self.state.ftruncate(alloc, self.flash, number, length)
+        self.state.ftruncate(alloc, self.flash, descriptor, length)
     }
 
     /// What stands at a path of the tree that a view shows: a directory, with its number of entries, or
@@ -171,8 +172,8 @@ impl<'f, F: Flash> Fs<'f, F> {
             .read_at(alloc, self.flash, view, path, offset, count)
     }
 
-    /// The same of the open file of a number (POSIX.1-2017 `pread`). [`Fault::BadDescriptor`] for a
-    /// number that is not open, or is open for writing alone.
+    /// The same of the open file of a descriptor (POSIX.1-2017 `pread`). [`Fault::BadDescriptor`] for a
+    /// descriptor that is not open, or is open for writing alone.
     pub fn pread(
         &mut self,
         alloc: Global,

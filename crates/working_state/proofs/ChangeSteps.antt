@@ -18,7 +18,7 @@ use Rattle.flash_model.specs.Device.{Device}
 use Rattle.node_store.specs.NodePages.{node_of}
 use Rattle.block_trees.specs.Reached.{Keeps}
 use Rattle.directory.specs.Trails.{IsChangeFault}
-use Rattle.working_state.specs.Seen.{room_of, tree_on, seen_on, machine_on, is_read_only}
+use Rattle.working_state.specs.Seen.{capacity_of, tree_on, seen_on, machine_on, is_read_only}
 use Rattle.working_state.specs.Steps.{is_light, last_serial, Refuses, CallStep}
 use Rattle.working_state.specs.Mounted.{IsStanding, IsMounted}
 use Rattle.working_state.specs.Worked.{storage_on, IsWorked, IsLooked, WorkCause}
@@ -37,15 +37,15 @@ path_within path is = leb-true (length path) 16 (and_parts (list_all is_name pat
 pub makes : (m : Machine) (call : Call) → refusal m call ≡ None → is_some (tree_after m call) ≡ true → makes_version m call ≡ true
 makes m call fine tree = and_from (is_none (refusal m call)) (is_some (tree_after m call)) (ap is_none fine) tree
 
-pub needs : (room : ℕ) (m : Machine) (call : Call) → makes_version m call ≡ true → 0 < change_need room m call → 0 < need room m call
-needs room m call version more = subst (λ b. 0 < (if b then change_need room m call else 0)) (sym version) more
+pub needs : (capacity : ℕ) (m : Machine) (call : Call) → makes_version m call ≡ true → 0 < change_need capacity m call → 0 < need capacity m call
+needs capacity m call version more = subst (λ b. 0 < (if b then change_need capacity m call else 0)) (sym version) more
 
 pub writing_refuses : (d : Device) (s : State) (e : Device) (t : State) (f : Device) (u : State) (call : Call) (fault : Fault) → IsLooked d s e t → is_light call ≡ false → makes_version (machine_on d s) call ≡ true
-    → 0 < change_need (room_of d) (machine_on d s) call → IsChangeFault fault → WorkCause (seen_on e t) fault (seen_on f u)
+    → 0 < change_need (capacity_of d) (machine_on d s) call → IsChangeFault fault → WorkCause (seen_on e t) fault (seen_on f u)
     → Refuses (seen_on d s) (machine_on d s) call fault (seen_on f u)
 writing_refuses d s e t f u call fault l heavy version more is why =
     let m = machine_on d s in
-    inr (write_refuses (seen_on d s) (seen_on f u) m call fault heavy (needs (room_of d) m call version more) (writes-version m call version) is
+    inr (write_refuses (seen_on d s) (seen_on f u) m call fault heavy (needs (capacity_of d) m call version more) (writes-version m call version) is
     (cause_later (seen_on d s) (seen_on e t) (seen_on f u) fault (worked_later d s e t (looked_worked d s e t l)) why))
 
 -- The present root after reads.

@@ -25,13 +25,13 @@ use Rattle.directory.specs.Trails.{IsChangeFault}
 use Rattle.working_state.specs.Changes.{IsReady, HasWritten, edited_tree, WorkRefuses, IsPushed, ChangeCause, IsChanged}
 use Rattle.working_state.specs.Mounted.{IsStanding, IsMounted}
 use Rattle.working_state.specs.Opening.{IsAnswered}
-use Rattle.working_state.specs.Seen.{room_of, tree_on, seen_of, seen_on, machine_on, bad_anchors}
+use Rattle.working_state.specs.Seen.{capacity_of, tree_on, seen_of, seen_on, machine_on, bad_anchors}
 use Rattle.working_state.specs.Steps.{empty, replied, is_light, is_cut, is_cut_answer, MayRefuse, Refuses}
 use Rattle.working_state.specs.Worked.{IsWorked, IsLooked, WorkCause}
 use Rattle.working_state.specs.declared.state.State.{State}
 use Rattle.working_state.proofs.ChangeSteps.{makes, later_stands, writing_refuses, HasNewTree, changed_step, changed_mounted}
 use Rattle.working_state.proofs.OpenCalls.{refused_answer}
-use Rattle.working_state.proofs.Standing.{same_room, looked_worked, worked_on, worked_later, worked_mounted, worked_pages}
+use Rattle.working_state.proofs.Standing.{same_capacity, looked_worked, worked_on, worked_later, worked_mounted, worked_pages}
 use Rattle.working_state.proofs.Steps.{writes-version}
 
 -- ---- the state as it was
@@ -68,23 +68,23 @@ none_written d s most = record { evolved = Evolved_itself (parts.storage d s.bad
 -- ---- the tree of the new root, at the room that the flash has by now
 
 pub root_stands : (d : Device) (s : Storage) (e : Device) (t : Storage) (most from to : ℕ) (tree : Tree) → HasWritten d s most e t
-    → IsNewRoot (room_of d) (node_of d) (set.contains s.ring.used) (node_of e) (set.contains t.ring.used) from to tree → IsStanding e t.ring to
+    → IsNewRoot (capacity_of d) (node_of d) (set.contains s.ring.used) (node_of e) (set.contains t.ring.used) from to tree → IsStanding e t.ring to
 root_stands d s e t most from to tree w new = record {
   held = new.held;
-  rooted = subst (λ room. IsRoot room (node_of e) to) (sym (same_room (parts.storage d s.bad s.ring) (parts.storage e t.bad t.ring) w.evolved)) new.rooted;
+  rooted = subst (λ capacity. IsRoot capacity (node_of e) to) (sym (same_capacity (parts.storage d s.bad s.ring) (parts.storage e t.bad t.ring) w.evolved)) new.rooted;
 }
 
 pub root_shows : (d : Device) (s : Storage) (e : Device) (t : Storage) (most from to : ℕ) (tree : Tree) → HasWritten d s most e t
-    → IsNewRoot (room_of d) (node_of d) (set.contains s.ring.used) (node_of e) (set.contains t.ring.used) from to tree → tree_on e to ≡ tree
-root_shows d s e t most from to tree w new = ap (λ room. root_tree room (node_of e) to) (same_room (parts.storage d s.bad s.ring) (parts.storage e t.bad t.ring) w.evolved) ∙ new.shows
+    → IsNewRoot (capacity_of d) (node_of d) (set.contains s.ring.used) (node_of e) (set.contains t.ring.used) from to tree → tree_on e to ≡ tree
+root_shows d s e t most from to tree w new = ap (λ capacity. root_tree capacity (node_of e) to) (same_capacity (parts.storage d s.bad s.ring) (parts.storage e t.bad t.ring) w.evolved) ∙ new.shows
 
 pub stands_result : (d : Device) (s : Storage) (e : Device) (t : Storage) (most from : ℕ) (tree : Tree) (result : Result ℕ Fault) → HasWritten d s most e t
-    → IfOk result (λ to. IsNewRoot (room_of d) (node_of d) (set.contains s.ring.used) (node_of e) (set.contains t.ring.used) from to tree) → IfOk result (IsStanding e t.ring)
+    → IfOk result (λ to. IsNewRoot (capacity_of d) (node_of d) (set.contains s.ring.used) (node_of e) (set.contains t.ring.used) from to tree) → IfOk result (IsStanding e t.ring)
 stands_result d s e t most from tree (Ok to) w new = root_stands d s e t most from to tree w new
 stands_result d s e t most from tree (Err fault) w new = tt
 
 pub shows_result : (d : Device) (s : Storage) (e : Device) (t : Storage) (most from : ℕ) (tree : Tree) (result : Result ℕ Fault) → HasWritten d s most e t
-    → IfOk result (λ to. IsNewRoot (room_of d) (node_of d) (set.contains s.ring.used) (node_of e) (set.contains t.ring.used) from to tree) → IfOk result (λ to. tree_on e to ≡ tree)
+    → IfOk result (λ to. IsNewRoot (capacity_of d) (node_of d) (set.contains s.ring.used) (node_of e) (set.contains t.ring.used) from to tree) → IfOk result (λ to. tree_on e to ≡ tree)
 shows_result d s e t most from tree (Ok to) w new = root_shows d s e t most from to tree w new
 shows_result d s e t most from tree (Err fault) w new = tt
 
@@ -110,19 +110,19 @@ module _ {F : Type 0} (device : F → Device) where
 
   -- what an edit of a store's nodes answers where it needs none
   abbrev NeedsNone : Store F → Store F → Edit → ℕ → Result ℕ Fault → Type 0
-  NeedsNone s t edit root result = need (room_of (device s.flash.now)) edit ≡ 0 → (t ≡ s) × (result ≡ Ok (source root edit))
+  NeedsNone s t edit root result = need (capacity_of (device s.flash.now)) edit ≡ 0 → (t ≡ s) × (result ≡ Ok (source root edit))
 
   pub refused_result : (s t : Store F) (edit : Edit) (root : ℕ) (result : Result ℕ Fault) → NeedsNone s t edit root result → IfErr result IsChangeFault → IfErr result (λ fault. Causes device s t fault)
       → IfErr result (λ fault. WorkRefuses (device s.flash.now) s.storage.now edit fault (device t.flash.now) t.storage.now)
   refused_result s t edit root (Ok to) none faults why = tt
-  refused_result s t edit root (Err fault) none faults why = record { needs = some (need (room_of (device s.flash.now)) edit) none; kind = faults; why = cause_work s t fault why }
+  refused_result s t edit root (Err fault) none faults why = record { needs = some (need (capacity_of (device s.flash.now)) edit) none; kind = faults; why = cause_work s t fault why }
     where
       some : (n : ℕ) → (n ≡ 0 → (t ≡ s) × (Err fault ≡ Ok (source root edit))) → 0 < n
       some zero none = let wrong = (none refl).1 in absurd cc
       some (suc n) none = omega arith
 
   pub still_result : (s t : Store F) (edit : Edit) (root : ℕ) (result : Result ℕ Fault) → NeedsNone s t edit root result
-      → need (room_of (device s.flash.now)) edit ≡ 0 → (device t.flash.now ≡ device s.flash.now) × (t.storage.now ≡ s.storage.now)
+      → need (capacity_of (device s.flash.now)) edit ≡ 0 → (device t.flash.now ≡ device s.flash.now) × (t.storage.now ≡ s.storage.now)
   still_result s t edit root result none is = (ap (λ (x : Store F). device x.flash.now) (none is).0, ap (λ (x : Store F). x.storage.now) (none is).0)
 
 -- ---- a call that is a change
@@ -133,7 +133,7 @@ pub record IsChangeBy (d : Device) (s : State) (call : Call) (made : ℕ → Tre
   pub after : (root : ℕ) → present_root s.history ≡ Some root → tree_after (machine_on d s) call ≡ Some (made root)
   pub heavy : is_light call ≡ false
   pub paths : has_paths call ≡ true
-  pub more : (room : ℕ) → 0 < change_need room (machine_on d s) call
+  pub more : (capacity : ℕ) → 0 < change_need capacity (machine_on d s) call
   pub replies : (space : Space) → reply_of space (machine_on d s) call ≡ reply
 
 -- nodes were written
@@ -167,7 +167,7 @@ cause_refuses d s e t f st root call made reply most fault is l by written (inl 
     inr (subst (λ x. MayRefuse (seen_on d s) (machine_on d s) call x (seen_on f (record t { storage = st }))) (sym over.0)
     (makes (machine_on d s) call by.fine (ap is_some (by.after root is)), ap (λ (h : Past ℕ). h.next) (sym l.rest.history) ∙ over.1))
 cause_refuses d s e t f st root call made reply most fault is l by written (inr work) =
-    writing_refuses d s e t f (record t { storage = st }) call fault l by.heavy (makes (machine_on d s) call by.fine (ap is_some (by.after root is))) (by.more (room_of d)) work.kind work.why
+    writing_refuses d s e t f (record t { storage = st }) call fault l by.heavy (makes (machine_on d s) call by.fine (ap is_some (by.after root is))) (by.more (capacity_of d)) work.kind work.why
 
 pub refused_change : (d : Device) (s : State) (e : Device) (t : State) (f : Device) (st : Storage) (h : Past ℕ) (root : ℕ) (call : Call) {edit : Edit} (made : ℕ → Tree) (reply : Reply) (most : ℕ) (fault : Fault) → IsMounted d s → present_root s.history ≡ Some root
     → IsLooked d s e t → IsChangeBy d s call made reply → HasWritten e t.storage most f st → (h ≡ t.history) × ChangeCause e t.history t.storage edit fault f st

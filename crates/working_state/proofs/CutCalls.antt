@@ -9,7 +9,7 @@ use Rattle.std.specs.FinMap.{get}
 use Rattle.plain_trees.specs.Trees.{Tree, is_full, is_too_deep, entry_count}
 use Rattle.history_machine.specs.History.{Past, first_serial, place_of, checkpoint_root, undo_refusal, redo_refusal, serial_refusal, name_refusal, view_refusal}
 use Rattle.history_machine.specs.Descriptors.{Descriptor, descriptor_at, least_free, any_open, is_open, is_open_within, are_lawful, creates, is_exclusive, can_read, can_write}
-use Rattle.history_machine.specs.Machine.{Machine, found_refusal, descriptor_refusal, number_refusal, open_refusal, pwrite_refusal, ftruncate_refusal, replace_refusal, move_refusal, rename_refusal, unlink_refusal, mkdir_refusal, rmdir_refusal, travel_refusal, view_path_refusal, refusal, present_tree, view_tree}
+use Rattle.history_machine.specs.Machine.{Machine, found_refusal, descriptor_refusal, full_table_refusal, open_refusal, pwrite_refusal, ftruncate_refusal, replace_refusal, move_refusal, rename_refusal, unlink_refusal, mkdir_refusal, rmdir_refusal, travel_refusal, view_path_refusal, refusal, present_tree, view_tree}
 use Rattle.fs_types.specs.declared.calls.Call.{Call}
 use Rattle.fs_types.specs.declared.calls.Reply.{Reply}
 use Rattle.fs_types.specs.declared.calls.View.{View}
@@ -66,15 +66,15 @@ lookup t (n ∷ m ∷ p) = by_first (way_refusal (t (n ∷ []))) (lookup_refusal
 found : (t : Tree) (path : Path) (f : Entry → Option Fault) → ((e : Entry) → NoCut (f e)) → NoCut (found_refusal t path f)
 found t path f each = by_first (lookup_refusal (get t) path) (option_map_or f (get t path) (Some Fault.NoEntry)) (lookup (get t) path) (by_each f (get t path) (Some Fault.NoEntry) each (some Fault.NoEntry refl))
 
-descriptor : (m : Machine) (number : ℕ) (f : Descriptor → Option Fault) → ((d : Descriptor) → NoCut (f d)) → NoCut (descriptor_refusal m number f)
-descriptor m number f each = by_each f (descriptor_at m.descriptors number) (Some Fault.BadDescriptor) each (some Fault.BadDescriptor refl)
+of_descriptor : (m : Machine) (descriptor : ℕ) (f : Descriptor → Option Fault) → ((d : Descriptor) → NoCut (f d)) → NoCut (descriptor_refusal m descriptor f)
+of_descriptor m descriptor f each = by_each f (descriptor_at m.descriptors descriptor) (Some Fault.BadDescriptor) each (some Fault.BadDescriptor refl)
 
-number : (m : Machine) → NoCut (number_refusal m)
-number m = check (is_none (least_free m.descriptors)) Fault.TooManyOpen None refl none
+full_table : (m : Machine) → NoCut (full_table_refusal m)
+full_table m = check (is_none (least_free m.descriptors)) Fault.TooManyOpen None refl none
 
 opens : (m : Machine) (path : Path) (flags : OpenFlags) (o : Option Entry) → NoCut (open_refusal m path flags o)
-opens m path flags None = check (not (creates flags)) Fault.NoEntry _ refl (check (is_full (present_tree m) (parent_of path)) Fault.DirectoryFull (number_refusal m) refl (number m))
-opens m path flags (Some entry) = check (creates flags && is_exclusive flags) Fault.Exists _ refl (check (is_dir entry) Fault.IsDirectory (number_refusal m) refl (number m))
+opens m path flags None = check (not (creates flags)) Fault.NoEntry _ refl (check (is_full (present_tree m) (parent_of path)) Fault.DirectoryFull (full_table_refusal m) refl (full_table m))
+opens m path flags (Some entry) = check (creates flags && is_exclusive flags) Fault.Exists _ refl (check (is_dir entry) Fault.IsDirectory (full_table_refusal m) refl (full_table m))
 
 replaces : (t : Tree) (new : Path) (entry : Entry) (o : Option Entry) → NoCut (replace_refusal t new entry o)
 replaces t new entry None = none
@@ -127,19 +127,19 @@ undoes p = by_test (p.cursor == 0) (Some (cond p.dropped Fault.TooOld Fault.Noth
 machine_cuts_not : (m : Machine) (call : Call) → NoCut (refusal m call)
 machine_cuts_not m (Call.Open path flags) =
     check (not (are_lawful flags)) Fault.Invalid _ refl (by_first (lookup_refusal (get (present_tree m)) path) _ (lookup (get (present_tree m)) path) (opens m path flags (get (present_tree m) path)))
-machine_cuts_not m (Call.Close n) = descriptor m n (λ d. None) (λ d. none)
-machine_cuts_not m (Call.Pread n offset count) = descriptor m n (λ d. if can_read d.flags then None else Some Fault.BadDescriptor) (λ d. by_test (can_read d.flags) None (Some Fault.BadDescriptor) none (some Fault.BadDescriptor refl))
+machine_cuts_not m (Call.Close n) = of_descriptor m n (λ d. None) (λ d. none)
+machine_cuts_not m (Call.Pread n offset count) = of_descriptor m n (λ d. if can_read d.flags then None else Some Fault.BadDescriptor) (λ d. by_test (can_read d.flags) None (Some Fault.BadDescriptor) none (some Fault.BadDescriptor refl))
 machine_cuts_not m (Call.Pwrite n offset bytes) =
-    descriptor m n (pwrite_refusal offset bytes)
+    of_descriptor m n (pwrite_refusal offset bytes)
     (λ d. check (not (can_write d.flags)) Fault.BadDescriptor _ refl (by_test (length bytes == 0) None _ none (check (nat_lt 16777216 (offset + length bytes)) Fault.TooBig None refl none)))
-machine_cuts_not m (Call.Ftruncate n size) = descriptor m n (ftruncate_refusal size) (λ d. check (not (can_write d.flags)) Fault.Invalid _ refl (check (nat_lt 16777216 size) Fault.TooBig None refl none))
+machine_cuts_not m (Call.Ftruncate n size) = of_descriptor m n (ftruncate_refusal size) (λ d. check (not (can_write d.flags)) Fault.Invalid _ refl (check (nat_lt 16777216 size) Fault.TooBig None refl none))
 machine_cuts_not m (Call.Rename old new) = found (present_tree m) old (rename_refusal m old new) (renames m old new)
 machine_cuts_not m (Call.Unlink path) = found (present_tree m) path (unlink_refusal m path) (λ e. check (is_dir e) Fault.NotPermitted _ refl (check (is_open m.descriptors path) Fault.Busy None refl none))
 machine_cuts_not m (Call.Mkdir path) = makes m path
 machine_cuts_not m (Call.Rmdir path) =
     check (length path == 0) Fault.Busy _ refl
     (found (present_tree m) path (rmdir_refusal (present_tree m) path) (λ e. check (not (is_dir e)) Fault.NotDirectory _ refl (check (nat_lt 0 (entry_count (present_tree m) path)) Fault.NotEmpty None refl none)))
-machine_cuts_not m (Call.Fsync n) = descriptor m n (λ d. None) (λ d. none)
+machine_cuts_not m (Call.Fsync n) = of_descriptor m n (λ d. None) (λ d. none)
 machine_cuts_not m Call.Sync = none
 machine_cuts_not m (Call.Stat view path) = of_view m view path (λ entry. None) (λ e. none)
 machine_cuts_not m (Call.List view path) = of_view m view path (λ entry. if is_dir entry then None else Some Fault.NotDirectory) (λ e. by_test (is_dir e) None (Some Fault.NotDirectory) none (some Fault.NotDirectory refl))

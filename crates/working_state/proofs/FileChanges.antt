@@ -33,7 +33,7 @@ use Rattle.directory.specs.declared.lookups.Found.TheVariants as found
 use Rattle.directory.specs.Lookups.{◌>>=◌, look_up, found_in, found_of, below_in, directory_at, is_path_fault, IsLookupFault}
 use Rattle.directory.proofs.LookupLaws.{found_is, found_leads_file}
 use Rattle.working_state.specs.Changing.{IsPathOf}
-use Rattle.working_state.specs.Seen.{Seen, room_of, tree_on, seen_on, machine_on}
+use Rattle.working_state.specs.Seen.{Seen, capacity_of, tree_on, seen_on, machine_on}
 use Rattle.working_state.specs.Steps.{is_light}
 use Rattle.working_state.specs.Mounted.{IsMounted}
 use Rattle.working_state.specs.Opening.{IsAnswered}
@@ -78,24 +78,24 @@ pub present_file : (d : Device) (s : State) (root : ℕ) (path : Path) → IsMou
 present_file d s root path m is file =
     go (leads (node_of d) (place.Dir root) path) refl (ap (λ (t : Contents). t path) (sym (present_is d s root m is)) ∙ file.1)
   where
-    go : (o : Option Place) → leads (node_of d) (place.Dir root) path ≡ o → option_map (entry_at (room_of d) (node_of d)) o ≡ Some (Entry.File file.0)
+    go : (o : Option Place) → leads (node_of d) (place.Dir root) path ≡ o → option_map (entry_at (capacity_of d) (node_of d)) o ≡ Some (Entry.File file.0)
         → (head : ℕ) × (size : ℕ) × (look_up (node_of d) root path ≡ Ok (found.File head size))
     go None led e = absurd cc
     go (Some (place.Dir block)) led e = absurd cc
     go (Some (place.File head size)) led e = (head, size, leads_looked (node_of d) root path head size led)
 
 -- a body is as long as its file
-long_body : (room : ℕ) (f : Blocks) (head size : ℕ) → IsBody room f head size → length (body room f head size) ≡ size
-long_body room f head zero is = refl
-long_body room f head (suc n) is =
-    let enough : suc n ≤ length (data_to f (head_index room (suc n)) head) = is.1 in
-    omega (arith, length-take (suc n) (data_to f (head_index room (suc n)) head))
+long_body : (capacity : ℕ) (f : Blocks) (head size : ℕ) → IsBody capacity f head size → length (body capacity f head size) ≡ size
+long_body capacity f head zero is = refl
+long_body capacity f head (suc n) is =
+    let enough : suc n ≤ length (data_to f (head_index capacity (suc n)) head) = is.1 in
+    omega (arith, length-take (suc n) (data_to f (head_index capacity (suc n)) head))
 
 -- the body of a file of the present tree
 pub record IsPresentBody (d : Device) (s : State) (path : Path) (head size : ℕ) : Type 0 where
-  pub whole : IsBody (room_of d) (node_of d) head size
+  pub whole : IsBody (capacity_of d) (node_of d) head size
   pub held : IsHeld (node_of d) (set.contains s.storage.ring.used) (place.File head size)
-  pub shown : bytes_at (present_tree (machine_on d s)) path ≡ body (room_of d) (node_of d) head size
+  pub shown : bytes_at (present_tree (machine_on d s)) path ≡ body (capacity_of d) (node_of d) head size
   pub short : size ≤ 16777216
 
 pub present_body : (d : Device) (s : State) (root : ℕ) (path : Path) (head size : ℕ) → IsMounted d s → present_root s.history ≡ Some root → look_up (node_of d) root path ≡ Ok (found.File head size) → IsPresentBody d s path head size
@@ -103,14 +103,14 @@ present_body d s root path head size m is led =
     let stands = present_stands d s root m is in
     let leads = found_leads_file (node_of d) root path head size led in
     let whole = (stands.rooted path (place.File head size) leads).0 in
-    let there : get (present_tree (machine_on d s)) path ≡ Some (Entry.File (body (room_of d) (node_of d) head size)) =
-    ap (λ (t : Contents). t path) (present_is d s root m is) ∙ (found_is (room_of d) (node_of d) root path (found.File head size) led).1 in
-    let most = (present-file_tree (machine_on d s) m.machine).lengths path (body (room_of d) (node_of d) head size) there in
+    let there : get (present_tree (machine_on d s)) path ≡ Some (Entry.File (body (capacity_of d) (node_of d) head size)) =
+    ap (λ (t : Contents). t path) (present_is d s root m is) ∙ (found_is (capacity_of d) (node_of d) root path (found.File head size) led).1 in
+    let most = (present-file_tree (machine_on d s) m.machine).lengths path (body (capacity_of d) (node_of d) head size) there in
     record {
       whole = whole;
       held = held_leads (node_of d) (set.contains s.storage.ring.used) path (place.Dir root) (place.File head size) leads stands.held;
       shown = ap bytes_of there;
-      short = omega (arith, most, long_body (room_of d) (node_of d) head size whole);
+      short = omega (arith, most, long_body (capacity_of d) (node_of d) head size whole);
     }
 
 -- Refusals.
@@ -134,7 +134,7 @@ pub record IsFileChange (m : Machine) (call : Call) (path : Path) (bytes : List 
   pub files : descriptors_after m call ≡ m.descriptors
   pub heavy : is_light call ≡ false
   pub paths : has_paths call ≡ true
-  pub more : (room : ℕ) → 0 < change_need room m call
+  pub more : (capacity : ℕ) → 0 < change_need capacity m call
 
 pub file_makes : (m : Machine) (call : Call) (path : Path) (bytes : List ℕ) → IsFileChange m call path bytes → makes_version m call ≡ true
 file_makes m call path bytes change = makes m call change.fine (ap is_some change.after)
@@ -164,8 +164,8 @@ looked_itself d s = record { untouched = Untouched_itself (storage_on d s); rest
 
 -- the path of an open file
 
-pub open_file : (d : Device) (s : State) (number : ℕ) (path : Path) → IsMounted d s → IsPathOf s.files number path → IsFile (present_tree (machine_on d s)) path
-open_file d s number path m has = m.machine.files number (record { path = path; flags = has.0 }) has.1
+pub open_file : (d : Device) (s : State) (descriptor : ℕ) (path : Path) → IsMounted d s → IsPathOf s.files descriptor path → IsFile (present_tree (machine_on d s)) path
+open_file d s descriptor path m has = m.machine.files descriptor (record { path = path; flags = has.0 }) has.1
 
 pub below_root : (d : Device) (s : State) (path : Path) → IsMounted d s → IsFile (present_tree (machine_on d s)) path → 0 < length path
 below_root d s path m file = not-root (present_tree (machine_on d s)) path (present-file_tree (machine_on d s) m.machine) (λ dir. let both = sym dir ∙ file.1 in cc)
@@ -175,18 +175,18 @@ below_root d s path m file = not-root (present_tree (machine_on d s)) path (pres
 some_more : (a b : ℕ) → 0 < b → 0 < a + b
 some_more a b some = omega arith
 
-pub pwrite_change : (m : Machine) (number offset : ℕ) (bytes : List ℕ) (path : Path) → IsPathOf m.descriptors number path → refusal m (Call.Pwrite number offset bytes) ≡ None → (length bytes == 0) ≡ false → 0 < length path
-    → IsFileChange m (Call.Pwrite number offset bytes) path (overwritten (bytes_at (present_tree m) path) offset bytes)
-pwrite_change m number offset bytes path has fine some below = record {
+pub pwrite_change : (m : Machine) (descriptor offset : ℕ) (bytes : List ℕ) (path : Path) → IsPathOf m.descriptors descriptor path → refusal m (Call.Pwrite descriptor offset bytes) ≡ None → (length bytes == 0) ≡ false → 0 < length path
+    → IsFileChange m (Call.Pwrite descriptor offset bytes) path (overwritten (bytes_at (present_tree m) path) offset bytes)
+pwrite_change m descriptor offset bytes path has fine some below = record {
   fine = fine;
   after = ap (option_and_then (λ (d : Descriptor). if length bytes == 0 then None else Some (file_put (present_tree m) d.path (overwritten (bytes_at (present_tree m) d.path) offset bytes)))) has.1
       ∙ ap (λ b. if b then None else Some (file_put (present_tree m) path (overwritten (bytes_at (present_tree m) path) offset bytes))) some;
   files = refl;
   heavy = refl;
   paths = refl;
-  more = λ room.
-      subst (λ (o : Option Descriptor). 0 < option_map_or (λ d. pwrite_need room (length (bytes_at (present_tree m) d.path)) offset (length bytes) + length d.path) o 0) (sym has.1)
-      (some_more (pwrite_need room (length (bytes_at (present_tree m) path)) offset (length bytes)) (length path) below);
+  more = λ capacity.
+      subst (λ (o : Option Descriptor). 0 < option_map_or (λ d. pwrite_need capacity (length (bytes_at (present_tree m) d.path)) offset (length bytes) + length d.path) o 0) (sym has.1)
+      (some_more (pwrite_need capacity (length (bytes_at (present_tree m) path)) offset (length bytes)) (length path) below);
 }
 
 pub some_length : (n : ℕ) → (n == 0) ≡ false → 0 < n
@@ -194,52 +194,52 @@ some_length zero some = absurd (true≢false some)
 some_length (suc n) some = omega arith
 
 -- no bytes make no version
-pub pwrite_nothing : (m : Machine) (number offset : ℕ) (bytes : List ℕ) → length bytes ≡ 0 → OnlyReads m (Call.Pwrite number offset bytes)
-pwrite_nothing m number offset (b ∷ bytes) none = absurd (omega arith)
-pwrite_nothing m number offset [] none = record { stays = stays; no_version = no_tree; no_record = refl }
+pub pwrite_nothing : (m : Machine) (descriptor offset : ℕ) (bytes : List ℕ) → length bytes ≡ 0 → OnlyReads m (Call.Pwrite descriptor offset bytes)
+pwrite_nothing m descriptor offset (b ∷ bytes) none = absurd (omega arith)
+pwrite_nothing m descriptor offset [] none = record { stays = stays; no_version = no_tree; no_record = refl }
   where
     go : (o : Option Descriptor) → option_and_then (λ (d : Descriptor). let r : Option Tree = None in r) o ≡ None
     go None = refl
     go (Some d) = refl
 
-    no_tree : tree_after m (Call.Pwrite number offset []) ≡ None
-    no_tree = go (descriptor_at m.descriptors number)
+    no_tree : tree_after m (Call.Pwrite descriptor offset []) ≡ None
+    no_tree = go (descriptor_at m.descriptors descriptor)
 
-    stays : machine_of m (Call.Pwrite number offset []) None ≡ m
+    stays : machine_of m (Call.Pwrite descriptor offset []) None ≡ m
     stays i = record { history = option_map_or (changed m.history) (no_tree i) m.history; descriptors = m.descriptors }
 
 -- Resizing.
 
-pub ftruncate_change : (m : Machine) (number n : ℕ) (path : Path) → IsPathOf m.descriptors number path → refusal m (Call.Ftruncate number n) ≡ None → (length (bytes_at (present_tree m) path) == n) ≡ false → 0 < length path
-    → IsFileChange m (Call.Ftruncate number n) path (resized (bytes_at (present_tree m) path) n)
-ftruncate_change m number n path has fine other below = record {
+pub ftruncate_change : (m : Machine) (descriptor n : ℕ) (path : Path) → IsPathOf m.descriptors descriptor path → refusal m (Call.Ftruncate descriptor n) ≡ None → (length (bytes_at (present_tree m) path) == n) ≡ false → 0 < length path
+    → IsFileChange m (Call.Ftruncate descriptor n) path (resized (bytes_at (present_tree m) path) n)
+ftruncate_change m descriptor n path has fine other below = record {
   fine = fine;
   after = ap (option_and_then (λ (d : Descriptor). if length (bytes_at (present_tree m) d.path) == n then None else Some (file_put (present_tree m) d.path (resized (bytes_at (present_tree m) d.path) n)))) has.1
       ∙ ap (λ b. if b then None else Some (file_put (present_tree m) path (resized (bytes_at (present_tree m) path) n))) other;
   files = refl;
   heavy = refl;
   paths = refl;
-  more = λ room.
-      subst (λ (o : Option Descriptor). 0 < option_map_or (λ d. ftruncate_need room (length (bytes_at (present_tree m) d.path)) n + length d.path) o 0) (sym has.1)
-      (some_more (ftruncate_need room (length (bytes_at (present_tree m) path)) n) (length path) below);
+  more = λ capacity.
+      subst (λ (o : Option Descriptor). 0 < option_map_or (λ d. ftruncate_need capacity (length (bytes_at (present_tree m) d.path)) n + length d.path) o 0) (sym has.1)
+      (some_more (ftruncate_need capacity (length (bytes_at (present_tree m) path)) n) (length path) below);
 }
 
 -- the same length makes no version
-pub ftruncate_nothing : (m : Machine) (number n : ℕ) (path : Path) → IsPathOf m.descriptors number path → (length (bytes_at (present_tree m) path) == n) ≡ true → OnlyReads m (Call.Ftruncate number n)
-ftruncate_nothing m number n path has same = record { stays = stays; no_version = no_tree; no_record = refl }
+pub ftruncate_nothing : (m : Machine) (descriptor n : ℕ) (path : Path) → IsPathOf m.descriptors descriptor path → (length (bytes_at (present_tree m) path) == n) ≡ true → OnlyReads m (Call.Ftruncate descriptor n)
+ftruncate_nothing m descriptor n path has same = record { stays = stays; no_version = no_tree; no_record = refl }
   where
-    no_tree : tree_after m (Call.Ftruncate number n) ≡ None
+    no_tree : tree_after m (Call.Ftruncate descriptor n) ≡ None
     no_tree =
         ap (option_and_then (λ (d : Descriptor). if length (bytes_at (present_tree m) d.path) == n then None else Some (file_put (present_tree m) d.path (resized (bytes_at (present_tree m) d.path) n)))) has.1
         ∙ ap (λ b. if b then None else Some (file_put (present_tree m) path (resized (bytes_at (present_tree m) path) n))) same
 
-    stays : machine_of m (Call.Ftruncate number n) None ≡ m
+    stays : machine_of m (Call.Ftruncate descriptor n) None ≡ m
     stays i = record { history = option_map_or (changed m.history) (no_tree i) m.history; descriptors = m.descriptors }
 
 -- the length of the file whose body was found
 pub present_length : (d : Device) (s : State) (e : Device) (t : State) (path : Path) (head size : ℕ) → IsMounted d s → IsWorked d s e t → IsPresentBody e t path head size → length (bytes_at (present_tree (machine_on d s)) path) ≡ size
 present_length d s e t path head size m w there =
-    ap (λ (x : Machine). length (bytes_at (present_tree x) path)) (sym (worked_machine d s e t m w)) ∙ ap length there.shown ∙ long_body (room_of e) (node_of e) head size there.whole
+    ap (λ (x : Machine). length (bytes_at (present_tree x) path)) (sym (worked_machine d s e t m w)) ∙ ap length there.shown ∙ long_body (capacity_of e) (node_of e) head size there.whole
 
 pub same_length : (d : Device) (s : State) (e : Device) (t : State) (path : Path) (head size wide n : ℕ) → IsMounted d s → IsWorked d s e t → IsPresentBody e t path head size → wide ≡ size → wide ≡ n
     → (length (bytes_at (present_tree (machine_on d s)) path) == n) ≡ true

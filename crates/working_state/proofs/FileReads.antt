@@ -53,42 +53,42 @@ path_fault PowerCut is other = absurd (true≢false other)
 path_fault NoMemory is other = absurd (true≢false other)
 path_fault _ is other = absurd (not_so is)
 
-module _ (room : ℕ) (f : Blocks) (root : ℕ) (path : Path) (is : IsRoot room f root) where
+module _ (capacity : ℕ) (f : Blocks) (root : ℕ) (path : Path) (is : IsRoot capacity f root) where
   -- a look up that was refused
   pub look_up_refuses : (result : Result (List ℕ) Fault) (fault : Fault) → result ≡ Err fault → (is_path_fault fault ≡ true → look_up f root path ≡ Err fault) → IsLookupFault fault
-      → IfErr result (λ x. is_body_fault x ≡ false → file_refusal (root_tree room f root) path ≡ Some x)
+      → IfErr result (λ x. is_body_fault x ≡ false → file_refusal (root_tree capacity f root) path ≡ Some x)
   look_up_refuses result fault e refused faults =
-      subst (λ r. IfErr r (λ x. is_body_fault x ≡ false → file_refusal (root_tree room f root) path ≡ Some x)) (sym e)
-      (λ other. refused_tells room f root path refuse_directory is fault (refused (path_fault fault faults other)))
+      subst (λ r. IfErr r (λ x. is_body_fault x ≡ false → file_refusal (root_tree capacity f root) path ≡ Some x)) (sym e)
+      (λ other. refused_tells capacity f root path refuse_directory is fault (refused (path_fault fault faults other)))
 
   module _ (x y : Found) (led : look_up f root path ≡ Ok x) (called : x ≡ y) where
     led_to : look_up f root path ≡ Ok y
     led_to = subst (λ z. look_up f root path ≡ Ok z) called led
 
     -- what was found is refused or not for what it is
-    pub found_refuses_file : (refused : Option Fault) → option_map_or refuse_directory (entry_of room f y) (Some NoEntry) ≡ refused → file_refusal (root_tree room f root) path ≡ refused
-    found_refuses_file refused e = found_tells room f root path refuse_directory is y led_to ∙ e
+    pub found_refuses_file : (refused : Option Fault) → option_map_or refuse_directory (entry_of capacity f y) (Some NoEntry) ≡ refused → file_refusal (root_tree capacity f root) path ≡ refused
+    found_refuses_file refused e = found_tells capacity f root path refuse_directory is y led_to ∙ e
 
-  module _ (room' : ℕ) (f' : Blocks) (same : f' ≡ f) (same_room : room' ≡ room) (x : Found) (head size : ℕ) (led : look_up f root path ≡ Ok x) (called : x ≡ found.File head size) where
+  module _ (capacity' : ℕ) (f' : Blocks) (same : f' ≡ f) (same_capacity : capacity' ≡ capacity) (x : Found) (head size : ℕ) (led : look_up f root path ≡ Ok x) (called : x ≡ found.File head size) where
     file_there : look_up f root path ≡ Ok (found.File head size)
     file_there = subst (λ z. look_up f root path ≡ Ok z) called led
 
     -- the file that was found has a body
-    pub file_body : IsBody room' f' head size
+    pub file_body : IsBody capacity' f' head size
     file_body =
-        subst (λ r. IsBody r f' head size) (sym same_room)
-        (subst (λ (g : Blocks). IsBody room g head size) (sym same) (is path (File head size) (found_leads_file f root path head size file_there)).0)
+        subst (λ r. IsBody r f' head size) (sym same_capacity)
+        (subst (λ (g : Blocks). IsBody capacity g head size) (sym same) (is path (File head size) (found_leads_file f root path head size file_there)).0)
 
     -- what is read of its body
-    pub file_read : (offset count : ℕ) (result : Result (List ℕ) Fault) → IfOk result (λ bytes. bytes ≡ read_from (body room' f' head size) offset count) → IfOk result (IsRead (root_tree room f root) path offset count)
+    pub file_read : (offset count : ℕ) (result : Result (List ℕ) Fault) → IfOk result (λ bytes. bytes ≡ read_from (body capacity' f' head size) offset count) → IfOk result (IsRead (root_tree capacity f root) path offset count)
     file_read offset count (Err fault) read = tt
     file_read offset count (Ok bytes) read = record {
-      accepted = found_tells room f root path refuse_directory is (found.File head size) file_there;
+      accepted = found_tells capacity f root path refuse_directory is (found.File head size) file_there;
       read = read
-          ∙ ap (λ r. read_from (body r f' head size) offset count) same_room
-          ∙ ap (λ (g : Blocks). read_from (body room g head size) offset count) same
+          ∙ ap (λ r. read_from (body r f' head size) offset count) same_capacity
+          ∙ ap (λ (g : Blocks). read_from (body capacity g head size) offset count) same
           ∙ ap (λ (o : Option Entry). read_from (bytes_of o) offset count)
-          (sym (ap (λ (t : Contents). t path) (map_law room f root is).same ∙ (found_is room f root path (found.File head size) file_there).1));
+          (sym (ap (λ (t : Contents). t path) (map_law capacity f root is).same ∙ (found_is capacity f root path (found.File head size) file_there).1));
     }
 
 -- Steps.
@@ -144,15 +144,15 @@ file_is_read t path tree is =
     ap (λ o. option_or o (option_map_or refuse_directory (get t path) (Some NoEntry))) (resolves (get t) tree.shape path (some-is (get t path) (Entry.File is.0) is.1))
     ∙ ap (λ o. option_map_or refuse_directory o (Some NoEntry)) is.1
 
--- the open file of a number
-pub record IsOpen (files : Descriptors) (number : ℕ) (path : Path) : Type 0 where
+-- the open file of a descriptor
+pub record IsOpen (files : Descriptors) (descriptor : ℕ) (path : Path) : Type 0 where
   pub file : Descriptor
-  pub there : descriptor_at files number ≡ Some file
+  pub there : descriptor_at files descriptor ≡ Some file
   pub reads : can_read file.flags ≡ true
   pub named : path ≡ file.path
 
-pub open_reads : (d : Device) (s : State) (number : ℕ) (path : Path) (offset count root : ℕ) → IsMounted d s → present_root s.history ≡ Some root → IsOpen s.files number path → ReadsFile d s (Call.Pread number offset count) root path offset count
-open_reads d s number path offset count root m is opened = record {
+pub open_reads : (d : Device) (s : State) (descriptor : ℕ) (path : Path) (offset count root : ℕ) → IsMounted d s → present_root s.history ≡ Some root → IsOpen s.files descriptor path → ReadsFile d s (Call.Pread descriptor offset count) root path offset count
+open_reads d s descriptor path offset count root m is opened = record {
   heavy = refl;
   by_path = accepted ∙ sym (ap (λ t. file_refusal t path) (sym (present_tree_is d s root is)) ∙ file_is_read (present_tree (machine_on d s)) path (present-file_tree (machine_on d s) m.machine) file);
   only = record { stays = refl; no_version = refl; no_record = refl };
@@ -162,10 +162,10 @@ open_reads d s number path offset count root m is opened = record {
       ∙ ap (λ (t : Tree). Reply.Bytes (read_from (bytes_at t path) offset count)) (present_tree_is d s root is);
 }
   where
-    accepted : refusal (machine_on d s) (Call.Pread number offset count) ≡ None
+    accepted : refusal (machine_on d s) (Call.Pread descriptor offset count) ≡ None
     accepted =
         ap (λ o. option_map_or (λ (x : Descriptor). if can_read x.flags then None else Some BadDescriptor) o (Some BadDescriptor)) opened.there
         ∙ ap (λ b. if b then None else Some BadDescriptor) opened.reads
 
     file : IsFile (present_tree (machine_on d s)) path
-    file = subst (IsFile (present_tree (machine_on d s))) (sym opened.named) (m.machine.files number opened.file opened.there)
+    file = subst (IsFile (present_tree (machine_on d s))) (sym opened.named) (m.machine.files descriptor opened.file opened.there)

@@ -31,7 +31,7 @@ use Rattle.block_trees.proofs.RootMaps.{empty_root}
 use Rattle.working_state.specs.Changes.{HasWritten}
 use Rattle.working_state.specs.Fresh.{unused_ring, unused, IsFresh, FreshCause, RootCause}
 use Rattle.working_state.specs.Moments.{moment}
-use Rattle.working_state.specs.Seen.{room_of, tree_on, machine_on}
+use Rattle.working_state.specs.Seen.{capacity_of, tree_on, machine_on}
 use Rattle.working_state.specs.Mounted.{IsStanding, IsMounted}
 use Rattle.working_state.specs.Worked.{storage_on}
 use Rattle.working_state.specs.declared.state.State.{State}
@@ -42,7 +42,7 @@ use Rattle.working_state.proofs.Standing.{AllStand}
 empty_stands : (d : Device) (s : State) (root : ℕ) → entries_of (node_of d root) ≡ Some [] → set.contains s.storage.ring.used root ≡ true → IsStanding d s.storage.ring root
 empty_stands d s root empty kept = record {
   held = empty_held (node_of d) root empty (set.contains s.storage.ring.used) kept;
-  rooted = (empty_root (room_of d) (node_of d) root empty).0;
+  rooted = (empty_root (capacity_of d) (node_of d) root empty).0;
 }
 
 fresh_stand : (d : Device) (s : State) (limit root : ℕ) → IsStanding d s.storage.ring root → AllStand d s.storage.ring (fresh limit root)
@@ -56,18 +56,18 @@ pub fresh_machine : (d : Device) (h : Past ℕ) (files : Descriptors) (limit roo
 fresh_machine d h files limit root is none empty =
     let history =
     ap (λ (p : Past ℕ). map_roots (tree_on d) p) is
-    ∙ ap (λ (t : Tree). fresh limit t) (empty_root (room_of d) (node_of d) root empty).1 in
+    ∙ ap (λ (t : Tree). fresh limit t) (empty_root (capacity_of d) (node_of d) root empty).1 in
     (λ i. record { history = history i; descriptors = none i })
 
 pub fresh_mounted : (d : Device) (s : State) (limit root : ℕ) → IsGeometry d.geometry → s.storage.ring.blocks ≡ d.geometry.blocks → vec_len s.storage.page ≡ d.geometry.page → block_bytes d.geometry ≤ vec_capacity s.storage.node
     → 2 ≤ limit → s.history ≡ fresh limit root → s.files ≡ none_open → entries_of (node_of d root) ≡ Some [] → set.contains s.storage.ring.used root ≡ true → IsMounted d s
-fresh_mounted d s limit root lawful blocks len room some is none empty kept =
+fresh_mounted d s limit root lawful blocks len capacity some is none empty kept =
     let all = subst (AllStand d s.storage.ring) (sym is) (fresh_stand d s limit root (empty_stands d s root empty kept)) in
     record {
       lawful = lawful;
       ring_blocks = blocks;
       page_len = len;
-      node_room = room;
+      node_room = capacity;
       versions = all.versions;
       checkpoints = all.checkpoints;
       machine = subst IsMachine (sym (fresh_machine d s.history s.files limit root is none empty)) (machine_law.first limit some);
@@ -144,7 +144,7 @@ root_why device s t (Err fault) one is why = root_cause device s t fault one is 
 pub written_fresh : (d : Device) (limit : ℕ) (s : Storage) (e : Device) (t : Storage) (h : Past ℕ) (files : Descriptors) (root : ℕ) → IsGeometry d.geometry → s.bad ≡ set.empty → s.ring ≡ unused_ring d.geometry.blocks
     → vec_len s.page ≡ d.geometry.page → block_bytes d.geometry ≤ vec_capacity s.node → HasWritten d s 1 e t → set.contains t.ring.used root ≡ true → entries_of (node_of e root) ≡ Some [] → 2 ≤ limit → h ≡ fresh limit root → files ≡ none_open
     → IsFresh d limit (moment e (record { history = h; storage = t; files = files; is_off = false }))
-written_fresh d limit s e t h files root lawful bad ring len room written kept empty some is none =
+written_fresh d limit s e t h files root lawful bad ring len capacity written kept empty some is none =
     let state : State = record { history = h; storage = t; files = files; is_off = false } in
     let same = sym written.evolved.geometry in
     let more = written.node_room in

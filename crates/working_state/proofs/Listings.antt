@@ -21,7 +21,7 @@ use Rattle.directory.specs.declared.lookups.Found.{Found}
 use Rattle.directory.specs.declared.lookups.Found.TheVariants as found
 use Rattle.directory.specs.Lookups.{look_up, is_path_fault}
 use Rattle.directory.proofs.LookupLaws.{found_leads}
-use Rattle.working_state.specs.Seen.{room_of, seen_on, machine_on}
+use Rattle.working_state.specs.Seen.{capacity_of, seen_on, machine_on}
 use Rattle.working_state.specs.Steps.{replied, is_cut_answer, CallStep}
 use Rattle.working_state.specs.Mounted.{IsMounted}
 use Rattle.working_state.specs.Worked.{IsLooked, WorkCause}
@@ -46,7 +46,7 @@ list_reply : (d : Device) (s : State) (view : View) (path : Path) (root block : 
     → look_up (node_of d) root path ≡ Ok (found.Dir block) → entries_of (node_of d block) ≡ Some items
     → reply_of space (machine_on d s) (Call.List view path) ≡ Reply.Names (names_of items)
 list_reply d s view path root block items space m shows led spelled =
-    let law = map_law (room_of d) (node_of d) root (view_stands d s view root m shows).rooted in
+    let law = map_law (capacity_of d) (node_of d) root (view_stands d s view root m shows).rooted in
     ap Reply.Names
     (ap (λ t. children t path) (view_tree_is d s view root shows) ∙ law.lists path block (found_leads (node_of d) root path block led)
     ∙ ap (λ (o : Option (List Item)). names_of (unwrap_or o [])) spelled)

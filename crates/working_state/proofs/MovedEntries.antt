@@ -31,7 +31,7 @@ use Rattle.directory.specs.declared.lookups.Found.TheVariants as found
 use Rattle.directory.specs.Trails.{has_room}
 use Rattle.directory.specs.Lookups.{look_up, entry_of, is_path_fault, IsLookupFault}
 use Rattle.directory.proofs.LookupLaws.{found_is, found_leads, found_leads_file, missing_parent, refused_is}
-use Rattle.working_state.specs.Seen.{Seen, room_of, tree_on, seen_on, machine_on}
+use Rattle.working_state.specs.Seen.{Seen, capacity_of, tree_on, seen_on, machine_on}
 use Rattle.working_state.specs.Steps.{is_light, MayRefuse, IsLater}
 use Rattle.working_state.specs.Mounted.{IsMounted}
 use Rattle.directory.specs.Depths.{IsDeeper, IsDepthFault}
@@ -126,41 +126,41 @@ dir_counted t path (Entry.File own) dir = absurd (true≢false (sym dir))
 
 -- a name that is there, or has room, by what was found, which is also called `y`
 pub room_by : (f : Blocks) (root : ℕ) (path : Path) (x y : Found) → look_up f root path ≡ Ok x → x ≡ y → has_room (Ok y) ≡ true → has_room (look_up f root path) ≡ true
-room_by f root path x y led called room = ap has_room (led ∙ ap (λ (z : Found). let r : Result Found Fault = Ok z in r) called) ∙ room
+room_by f root path x y led called capacity = ap has_room (led ∙ ap (λ (z : Found). let r : Result Found Fault = Ok z in r) called) ∙ capacity
 
 -- Look ups in the present tree.
 
 module _ (d : Device) (s : State) (root : ℕ) (path : Path) (m : IsMounted d s) (is : present_root s.history ≡ Some root) where
-  rooted : IsRoot (room_of d) (node_of d) root
+  rooted : IsRoot (capacity_of d) (node_of d) root
   rooted = (present_stands d s root m is).rooted
 
-  same : get (tree_on d root) ≡ tree (room_of d) (node_of d) root
-  same = (map_law (room_of d) (node_of d) root rooted).same
+  same : get (tree_on d root) ≡ tree (capacity_of d) (node_of d) root
+  same = (map_law (capacity_of d) (node_of d) root rooted).same
 
   place_at : (refuse : Entry → Option Fault)
-      → found_refusal (present_tree (machine_on d s)) path refuse ≡ option_or (lookup_refusal (tree (room_of d) (node_of d) root) path) (option_map_or refuse (tree (room_of d) (node_of d) root path) (Some NoEntry))
+      → found_refusal (present_tree (machine_on d s)) path refuse ≡ option_or (lookup_refusal (tree (capacity_of d) (node_of d) root) path) (option_map_or refuse (tree (capacity_of d) (node_of d) root path) (Some NoEntry))
   place_at refuse =
       ap (λ t. found_refusal t path refuse) (present_tree_is d s root is)
       ∙ ap (λ (t : Contents). option_or (lookup_refusal t path) (option_map_or refuse (t path) (Some NoEntry))) same
 
   pub place_by : (x y : Found) → look_up (node_of d) root path ≡ Ok x → x ≡ y → (refuse : Entry → Option Fault)
-      → found_refusal (present_tree (machine_on d s)) path refuse ≡ option_map_or refuse (entry_of (room_of d) (node_of d) y) (Some NoEntry)
+      → found_refusal (present_tree (machine_on d s)) path refuse ≡ option_map_or refuse (entry_of (capacity_of d) (node_of d) y) (Some NoEntry)
   place_by x y led called refuse =
-      let there = found_is (room_of d) (node_of d) root path x led in
+      let there = found_is (capacity_of d) (node_of d) root path x led in
       place_at refuse
-      ∙ ap (λ o. option_or o (option_map_or refuse (tree (room_of d) (node_of d) root path) (Some NoEntry))) there.0
+      ∙ ap (λ o. option_or o (option_map_or refuse (tree (capacity_of d) (node_of d) root path) (Some NoEntry))) there.0
       ∙ ap (λ o. option_map_or refuse o (Some NoEntry)) there.1
-      ∙ ap (λ z. option_map_or refuse (entry_of (room_of d) (node_of d) z) (Some NoEntry)) called
+      ∙ ap (λ z. option_map_or refuse (entry_of (capacity_of d) (node_of d) z) (Some NoEntry)) called
 
   pub place_look : (e : Device) (t : State) (fault : Fault) → (is_path_fault fault ≡ true → look_up (node_of d) root path ≡ Err fault)
       → (is_path_fault fault ≡ false → WorkCause (seen_on d s) fault (seen_on e t)) → IsLookupFault fault → PlaceRefused d s e t path fault
   place_look e t fault refused why lookup = elim (cases_Bool (is_path_fault fault)) [
-    | inl tells ↦ inl (λ refuse. place_at refuse ∙ ap (λ o. option_or o (option_map_or refuse (tree (room_of d) (node_of d) root path) (Some NoEntry))) (refused_is (room_of d) (node_of d) root path fault rooted (refused tells)))
+    | inl tells ↦ inl (λ refuse. place_at refuse ∙ ap (λ o. option_or o (option_map_or refuse (tree (capacity_of d) (node_of d) root path) (Some NoEntry))) (refused_is (capacity_of d) (node_of d) root path fault rooted (refused tells)))
     | inr other ↦ inr (read_cause (seen_on d s) (seen_on e t) fault other lookup (why other))
   ]
 
   pub place_file : (x : Found) (head size : ℕ) → look_up (node_of d) root path ≡ Ok x → x ≡ found.File head size → PlaceFound d s path (File head size)
-  place_file x head size led called = (Entry.File (body (room_of d) (node_of d) head size), refl, λ refuse. place_by x (found.File head size) led called refuse)
+  place_file x head size led called = (Entry.File (body (capacity_of d) (node_of d) head size), refl, λ refuse. place_by x (found.File head size) led called refuse)
 
   pub place_dir : (x : Found) (block : ℕ) → look_up (node_of d) root path ≡ Ok x → x ≡ found.Dir block → PlaceFound d s path (Dir block)
   place_dir x block led called = (Entry.Dir, refl, λ refuse. place_by x (found.Dir block) led called refuse)
@@ -169,30 +169,30 @@ module _ (d : Device) (s : State) (root : ℕ) (path : Path) (m : IsMounted d s)
   pub file_short : (x : Found) (head size : ℕ) → look_up (node_of d) root path ≡ Ok x → x ≡ found.File head size → size ≤ 16777216
   file_short x head size led called =
       let file : look_up (node_of d) root path ≡ Ok (found.File head size) = subst (λ z. look_up (node_of d) root path ≡ Ok z) called led in
-      let there : get (present_tree (machine_on d s)) path ≡ Some (Entry.File (body (room_of d) (node_of d) head size)) =
-      ap (λ t. get t path) (present_tree_is d s root is) ∙ ap (λ (t : Contents). t path) same ∙ (found_is (room_of d) (node_of d) root path (found.File head size) file).1 in
-      subst (λ n. n ≤ 16777216) (body_length (room_of d) (node_of d) head size (rooted path (File head size) (found_leads_file (node_of d) root path head size file)).0)
-      ((present-file_tree (machine_on d s) m.machine).lengths path (body (room_of d) (node_of d) head size) there)
+      let there : get (present_tree (machine_on d s)) path ≡ Some (Entry.File (body (capacity_of d) (node_of d) head size)) =
+      ap (λ t. get t path) (present_tree_is d s root is) ∙ ap (λ (t : Contents). t path) same ∙ (found_is (capacity_of d) (node_of d) root path (found.File head size) file).1 in
+      subst (λ n. n ≤ 16777216) (body_length (capacity_of d) (node_of d) head size (rooted path (File head size) (found_leads_file (node_of d) root path head size file)).0)
+      ((present-file_tree (machine_on d s) m.machine).lengths path (body (capacity_of d) (node_of d) head size) there)
 
   target_at : (entry : Entry)
-      → target_refusal (present_tree (machine_on d s)) path entry ≡ option_or (lookup_refusal (tree (room_of d) (node_of d) root) path) (replace_refusal (tree_on d root) path entry (tree (room_of d) (node_of d) root path))
+      → target_refusal (present_tree (machine_on d s)) path entry ≡ option_or (lookup_refusal (tree (capacity_of d) (node_of d) root) path) (replace_refusal (tree_on d root) path entry (tree (capacity_of d) (node_of d) root path))
   target_at entry =
       ap (λ t. target_refusal t path entry) (present_tree_is d s root is)
       ∙ ap (λ (t : Contents). option_or (lookup_refusal t path) (replace_refusal (tree_on d root) path entry (t path))) same
 
   target_by : (x y : Found) → look_up (node_of d) root path ≡ Ok x → x ≡ y → (entry : Entry)
-      → target_refusal (present_tree (machine_on d s)) path entry ≡ replace_refusal (tree_on d root) path entry (entry_of (room_of d) (node_of d) y)
+      → target_refusal (present_tree (machine_on d s)) path entry ≡ replace_refusal (tree_on d root) path entry (entry_of (capacity_of d) (node_of d) y)
   target_by x y led called entry =
-      let there = found_is (room_of d) (node_of d) root path x led in
+      let there = found_is (capacity_of d) (node_of d) root path x led in
       target_at entry
-      ∙ ap (λ o. option_or o (replace_refusal (tree_on d root) path entry (tree (room_of d) (node_of d) root path))) there.0
+      ∙ ap (λ o. option_or o (replace_refusal (tree_on d root) path entry (tree (capacity_of d) (node_of d) root path))) there.0
       ∙ ap (λ o. replace_refusal (tree_on d root) path entry o) there.1
-      ∙ ap (λ z. replace_refusal (tree_on d root) path entry (entry_of (room_of d) (node_of d) z)) called
+      ∙ ap (λ z. replace_refusal (tree_on d root) path entry (entry_of (capacity_of d) (node_of d) z)) called
 
   pub target_look : (e : Device) (t : State) (moves : Bool) (fault : Fault) → (is_path_fault fault ≡ true → look_up (node_of d) root path ≡ Err fault)
       → (is_path_fault fault ≡ false → WorkCause (seen_on d s) fault (seen_on e t)) → IsLookupFault fault → TargetRefused d s e t path moves fault
   target_look e t moves fault refused why lookup = elim (cases_Bool (is_path_fault fault)) [
-    | inl tells ↦ inl (λ entry kind. target_at entry ∙ ap (λ o. option_or o (replace_refusal (tree_on d root) path entry (tree (room_of d) (node_of d) root path))) (refused_is (room_of d) (node_of d) root path fault rooted (refused tells)))
+    | inl tells ↦ inl (λ entry kind. target_at entry ∙ ap (λ o. option_or o (replace_refusal (tree_on d root) path entry (tree (capacity_of d) (node_of d) root path))) (refused_is (capacity_of d) (node_of d) root path fault rooted (refused tells)))
     | inr other ↦ inr (read_cause (seen_on d s) (seen_on e t) fault other lookup (why other))
   ]
 
@@ -208,10 +208,10 @@ module _ (d : Device) (s : State) (root : ℕ) (path : Path) (m : IsMounted d s)
   target_missing x full led called entry = target_by x (found.Missing full) led called entry ∙ missing_fits (tree_on d root) path entry
 
   pub target_file : (x : Found) (head size : ℕ) → look_up (node_of d) root path ≡ Ok x → x ≡ found.File head size → (entry : Entry) → is_dir entry ≡ false → target_refusal (present_tree (machine_on d s)) path entry ≡ None
-  target_file x head size led called entry kind = target_by x (found.File head size) led called entry ∙ file_fits (tree_on d root) path entry (body (room_of d) (node_of d) head size) kind
+  target_file x head size led called entry kind = target_by x (found.File head size) led called entry ∙ file_fits (tree_on d root) path entry (body (capacity_of d) (node_of d) head size) kind
 
   pub target_no_directory : (x : Found) (head size : ℕ) → look_up (node_of d) root path ≡ Ok x → x ≡ found.File head size → (entry : Entry) → is_dir entry ≡ true → target_refusal (present_tree (machine_on d s)) path entry ≡ Some NotDirectory
-  target_no_directory x head size led called entry kind = target_by x (found.File head size) led called entry ∙ file_refuses (tree_on d root) path entry (body (room_of d) (node_of d) head size) kind
+  target_no_directory x head size led called entry kind = target_by x (found.File head size) led called entry ∙ file_refuses (tree_on d root) path entry (body (capacity_of d) (node_of d) head size) kind
 
   pub target_directory : (x : Found) (block : ℕ) → look_up (node_of d) root path ≡ Ok x → x ≡ found.Dir block → (entry : Entry) → is_dir entry ≡ false → target_refusal (present_tree (machine_on d s)) path entry ≡ Some IsDirectory
   target_directory x block led called entry kind = target_by x (found.Dir block) led called entry ∙ dir_refuses (tree_on d root) path entry kind
@@ -225,18 +225,18 @@ module _ (d : Device) (s : State) (root : ℕ) (path : Path) (m : IsMounted d s)
       ∙ dir_counted (tree_on d root) path entry kind
       ∙ ap (λ n. if nat_lt 0 n then Some NotEmpty else None) (rmdir_count d s path root block items m is dir here)
 
-  lacks_by : (x y : Found) → look_up (node_of d) root path ≡ Ok x → x ≡ y → lacks_room (present_tree (machine_on d s)) path ≡ (is_none (entry_of (room_of d) (node_of d) y) && is_full (tree_on d root) (parent_of path))
+  lacks_by : (x y : Found) → look_up (node_of d) root path ≡ Ok x → x ≡ y → lacks_room (present_tree (machine_on d s)) path ≡ (is_none (entry_of (capacity_of d) (node_of d) y) && is_full (tree_on d root) (parent_of path))
   lacks_by x y led called =
       ap (λ t. lacks_room t path) (present_tree_is d s root is)
       ∙ ap (λ (t : Contents). is_none (t path) && is_full (tree_on d root) (parent_of path)) same
-      ∙ ap (λ o. is_none o && is_full (tree_on d root) (parent_of path)) (found_is (room_of d) (node_of d) root path x led).1
-      ∙ ap (λ z. is_none (entry_of (room_of d) (node_of d) z) && is_full (tree_on d root) (parent_of path)) called
+      ∙ ap (λ o. is_none o && is_full (tree_on d root) (parent_of path)) (found_is (capacity_of d) (node_of d) root path x led).1
+      ∙ ap (λ z. is_none (entry_of (capacity_of d) (node_of d) z) && is_full (tree_on d root) (parent_of path)) called
 
   pub lacks_missing : (x : Found) (full : Bool) → look_up (node_of d) root path ≡ Ok x → x ≡ found.Missing full → full ≡ lacks_room (present_tree (machine_on d s)) path
   lacks_missing x full led called =
       let missing : look_up (node_of d) root path ≡ Ok (found.Missing full) = subst (λ z. look_up (node_of d) root path ≡ Ok z) called led in
       let parent = missing_parent (node_of d) root path full missing in
-      sym (lacks_by x (found.Missing full) led called ∙ full_directory (room_of d) (node_of d) root (parent_of path) parent.0 rooted parent.1 ∙ sym parent.2)
+      sym (lacks_by x (found.Missing full) led called ∙ full_directory (capacity_of d) (node_of d) root (parent_of path) parent.0 rooted parent.1 ∙ sym parent.2)
 
   pub lacks_file : (x : Found) (head size : ℕ) → look_up (node_of d) root path ≡ Ok x → x ≡ found.File head size → false ≡ lacks_room (present_tree (machine_on d s)) path
   lacks_file x head size led called = sym (lacks_by x (found.File head size) led called)
@@ -254,10 +254,10 @@ no_counted count (item ∷ items) counts few = absurd (omega arith)
 
 -- Depth.
 
-pub too_deep : (room : ℕ) (f : Blocks) (root : ℕ) (old new : Path) (place : Place) → IsRoot room f root → leads f (Dir root) old ≡ Some place → length new ≤ 16 → IsDeeper f place (16 - length new) → is_too_deep (root_tree room f root) old new ≡ true
-too_deep room f root old new place has led lawful (path, there, long) = elim (cases_Bool (is_too_deep (root_tree room f root) old new)) [
+pub too_deep : (capacity : ℕ) (f : Blocks) (root : ℕ) (old new : Path) (place : Place) → IsRoot capacity f root → leads f (Dir root) old ≡ Some place → length new ≤ 16 → IsDeeper f place (16 - length new) → is_too_deep (root_tree capacity f root) old new ≡ true
+too_deep capacity f root old new place has led lawful (path, there, long) = elim (cases_Bool (is_too_deep (root_tree capacity f root) old new)) [
   | inl deep ↦ deep
-  | inr shallow ↦ absurd (let short = (depth_law room f root old new place has led lawful).0 shallow path there in omega arith)
+  | inr shallow ↦ absurd (let short = (depth_law capacity f root old new place has led lawful).0 shallow path there in omega arith)
 ]
 
 -- What is refused of a move to another path.
@@ -326,12 +326,12 @@ kind_below entry dir old new b kind is = ap (λ k. k && begins old new) kind ∙
 -- the new name has room where that is asked
 pub move_room : (f : Blocks) (root : ℕ) (old new : Path) (full : Bool) → (full && not (same_path (parent_of old) (parent_of new))) ≡ false → (full ≡ false → has_room (look_up f root new) ≡ true)
     → same_path (parent_of old) (parent_of new) ≡ false → has_room (look_up f root new) ≡ true
-move_room f root old new full room fits other = fits (go (same_path (parent_of old) (parent_of new)) full room other)
+move_room f root old new full capacity fits other = fits (go (same_path (parent_of old) (parent_of new)) full capacity other)
   where
     go : (within full : Bool) → (full && not within) ≡ false → within ≡ false → full ≡ false
-    go within false room other = refl
-    go false true room other = absurd (true≢false room)
-    go true true room other = absurd (true≢false other)
+    go within false capacity other = refl
+    go false true capacity other = absurd (true≢false capacity)
+    go true true capacity other = absurd (true≢false other)
 
 module _ (d : Device) (s : State) (old new : Path) (place : Place) (dir : Bool) (differ : same_path old new ≡ false) (dirs : dir ≡ is_dir_place place) where
   pub move_below : (e : Device) (t : State) (fault : Fault) → (fault ≡ Invalid) × ((dir && begins old new) ≡ true) → MoveRefused d s e t old new place fault
@@ -354,10 +354,10 @@ module _ (d : Device) (s : State) (root : ℕ) (old new : Path) (place : Place) 
   depth_is deep told = ap (λ t. is_too_deep t old new) (present_tree_is d s root is) ∙ told
 
   pub is_deep : IsDeeper (node_of d) place (16 - length new) → is_too_deep (present_tree (machine_on d s)) old new ≡ true
-  is_deep deeper = depth_is true (too_deep (room_of d) (node_of d) root old new place (present_stands d s root m is).rooted led short deeper)
+  is_deep deeper = depth_is true (too_deep (capacity_of d) (node_of d) root old new place (present_stands d s root m is).rooted led short deeper)
 
   pub is_shallow : IsShallow (node_of d) place (16 - length new) → is_too_deep (present_tree (machine_on d s)) old new ≡ false
-  is_shallow shallow = depth_is false ((depth_law (room_of d) (node_of d) root old new place (present_stands d s root m is).rooted led short).1 shallow)
+  is_shallow shallow = depth_is false ((depth_law (capacity_of d) (node_of d) root old new place (present_stands d s root m is).rooted led short).1 shallow)
 
 -- a depth of the nodes before
 pub deeper_before : (f g : Blocks) (place : Place) (most : ℕ) → g ≡ f → IsDeeper g place most → IsDeeper f place most
@@ -374,8 +374,8 @@ pub busy_before : (s t : State) (old new : Path) (busy : Bool) → t.files ≡ s
 busy_before s t old new busy same told = subst (λ ds. (is_open_within ds old || is_open ds new) ≡ busy) same told
 
 -- whether room is lacking, by what was looked up
-pub room_is : (tree : Tree) (old new : Path) (full lacks : Bool) → full ≡ lacks_room tree new → (full && not (same_path (parent_of old) (parent_of new))) ≡ lacks → (lacks_room tree new && not (same_path (parent_of old) (parent_of new))) ≡ lacks
-room_is tree old new full lacks is told = ap (λ b. b && not (same_path (parent_of old) (parent_of new))) (sym is) ∙ told
+pub capacity_is : (tree : Tree) (old new : Path) (full lacks : Bool) → full ≡ lacks_room tree new → (full && not (same_path (parent_of old) (parent_of new))) ≡ lacks → (lacks_room tree new && not (same_path (parent_of old) (parent_of new))) ≡ lacks
+capacity_is tree old new full lacks is told = ap (λ b. b && not (same_path (parent_of old) (parent_of new))) (sym is) ∙ told
 
 -- no path goes on below a file
 pub file_shallow : (f : Blocks) (at : Place) (most head size : ℕ) → at ≡ File head size → IsShallow f at most

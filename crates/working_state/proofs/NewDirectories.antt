@@ -22,7 +22,7 @@ use Rattle.directory.specs.declared.lookups.Found.{Found}
 use Rattle.directory.specs.declared.lookups.Found.TheVariants as found
 use Rattle.directory.specs.Lookups.{look_up, entry_of, is_path_fault, IsLookupFault}
 use Rattle.directory.proofs.LookupLaws.{found_is, missing_parent, refused_is}
-use Rattle.working_state.specs.Seen.{room_of, tree_on, seen_on, machine_on}
+use Rattle.working_state.specs.Seen.{capacity_of, tree_on, seen_on, machine_on}
 use Rattle.working_state.specs.Steps.{Refuses}
 use Rattle.working_state.specs.Mounted.{IsMounted}
 use Rattle.working_state.specs.Worked.{IsLooked, WorkCause}
@@ -43,11 +43,11 @@ path_refusal path refused there full = if length path == 0 then Some Exists else
 
 mkdir_at : (d : Device) (s : State) (path : Path) (root : ℕ) → IsMounted d s → present_root s.history ≡ Some root
     → refusal (machine_on d s) (Call.Mkdir path)
-    ≡ path_refusal path (lookup_refusal (tree (room_of d) (node_of d) root) path) (tree (room_of d) (node_of d) root path) (is_full (tree_on d root) (parent_of path))
+    ≡ path_refusal path (lookup_refusal (tree (capacity_of d) (node_of d) root) path) (tree (capacity_of d) (node_of d) root path) (is_full (tree_on d root) (parent_of path))
 mkdir_at d s path root m is =
     ap (λ t. path_refusal path (lookup_refusal (get t) path) (get t path) (is_full t (parent_of path))) (present_tree_is d s root is)
     ∙ ap (λ (t : Contents). path_refusal path (lookup_refusal t path) (t path) (is_full (tree_on d root) (parent_of path)))
-    (map_law (room_of d) (node_of d) root (present_stands d s root m is).rooted).same
+    (map_law (capacity_of d) (node_of d) root (present_stands d s root m is).rooted).same
 
 -- why no directory is made where a look up found this
 abbrev pub found_refuses : Found → Option Fault
@@ -65,26 +65,26 @@ same_when_there path entry full = go (length path == 0)
     go true = refl
     go false = refl
 
-missing_refuses : (room : ℕ) (f : Blocks) (root : ℕ) (path : Path) (full : Bool) → IsRoot room f root → look_up f root path ≡ Ok (found.Missing full)
-    → path_refusal path None None (is_full (root_tree room f root) (parent_of path)) ≡ found_refuses (found.Missing full)
-missing_refuses room f root [] full is e = absurd cc
-missing_refuses room f root (n ∷ path) full is e =
+missing_refuses : (capacity : ℕ) (f : Blocks) (root : ℕ) (path : Path) (full : Bool) → IsRoot capacity f root → look_up f root path ≡ Ok (found.Missing full)
+    → path_refusal path None None (is_full (root_tree capacity f root) (parent_of path)) ≡ found_refuses (found.Missing full)
+missing_refuses capacity f root [] full is e = absurd cc
+missing_refuses capacity f root (n ∷ path) full is e =
     let parent = missing_parent f root (n ∷ path) full e in
-    ap (λ b. if b then Some Exists else below_refusal None None (is_full (root_tree room f root) (parent_of (n ∷ path)))) (some_names n path)
-    ∙ ap (λ b. if b then Some DirectoryFull else None) (full_directory room f root (parent_of (n ∷ path)) parent.0 is parent.1 ∙ sym parent.2)
+    ap (λ b. if b then Some Exists else below_refusal None None (is_full (root_tree capacity f root) (parent_of (n ∷ path)))) (some_names n path)
+    ∙ ap (λ b. if b then Some DirectoryFull else None) (full_directory capacity f root (parent_of (n ∷ path)) parent.0 is parent.1 ∙ sym parent.2)
 
 mkdir_found : (d : Device) (s : State) (path : Path) (root : ℕ) (x : Found) → IsMounted d s → present_root s.history ≡ Some root → look_up (node_of d) root path ≡ Ok x
     → refusal (machine_on d s) (Call.Mkdir path) ≡ found_refuses x
 mkdir_found d s path root x m is e =
-    let law = found_is (room_of d) (node_of d) root path x e in
+    let law = found_is (capacity_of d) (node_of d) root path x e in
     mkdir_at d s path root m is
-    ∙ ap (λ o. path_refusal path o (tree (room_of d) (node_of d) root path) (is_full (tree_on d root) (parent_of path))) law.0
+    ∙ ap (λ o. path_refusal path o (tree (capacity_of d) (node_of d) root path) (is_full (tree_on d root) (parent_of path))) law.0
     ∙ ap (λ o. path_refusal path None o (is_full (tree_on d root) (parent_of path))) law.1
     ∙ go x e
   where
-    go : (x : Found) → look_up (node_of d) root path ≡ Ok x → path_refusal path None (entry_of (room_of d) (node_of d) x) (is_full (tree_on d root) (parent_of path)) ≡ found_refuses x
-    go (found.Missing full) e = missing_refuses (room_of d) (node_of d) root path full (present_stands d s root m is).rooted e
-    go (found.File head size) e = same_when_there path (Entry.File (body (room_of d) (node_of d) head size)) (is_full (tree_on d root) (parent_of path))
+    go : (x : Found) → look_up (node_of d) root path ≡ Ok x → path_refusal path None (entry_of (capacity_of d) (node_of d) x) (is_full (tree_on d root) (parent_of path)) ≡ found_refuses x
+    go (found.Missing full) e = missing_refuses (capacity_of d) (node_of d) root path full (present_stands d s root m is).rooted e
+    go (found.File head size) e = same_when_there path (Entry.File (body (capacity_of d) (node_of d) head size)) (is_full (tree_on d root) (parent_of path))
     go (found.Dir block) e = same_when_there path Entry.Dir (is_full (tree_on d root) (parent_of path))
 
 told_refuses : (f : Blocks) (root : ℕ) (path : Path) (fault : Fault) (there : Option Entry) (full : Bool) → look_up f root path ≡ Err fault → path_refusal path (Some fault) there full ≡ Some fault
@@ -94,10 +94,10 @@ told_refuses f root (n ∷ path) fault there full e = ap (λ b. if b then Some E
 mkdir_told : (d : Device) (s : State) (path : Path) (root : ℕ) (fault : Fault) → IsMounted d s → present_root s.history ≡ Some root → look_up (node_of d) root path ≡ Err fault
     → refusal (machine_on d s) (Call.Mkdir path) ≡ Some fault
 mkdir_told d s path root fault m is e =
-    let there = tree (room_of d) (node_of d) root path in
+    let there = tree (capacity_of d) (node_of d) root path in
     let full = is_full (tree_on d root) (parent_of path) in
     mkdir_at d s path root m is
-    ∙ ap (λ o. path_refusal path o there full) (refused_is (room_of d) (node_of d) root path fault (present_stands d s root m is).rooted e)
+    ∙ ap (λ o. path_refusal path o there full) (refused_is (capacity_of d) (node_of d) root path fault (present_stands d s root m is).rooted e)
     ∙ told_refuses (node_of d) root path fault there full e
 
 -- a look up that was refused, by whether the nodes tell of it
@@ -129,6 +129,6 @@ mkdir_change d s e t path m l fine lawful = record {
   after = λ root is. ap (λ (x : Tree). Some (put x path Entry.Dir)) (later_tree d s e t root m is l);
   heavy = refl;
   paths = lawful;
-  more = λ room. omega arith;
+  more = λ capacity. omega arith;
   replies = λ space. refl;
 }

@@ -10,7 +10,7 @@ use Rattle.plain_trees.specs.Contents.{Contents, Entry, parent_of, lookup_refusa
 use Rattle.plain_trees.specs.Trees.{Tree, is_full, bytes_of}
 use Rattle.history_machine.specs.Descriptors.{Descriptors, least_free, opened, creates, is_exclusive, truncates, are_lawful}
 use Rattle.history_machine.specs.History.{Past, present_root, changed}
-use Rattle.history_machine.specs.Machine.{Machine, IsMachine, Space, present_tree, number_refusal, open_refusal, open_changes, file_put, refusal, tree_after, answer_of, machine_of}
+use Rattle.history_machine.specs.Machine.{Machine, IsMachine, Space, present_tree, full_table_refusal, open_refusal, open_changes, file_put, refusal, tree_after, answer_of, machine_of}
 use Rattle.fs_types.specs.declared.calls.Call.{Call}
 use Rattle.fs_types.specs.declared.calls.Reply.{Reply}
 use Rattle.fs_types.specs.declared.faults.Fault.{Fault}
@@ -26,7 +26,7 @@ use Rattle.directory.specs.declared.lookups.Found.{Found}
 use Rattle.directory.specs.declared.lookups.Found.TheVariants as found
 use Rattle.directory.specs.Lookups.{look_up, entry_of, is_path_fault, IsLookupFault}
 use Rattle.directory.proofs.LookupLaws.{found_is, found_leads_file, missing_parent, refused_is}
-use Rattle.working_state.specs.Seen.{room_of, seen_on, machine_on}
+use Rattle.working_state.specs.Seen.{capacity_of, seen_on, machine_on}
 use Rattle.working_state.specs.Steps.{replied, is_cut, is_cut_answer, Refuses, CallStep}
 use Rattle.working_state.specs.Mounted.{IsMounted}
 use Rattle.working_state.specs.Opening.{found_refusal, changes_found, IsAnswered}
@@ -40,15 +40,15 @@ use Rattle.working_state.proofs.Steps.{still_machine}
 -- ---- refusals
 
 -- what stands at each path of the present tree
-pub present_is : (d : Device) (s : State) (root : ℕ) → IsMounted d s → present_root s.history ≡ Some root → get (present_tree (machine_on d s)) ≡ tree (room_of d) (node_of d) root
-present_is d s root m is = ap (λ (t : Tree). get t) (present_tree_is d s root is) ∙ (map_law (room_of d) (node_of d) root (present_stands d s root m is).rooted).same
+pub present_is : (d : Device) (s : State) (root : ℕ) → IsMounted d s → present_root s.history ≡ Some root → get (present_tree (machine_on d s)) ≡ tree (capacity_of d) (node_of d) root
+present_is d s root m is = ap (λ (t : Tree). get t) (present_tree_is d s root is) ∙ (map_law (capacity_of d) (node_of d) root (present_stands d s root m is).rooted).same
 
 -- the refusal of lawful flags, by what stands at each path
 abbrev refusal_by : Machine → Path → OpenFlags → Contents → Option Fault
 refusal_by m path flags t = option_or (lookup_refusal t path) (open_refusal m path flags (t path))
 
 open_at : (d : Device) (s : State) (path : Path) (flags : OpenFlags) (root : ℕ) → IsMounted d s → present_root s.history ≡ Some root → are_lawful flags ≡ true
-    → refusal (machine_on d s) (Call.Open path flags) ≡ refusal_by (machine_on d s) path flags (tree (room_of d) (node_of d) root)
+    → refusal (machine_on d s) (Call.Open path flags) ≡ refusal_by (machine_on d s) path flags (tree (capacity_of d) (node_of d) root)
 open_at d s path flags root m is lawful =
     ap (λ b. cond (not b) (Some Invalid) (refusal_by (machine_on d s) path flags (get (present_tree (machine_on d s))))) lawful
     ∙ ap (refusal_by (machine_on d s) path flags) (present_is d s root m is)
@@ -56,48 +56,48 @@ open_at d s path flags root m is lawful =
 pub open_unlawful : (m : Machine) (path : Path) (flags : OpenFlags) → are_lawful flags ≡ false → refusal m (Call.Open path flags) ≡ Some Invalid
 open_unlawful m path flags wrong = ap (λ b. cond (not b) (Some Invalid) (refusal_by m path flags (get (present_tree m)))) wrong
 
-creation : (b full : Bool) (number : Option Fault) → cond (not b) (Some NoEntry) (cond full (Some DirectoryFull) number) ≡ option_or (cond (not b) (Some NoEntry) (cond full (Some DirectoryFull) None)) number
-creation false full number = refl
-creation true true number = refl
-creation true false number = refl
+creation : (b full : Bool) (table : Option Fault) → cond (not b) (Some NoEntry) (cond full (Some DirectoryFull) table) ≡ option_or (cond (not b) (Some NoEntry) (cond full (Some DirectoryFull) None)) table
+creation false full table = refl
+creation true true table = refl
+creation true false table = refl
 
-reopening : (b : Bool) (number : Option Fault) → cond b (Some Exists) number ≡ option_or (cond b (Some Exists) None) number
-reopening true number = refl
-reopening false number = refl
+reopening : (b : Bool) (table : Option Fault) → cond b (Some Exists) table ≡ option_or (cond b (Some Exists) None) table
+reopening true table = refl
+reopening false table = refl
 
-directory : (b : Bool) (number : Option Fault) → cond b (Some Exists) (Some IsDirectory) ≡ option_or (cond b (Some Exists) (Some IsDirectory)) number
-directory true number = refl
-directory false number = refl
+directory : (b : Bool) (table : Option Fault) → cond b (Some Exists) (Some IsDirectory) ≡ option_or (cond b (Some Exists) (Some IsDirectory)) table
+directory true table = refl
+directory false table = refl
 
--- the refusal of what was found, and then that of the number
+-- the refusal of what was found, and then that of the table
 open_found : (d : Device) (s : State) (path : Path) (flags : OpenFlags) (root : ℕ) (x : Found) → IsMounted d s → present_root s.history ≡ Some root → are_lawful flags ≡ true → look_up (node_of d) root path ≡ Ok x
-    → refusal (machine_on d s) (Call.Open path flags) ≡ option_or (found_refusal flags x) (number_refusal (machine_on d s))
+    → refusal (machine_on d s) (Call.Open path flags) ≡ option_or (found_refusal flags x) (full_table_refusal (machine_on d s))
 open_found d s path flags root x m is lawful e =
     let n = machine_on d s in
-    let law = found_is (room_of d) (node_of d) root path x e in
+    let law = found_is (capacity_of d) (node_of d) root path x e in
     open_at d s path flags root m is lawful
-    ∙ ap (λ o. option_or o (open_refusal n path flags (tree (room_of d) (node_of d) root path))) law.0
+    ∙ ap (λ o. option_or o (open_refusal n path flags (tree (capacity_of d) (node_of d) root path))) law.0
     ∙ ap (open_refusal n path flags) law.1
     ∙ go x e
   where
-    number : Option Fault
-    number = number_refusal (machine_on d s)
+    table : Option Fault
+    table = full_table_refusal (machine_on d s)
 
-    go : (x : Found) → look_up (node_of d) root path ≡ Ok x → open_refusal (machine_on d s) path flags (entry_of (room_of d) (node_of d) x) ≡ option_or (found_refusal flags x) number
+    go : (x : Found) → look_up (node_of d) root path ≡ Ok x → open_refusal (machine_on d s) path flags (entry_of (capacity_of d) (node_of d) x) ≡ option_or (found_refusal flags x) table
     go (found.Missing full) e =
         let parent = missing_parent (node_of d) root path full e in
         let same : is_full (present_tree (machine_on d s)) (parent_of path) ≡ full =
         ap (λ (t : Tree). is_full t (parent_of path)) (present_tree_is d s root is)
-        ∙ full_directory (room_of d) (node_of d) root (parent_of path) parent.0 (present_stands d s root m is).rooted parent.1 ∙ sym parent.2 in
-        ap (λ b. cond (not (creates flags)) (Some NoEntry) (cond b (Some DirectoryFull) number)) same ∙ creation (creates flags) full number
-    go (found.File head size) e = reopening (creates flags && is_exclusive flags) number
-    go (found.Dir block) e = directory (creates flags && is_exclusive flags) number
+        ∙ full_directory (capacity_of d) (node_of d) root (parent_of path) parent.0 (present_stands d s root m is).rooted parent.1 ∙ sym parent.2 in
+        ap (λ b. cond (not (creates flags)) (Some NoEntry) (cond b (Some DirectoryFull) table)) same ∙ creation (creates flags) full table
+    go (found.File head size) e = reopening (creates flags && is_exclusive flags) table
+    go (found.Dir block) e = directory (creates flags && is_exclusive flags) table
 
 open_told : (d : Device) (s : State) (path : Path) (flags : OpenFlags) (root : ℕ) (fault : Fault) → IsMounted d s → present_root s.history ≡ Some root → are_lawful flags ≡ true → look_up (node_of d) root path ≡ Err fault
     → refusal (machine_on d s) (Call.Open path flags) ≡ Some fault
 open_told d s path flags root fault m is lawful e =
     open_at d s path flags root m is lawful
-    ∙ ap (λ o. option_or o (open_refusal (machine_on d s) path flags (tree (room_of d) (node_of d) root path))) (refused_is (room_of d) (node_of d) root path fault (present_stands d s root m is).rooted e)
+    ∙ ap (λ o. option_or o (open_refusal (machine_on d s) path flags (tree (capacity_of d) (node_of d) root path))) (refused_is (capacity_of d) (node_of d) root path fault (present_stands d s root m is).rooted e)
 
 -- a look up that was refused, by whether the nodes tell of it
 pub open_fault : (d : Device) (s : State) (e : Device) (t : State) (path : Path) (flags : OpenFlags) (root : ℕ) (fault : Fault) → IsMounted d s → present_root s.history ≡ Some root → are_lawful flags ≡ true
@@ -113,29 +113,29 @@ open_fault d s e t path flags root fault m is lawful refused why lookup = elim (
 pub found_refuses : (d : Device) (s : State) (e : Device) (t : State) (path : Path) (flags : OpenFlags) (root : ℕ) (x : Found) (fault : Fault) → IsMounted d s → present_root s.history ≡ Some root → are_lawful flags ≡ true
     → look_up (node_of d) root path ≡ Ok x → found_refusal flags x ≡ Some fault → Refuses (seen_on d s) (machine_on d s) (Call.Open path flags) fault (seen_on e t)
 found_refuses d s e t path flags root x fault m is lawful led refused =
-    inl (open_found d s path flags root x m is lawful led ∙ ap (λ o. option_or o (number_refusal (machine_on d s))) refused)
+    inl (open_found d s path flags root x m is lawful led ∙ ap (λ o. option_or o (full_table_refusal (machine_on d s))) refused)
 
--- no number is free
+-- no descriptor is free
 pub number_refuses : (d : Device) (s : State) (e : Device) (t : State) (path : Path) (flags : OpenFlags) (root : ℕ) (x : Found) → IsMounted d s → present_root s.history ≡ Some root → are_lawful flags ≡ true
     → look_up (node_of d) root path ≡ Ok x → found_refusal flags x ≡ None → least_free s.files ≡ None → Refuses (seen_on d s) (machine_on d s) (Call.Open path flags) TooManyOpen (seen_on e t)
 number_refuses d s e t path flags root x m is lawful led fits none =
     inl (open_found d s path flags root x m is lawful led
-    ∙ ap (λ o. option_or o (number_refusal (machine_on d s))) fits ∙ ap (λ o. cond (is_none o) (Some TooManyOpen) None) none)
+    ∙ ap (λ o. option_or o (full_table_refusal (machine_on d s))) fits ∙ ap (λ o. cond (is_none o) (Some TooManyOpen) None) none)
 
-pub open_accepted : (d : Device) (s : State) (path : Path) (flags : OpenFlags) (root number : ℕ) (x : Found) → IsMounted d s → present_root s.history ≡ Some root → are_lawful flags ≡ true
-    → look_up (node_of d) root path ≡ Ok x → found_refusal flags x ≡ None → least_free s.files ≡ Some number → refusal (machine_on d s) (Call.Open path flags) ≡ None
-open_accepted d s path flags root number x m is lawful led fits free =
+pub open_accepted : (d : Device) (s : State) (path : Path) (flags : OpenFlags) (root descriptor : ℕ) (x : Found) → IsMounted d s → present_root s.history ≡ Some root → are_lawful flags ≡ true
+    → look_up (node_of d) root path ≡ Ok x → found_refusal flags x ≡ None → least_free s.files ≡ Some descriptor → refusal (machine_on d s) (Call.Open path flags) ≡ None
+open_accepted d s path flags root descriptor x m is lawful led fits free =
     open_found d s path flags root x m is lawful led
-    ∙ ap (λ o. option_or o (number_refusal (machine_on d s))) fits ∙ ap (λ o. cond (is_none o) (Some TooManyOpen) None) free
+    ∙ ap (λ o. option_or o (full_table_refusal (machine_on d s))) fits ∙ ap (λ o. cond (is_none o) (Some TooManyOpen) None) free
 
 -- ---- changes
 
 -- a body is as long as its file
-long_body : (room : ℕ) (f : Blocks) (head size : ℕ) → IsBody room f head size → nat_lt 0 (length (body room f head size)) ≡ nat_lt 0 size
-long_body room f head zero is = refl
-long_body room f head (suc n) is =
-    let enough : suc n ≤ length (data_to f (head_index room (suc n)) head) = is.1 in
-    let long : length (take (suc n) (data_to f (head_index room (suc n)) head)) ≡ suc n = omega (arith, length-take (suc n) (data_to f (head_index room (suc n)) head)) in
+long_body : (capacity : ℕ) (f : Blocks) (head size : ℕ) → IsBody capacity f head size → nat_lt 0 (length (body capacity f head size)) ≡ nat_lt 0 size
+long_body capacity f head zero is = refl
+long_body capacity f head (suc n) is =
+    let enough : suc n ≤ length (data_to f (head_index capacity (suc n)) head) = is.1 in
+    let long : length (take (suc n) (data_to f (head_index capacity (suc n)) head)) ≡ suc n = omega (arith, length-take (suc n) (data_to f (head_index capacity (suc n)) head)) in
     ap (nat_lt 0) long
 
 -- whether what stands at the path is changed
@@ -146,14 +146,14 @@ pub changes_is : (d : Device) (s : State) (path : Path) (flags : OpenFlags) (roo
     → open_changes (present_tree (machine_on d s)) path flags ≡ changes_found flags x
 changes_is d s path flags root x m is led fits =
     ap (λ (t : Contents). changes_at flags (t path)) (present_is d s root m is)
-    ∙ ap (changes_at flags) (found_is (room_of d) (node_of d) root path x led).1
+    ∙ ap (changes_at flags) (found_is (capacity_of d) (node_of d) root path x led).1
     ∙ go x led fits
   where
-    go : (x : Found) → look_up (node_of d) root path ≡ Ok x → found_refusal flags x ≡ None → changes_at flags (entry_of (room_of d) (node_of d) x) ≡ changes_found flags x
+    go : (x : Found) → look_up (node_of d) root path ≡ Ok x → found_refusal flags x ≡ None → changes_at flags (entry_of (capacity_of d) (node_of d) x) ≡ changes_found flags x
     go (found.Missing full) led fits = refl
     go (found.File head size) led fits =
         let whole = ((present_stands d s root m is).rooted path (place.File head size) (found_leads_file (node_of d) root path head size led)).0 in
-        ap (λ b. truncates flags && b) (long_body (room_of d) (node_of d) head size whole)
+        ap (λ b. truncates flags && b) (long_body (capacity_of d) (node_of d) head size whole)
     go (found.Dir block) led fits = absurd (no_directory (creates flags && is_exclusive flags) fits)
       where
         no_directory : (b : Bool) → cond b (Some Exists) (Some IsDirectory) ≡ None → ⊥
@@ -190,31 +190,31 @@ mounted_at e t h files m all machine = record {
 }
 
 -- the open files with one more
-pub files_after : (m : Machine) (path : Path) (flags : OpenFlags) (number : ℕ) → least_free m.descriptors ≡ Some number
-    → option_map_or (λ n. opened m.descriptors n (record { path = path; flags = flags })) (least_free m.descriptors) m.descriptors ≡ opened m.descriptors number (record { path = path; flags = flags })
-files_after m path flags number free = ap (λ o. option_map_or (λ n. opened m.descriptors n (record { path = path; flags = flags })) o m.descriptors) free
+pub files_after : (m : Machine) (path : Path) (flags : OpenFlags) (descriptor : ℕ) → least_free m.descriptors ≡ Some descriptor
+    → option_map_or (λ n. opened m.descriptors n (record { path = path; flags = flags })) (least_free m.descriptors) m.descriptors ≡ opened m.descriptors descriptor (record { path = path; flags = flags })
+files_after m path flags descriptor free = ap (λ o. option_map_or (λ n. opened m.descriptors n (record { path = path; flags = flags })) o m.descriptors) free
 
 -- what an open leaves, by the tree that it makes
-next_is : (m : Machine) (path : Path) (flags : OpenFlags) (number : ℕ) (made : Option Tree) → refusal m (Call.Open path flags) ≡ None → tree_after m (Call.Open path flags) ≡ made → least_free m.descriptors ≡ Some number
+next_is : (m : Machine) (path : Path) (flags : OpenFlags) (descriptor : ℕ) (made : Option Tree) → refusal m (Call.Open path flags) ≡ None → tree_after m (Call.Open path flags) ≡ made → least_free m.descriptors ≡ Some descriptor
     → machine_of m (Call.Open path flags) (refusal m (Call.Open path flags))
-    ≡ record { history = option_map_or (changed m.history) made m.history; descriptors = opened m.descriptors number (record { path = path; flags = flags }) }
-next_is m path flags number made fine makes free =
+    ≡ record { history = option_map_or (changed m.history) made m.history; descriptors = opened m.descriptors descriptor (record { path = path; flags = flags }) }
+next_is m path flags descriptor made fine makes free =
     ap (machine_of m (Call.Open path flags)) fine
-    ∙ (λ i. record { history = option_map_or (changed m.history) (makes i) m.history; descriptors = files_after m path flags number free i })
+    ∙ (λ i. record { history = option_map_or (changed m.history) (makes i) m.history; descriptors = files_after m path flags descriptor free i })
 
 pub made_by : (m : Machine) (path : Path) (flags : OpenFlags) (b : Bool) → open_changes (present_tree m) path flags ≡ b → tree_after m (Call.Open path flags) ≡ cond b (Some (file_put (present_tree m) path [])) None
 made_by m path flags b is = ap (λ c. cond c (Some (file_put (present_tree m) path [])) None) is
 
-answers_number : (space : Space) (m : Machine) (path : Path) (flags : OpenFlags) (number : ℕ) → refusal m (Call.Open path flags) ≡ None → least_free m.descriptors ≡ Some number
-    → answer_of space m (Call.Open path flags) (refusal m (Call.Open path flags)) ≡ Ok (Reply.Fd number)
-answers_number space m path flags number fine free = ap (answer_of space m (Call.Open path flags)) fine ∙ ap (λ o. Ok (Reply.Fd (unwrap_or o 0))) free
+answers_descriptor : (space : Space) (m : Machine) (path : Path) (flags : OpenFlags) (descriptor : ℕ) → refusal m (Call.Open path flags) ≡ None → least_free m.descriptors ≡ Some descriptor
+    → answer_of space m (Call.Open path flags) (refusal m (Call.Open path flags)) ≡ Ok (Reply.Fd descriptor)
+answers_descriptor space m path flags descriptor fine free = ap (answer_of space m (Call.Open path flags)) fine ∙ ap (λ o. Ok (Reply.Fd (unwrap_or o 0))) free
 
 -- a file that is there, and stays as it is
-pub opened_answer : (d : Device) (s : State) (e : Device) (t : State) (path : Path) (flags : OpenFlags) (number : ℕ) (files : Descriptors) → IsMounted d s → IsLooked d s e t → is_path path ≡ true
-    → refusal (machine_on d s) (Call.Open path flags) ≡ None → open_changes (present_tree (machine_on d s)) path flags ≡ false → least_free s.files ≡ Some number
-    → files ≡ opened t.files number (record { path = path; flags = flags })
-    → IsAnswered d s (Call.Open path flags) (Ok (Reply.Fd number)) e (record t { files = files }) false
-opened_answer d s e t path flags number files m l lawful fine same free is =
+pub opened_answer : (d : Device) (s : State) (e : Device) (t : State) (path : Path) (flags : OpenFlags) (descriptor : ℕ) (files : Descriptors) → IsMounted d s → IsLooked d s e t → is_path path ≡ true
+    → refusal (machine_on d s) (Call.Open path flags) ≡ None → open_changes (present_tree (machine_on d s)) path flags ≡ false → least_free s.files ≡ Some descriptor
+    → files ≡ opened t.files descriptor (record { path = path; flags = flags })
+    → IsAnswered d s (Call.Open path flags) (Ok (Reply.Fd descriptor)) e (record t { files = files }) false
+opened_answer d s e t path flags descriptor files m l lawful fine same free is =
     record { mounted = mounted_at e t t.history files mid (all_stand e t mid) machine; step = step; is_off = l.rest.is_off; pages = worked_pages d s e t m w }
   where
     call : Call
@@ -235,16 +235,16 @@ opened_answer d s e t path flags number files m l lawful fine same free is =
     leaves : machine_on e (record t { files = files }) ≡ machine_of n call (refusal n call)
     leaves =
         let history = ap (λ (x : Machine). x.history) (worked_machine d s e t m w) in
-        let descriptors = is ∙ ap (λ (fs : Descriptors). opened fs number (record { path = path; flags = flags })) l.rest.files in
-        (λ i. record { history = history i; descriptors = descriptors i }) ∙ sym (next_is n path flags number None fine none free)
+        let descriptors = is ∙ ap (λ (fs : Descriptors). opened fs descriptor (record { path = path; flags = flags })) l.rest.files in
+        (λ i. record { history = history i; descriptors = descriptors i }) ∙ sym (next_is n path flags descriptor None fine none free)
 
-    step : CallStep (seen_on d s) n false call (Ok (Reply.Fd number)) (seen_on e t) (machine_on e (record t { files = files })) false
+    step : CallStep (seen_on d s) n false call (Ok (Reply.Fd descriptor)) (seen_on e t) (machine_on e (record t { files = files })) false
     step = record {
       later = worked_later d s e t w;
       answers = (
         refl,
         record {
-          answered = answers_number (seen_on e t).space n path flags number fine free;
+          answered = answers_descriptor (seen_on e t).space n path flags descriptor fine free;
           leaves = leaves;
           writable = λ writes. never (is_none (refusal n call)) (sym (ap (λ o. is_none (refusal n call) && (is_some o || false)) none) ∙ writes);
           serial_left = λ makes. never (is_none (refusal n call)) (sym (ap (λ o. is_none (refusal n call) && is_some o) none) ∙ makes);
@@ -254,7 +254,7 @@ opened_answer d s e t path flags number files m l lawful fine same free is =
     }
 
     machine : IsMachine (machine_on e (record t { files = files }))
-    machine = still_machine (seen_on d s) (seen_on e t) n (machine_on e (record t { files = files })) false false call (Ok (Reply.Fd number)) m.machine lawful step
+    machine = still_machine (seen_on d s) (seen_on e t) n (machine_on e (record t { files = files })) false false call (Ok (Reply.Fd descriptor)) m.machine lawful step
 
 -- ---- a file that is made or cut
 

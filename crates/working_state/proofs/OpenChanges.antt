@@ -38,20 +38,20 @@ found_takes flags (found.Dir block) fits = absurd (go (creates flags && is_exclu
     go true e = cc
     go false e = cc
 
-pub open_change : (d : Device) (s : State) (e : Device) (t : State) (path : Path) (flags : OpenFlags) (number : ℕ) → IsMounted d s → IsLooked d s e t → refusal (machine_on d s) (Call.Open path flags) ≡ None → is_path path ≡ true
-    → open_changes (present_tree (machine_on d s)) path flags ≡ true → least_free s.files ≡ Some number → 0 < length path
-    → IsChangeBy d s (Call.Open path flags) (λ root. put (tree_on e root) path (Entry.File [])) (Reply.Fd number)
-open_change d s e t path flags number m l fine lawful changes free below = record {
+pub open_change : (d : Device) (s : State) (e : Device) (t : State) (path : Path) (flags : OpenFlags) (descriptor : ℕ) → IsMounted d s → IsLooked d s e t → refusal (machine_on d s) (Call.Open path flags) ≡ None → is_path path ≡ true
+    → open_changes (present_tree (machine_on d s)) path flags ≡ true → least_free s.files ≡ Some descriptor → 0 < length path
+    → IsChangeBy d s (Call.Open path flags) (λ root. put (tree_on e root) path (Entry.File [])) (Reply.Fd descriptor)
+open_change d s e t path flags descriptor m l fine lawful changes free below = record {
   fine = fine;
   after = λ root is. made_by (machine_on d s) path flags true changes ∙ ap (λ (x : Tree). Some (file_put x path [])) (later_tree d s e t root m is l);
   heavy = refl;
   paths = lawful;
-  more = λ room. below;
+  more = λ capacity. below;
   replies = λ space. ap (λ o. Reply.Fd (unwrap_or o 0)) free;
 }
 
 -- the open files with the one more
-pub open_descriptors : (d : Device) (s : State) (e : Device) (t : State) (path : Path) (flags : OpenFlags) (number : ℕ) (files : Descriptors) → IsLooked d s e t → least_free s.files ≡ Some number
-    → files ≡ opened t.files number (record { path = path; flags = flags }) → files ≡ descriptors_after (machine_on d s) (Call.Open path flags)
-open_descriptors d s e t path flags number files l free opens =
-    opens ∙ ap (λ (fs : Descriptors). opened fs number (record { path = path; flags = flags })) l.rest.files ∙ sym (files_after (machine_on d s) path flags number free)
+pub open_descriptors : (d : Device) (s : State) (e : Device) (t : State) (path : Path) (flags : OpenFlags) (descriptor : ℕ) (files : Descriptors) → IsLooked d s e t → least_free s.files ≡ Some descriptor
+    → files ≡ opened t.files descriptor (record { path = path; flags = flags }) → files ≡ descriptors_after (machine_on d s) (Call.Open path flags)
+open_descriptors d s e t path flags descriptor files l free opens =
+    opens ∙ ap (λ (fs : Descriptors). opened fs descriptor (record { path = path; flags = flags })) l.rest.files ∙ sym (files_after (machine_on d s) path flags descriptor free)

@@ -27,7 +27,7 @@ use Rattle.directory.specs.declared.lookups.Found.{Found}
 use Rattle.directory.specs.declared.lookups.Found.TheVariants as found
 use Rattle.directory.specs.Lookups.{look_up, entry_of, is_path_fault, IsLookupFault}
 use Rattle.directory.proofs.LookupLaws.{found_is, found_leads, refused_is}
-use Rattle.working_state.specs.Seen.{room_of, tree_on, seen_on, machine_on}
+use Rattle.working_state.specs.Seen.{capacity_of, tree_on, seen_on, machine_on}
 use Rattle.working_state.specs.Steps.{is_light, is_for_record, Refuses, CallStep}
 use Rattle.working_state.specs.Mounted.{IsStanding, IsMounted}
 use Rattle.working_state.specs.Worked.{IsLooked, WorkCause}
@@ -45,60 +45,60 @@ pub present_stands : (d : Device) (s : State) (root : ℕ) → IsMounted d s →
 present_stands d s root m is = of_present (IsStanding d s.storage.ring) s.history root m.versions is
 
 -- what stands in the present tree stands at a lawful path
-pub found_lawful : (d : Device) (s : State) (root : ℕ) (path : Path) (x : Found) (entry : Entry) → IsMounted d s → present_root s.history ≡ Some root → look_up (node_of d) root path ≡ Ok x → entry_of (room_of d) (node_of d) x ≡ Some entry
+pub found_lawful : (d : Device) (s : State) (root : ℕ) (path : Path) (x : Found) (entry : Entry) → IsMounted d s → present_root s.history ≡ Some root → look_up (node_of d) root path ≡ Ok x → entry_of (capacity_of d) (node_of d) x ≡ Some entry
     → is_path path ≡ true
 found_lawful d s root path x entry m is led there =
-    let law = map_law (room_of d) (node_of d) root (present_stands d s root m is).rooted in
+    let law = map_law (capacity_of d) (node_of d) root (present_stands d s root m is).rooted in
     let stands : get (present_tree (machine_on d s)) path ≡ Some entry =
     ap (λ t. get t path) (present_tree_is d s root is)
     ∙ ap (λ (t : Contents). t path) law.same
-    ∙ (found_is (room_of d) (node_of d) root path x led).1
+    ∙ (found_is (capacity_of d) (node_of d) root path x led).1
     ∙ there in
     (present-file_tree (machine_on d s) m.machine).paths path (subst IsSome (sym stands) refl)
 
 -- The refusal of what stands at a path, or of nothing.
 
-found_at : (room : ℕ) (f : Blocks) (root : ℕ) (path : Path) (refuse : Entry → Option Fault) → IsRoot room f root
-    → found_refusal (root_tree room f root) path refuse ≡ option_or (lookup_refusal (tree room f root) path) (option_map_or refuse (tree room f root path) (Some NoEntry))
-found_at room f root path refuse is = ap (λ (t : Contents). option_or (lookup_refusal t path) (option_map_or refuse (t path) (Some NoEntry))) (map_law room f root is).same
+found_at : (capacity : ℕ) (f : Blocks) (root : ℕ) (path : Path) (refuse : Entry → Option Fault) → IsRoot capacity f root
+    → found_refusal (root_tree capacity f root) path refuse ≡ option_or (lookup_refusal (tree capacity f root) path) (option_map_or refuse (tree capacity f root path) (Some NoEntry))
+found_at capacity f root path refuse is = ap (λ (t : Contents). option_or (lookup_refusal t path) (option_map_or refuse (t path) (Some NoEntry))) (map_law capacity f root is).same
 
 -- by what was found
-pub found_tells : (room : ℕ) (f : Blocks) (root : ℕ) (path : Path) (refuse : Entry → Option Fault) → IsRoot room f root → (x : Found) → look_up f root path ≡ Ok x
-    → found_refusal (root_tree room f root) path refuse ≡ option_map_or refuse (entry_of room f x) (Some NoEntry)
-found_tells room f root path refuse is x e =
-    let there = found_is room f root path x e in
-    found_at room f root path refuse is
-    ∙ ap (λ o. option_or o (option_map_or refuse (tree room f root path) (Some NoEntry))) there.0
+pub found_tells : (capacity : ℕ) (f : Blocks) (root : ℕ) (path : Path) (refuse : Entry → Option Fault) → IsRoot capacity f root → (x : Found) → look_up f root path ≡ Ok x
+    → found_refusal (root_tree capacity f root) path refuse ≡ option_map_or refuse (entry_of capacity f x) (Some NoEntry)
+found_tells capacity f root path refuse is x e =
+    let there = found_is capacity f root path x e in
+    found_at capacity f root path refuse is
+    ∙ ap (λ o. option_or o (option_map_or refuse (tree capacity f root path) (Some NoEntry))) there.0
     ∙ ap (λ o. option_map_or refuse o (Some NoEntry)) there.1
 
 -- by what the look up was refused with
-pub refused_tells : (room : ℕ) (f : Blocks) (root : ℕ) (path : Path) (refuse : Entry → Option Fault) → IsRoot room f root → (fault : Fault) → look_up f root path ≡ Err fault
-    → found_refusal (root_tree room f root) path refuse ≡ Some fault
-refused_tells room f root path refuse is fault e =
-    found_at room f root path refuse is
-    ∙ ap (λ o. option_or o (option_map_or refuse (tree room f root path) (Some NoEntry))) (refused_is room f root path fault is e)
+pub refused_tells : (capacity : ℕ) (f : Blocks) (root : ℕ) (path : Path) (refuse : Entry → Option Fault) → IsRoot capacity f root → (fault : Fault) → look_up f root path ≡ Err fault
+    → found_refusal (root_tree capacity f root) path refuse ≡ Some fault
+refused_tells capacity f root path refuse is fault e =
+    found_at capacity f root path refuse is
+    ∙ ap (λ o. option_or o (option_map_or refuse (tree capacity f root path) (Some NoEntry))) (refused_is capacity f root path fault is e)
 
 -- a call looks a path up in the tree of a root, and refuses what stands there
 pub record LooksUp (d : Device) (s : State) (call : Call) (root : ℕ) (path : Path) (refuse : Entry → Option Fault) : Type 0 where
-  pub rooted : IsRoot (room_of d) (node_of d) root
+  pub rooted : IsRoot (capacity_of d) (node_of d) root
   pub heavy : is_light call ≡ false
   pub by_path : refusal (machine_on d s) call ≡ found_refusal (tree_on d root) path refuse
 
 module _ (d : Device) (s : State) (call : Call) (root : ℕ) (path : Path) (refuse : Entry → Option Fault) (looks : LooksUp d s call root path refuse) where
   -- what was found is refused or not for what it is
-  pub found_refuses : (x : Found) → look_up (node_of d) root path ≡ Ok x → refusal (machine_on d s) call ≡ option_map_or refuse (entry_of (room_of d) (node_of d) x) (Some NoEntry)
-  found_refuses x e = looks.by_path ∙ found_tells (room_of d) (node_of d) root path refuse looks.rooted x e
+  pub found_refuses : (x : Found) → look_up (node_of d) root path ≡ Ok x → refusal (machine_on d s) call ≡ option_map_or refuse (entry_of (capacity_of d) (node_of d) x) (Some NoEntry)
+  found_refuses x e = looks.by_path ∙ found_tells (capacity_of d) (node_of d) root path refuse looks.rooted x e
 
   -- the same of what is also called `y`
-  pub found_by : (x y : Found) → look_up (node_of d) root path ≡ Ok x → x ≡ y → refusal (machine_on d s) call ≡ option_map_or refuse (entry_of (room_of d) (node_of d) y) (Some NoEntry)
+  pub found_by : (x y : Found) → look_up (node_of d) root path ≡ Ok x → x ≡ y → refusal (machine_on d s) call ≡ option_map_or refuse (entry_of (capacity_of d) (node_of d) y) (Some NoEntry)
   found_by x y e is = found_refuses y (subst (λ z. look_up (node_of d) root path ≡ Ok z) is e)
 
-  pub found_refused : (e : Device) (t : State) (x y : Found) (fault : Fault) → look_up (node_of d) root path ≡ Ok x → x ≡ y → option_map_or refuse (entry_of (room_of d) (node_of d) y) (Some NoEntry) ≡ Some fault
+  pub found_refused : (e : Device) (t : State) (x y : Found) (fault : Fault) → look_up (node_of d) root path ≡ Ok x → x ≡ y → option_map_or refuse (entry_of (capacity_of d) (node_of d) y) (Some NoEntry) ≡ Some fault
       → Refuses (seen_on d s) (machine_on d s) call fault (seen_on e t)
   found_refused e t x y fault led is refused = inl (found_by x y led is ∙ refused)
 
   told : (fault : Fault) → look_up (node_of d) root path ≡ Err fault → refusal (machine_on d s) call ≡ Some fault
-  told fault e = looks.by_path ∙ refused_tells (room_of d) (node_of d) root path refuse looks.rooted fault e
+  told fault e = looks.by_path ∙ refused_tells (capacity_of d) (node_of d) root path refuse looks.rooted fault e
 
   -- a look up that was refused, by whether the nodes tell of it
   pub look_refused : (e : Device) (t : State) (fault : Fault)

@@ -33,7 +33,7 @@ read_refuses old new m call Damaged heavy other is why = absurd (true≢false ot
 read_refuses old new m call _ heavy other is why = absurd (not_so is)
 
 -- a refusal of a new directory's nodes
-pub write_refuses : (old new : Seen) (m : Machine) (call : Call) (fault : Fault) → is_light call ≡ false → 0 < need old.room m call → is_writing m call ≡ true → IsChangeFault fault → WorkCause old fault new → MayRefuse old m call fault new
+pub write_refuses : (old new : Seen) (m : Machine) (call : Call) (fault : Fault) → is_light call ≡ false → 0 < need old.capacity m call → is_writing m call ≡ true → IsChangeFault fault → WorkCause old fault new → MayRefuse old m call fault new
 write_refuses old new m call FlashFull heavy needs writes is why = (needs, why)
 write_refuses old new m call ReadOnly heavy needs writes is why = (writes, why)
 write_refuses old new m call ReadFailed heavy needs writes is why = (heavy, why)

@@ -73,10 +73,10 @@ same_step d s e t old new m l fine same = read_done d s e t (Call.Rename old new
 
 -- Another path.
 
-pub rename_more : (room : ℕ) (m : Machine) (old new : Path) → same_path old new ≡ false → 0 < change_need room m (Call.Rename old new)
-rename_more room m [] [] differ = absurd (true≢false differ)
-rename_more room m [] (n ∷ new) differ = omega arith
-rename_more room m (n ∷ old) new differ = omega arith
+pub rename_more : (capacity : ℕ) (m : Machine) (old new : Path) → same_path old new ≡ false → 0 < change_need capacity m (Call.Rename old new)
+rename_more capacity m [] [] differ = absurd (true≢false differ)
+rename_more capacity m [] (n ∷ new) differ = omega arith
+rename_more capacity m (n ∷ old) new differ = omega arith
 
 pub rename_apart : (d : Device) (s : State) (old new : Path) → IsMounted d s → refusal (machine_on d s) (Call.Rename old new) ≡ None → same_path old new ≡ false → Apart old new
 rename_apart d s old new m fine differ = elim (machine.rename_law (machine_on d s) old new m.machine fine) [
@@ -91,7 +91,7 @@ rename_change d s e t old new m l fine differ lawful = record {
   after = λ root is. ap (λ b. if b then None else Some (move (present_tree (machine_on d s)) old new)) differ ∙ ap (λ (x : Tree). Some (move x old new)) (later_tree d s e t root m is l);
   heavy = refl;
   paths = lawful;
-  more = λ room. rename_more room (machine_on d s) old new differ;
+  more = λ capacity. rename_more capacity (machine_on d s) old new differ;
   replies = λ space. refl;
 }
 

@@ -23,7 +23,7 @@ use Rattle.block_trees.specs.Reached.{Keeps}
 use Rattle.block_trees.specs.Trees.{IsRoot, root_tree}
 use Rattle.block_trees.proofs.Frames.{frame_law}
 use Rattle.working_state.specs.Changes.{HasLooked}
-use Rattle.working_state.specs.Seen.{room_of, tree_on, seen_on, machine_on}
+use Rattle.working_state.specs.Seen.{capacity_of, tree_on, seen_on, machine_on}
 use Rattle.working_state.specs.Steps.{IsLater}
 use Rattle.working_state.specs.Mounted.{IsStanding, IsMounted, HasRoot, KeepsPages}
 use Rattle.working_state.specs.Worked.{storage_on, IsSameBut, IsWorked, IsLooked}
@@ -36,8 +36,8 @@ use Rattle.working_state.proofs.BadCounts.{stays_read_only}
 pub keeps : (s t : Storage) → IsGeometry s.device.geometry → Evolved s t → Keeps (is_kept s) (node_of s.device) (is_kept t) (node_of t.device)
 keeps s t lawful e = record { same = λ b kept. Evolved_node s t b lawful e kept; stays = e.kept }
 
-pub same_room : (s t : Storage) → Evolved s t → room_of t.device ≡ room_of s.device
-same_room s t e = ap (λ (g : Geometry). block_bytes g - body_front) e.geometry
+pub same_capacity : (s t : Storage) → Evolved s t → capacity_of t.device ≡ capacity_of s.device
+same_capacity s t e = ap (λ (g : Geometry). block_bytes g - body_front) e.geometry
 
 frame : (s t : Storage) → IsGeometry s.device.geometry → Evolved s t → FrameLaw (node_of s.device) (node_of t.device) (is_kept s) (is_kept t)
 frame s t lawful e = frame_law (node_of s.device) (node_of t.device) (is_kept s) (is_kept t) (keeps s t lawful e)
@@ -45,14 +45,14 @@ frame s t lawful e = frame_law (node_of s.device) (node_of t.device) (is_kept s)
 still_stands : (s t : Storage) (root : ℕ) → IsGeometry s.device.geometry → Evolved s t → IsStanding s.device s.ring root → IsStanding t.device t.ring root
 still_stands s t root lawful e stands = record {
   held = (frame s t lawful e).held (Dir root) stands.held;
-  rooted = subst (λ room. IsRoot room (node_of t.device) root) (sym (same_room s t e))
-      ((frame s t lawful e).shape (room_of s.device) 16 (Dir root) stands.held stands.rooted);
+  rooted = subst (λ capacity. IsRoot capacity (node_of t.device) root) (sym (same_capacity s t e))
+      ((frame s t lawful e).shape (capacity_of s.device) 16 (Dir root) stands.held stands.rooted);
 }
 
 pub same_tree : (s t : Storage) (root : ℕ) → IsGeometry s.device.geometry → Evolved s t → IsStanding s.device s.ring root → tree_on t.device root ≡ tree_on s.device root
 same_tree s t root lawful e stands =
-    ap (λ room. root_tree room (node_of t.device) root) (same_room s t e)
-    ∙ (frame s t lawful e).roots (room_of s.device) root stands.held stands.rooted
+    ap (λ capacity. root_tree capacity (node_of t.device) root) (same_capacity s t e)
+    ∙ (frame s t lawful e).roots (capacity_of s.device) root stands.held stands.rooted
 
 -- Histories.
 
@@ -122,7 +122,7 @@ mounted_with d s e t h m w all machine =
       lawful = subst IsGeometry same m.lawful;
       ring_blocks = w.evolved.blocks ∙ m.ring_blocks ∙ ap (λ (g : Geometry). g.blocks) same;
       page_len = w.rest.page_len ∙ m.page_len ∙ ap (λ (g : Geometry). g.page) same;
-      node_room = subst (λ (g : Geometry). block_bytes g ≤ vec_capacity t.storage.node) same (let room = m.node_room in let more = w.rest.node_room in omega arith);
+      node_room = subst (λ (g : Geometry). block_bytes g ≤ vec_capacity t.storage.node) same (let capacity = m.node_room in let more = w.rest.node_room in omega arith);
       versions = all.versions;
       checkpoints = all.checkpoints;
       machine = machine;
@@ -134,7 +134,7 @@ worked_mounted d s e t m w = mounted_with d s e t t.history m w (subst (AllStand
 
 pub worked_later : (d : Device) (s : State) (e : Device) (t : State) → IsWorked d s e t → IsLater (seen_on d s) (seen_on e t)
 worked_later d s e t w = record {
-  room = same_room (storage_on d s) (storage_on e t) w.evolved;
+  capacity = same_capacity (storage_on d s) (storage_on e t) w.evolved;
   failed_reads = w.evolved.failed_reads;
   was_on = w.evolved.was_on;
   stays_read_only = stays_read_only s.storage.bad t.storage.bad w.evolved.stays_bad;

@@ -23,7 +23,7 @@ use Rattle.directory.specs.declared.lookups.Found.{Found}
 use Rattle.directory.specs.declared.lookups.Found.TheVariants as found
 use Rattle.directory.specs.Lookups.{look_up, entry_of}
 use Rattle.directory.proofs.LookupLaws.{found_is, found_leads, found_leads_file}
-use Rattle.working_state.specs.Seen.{room_of, tree_on, seen_on, machine_on}
+use Rattle.working_state.specs.Seen.{capacity_of, tree_on, seen_on, machine_on}
 use Rattle.working_state.specs.Steps.{CallStep}
 use Rattle.working_state.specs.Mounted.{IsMounted}
 use Rattle.working_state.specs.Worked.{IsLooked}
@@ -33,9 +33,9 @@ use Rattle.working_state.proofs.Standing.{looked_on}
 use Rattle.working_state.proofs.Views.{Shows, view_stands, view_tree_is, view_looks}
 
 -- a file's length is that of its bytes
-pub body_length : (room : ℕ) (f : Blocks) (head size : ℕ) → IsBody room f head size → length (body room f head size) ≡ size
-body_length room f head zero is = refl
-body_length room f head (suc n) is = length-take-le (suc n) (data_to f (head_index room (suc n)) head) is.1
+pub body_length : (capacity : ℕ) (f : Blocks) (head size : ℕ) → IsBody capacity f head size → length (body capacity f head size) ≡ size
+body_length capacity f head zero is = refl
+body_length capacity f head (suc n) is = length-take-le (suc n) (data_to f (head_index capacity (suc n)) head) is.1
 
 abbrev pub refuse_nothing : Entry → Option Fault
 refuse_nothing entry = None
@@ -48,12 +48,12 @@ stat_reads d s view path = record { stays = refl; no_version = refl; no_record =
 
 -- what stands at the path, by what was found
 stat_found : (d : Device) (s : State) (view : View) (path : Path) (root : ℕ) (x : Found) (space : Space) → IsMounted d s → Shows s.history view root → look_up (node_of d) root path ≡ Ok x
-    → reply_of space (machine_on d s) (Call.Stat view path) ≡ Reply.Stat (stat_of (tree_on d root) path (entry_of (room_of d) (node_of d) x))
+    → reply_of space (machine_on d s) (Call.Stat view path) ≡ Reply.Stat (stat_of (tree_on d root) path (entry_of (capacity_of d) (node_of d) x))
 stat_found d s view path root x space m shows e =
-    let law = map_law (room_of d) (node_of d) root (view_stands d s view root m shows).rooted in
+    let law = map_law (capacity_of d) (node_of d) root (view_stands d s view root m shows).rooted in
     ap (λ (t : Tree). Reply.Stat (stat_of t path (get t path))) (view_tree_is d s view root shows)
     ∙ ap (λ (t : Contents). Reply.Stat (stat_of (tree_on d root) path (t path))) law.same
-    ∙ ap (λ (o : Option Entry). Reply.Stat (stat_of (tree_on d root) path o)) (found_is (room_of d) (node_of d) root path x e).1
+    ∙ ap (λ (o : Option Entry). Reply.Stat (stat_of (tree_on d root) path o)) (found_is (capacity_of d) (node_of d) root path x e).1
 
 -- a file
 pub stat_file : (d : Device) (s : State) (e : Device) (t : State) (view : View) (path : Path) (root head size : ℕ) (x : Found) → IsMounted d s → IsLooked d s e t → Shows s.history view root
@@ -66,7 +66,7 @@ stat_file d s e t view path root head size x m l shows led is =
     read_done d s e t (Call.Stat view path) (Reply.Stat (Stat.File size)) m l (stat_reads d s view path)
     (found_by d s (Call.Stat view path) root path refuse_nothing looks x (found.File head size) led is)
     (stat_found d s view path root (found.File head size) (seen_on e t).space m shows file
-    ∙ ap (λ n. Reply.Stat (Stat.File n)) (body_length (room_of d) (node_of d) head size whole))
+    ∙ ap (λ n. Reply.Stat (Stat.File n)) (body_length (capacity_of d) (node_of d) head size whole))
 
 -- a directory, of which the number of entries was read
 pub stat_directory : (d : Device) (s : State) (e : Device) (t : State) (f : Device) (u : State) (view : View) (path : Path) (root block count : ℕ) (items : List Item) (x : Found) → IsMounted d s → IsLooked d s e t → node_of e ≡ node_of d
@@ -75,7 +75,7 @@ pub stat_directory : (d : Device) (s : State) (e : Device) (t : State) (f : Devi
 stat_directory d s e t f u view path root block count items x m l same k shows led is spelled counts =
     let looks = stat_looks d s view path root m shows in
     let dir : look_up (node_of d) root path ≡ Ok (found.Dir block) = subst (λ z. look_up (node_of d) root path ≡ Ok z) is led in
-    let law = map_law (room_of d) (node_of d) root looks.rooted in
+    let law = map_law (capacity_of d) (node_of d) root looks.rooted in
     let here : entries_of (node_of d block) ≡ Some items = ap (λ (g : Blocks). entries_of (g block)) (sym same) ∙ spelled in
     read_done d s f u (Call.Stat view path) (Reply.Stat (Stat.Dir count)) m (looked_on d s e t f u l k) (stat_reads d s view path)
     (found_by d s (Call.Stat view path) root path refuse_nothing looks x (found.Dir block) led is)

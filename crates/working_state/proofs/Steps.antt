@@ -27,7 +27,7 @@ abbrev pub with_history : State → Past ℕ → State
 with_history s p = record s { history = p }
 
 same-later : (old : Seen) → IsLater old old
-same-later old = record { room = refl; failed_reads = omega arith; was_on = λ e. e; stays_read_only = λ e. e }
+same-later old = record { capacity = refl; failed_reads = omega arith; was_on = λ e. e; stays_read_only = λ e. e }
 
 module _ (d : Device) (s : State) (call : Call) where
   abbrev before : Machine

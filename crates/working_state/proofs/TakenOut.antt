@@ -21,7 +21,7 @@ use Rattle.directory.specs.declared.lookups.Found.{Found}
 use Rattle.directory.specs.declared.lookups.Found.TheVariants as found
 use Rattle.directory.specs.Lookups.{look_up}
 use Rattle.directory.proofs.LookupLaws.{found_leads}
-use Rattle.working_state.specs.Seen.{room_of, tree_on, seen_on, machine_on}
+use Rattle.working_state.specs.Seen.{capacity_of, tree_on, seen_on, machine_on}
 use Rattle.working_state.specs.Steps.{Refuses}
 use Rattle.working_state.specs.Mounted.{IsMounted}
 use Rattle.working_state.specs.Worked.{IsLooked}
@@ -44,7 +44,7 @@ rmdir_looks d s path root m is below = record {
 pub rmdir_count : (d : Device) (s : State) (path : Path) (root block : ℕ) (items : List Item) → IsMounted d s → present_root s.history ≡ Some root → look_up (node_of d) root path ≡ Ok (found.Dir block) → entries_of (node_of d block) ≡ Some items
     → entry_count (tree_on d root) path ≡ length items
 rmdir_count d s path root block items m is led spelled =
-    ap length ((map_law (room_of d) (node_of d) root (present_stands d s root m is).rooted).lists path block (found_leads (node_of d) root path block led))
+    ap length ((map_law (capacity_of d) (node_of d) root (present_stands d s root m is).rooted).lists path block (found_leads (node_of d) root path block led))
     ∙ length-map (unwrap_or (entries_of (node_of d block)) []) (λ (item : Item). (item.name, is_dir_place item.place))
     ∙ ap (λ (o : Option (List Item)). length (unwrap_or o [])) spelled
 
@@ -94,7 +94,7 @@ rmdir_change d s e t path m l fine lawful below = record {
   after = λ root is. ap (λ (x : Tree). Some (remove x path)) (later_tree d s e t root m is l);
   heavy = refl;
   paths = lawful;
-  more = λ room. below;
+  more = λ capacity. below;
   replies = λ space. refl;
 }
 
@@ -125,6 +125,6 @@ unlink_change d s e t path m l fine lawful below = record {
   after = λ root is. ap (λ (x : Tree). Some (remove x path)) (later_tree d s e t root m is l);
   heavy = refl;
   paths = lawful;
-  more = λ room. below;
+  more = λ capacity. below;
   replies = λ space. refl;
 }

@@ -14,7 +14,7 @@ use Rattle.directory.specs.Trails.{IsChangeFault}
 use Rattle.tree_edits.specs.declared.edits.Edit.{Edit}
 use Rattle.tree_edits.specs.Edits.{IsEditable, effect, need}
 use Rattle.working_state.specs.Mounted.{IsStanding}
-use Rattle.working_state.specs.Seen.{room_of, tree_on, seen_of, is_read_only}
+use Rattle.working_state.specs.Seen.{capacity_of, tree_on, seen_of, is_read_only}
 use Rattle.working_state.specs.Steps.{last_serial}
 use Rattle.working_state.specs.Worked.{WorkCause}
 
@@ -41,7 +41,7 @@ pub record HasWritten (old : Device) (s : Storage) (most : ℕ) (new : Device) (
 
 -- the edit of a root can be applied
 abbrev pub CanApply : Device → Storage → ℕ → Edit → Type 0
-CanApply device storage root edit = IsEditable (room_of device) (node_of device) (set.contains storage.ring.used) root edit
+CanApply device storage root edit = IsEditable (capacity_of device) (node_of device) (set.contains storage.ring.used) root edit
 
 -- the tree that an edit makes of that of a root
 abbrev pub edited_tree : Device → Edit → ℕ → Tree
@@ -49,18 +49,18 @@ edited_tree device edit root = effect (tree_on device) edit (tree_on device root
 
 -- why the nodes of an edit are not written, of which there is one at least: for what reads and writes are refused
 pub record WorkRefuses (old : Device) (s : Storage) (edit : Edit) (fault : Fault) (new : Device) (t : Storage) : Type 0 where
-  pub needs : 0 < need (room_of old) edit
+  pub needs : 0 < need (capacity_of old) edit
   pub kind : IsChangeFault fault
   pub why : WorkCause (seen_of old s) fault (seen_of new t)
 
 -- an edit of the tree of a root was written, so many nodes at most: the new root stands and has the edited tree, or a
 -- read or write was refused for its cause; where no node is needed, flash and storage are as they were
 pub record IsTried (old : Device) (s : Storage) (edit : Edit) (root : ℕ) (result : Result ℕ Fault) (new : Device) (t : Storage) : Type 0 where
-  pub written : HasWritten old s (need (room_of old) edit) new t
+  pub written : HasWritten old s (need (capacity_of old) edit) new t
   pub stands : IfOk result (IsStanding new t.ring)
   pub shows : IfOk result (λ to. tree_on new to ≡ edited_tree old edit root)
   pub refused : IfErr result (λ fault. WorkRefuses old s edit fault new t)
-  pub still : need (room_of old) edit ≡ 0 → (new ≡ old) × (t ≡ s)
+  pub still : need (capacity_of old) edit ≡ 0 → (new ≡ old) × (t ≡ s)
 
 -- a root stands that has the edited tree of the present root, and is the present root now; where read-only mode was on,
 -- or no serial was left, it is not
@@ -86,6 +86,6 @@ ChangeEnds old h s edit (Err fault) new i t = (i ≡ h) × ChangeCause old h s e
 
 -- what a change leaves, whatever it answers; one that needs no node leaves flash and storage as they were
 pub record IsChanged (old : Device) (h : Past ℕ) (s : Storage) (edit : Edit) (result : Result (Unit {0}) Fault) (new : Device) (i : Past ℕ) (t : Storage) : Type 0 where
-  pub written : HasWritten old s (need (room_of old) edit) new t
+  pub written : HasWritten old s (need (capacity_of old) edit) new t
   pub ends : ChangeEnds old h s edit result new i t
-  pub still : need (room_of old) edit ≡ 0 → (new ≡ old) × (t ≡ s)
+  pub still : need (capacity_of old) edit ≡ 0 → (new ≡ old) × (t ≡ s)

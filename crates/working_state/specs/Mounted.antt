@@ -13,14 +13,14 @@ use Rattle.node_format.specs.declared.places.Place.TheVariants.{Dir}
 use Rattle.node_store.specs.NodePages.{node_of}
 use Rattle.block_trees.specs.Trees.{IsRoot}
 use Rattle.block_trees.specs.Reached.{Reached, IsHeld}
-use Rattle.working_state.specs.Seen.{room_of, seen_on, machine_on}
+use Rattle.working_state.specs.Seen.{capacity_of, seen_on, machine_on}
 use Rattle.working_state.specs.Steps.{CallStep}
 use Rattle.working_state.specs.declared.state.State.{State}
 
 -- a root has a tree, and the ring has all that it reaches as used
 pub record IsStanding (device : Device) (ring : Ring) (root : ℕ) : Type 0 where
   pub held : IsHeld (node_of device) (set.contains ring.used) (Dir root)
-  pub rooted : IsRoot (room_of device) (node_of device) root
+  pub rooted : IsRoot (capacity_of device) (node_of device) root
 
 -- the sizes are lawful, the ring is of this flash, there is room for a page and for a node, the roots of all versions
 -- and checkpoints stand, and what it shows is a machine: so each open file is a file of the present tree

@@ -19,17 +19,17 @@ use Rattle.working_state.specs.Seen.{machine_on}
 use Rattle.working_state.specs.declared.state.State.{State}
 use mathlib.Core.HLevel.{Σ_prop_path}
 
-chain-prop : (room : ℕ) (f : Blocks) (i block : ℕ) → IsProp (IsChain room f i block)
-chain-prop room f zero block = hlevel props
-chain-prop room f (suc i) block = hlevel (props, chain-prop room f i (pointer_of (f block) 0))
+chain-prop : (capacity : ℕ) (f : Blocks) (i block : ℕ) → IsProp (IsChain capacity f i block)
+chain-prop capacity f zero block = hlevel props
+chain-prop capacity f (suc i) block = hlevel (props, chain-prop capacity f i (pointer_of (f block) 0))
 
 linked-prop : (f : Blocks) (i block : ℕ) → IsProp (IsLinked f i block)
 linked-prop f zero block = hlevel props
 linked-prop f (suc i) block = hlevel (props, linked-prop f i (pointer_of (f block) 0))
 
-body-prop : (room : ℕ) (f : Blocks) (head size : ℕ) → IsProp (IsBody room f head size)
-body-prop room f head zero = hlevel props
-body-prop room f head (suc n) = hlevel (props, chain-prop room f (head_index room (suc n)) head, linked-prop f (head_index room (suc n)) head)
+body-prop : (capacity : ℕ) (f : Blocks) (head size : ℕ) → IsProp (IsBody capacity f head size)
+body-prop capacity f head zero = hlevel props
+body-prop capacity f head (suc n) = hlevel (props, chain-prop capacity f (head_index capacity (suc n)) head, linked-prop f (head_index capacity (suc n)) head)
 
 entries-set : IsSet (Option (List Item))
 entries-set = hlevel props
@@ -37,9 +37,9 @@ entries-set = hlevel props
 same-items : (a b : List Item) → Some a ≡ Some b → a ≡ b
 same-items a b e = ap (λ o. unwrap_or o a) e
 
-whole-prop : (room : ℕ) (f : Blocks) (place : Place) → IsProp (IsWhole room f place)
-whole-prop room f (Dir block) a b = Σ_prop_path (λ items. entries-set (entries_of (f block)) (Some items)) (same-items a.0 b.0 (sym a.1 ∙ b.1))
-whole-prop room f (File head size) a b = body-prop room f head size a b
+whole-prop : (capacity : ℕ) (f : Blocks) (place : Place) → IsProp (IsWhole capacity f place)
+whole-prop capacity f (Dir block) a b = Σ_prop_path (λ items. entries-set (entries_of (f block)) (Some items)) (same-items a.0 b.0 (sym a.1 ∙ b.1))
+whole-prop capacity f (File head size) a b = body-prop capacity f head size a b
 
 entry-set : IsSet (Option Entry)
 entry-set = hlevel props

@@ -16,12 +16,12 @@ use Rattle.block_trees.specs.Trees.{root_tree}
 use Rattle.working_state.specs.declared.state.State.{State}
 
 -- the data bytes that a body node has room for
-abbrev pub room_of : Device → ℕ
-room_of d = block_bytes d.geometry - body_front
+abbrev pub capacity_of : Device → ℕ
+capacity_of d = block_bytes d.geometry - body_front
 
 -- the tree that is read off the pages from a root
 abbrev pub tree_on : Device → ℕ → Tree
-tree_on d root = root_tree (room_of d) (node_of d) root
+tree_on d root = root_tree (capacity_of d) (node_of d) root
 
 -- the machine: the history with the tree of each root in its place, and the open files
 abbrev pub machine_on : Device → State → Machine
@@ -48,11 +48,11 @@ pub record Seen : Type 0 where
   pub powered : Bool
   pub failed_reads : ℕ
   pub read_only : Bool
-  pub room : ℕ
+  pub capacity : ℕ
   pub space : Space
 
 abbrev pub seen_of : Device → Storage → Seen
-seen_of d storage = record { powered = d.powered; failed_reads = d.failed_reads; read_only = is_read_only storage.bad; room = room_of d; space = space_of d storage }
+seen_of d storage = record { powered = d.powered; failed_reads = d.failed_reads; read_only = is_read_only storage.bad; capacity = capacity_of d; space = space_of d storage }
 
 abbrev pub seen_on : Device → State → Seen
 seen_on d state = seen_of d state.storage

@@ -21,7 +21,7 @@ empty x = Reply.Empty
 
 -- calls that take no memory and do no device operation
 abbrev pub is_light : Call → Bool
-is_light (Call.Close number) = true
+is_light (Call.Close descriptor) = true
 is_light Call.Undo = true
 is_light Call.Redo = true
 is_light (Call.Goto serial) = true
@@ -29,7 +29,7 @@ is_light _ = false
 
 -- calls that make no version and are refused in read-only mode all the same
 abbrev pub is_for_record : Call → Bool
-is_for_record (Call.Fsync number) = true
+is_for_record (Call.Fsync descriptor) = true
 is_for_record Call.Sync = true
 is_for_record (Call.Forget count) = true
 is_for_record (Call.Checkpoint name) = true
@@ -43,7 +43,7 @@ is_writing m call = is_accepted m call && (is_some (tree_after m call) || is_for
 -- a refusal that the machine does not give, with its cause: no block is left for a call that writes nodes; read-only
 -- mode is on; the serials have run out; a read failed; the device is off; memory was wanted
 abbrev pub MayRefuse : Seen → Machine → Call → Fault → Seen → Type 0
-MayRefuse old m call FlashFull new = (0 < need old.room m call) × (new.space.free ≡ 0)
+MayRefuse old m call FlashFull new = (0 < need old.capacity m call) × (new.space.free ≡ 0)
 MayRefuse old m call ReadOnly new = (is_writing m call ≡ true) × (new.read_only ≡ true)
 MayRefuse old m call Overflow new = (makes_version m call ≡ true) × (m.history.next ≡ last_serial)
 MayRefuse old m call ReadFailed new = (is_light call ≡ false) × (old.failed_reads < new.failed_reads)
@@ -78,7 +78,7 @@ Answers old m false call (Err fault) new n off' = Refuses old m call fault new �
 
 -- what calls lead to, whatever they answer
 pub record IsLater (old new : Seen) : Type 0 where
-  pub room : new.room ≡ old.room
+  pub capacity : new.capacity ≡ old.capacity
   pub failed_reads : old.failed_reads ≤ new.failed_reads
   pub was_on : new.powered ≡ true → old.powered ≡ true
   pub stays_read_only : old.read_only ≡ true → new.read_only ≡ true

@@ -30,20 +30,20 @@ use std::alloc::Global;
 use tree_edits::Edit;
 
 impl State {
-    /// The number is free.
-    pub fn close(&mut self, number: u64) -> Result<(), Fault>
+    /// The descriptor is free.
+    pub fn close(&mut self, descriptor: u64) -> Result<(), Fault>
         ensures mounted { (device : Device) → IsMounted device self.old → IsMounted device self.new }
-        ensures step { (device : Device) → StateStep device self.old (Call.Close number) (replied empty result) device self.new }
+        ensures step { (device : Device) → StateStep device self.old (Call.Close descriptor) (replied empty result) device self.new }
     {
         self.check_power()?;
-        if self.files.get(number).is_none() {
+        if self.files.get(descriptor).is_none() {
             return Err(Fault::BadDescriptor);
         }
-        self.files.close(number);
+        self.files.close(descriptor);
         Ok(())
     }
 
-    /// Opens the file at a path under the least free number, and answers the number.
+    /// Opens the file at a path under the least free descriptor, and answers the descriptor.
     pub fn open<F: Flash>(
         &mut self,
         alloc: Global,
@@ -74,23 +74,23 @@ impl State {
         ensures { IsAnswered (F.device flash.old) self.old (Call.Open path.now flags) (replied Reply.Fd result) (F.device flash.new) self.new (is_cut_answer result) }
     {
         let root = self.history.root();
-        let (found, trail, number) = self.check_open(flash, root, path, flags)?;
+        let (found, trail, descriptor) = self.check_open(flash, root, path, flags)?;
         let file = OpenFile::new(path.clone()?, flags);
         if !is_changed(found, flags) {
-            self.files.open(number, file);
-            return Ok(number);
+            self.files.open(descriptor, file);
+            return Ok(descriptor);
         }
         let edit = Edit::PutEmptyFile {
             path,
             trail: &trail,
         };
         change(alloc, flash, &mut self.history, &mut self.storage, edit)?;
-        self.files.open(number, file);
-        Ok(number)
+        self.files.open(descriptor, file);
+        Ok(descriptor)
     }
 
     /// Refuses what cannot be opened. Answers what stands at the path, the directories that it goes
-    /// through, and the least free number.
+    /// through, and the least free descriptor.
     fn check_open<F: Flash>(
         &mut self,
         flash: &mut F,
@@ -106,7 +106,7 @@ impl State {
         ensures found { IfOk result (λ r. look_up (node_of (F.device flash.old)) root path.now ≡ Ok r.0) }
         ensures fits { IfOk result (λ r. found_refusal flags r.0 ≡ None) }
         ensures way { IfOk result (λ r. IsTrail (node_of (F.device flash.old)) root path.now r.1) }
-        ensures number { IfOk result (λ r. least_free self.old.files ≡ Some r.2) }
+        ensures descriptor { IfOk result (λ r. least_free self.old.files ≡ Some r.2) }
         ensures accepted { OnOk result (refusal (machine_on (F.device flash.old) self.old) (Call.Open path.now flags) ≡ None) }
         ensures refused { IfErr result (λ fault. Refuses (seen_on (F.device flash.old) self.old) (machine_on (F.device flash.old) self.old) (Call.Open path.now flags) fault (seen_on (F.device flash.new) self.new)) }
     {
@@ -115,12 +115,12 @@ impl State {
         }
         let (found, trail) = find_path(flash, &mut self.storage, root, path)?;
         check_found(found, flags)?;
-        let Some(number) = self.files.least_free() else {
+        let Some(descriptor) = self.files.least_free() else {
             return Err(Fault::TooManyOpen);
         };
         // The names of each path are lawful, as their contract tells.
         let _names = path.names();
-        Ok((found, trail, number))
+        Ok((found, trail, descriptor))
     }
 }
 

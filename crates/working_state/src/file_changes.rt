@@ -42,17 +42,17 @@ impl State {
         &mut self,
         alloc: Global,
         flash: &mut F,
-        number: u64,
+        descriptor: u64,
         offset: u64,
         bytes: &[u8],
     ) -> Result<u64, Fault>
         requires { IsMounted (F.device flash.old) self.old }
         ensures mounted { IsMounted (F.device flash.new) self.new }
-        ensures step { StateStep (F.device flash.old) self.old (Call.Pwrite number offset bytes.now) (replied Reply.Count result) (F.device flash.new) self.new }
+        ensures step { StateStep (F.device flash.old) self.old (Call.Pwrite descriptor offset bytes.now) (replied Reply.Count result) (F.device flash.new) self.new }
         ensures pages { KeepsPages (F.device flash.old) self.old.history (F.device flash.new) }
     {
         self.check_power()?;
-        let written = self.write_file(alloc, flash, number, offset, bytes);
+        let written = self.write_file(alloc, flash, descriptor, offset, bytes);
         self.remember_cut(written)
     }
 
@@ -61,14 +61,14 @@ impl State {
         &mut self,
         alloc: Global,
         flash: &mut F,
-        number: u64,
+        descriptor: u64,
         offset: u64,
         bytes: &[u8],
     ) -> Result<u64, Fault>
         requires { IsMounted (F.device flash.old) self.old }
-        ensures { IsAnswered (F.device flash.old) self.old (Call.Pwrite number offset bytes.now) (replied Reply.Count result) (F.device flash.new) self.new (is_cut_answer result) }
+        ensures { IsAnswered (F.device flash.old) self.old (Call.Pwrite descriptor offset bytes.now) (replied Reply.Count result) (F.device flash.new) self.new (is_cut_answer result) }
     {
-        let path = check_write(&self.files, number, offset, bytes)?;
+        let path = check_write(&self.files, descriptor, offset, bytes)?;
         if bytes.is_empty() {
             return Ok(0);
         }
@@ -90,16 +90,16 @@ impl State {
         &mut self,
         alloc: Global,
         flash: &mut F,
-        number: u64,
+        descriptor: u64,
         size: u64,
     ) -> Result<(), Fault>
         requires { IsMounted (F.device flash.old) self.old }
         ensures mounted { IsMounted (F.device flash.new) self.new }
-        ensures step { StateStep (F.device flash.old) self.old (Call.Ftruncate number size) (replied empty result) (F.device flash.new) self.new }
+        ensures step { StateStep (F.device flash.old) self.old (Call.Ftruncate descriptor size) (replied empty result) (F.device flash.new) self.new }
         ensures pages { KeepsPages (F.device flash.old) self.old.history (F.device flash.new) }
     {
         self.check_power()?;
-        let resized = self.resize_file(alloc, flash, number, size);
+        let resized = self.resize_file(alloc, flash, descriptor, size);
         self.remember_cut(resized)
     }
 
@@ -108,13 +108,13 @@ impl State {
         &mut self,
         alloc: Global,
         flash: &mut F,
-        number: u64,
+        descriptor: u64,
         size: u64,
     ) -> Result<(), Fault>
         requires { IsMounted (F.device flash.old) self.old }
-        ensures { IsAnswered (F.device flash.old) self.old (Call.Ftruncate number size) (replied empty result) (F.device flash.new) self.new (is_cut_answer result) }
+        ensures { IsAnswered (F.device flash.old) self.old (Call.Ftruncate descriptor size) (replied empty result) (F.device flash.new) self.new (is_cut_answer result) }
     {
-        let path = check_resize(&self.files, number, size)?;
+        let path = check_resize(&self.files, descriptor, size)?;
         let root = self.history.root();
         let (body, trail) = find_body(flash, &mut self.storage, root, path)?;
         if u64::from(body.length) == size {
@@ -130,20 +130,20 @@ impl State {
     }
 }
 
-/// Refuses a number that is not of a file open for writing, and bytes beyond the most of a file; else
+/// Refuses a descriptor that is not of a file open for writing, and bytes beyond the most of a file; else
 /// the path of the file.
 fn check_write<'a>(
     files: &'a OpenFiles,
-    number: u64,
+    descriptor: u64,
     offset: u64,
     bytes: &[u8],
 ) -> Result<&'a Path, Fault>
-    ensures path { IfOk result (λ path. IsPathOf files.now number path.now) }
-    ensures ok { OnOk result (option_map_or (pwrite_refusal offset bytes.now) (descriptor_at files.now number) (Some BadDescriptor) ≡ None) }
+    ensures path { IfOk result (λ path. IsPathOf files.now descriptor path.now) }
+    ensures ok { OnOk result (option_map_or (pwrite_refusal offset bytes.now) (descriptor_at files.now descriptor) (Some BadDescriptor) ≡ None) }
     ensures fits { OnOk result (0 < length bytes.now → offset + length bytes.now ≤ 16777216) }
-    ensures err { IfErr result (λ fault. option_map_or (pwrite_refusal offset bytes.now) (descriptor_at files.now number) (Some BadDescriptor) ≡ Some fault) }
+    ensures err { IfErr result (λ fault. option_map_or (pwrite_refusal offset bytes.now) (descriptor_at files.now descriptor) (Some BadDescriptor) ≡ Some fault) }
 {
-    let Some(file) = files.get(number) else {
+    let Some(file) = files.get(descriptor) else {
         return Err(Fault::BadDescriptor);
     };
     if !file.flags().contains(OpenFlags::WRITE) {
@@ -156,15 +156,15 @@ fn check_write<'a>(
     Ok(file.path())
 }
 
-/// Refuses a number that is not of an open file, one that is not for writing, and a length beyond the
+/// Refuses a descriptor that is not of an open file, one that is not for writing, and a length beyond the
 /// most of a file; else the path of the file.
-fn check_resize(files: &OpenFiles, number: u64, size: u64) -> Result<&Path, Fault>
-    ensures path { IfOk result (λ path. IsPathOf files.now number path.now) }
-    ensures ok { OnOk result (option_map_or (ftruncate_refusal size) (descriptor_at files.now number) (Some BadDescriptor) ≡ None) }
+fn check_resize(files: &OpenFiles, descriptor: u64, size: u64) -> Result<&Path, Fault>
+    ensures path { IfOk result (λ path. IsPathOf files.now descriptor path.now) }
+    ensures ok { OnOk result (option_map_or (ftruncate_refusal size) (descriptor_at files.now descriptor) (Some BadDescriptor) ≡ None) }
     ensures fits { OnOk result (size ≤ 16777216) }
-    ensures err { IfErr result (λ fault. option_map_or (ftruncate_refusal size) (descriptor_at files.now number) (Some BadDescriptor) ≡ Some fault) }
+    ensures err { IfErr result (λ fault. option_map_or (ftruncate_refusal size) (descriptor_at files.now descriptor) (Some BadDescriptor) ≡ Some fault) }
 {
-    let Some(file) = files.get(number) else {
+    let Some(file) = files.get(descriptor) else {
         return Err(Fault::BadDescriptor);
     };
     if !file.flags().contains(OpenFlags::WRITE) {

@@ -13,7 +13,7 @@ ghost use Rattle.skip_list_file.specs.Reading.{is_body_fault};
 ghost use Rattle.working_state.specs.Changes.{IsReady, HasLooked};
 ghost use Rattle.working_state.specs.Mounted.{IsMounted, StateStep};
 ghost use Rattle.working_state.specs.Reading.{file_refusal, IsRead};
-ghost use Rattle.working_state.specs.Seen.{room_of, tree_on, seen_of, seen_on, machine_on};
+ghost use Rattle.working_state.specs.Seen.{capacity_of, tree_on, seen_of, seen_on, machine_on};
 ghost use Rattle.working_state.specs.Steps.{replied, is_cut_answer, CallStep};
 ghost use Rattle.working_state.specs.Worked.{IsLooked, WorkCause};
 
@@ -126,7 +126,7 @@ fn read_below<F: Flash>(
     count: u64,
 ) -> Result<Bytes, Fault>
     requires ready { IsReady (F.device flash.old) storage.old }
-    requires rooted { IsRoot (room_of (F.device flash.old)) (node_of (F.device flash.old)) root }
+    requires rooted { IsRoot (capacity_of (F.device flash.old)) (node_of (F.device flash.old)) root }
     ensures looked { HasLooked (F.device flash.old) storage.old (F.device flash.new) storage.new }
     ensures read { IfOk result (IsRead (tree_on (F.device flash.old) root) path.now offset count) }
     ensures refused { IfErr result (λ fault. is_body_fault fault ≡ false → file_refusal (tree_on (F.device flash.old) root) path.now ≡ Some fault) }

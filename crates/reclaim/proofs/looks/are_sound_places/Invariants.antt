@@ -7,7 +7,7 @@ use Rattle.reclaim.proofs.looks.are_sound_places.Given as goal
 -- the places so far are sound
 abbrev pub invariant-loop-place : goal.invariant-loop-place
 invariant-loop-place g l = record {
-  good : All (IsSoundPlace l.room (g.N.Nodes.node l.initial.nodes)) (take l.place-index l.places);
+  good : All (IsSoundPlace l.capacity (g.N.Nodes.node l.initial.nodes)) (take l.place-index l.places);
   reads : g.N.Nodes.reads l.nodes ≤ g.N.Nodes.reads l.initial.nodes + l.place-index;
   looks : OnlyLooks g.N.Nodes.node g.N.Nodes.kept g.N.Nodes.writes g.N.Nodes.follows g.N.Nodes.is_sound g.N.Nodes.limit g.N.Nodes.blocks l.initial.nodes l.nodes;
 }

@@ -1,19 +1,19 @@
 use Rattle.std.proofs.Common.{◌≡◌, ◌↔◌, ℕ, suc, ◌+◌, ap, sym, subst, ◌∙◌, arith}
 use Rattle.std.specs.Prelude.{IsTrue, slice_index}
 use Rattle.block_trees.specs.Bodies.{Blocks}
-use Rattle.reclaim.specs.Naming.{has_place}
-use Rattle.reclaim.specs.Sound.{HoldsPlace}
+use Rattle.reclaim.specs.Naming.{has_slot}
+use Rattle.reclaim.specs.Sound.{HoldsSlot}
 use Rattle.reclaim.proofs.Looking.{stepped_not}
 use Rattle.reclaim.proofs.looks.are_stepped.Goals as goal
 
 pub returns-then-not-holds-clause-exact : goal.returns-then-not-holds-clause-exact
 returns-then-not-holds-clause-exact g c =
     let p = slice_index c.args.pointers.now in
-    let x = c.loop-place.place in
+    let x = c.loop-slot.slot in
     let next : suc x ≡ x + 1 = omega arith in
     stepped_not (g.N.Nodes.node c.args.nodes.now) p c.args.index x c.in_ok-holds.holds
-    (omega (arith, c.loop-place-test.true))
-    (ap (has_place c.args.index) next ∙ sym c.has_pointer.ensures ∙ c.if-has_pointer.true)
+    (omega (arith, c.loop-slot-test.true))
+    (ap (has_slot c.args.index) next ∙ sym c.has_pointer.ensures ∙ c.if-has_pointer.true)
     c.if-not-holds.true
-    (subst (λ (k : ℕ). IsTrue c.in_ok-holds.holds ↔ HoldsPlace (g.N.Nodes.node c.args.nodes.now (p x)) x (p k)) (sym next)
-    (subst (λ (f : Blocks). IsTrue c.in_ok-holds.holds ↔ HoldsPlace (f (p x)) x (p (x + 1))) c.loop-place.invariant.looks.same_nodes c.in_ok-holds.ensures.exact))
+    (subst (λ (k : ℕ). IsTrue c.in_ok-holds.holds ↔ HoldsSlot (g.N.Nodes.node c.args.nodes.now (p x)) x (p k)) (sym next)
+    (subst (λ (f : Blocks). IsTrue c.in_ok-holds.holds ↔ HoldsSlot (f (p x)) x (p (x + 1))) c.loop-slot.invariant.looks.same_nodes c.in_ok-holds.ensures.exact))

@@ -12,20 +12,20 @@ pub returns-then-not-good-clause-exact : goal.returns-then-not-good-clause-exact
 returns-then-not-good-clause-exact g c =
     let f = g.N.Nodes.node c.args.nodes.now in
     let at : f c.args.block ≡ Some (g.N.Nodes.shown c.brings.new.nodes) = c.in_ok-brought.ensures.shown c.if-not-brought.false in
-    node_bad c.args.room f (f c.args.block) c.deref.result.now c.in_ok-good.good
+    node_bad c.args.capacity f (f c.args.block) c.deref.result.now c.in_ok-good.good
     (c.deref.ensures.value ∙ c.in_ok-places.ensures
     ∙ ap (λ (node : Option (List ℕ)). map (λ (item : Item). item.place) (items_of node)) (ap (λ (b : List ℕ). Some b) c.lent.ensures ∙ sym at))
-    (subst (λ (f : Blocks). IsTrue c.in_ok-good.good ↔ All (IsSoundPlace c.args.room f) c.deref.result.now) c.brings.ensures.looks.same_nodes c.in_ok-good.ensures.exact)
+    (subst (λ (f : Blocks). IsTrue c.in_ok-good.good ↔ All (IsSoundPlace c.args.capacity f) c.deref.result.now) c.brings.ensures.looks.same_nodes c.in_ok-good.ensures.exact)
     c.if-not-good.true
 
 pub returns-in_default-clause-exact : goal.returns-in_default-clause-exact
 returns-in_default-clause-exact g c =
     let f = g.N.Nodes.node c.args.nodes.now in
     let at : f c.args.block ≡ Some (g.N.Nodes.shown c.brings.new.nodes) = c.in_ok-brought.ensures.shown c.if-not-brought.false in
-    node_plain c.args.room f (f c.args.block) c.deref.result.now c.in_ok-good.good
+    node_plain c.args.capacity f (f c.args.block) c.deref.result.now c.in_ok-good.good
     (c.deref.ensures.value ∙ c.in_ok-places.ensures
     ∙ ap (λ (node : Option (List ℕ)). map (λ (item : Item). item.place) (items_of node)) (ap (λ (b : List ℕ). Some b) c.lent.ensures ∙ sym at))
-    (subst (λ (f : Blocks). IsTrue c.in_ok-good.good ↔ All (IsSoundPlace c.args.room f) c.deref.result.now) c.brings.ensures.looks.same_nodes c.in_ok-good.ensures.exact)
+    (subst (λ (f : Blocks). IsTrue c.in_ok-good.good ↔ All (IsSoundPlace c.args.capacity f) c.deref.result.now) c.brings.ensures.looks.same_nodes c.in_ok-good.ensures.exact)
     c.if-not-good.false
     (ap index_of at ∙ ap (λ (b : List ℕ). index_of (Some b)) (sym c.lent-3.ensures) ∙ sym c.in_default.ensures.value)
 
@@ -33,18 +33,18 @@ pub returns-clause-exact : goal.returns-clause-exact
 returns-clause-exact g c =
     let f = g.N.Nodes.node c.args.nodes.now in
     let at : f c.args.block ≡ Some (g.N.Nodes.shown c.brings.new.nodes) = c.in_ok-brought.ensures.shown c.if-not-brought.false in
-    node_body c.args.room f (f c.args.block) c.deref.result.now c.in_ok-good.good
+    node_body c.args.capacity f (f c.args.block) c.deref.result.now c.in_ok-good.good
     (c.deref.ensures.value ∙ c.in_ok-places.ensures
     ∙ ap (λ (node : Option (List ℕ)). map (λ (item : Item). item.place) (items_of node)) (ap (λ (b : List ℕ). Some b) c.lent.ensures ∙ sym at))
-    (subst (λ (f : Blocks). IsTrue c.in_ok-good.good ↔ All (IsSoundPlace c.args.room f) c.deref.result.now) c.brings.ensures.looks.same_nodes c.in_ok-good.ensures.exact)
+    (subst (λ (f : Blocks). IsTrue c.in_ok-good.good ↔ All (IsSoundPlace c.args.capacity f) c.deref.result.now) c.brings.ensures.looks.same_nodes c.in_ok-good.ensures.exact)
     c.if-not-good.false
     c.in-Some.index (slice_index c.deref-2.result.now) c.in_ok-sound.sound
     (ap index_of at ∙ ap (λ (b : List ℕ). index_of (Some b)) (sym c.lent-3.ensures) ∙ sym c.in-Some.ensures.value)
     c.in-Some.ensures.fits
     (λ x below. ap (λ (l : List ℕ). slice_index l x) c.deref-2.ensures.value ∙ c.in_ok-pointers.ensures.each x below
     ∙ ap (λ (node : Option (List ℕ)). pointer_of node x) (ap (λ (b : List ℕ). Some b) c.lent-2.ensures ∙ sym at))
-    (ltb-true (c.in-Some.index * c.args.room) most_length (sym c.is_short.ensures ∙ c.if-not-is_short.false))
-    (subst (λ (f : Blocks). IsTrue c.in_ok-sound.sound ↔ IsSoundBody c.args.room f (slice_index c.deref-2.result.now) c.in-Some.index)
+    (ltb-true (c.in-Some.index * c.args.capacity) most_length (sym c.is_short.ensures ∙ c.if-not-is_short.false))
+    (subst (λ (f : Blocks). IsTrue c.in_ok-sound.sound ↔ IsSoundBody c.args.capacity f (slice_index c.deref-2.result.now) c.in-Some.index)
     (c.are_sound_places.ensures.looks.same_nodes ∙ c.brings.ensures.looks.same_nodes) c.in_ok-sound.ensures.exact)
 
 pub returns-in_err-sound-clause-reads : goal.returns-in_err-sound-clause-reads

@@ -3,9 +3,9 @@ use Rattle.std.specs.Prelude.{slice_index}
 use Rattle.block_trees.specs.Bodies.{pointer_of}
 use Rattle.reclaim.proofs.looks.pointers_in.Given as goal
 
--- the places so far
-abbrev pub invariant-loop-place : goal.invariant-loop-place
-invariant-loop-place l = record {
-  count : length l.out.items ≡ l.place;
-  each : (x : ℕ) → x < l.place → slice_index l.out.items x ≡ pointer_of (Some l.bytes) x;
+-- the slots so far
+abbrev pub invariant-loop-slot : goal.invariant-loop-slot
+invariant-loop-slot l = record {
+  count : length l.out.items ≡ l.slot;
+  each : (x : ℕ) → x < l.slot → slice_index l.out.items x ≡ pointer_of (Some l.bytes) x;
 }

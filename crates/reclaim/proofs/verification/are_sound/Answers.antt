@@ -11,8 +11,8 @@ use Rattle.reclaim.proofs.verification.are_sound.Goals as goal
 pub returns-then-not-good-clause-exact : goal.returns-then-not-good-clause-exact
 returns-then-not-good-clause-exact g c =
     let f = g.N.Nodes.node c.args.nodes.now in
-    all_not (λ b. IsSoundNode c.args.room f (f b)) c.args.list.now c.loop-block.block-index c.in_ok-good.good (omega (arith, c.loop-block-test.true))
-    (subst (λ (f : Blocks). IsTrue c.in_ok-good.good ↔ IsSoundNode c.args.room f (f (slice_index c.args.list.now c.loop-block.block-index))) c.loop-block.invariant.looks.same_nodes c.in_ok-good.ensures.exact)
+    all_not (λ b. IsSoundNode c.args.capacity f (f b)) c.args.list.now c.loop-block.block-index c.in_ok-good.good (omega (arith, c.loop-block-test.true))
+    (subst (λ (f : Blocks). IsTrue c.in_ok-good.good ↔ IsSoundNode c.args.capacity f (f (slice_index c.args.list.now c.loop-block.block-index))) c.loop-block.invariant.looks.same_nodes c.in_ok-good.ensures.exact)
     c.if-not-good.true
 
 pub loop-block-preserved : goal.loop-block-preserved
@@ -20,8 +20,8 @@ loop-block-preserved g c =
     let f = g.N.Nodes.node c.args.nodes.now in
     let own = look_cost f (g.N.Nodes.node c.loop-block.nodes) (slice_index c.args.list.now c.loop-block.block-index) (g.N.Nodes.reads c.loop-block.nodes) (g.N.Nodes.reads c.look.new.nodes) c.loop-block.invariant.looks.same_nodes c.look.ensures.reads in
     record {
-      good = all_more (λ b. IsSoundNode c.args.room f (f b)) c.args.list.now c.loop-block.block-index c.in_ok-good.good (omega (arith, c.loop-block-test.true)) c.loop-block.invariant.good
-          (subst (λ (f : Blocks). IsTrue c.in_ok-good.good ↔ IsSoundNode c.args.room f (f (slice_index c.args.list.now c.loop-block.block-index))) c.loop-block.invariant.looks.same_nodes c.in_ok-good.ensures.exact)
+      good = all_more (λ b. IsSoundNode c.args.capacity f (f b)) c.args.list.now c.loop-block.block-index c.in_ok-good.good (omega (arith, c.loop-block-test.true)) c.loop-block.invariant.good
+          (subst (λ (f : Blocks). IsTrue c.in_ok-good.good ↔ IsSoundNode c.args.capacity f (f (slice_index c.args.list.now c.loop-block.block-index))) c.loop-block.invariant.looks.same_nodes c.in_ok-good.ensures.exact)
           c.if-not-good.false;
       reads = omega (arith, own, sum_more (λ b. look_reads (f b)) c.args.list.now c.loop-block.block-index (omega (arith, c.loop-block-test.true)), c.loop-block.invariant.reads);
       looks = g.met.N.Nodes.looks_on c.args.nodes.now c.loop-block.nodes c.look.new.nodes c.loop-block.invariant.looks c.look.ensures.looks;
@@ -30,7 +30,7 @@ loop-block-preserved g c =
 pub returns-clause-exact : goal.returns-clause-exact
 returns-clause-exact g c =
     let f = g.N.Nodes.node c.args.nodes.now in
-    all_end (λ b. IsSoundNode c.args.room f (f b)) c.args.list.now c.loop-block.block-index (omega (arith, c.loop-block-test.false)) c.loop-block.invariant.good
+    all_end (λ b. IsSoundNode c.args.capacity f (f b)) c.args.list.now c.loop-block.block-index (omega (arith, c.loop-block-test.false)) c.loop-block.invariant.good
 
 pub returns-in_err-good-clause-reads : goal.returns-in_err-good-clause-reads
 returns-in_err-good-clause-reads g c =

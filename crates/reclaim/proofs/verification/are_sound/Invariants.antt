@@ -9,7 +9,7 @@ use Rattle.reclaim.proofs.verification.are_sound.Given as goal
 -- the blocks so far are sound
 abbrev pub invariant-loop-block : goal.invariant-loop-block
 invariant-loop-block g l = record {
-  good : All (λ b. IsSoundNode l.room (g.N.Nodes.node l.initial.nodes) (g.N.Nodes.node l.initial.nodes b)) (take l.block-index l.list);
+  good : All (λ b. IsSoundNode l.capacity (g.N.Nodes.node l.initial.nodes) (g.N.Nodes.node l.initial.nodes b)) (take l.block-index l.list);
   reads : g.N.Nodes.reads l.nodes ≤ g.N.Nodes.reads l.initial.nodes + sum_by (λ b. look_reads (g.N.Nodes.node l.initial.nodes b)) (take l.block-index l.list);
   looks : OnlyLooks g.N.Nodes.node g.N.Nodes.kept g.N.Nodes.writes g.N.Nodes.follows g.N.Nodes.is_sound g.N.Nodes.limit g.N.Nodes.blocks l.initial.nodes l.nodes;
 }

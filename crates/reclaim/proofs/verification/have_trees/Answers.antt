@@ -16,7 +16,7 @@ returns-then-not-are_sound-clause-exact g c =
     let f = g.N.Nodes.node c.args.nodes.now in
     let limit = g.N.Nodes.limit c.args.nodes.now in
     let nodes : IsTrue c.in_ok-are_sound.are_sound ↔ All (λ b. IsSoundNode (limit - 80) f (f b)) c.args.marked.now =
-    subst (λ (n : ℕ). IsTrue c.in_ok-are_sound.are_sound ↔ All (λ b. IsSoundNode (n - 80) f (f b)) c.args.marked.now) c.block_bytes-room.ensures.value
+    subst (λ (n : ℕ). IsTrue c.in_ok-are_sound.are_sound ↔ All (λ b. IsSoundNode (n - 80) f (f b)) c.args.marked.now) c.block_bytes-capacity.ensures.value
     c.in_ok-are_sound.ensures.exact in
     (λ t. absurd (never t), λ h. sym c.if-not-are_sound.true ∙ nodes.1 (roots_asked limit f c.args.roots.now c.args.marked.now c.requires.marked h).nodes)
 
@@ -25,7 +25,7 @@ returns-clause-exact g c =
     let f = g.N.Nodes.node c.args.nodes.now in
     let limit = g.N.Nodes.limit c.args.nodes.now in
     let nodes : IsTrue c.in_ok-are_sound.are_sound ↔ All (λ b. IsSoundNode (limit - 80) f (f b)) c.args.marked.now =
-    subst (λ (n : ℕ). IsTrue c.in_ok-are_sound.are_sound ↔ All (λ b. IsSoundNode (n - 80) f (f b)) c.args.marked.now) c.block_bytes-room.ensures.value
+    subst (λ (n : ℕ). IsTrue c.in_ok-are_sound.are_sound ↔ All (λ b. IsSoundNode (n - 80) f (f b)) c.args.marked.now) c.block_bytes-capacity.ensures.value
     c.in_ok-are_sound.ensures.exact in
     let shallow : IsTrue c.in_ok-are_shallow.are_shallow ↔ All (λ root. IsShallow f (Dir root) 16) c.args.roots.now =
     subst (λ (f : Blocks). IsTrue c.in_ok-are_shallow.are_shallow ↔ All (λ root. IsShallow f (Dir root) 16) c.args.roots.now)
@@ -51,7 +51,7 @@ returns-in_err-are_shallow-clause-reads g c =
     let list = filter (holds_directory f) marked in
     let blocks = g.N.Nodes.blocks c.are_sound.new.nodes in
     let directories : HasDirectories f blocks roots list =
-    reached_directories (c.block_bytes-room.result - 80) blocks f roots marked (λ b. (c.requires.marked b).1) (λ b. (c.requires.marked b).0)
+    reached_directories (c.block_bytes-capacity.result - 80) blocks f roots marked (λ b. (c.requires.marked b).1) (λ b. (c.requires.marked b).0)
     (c.in_ok-are_sound.ensures.exact.0 c.if-not-are_sound.false) c.requires.directories in
     let levels = c.are_shallow.ensures.reads list (subst (λ (h : Blocks). HasDirectories h blocks roots list) (sym c.are_sound.ensures.looks.same_nodes) directories) in
     omega (arith, looks_and_levels f marked, c.are_sound.ensures.reads, levels)
@@ -64,7 +64,7 @@ returns-clause-reads g c =
     let list = filter (holds_directory f) marked in
     let blocks = g.N.Nodes.blocks c.are_sound.new.nodes in
     let directories : HasDirectories f blocks roots list =
-    reached_directories (c.block_bytes-room.result - 80) blocks f roots marked (λ b. (c.requires.marked b).1) (λ b. (c.requires.marked b).0)
+    reached_directories (c.block_bytes-capacity.result - 80) blocks f roots marked (λ b. (c.requires.marked b).1) (λ b. (c.requires.marked b).0)
     (c.in_ok-are_sound.ensures.exact.0 c.if-not-are_sound.false) c.requires.directories in
     let levels = c.are_shallow.ensures.reads list (subst (λ (h : Blocks). HasDirectories h blocks roots list) (sym c.are_sound.ensures.looks.same_nodes) directories) in
     omega (arith, looks_and_levels f marked, c.are_sound.ensures.reads, levels)

@@ -10,7 +10,7 @@ pointer_at-requires-clause-place g c =
     let f = g.N.Nodes.node c.args.nodes.now in
     let now = c.loop-step.invariant in
     let step : ℕ = c.loop-step._step - 1 in
-    let there = listed_pointer c.args.room f c.args.body.head c.args.body.length step (omega arith) c.requires.whole (omega arith) in
+    let there = listed_pointer c.args.capacity f c.args.body.head c.args.body.length step (omega arith) c.requires.whole (omega arith) in
     let same : g.N.Nodes.node c.loop-step.nodes c.loop-step.block ≡ f (back f c.args.body.head step) = ap (λ (h : Blocks). h c.loop-step.block) now.looks.same_nodes ∙ ap f now.here in
     subst (λ (node : Option (List ℕ)). HasPointer node 0) (sym same) there
 

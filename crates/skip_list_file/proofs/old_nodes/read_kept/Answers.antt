@@ -9,36 +9,36 @@ use Rattle.skip_list_file.proofs.old_nodes.read_kept.Goals as goal
 
 pub returns-then-kept-eq0-clause-kept : goal.returns-then-kept-eq0-clause-kept
 returns-then-kept-eq0-clause-kept g c =
-    let file : List ℕ = body c.args.room (g.N.Nodes.node c.args.nodes.now) c.args.body.head c.args.body.length in
-    let start : ℕ = c.args.index * c.args.room in
-    let size : length file ≡ c.args.body.length = body_length c.args.room (g.N.Nodes.node c.args.nodes.now) c.args.body.head c.args.body.length c.requires.whole in
+    let file : List ℕ = body c.args.capacity (g.N.Nodes.node c.args.nodes.now) c.args.body.head c.args.body.length in
+    let start : ℕ = c.args.index * c.args.capacity in
+    let size : length file ≡ c.args.body.length = body_length c.args.capacity (g.N.Nodes.node c.args.nodes.now) c.args.body.head c.args.body.length c.requires.whole in
     let is : c.min-kept.result ≡ min (length file - start) (length c.args.out.now) = omega (arith, c.min-kept.ensures, c.saturating_sub.ensures) in
     none_kept file c.args.out.now start c.args.offset c.args.end c.min-kept.result c.requires.zeros is (inl (omega arith))
 
 pub returns-then-start-kept-clause-kept : goal.returns-then-start-kept-clause-kept
 returns-then-start-kept-clause-kept g c =
-    let file : List ℕ = body c.args.room (g.N.Nodes.node c.args.nodes.now) c.args.body.head c.args.body.length in
-    let start : ℕ = c.args.index * c.args.room in
-    let size : length file ≡ c.args.body.length = body_length c.args.room (g.N.Nodes.node c.args.nodes.now) c.args.body.head c.args.body.length c.requires.whole in
+    let file : List ℕ = body c.args.capacity (g.N.Nodes.node c.args.nodes.now) c.args.body.head c.args.body.length in
+    let start : ℕ = c.args.index * c.args.capacity in
+    let size : length file ≡ c.args.body.length = body_length c.args.capacity (g.N.Nodes.node c.args.nodes.now) c.args.body.head c.args.body.length c.requires.whole in
     let is : c.min-kept.result ≡ min (length file - start) (length c.args.out.now) = omega (arith, c.min-kept.ensures, c.saturating_sub.ensures) in
     none_kept file c.args.out.now start c.args.offset c.args.end c.min-kept.result c.requires.zeros is (inr (omega arith, omega arith))
 
 pub copy_data-requires-clause-node : goal.copy_data-requires-clause-node
 copy_data-requires-clause-node g c =
     let f = g.N.Nodes.node c.args.nodes.now in
-    let head_index : ℕ = (c.args.body.length - 1) / c.args.room in
+    let head_index : ℕ = (c.args.body.length - 1) / c.args.capacity in
     let some : 0 < c.args.body.length = omega (arith, c.min-kept.ensures, c.saturating_sub.ensures) in
-    let chain = listed_chain c.args.room f c.args.body.head c.args.body.length (head_index - c.args.index) some c.requires.whole (omega arith) in
+    let chain = listed_chain c.args.capacity f c.args.body.head c.args.body.length (head_index - c.args.index) some c.requires.whole (omega arith) in
     let same = ap (λ (h : Blocks). index_of (h c.in_ok-block.block)) c.in_ok-block.ensures.looks.same_nodes in (
       head_index - (head_index - c.args.index),
-      same ∙ ap (λ (b : ℕ). index_of (f b)) c.in_ok-block.ensures.found ∙ chain_node c.args.room (head_index - (head_index - c.args.index)) (back f c.args.body.head (head_index - c.args.index)) f chain,
+      same ∙ ap (λ (b : ℕ). index_of (f b)) c.in_ok-block.ensures.found ∙ chain_node c.args.capacity (head_index - (head_index - c.args.index)) (back f c.args.body.head (head_index - c.args.index)) f chain,
     )
 
 pub copy_data-requires-clause-within : goal.copy_data-requires-clause-within
 copy_data-requires-clause-within g c =
     let f = g.N.Nodes.node c.args.nodes.now in
     let kept = c.min-kept.result in
-    let part = part_of c.args.room f c.args.body.head c.args.body.length c.args.index kept c.in_ok-block.block c.requires.least c.requires.whole (omega arith)
+    let part = part_of c.args.capacity f c.args.body.head c.args.body.length c.args.index kept c.in_ok-block.block c.requires.least c.requires.whole (omega arith)
     (omega (arith, c.min-kept.ensures, c.requires.size)) (omega (arith, c.min-kept.ensures, c.saturating_sub.ensures)) c.in_ok-block.ensures.found in
     let same = ap (λ (h : Blocks). length (data_of (h c.in_ok-block.block))) c.in_ok-block.ensures.looks.same_nodes in
     omega (arith, part.long, same, length-take-le kept c.args.out.now (omega (arith, c.min-kept.ensures)))
@@ -47,11 +47,11 @@ pub returns-clause-kept : goal.returns-clause-kept
 returns-clause-kept g c =
     let f = g.N.Nodes.node c.args.nodes.now in
     let kept = c.min-kept.result in
-    let file : List ℕ = body c.args.room f c.args.body.head c.args.body.length in
-    let start : ℕ = c.args.index * c.args.room in
-    let size : length file ≡ c.args.body.length = body_length c.args.room f c.args.body.head c.args.body.length c.requires.whole in
+    let file : List ℕ = body c.args.capacity f c.args.body.head c.args.body.length in
+    let start : ℕ = c.args.index * c.args.capacity in
+    let size : length file ≡ c.args.body.length = body_length c.args.capacity f c.args.body.head c.args.body.length c.requires.whole in
     let is : kept ≡ min (length file - start) (length c.args.out.now) = omega (arith, c.min-kept.ensures, c.saturating_sub.ensures) in
-    let part = part_of c.args.room f c.args.body.head c.args.body.length c.args.index kept c.in_ok-block.block c.requires.least c.requires.whole (omega arith)
+    let part = part_of c.args.capacity f c.args.body.head c.args.body.length c.args.index kept c.in_ok-block.block c.requires.least c.requires.whole (omega arith)
     (omega (arith, c.min-kept.ensures, c.requires.size)) (omega (arith, c.min-kept.ensures, c.saturating_sub.ensures)) c.in_ok-block.ensures.found in
     let copied : c.copy_data.new.out ≡ take kept (data_of (f c.in_ok-block.block)) =
     c.in_ok-copy_data.ensures.copied ∙ ap (λ (n : ℕ). take n (data_of (g.N.Nodes.node c.find_listed.new.nodes c.in_ok-block.block))) (length-take-le kept c.args.out.now (omega (arith, c.min-kept.ensures)))

@@ -1,8 +1,8 @@
 use Rattle.std.proofs.Common.{◌≡◌, ℕ, ◌+◌, ◌*◌, Option, Some, List, sym, ap, subst, ◌∙◌}
 use Rattle.std.specs.Prelude.{unwrap_or}
 use Rattle.node_format.specs.Headers.{field}
-use Rattle.node_format.specs.BodyNodes.{IsBodyNode, HasPlace}
-use Rattle.skip_list_file.proofs.Chains.{body_at, place_zero}
+use Rattle.node_format.specs.BodyNodes.{IsBodyNode, HasSlot}
+use Rattle.skip_list_file.proofs.Chains.{body_at, slot_zero}
 use Rattle.skip_list_file.proofs.reading.copy_data.Goals as goal
 
 pub unreachable-requires : goal.unreachable-requires
@@ -19,5 +19,5 @@ returns-clause-before g c = λ index indexed some.
     let shown = c.in_ok-read.ensures.shown in
     let at = body_at (g.N.Nodes.limit old) index (g.N.Nodes.node old c.args.block) (g.N.Nodes.shown c.read.new.self) shown (g.met.N.Nodes.whole old c.args.block _ c.requires.sound shown) indexed in
     let same : c.in-Some.node ≡ g.N.Nodes.shown c.read.new.self = c.in-Some.ensures.found.0 ∙ c.lent.ensures in
-    let only = subst (λ (bytes : List ℕ). HasPlace (field bytes 4) 0 → c.pointer.result ≡ Some (field bytes (16 + 4 * 0))) same c.pointer.ensures.only in
-    c.unwrap_or.ensures ∙ ap (λ (o : Option ℕ). unwrap_or o 0) (place_zero (g.N.Nodes.node old c.args.block) index (g.N.Nodes.shown c.read.new.self) c.pointer.result at some only)
+    let only = subst (λ (bytes : List ℕ). HasSlot (field bytes 4) 0 → c.pointer.result ≡ Some (field bytes (16 + 4 * 0))) same c.pointer.ensures.only in
+    c.unwrap_or.ensures ∙ ap (λ (o : Option ℕ). unwrap_or o 0) (slot_zero (g.N.Nodes.node old c.args.block) index (g.N.Nodes.shown c.read.new.self) c.pointer.result at some only)

@@ -9,16 +9,16 @@ pub copy_data-requires-clause-node : goal.copy_data-requires-clause-node
 copy_data-requires-clause-node g c =
     let now = c.loop-end.invariant in
     let here = ap (λ (f : Blocks). index_of (f c.loop-end.block)) now.looks.same_nodes in
-    ((c.loop-end.end - 1) / c.args.room, here ∙ chain_node c.args.room ((c.loop-end.end - 1) / c.args.room) c.loop-end.block (g.N.Nodes.node c.args.nodes.now) (now.left.chain c.loop-end-test.true))
+    ((c.loop-end.end - 1) / c.args.capacity, here ∙ chain_node c.args.capacity ((c.loop-end.end - 1) / c.args.capacity) c.loop-end.block (g.N.Nodes.node c.args.nodes.now) (now.left.chain c.loop-end-test.true))
 
 pub copy_data-requires-clause-within : goal.copy_data-requires-clause-within
 copy_data-requires-clause-within g c =
     let now = c.loop-end.invariant in
     let lt = c.loop-end-test.true in
-    let index = (c.loop-end.end - 1) / c.args.room in
+    let index = (c.loop-end.end - 1) / c.args.capacity in
     let last = now.left.last lt in
     let is = c.max-from.ensures in
-    let whole = piece_length c.args.room (g.N.Nodes.node c.args.nodes.now) c.args.start c.loop-end.end index c.loop-end.block c.loop-end.out _ lt now.left in
+    let whole = piece_length c.args.capacity (g.N.Nodes.node c.args.nodes.now) c.args.start c.loop-end.end index c.loop-end.block c.loop-end.out _ lt now.left in
     let same = ap (λ (f : Blocks). length (data_of (f c.loop-end.block))) now.looks.same_nodes in
     let le : c.args.start ≤ c.max-from.result = omega (arith, is) in
     let le' : c.max-from.result ≤ c.loop-end.end = omega (arith, is, last.starts) in
@@ -28,7 +28,7 @@ copy_data-requires-clause-within g c =
 pub returns-in_err-block-clause-reads : goal.returns-in_err-block-clause-reads
 returns-in_err-block-clause-reads g c =
     let now = c.loop-end.invariant in
-    let fewer = one_fewer c.args.room c.args.start c.loop-end.end c.max-from.result c.requires.room c.loop-end-test.true c.max-from.ensures in
+    let fewer = one_fewer c.args.capacity c.args.start c.loop-end.end c.max-from.result c.requires.capacity c.loop-end-test.true c.max-from.ensures in
     omega (arith, fewer, now.reads, c.in_err-block.ensures.reads)
 
 pub loop-end-preserved : goal.loop-end-preserved
@@ -40,7 +40,7 @@ loop-end-preserved g c =
     let lt = c.loop-end-test.true in
     let end = c.loop-end.end in
     let from = c.max-from.result in
-    let index = (end - 1) / c.args.room in
+    let index = (end - 1) / c.args.capacity in
     let out = c.loop-end.out in
     let ys = c.copy_data.new.out in
     let new = put_mid (from - c.args.start) (end - c.args.start - (from - c.args.start)) out ys in
@@ -51,14 +51,14 @@ loop-end-preserved g c =
     let part = part_length c.args.start end from out le le' now.left.size in
     let long : length ys ≡ end - c.args.start - (from - c.args.start) = omega (arith, c.copy_data.auto.out, part) in
     let same = filled_length (from - c.args.start) (end - c.args.start - (from - c.args.start)) out ys (omega (arith, now.left.size)) long in
-    let copied = done.copied ∙ ap (λ (f : Blocks). take (length (take (end - c.args.start - (from - c.args.start)) (drop (from - c.args.start) out))) (drop (from - index * c.args.room) (data_of (f c.loop-end.block)))) now.looks.same_nodes in
+    let copied = done.copied ∙ ap (λ (f : Blocks). take (length (take (end - c.args.start - (from - c.args.start)) (drop (from - c.args.start) out))) (drop (from - index * c.args.capacity) (data_of (f c.loop-end.block)))) now.looks.same_nodes in
     let before : 0 < index → c.in_ok-block.block ≡ pointer_of (f c.loop-end.block) 0 = λ some.
-    done.before index (ap (λ (f : Blocks). index_of (f c.loop-end.block)) now.looks.same_nodes ∙ chain_node c.args.room index c.loop-end.block f (now.left.chain lt)) some
+    done.before index (ap (λ (f : Blocks). index_of (f c.loop-end.block)) now.looks.same_nodes ∙ chain_node c.args.capacity index c.loop-end.block f (now.left.chain lt)) some
     ∙ ap (λ (f : Blocks). pointer_of (f c.loop-end.block) 0) now.looks.same_nodes in
-    let step = step_of c.args.room f c.args.start end index c.loop-end.block from c.in_ok-block.block out ys new lt last now.left.size is copied refl before in
-    let fewer = one_fewer c.args.room c.args.start end from c.requires.room lt is in
+    let step = step_of c.args.capacity f c.args.start end index c.loop-end.block from c.in_ok-block.block out ys new lt last now.left.size is copied refl before in
+    let fewer = one_fewer c.args.capacity c.args.start end from c.requires.capacity lt is in
     record {
-      left = step_left c.args.room f c.args.start end index c.loop-end.block from c.in_ok-block.block out new _ ((from - 1) / c.args.room) c.requires.room lt now.left step same refl;
+      left = step_left c.args.capacity f c.args.start end index c.loop-end.block from c.in_ok-block.block out new _ ((from - 1) / c.args.capacity) c.requires.capacity lt now.left step same refl;
       below = omega (arith, le', now.below);
       size = same ∙ now.size;
       reads = omega (arith, fewer, now.reads, done.reads);

@@ -11,9 +11,9 @@ decreases-loop-end g l = l.end
 -- what is left to read and what was filled are what is wanted
 abbrev pub invariant-loop-end : goal.invariant-loop-end
 invariant-loop-end g l = record {
-  left : IsLeft l.room (g.N.Nodes.node l.initial.nodes) l.start l.end ((l.end - 1) / l.room) l.block l.out (take (l.initial.end - l.start) (drop l.start (data_to (g.N.Nodes.node l.initial.nodes) ((l.initial.end - 1) / l.room) l.initial.block)));
+  left : IsLeft l.capacity (g.N.Nodes.node l.initial.nodes) l.start l.end ((l.end - 1) / l.capacity) l.block l.out (take (l.initial.end - l.start) (drop l.start (data_to (g.N.Nodes.node l.initial.nodes) ((l.initial.end - 1) / l.capacity) l.initial.block)));
   below : l.end ≤ l.initial.end;
   size : length l.out ≡ l.initial.end - l.start;
-  reads : g.N.Nodes.reads l.nodes + nodes_between l.room l.start l.end ≤ g.N.Nodes.reads l.initial.nodes + nodes_between l.room l.start l.initial.end;
+  reads : g.N.Nodes.reads l.nodes + nodes_between l.capacity l.start l.end ≤ g.N.Nodes.reads l.initial.nodes + nodes_between l.capacity l.start l.initial.end;
   looks : OnlyLooks g.N.Nodes.node g.N.Nodes.kept g.N.Nodes.writes g.N.Nodes.follows g.N.Nodes.is_sound g.N.Nodes.limit g.N.Nodes.blocks l.initial.nodes l.nodes;
 }

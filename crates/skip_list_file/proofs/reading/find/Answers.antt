@@ -21,21 +21,21 @@ loop-at-init g c =
       looks = record { same_nodes = refl; same_kept = refl; same_writes = refl; came = g.met.N.Nodes.follows_itself old; sound = c.requires.sound; same_limit = refl; same_blocks = refl };
     }
 
-pub pointer_at-requires-clause-place : goal.pointer_at-requires-clause-place
-pointer_at-requires-clause-place g c =
+pub pointer_at-requires-clause-slot : goal.pointer_at-requires-clause-slot
+pointer_at-requires-clause-slot g c =
     let so_far = c.loop-at.invariant in
     let here = ap (λ (f : Blocks). index_of (f c.loop-at.block)) so_far.looks.same_nodes in
-    (c.loop-at.at, (here ∙ chain_node (g.N.Nodes.limit c.args.nodes.now - body_front) c.loop-at.at c.loop-at.block (g.N.Nodes.node c.args.nodes.now) so_far.way.chain), (omega arith, c.farthest_place-place.ensures.0.0))
+    (c.loop-at.at, (here ∙ chain_node (g.N.Nodes.limit c.args.nodes.now - body_front) c.loop-at.at c.loop-at.block (g.N.Nodes.node c.args.nodes.now) so_far.way.chain), (omega arith, c.farthest_slot-slot.ensures.0.0))
 
 pub loop-at-preserved : goal.loop-at-preserved
 loop-at-preserved g c =
     let so_far = c.loop-at.invariant in
-    let x = c.farthest_place-place.result in
+    let x = c.farthest_slot-slot.result in
     let done = c.in_ok-block.ensures in
     let old = c.args.nodes.now in
     let next : c.in_ok-block.block ≡ pointer_of (g.N.Nodes.node old c.loop-at.block) x = done.found ∙ ap (λ (f : Blocks). pointer_of (f c.loop-at.block) x) so_far.looks.same_nodes in
-    let way = way_on (g.N.Nodes.limit old - body_front) (g.N.Nodes.node old) c.args.head c.args.head_index c.args.index c.loop-at.at c.loop-at.block x c.in_ok-block.block so_far.way c.farthest_place-place.ensures.0 next in
-    let few = few_on c.args.head_index c.args.index c.loop-at.at (g.N.Nodes.reads old) (g.N.Nodes.reads c.loop-at.nodes) (g.N.Nodes.reads c.pointer_at.new.nodes) x c.loop-at-test.true c.farthest_place-place.ensures done.reads so_far.few in
+    let way = way_on (g.N.Nodes.limit old - body_front) (g.N.Nodes.node old) c.args.head c.args.head_index c.args.index c.loop-at.at c.loop-at.block x c.in_ok-block.block so_far.way c.farthest_slot-slot.ensures.0 next in
+    let few = few_on c.args.head_index c.args.index c.loop-at.at (g.N.Nodes.reads old) (g.N.Nodes.reads c.loop-at.nodes) (g.N.Nodes.reads c.pointer_at.new.nodes) x c.loop-at-test.true c.farthest_slot-slot.ensures done.reads so_far.few in
     record {
       way = subst (λ (p : ℕ). IsOnWay (g.N.Nodes.limit old - body_front) (g.N.Nodes.node old) c.args.head c.args.head_index c.args.index (c.loop-at.at - p) c.in_ok-block.block) (sym c.pow-at.ensures) way;
       few = subst (λ (p : ℕ). FewReads c.args.head_index c.args.index (c.loop-at.at - p) (g.N.Nodes.reads old) (g.N.Nodes.reads c.pointer_at.new.nodes)) (sym c.pow-at.ensures) few;

@@ -8,46 +8,46 @@ use Rattle.skip_list_file.proofs.reading.read_range.Goals as goal
 
 pub returns-in_err-block-clause-unread : goal.returns-in_err-block-clause-unread
 returns-in_err-block-clause-unread g c = λ none.
-    let room = c.room_in-room.ensures in
-    let some = some_nodes (g.N.Nodes.limit c.args.nodes.now - body_front) c.args.body.length c.args.offset c.args.count (omega (arith, room.room, room.some)) (omega (arith, c.min-end.ensures, c.saturating_add.ensures, c.from.ensures)) in
+    let capacity = c.capacity_in-capacity.ensures in
+    let some = some_nodes (g.N.Nodes.limit c.args.nodes.now - body_front) c.args.body.length c.args.offset c.args.count (omega (arith, capacity.capacity, capacity.some)) (omega (arith, c.min-end.ensures, c.saturating_add.ensures, c.from.ensures)) in
     absurd (omega (arith, some, none))
 
 pub fill-requires-clause-chain : goal.fill-requires-clause-chain
 fill-requires-clause-chain g c =
     let f = g.N.Nodes.node c.args.nodes.now in
-    let room = c.room_in-room.ensures in
-    let range = range_found (g.N.Nodes.limit c.args.nodes.now - body_front) c.room_in-room.result f c.args.body.head c.args.body.length c.args.offset c.min-end.result c.in_ok-block.block room.room room.some
+    let capacity = c.capacity_in-capacity.ensures in
+    let range = range_found (g.N.Nodes.limit c.args.nodes.now - body_front) c.capacity_in-capacity.result f c.args.body.head c.args.body.length c.args.offset c.min-end.result c.in_ok-block.block capacity.capacity capacity.some
     (omega arith) (omega (arith, c.min-end.ensures, c.from.ensures)) c.requires.body c.in_ok-block.ensures.found in
-    subst (λ (blocks : Blocks). IsChain c.room_in-room.result blocks ((c.min-end.result - 1) / c.room_in-room.result) c.in_ok-block.block) (sym c.in_ok-block.ensures.looks.same_nodes) range.chain
+    subst (λ (blocks : Blocks). IsChain c.capacity_in-capacity.result blocks ((c.min-end.result - 1) / c.capacity_in-capacity.result) c.in_ok-block.block) (sym c.in_ok-block.ensures.looks.same_nodes) range.chain
 
 pub fill-requires-clause-within : goal.fill-requires-clause-within
 fill-requires-clause-within g c =
     let f = g.N.Nodes.node c.args.nodes.now in
-    let room = c.room_in-room.ensures in
-    let range = range_found (g.N.Nodes.limit c.args.nodes.now - body_front) c.room_in-room.result f c.args.body.head c.args.body.length c.args.offset c.min-end.result c.in_ok-block.block room.room room.some
+    let capacity = c.capacity_in-capacity.ensures in
+    let range = range_found (g.N.Nodes.limit c.args.nodes.now - body_front) c.capacity_in-capacity.result f c.args.body.head c.args.body.length c.args.offset c.min-end.result c.in_ok-block.block capacity.capacity capacity.some
     (omega arith) (omega (arith, c.min-end.ensures, c.from.ensures)) c.requires.body c.in_ok-block.ensures.found in
-    let same = ap (λ (blocks : Blocks). length (data_to blocks ((c.min-end.result - 1) / c.room_in-room.result) c.in_ok-block.block)) c.in_ok-block.ensures.looks.same_nodes in
+    let same = ap (λ (blocks : Blocks). length (data_to blocks ((c.min-end.result - 1) / c.capacity_in-capacity.result) c.in_ok-block.block)) c.in_ok-block.ensures.looks.same_nodes in
     omega (arith, range.within, same)
 
 pub returns-in_err-fill-clause-unread : goal.returns-in_err-fill-clause-unread
 returns-in_err-fill-clause-unread g c = λ none.
-    let room = c.room_in-room.ensures in
-    let some = some_nodes (g.N.Nodes.limit c.args.nodes.now - body_front) c.args.body.length c.args.offset c.args.count (omega (arith, room.room, room.some)) (omega (arith, c.min-end.ensures, c.saturating_add.ensures, c.from.ensures)) in
+    let capacity = c.capacity_in-capacity.ensures in
+    let some = some_nodes (g.N.Nodes.limit c.args.nodes.now - body_front) c.args.body.length c.args.offset c.args.count (omega (arith, capacity.capacity, capacity.some)) (omega (arith, c.min-end.ensures, c.saturating_add.ensures, c.from.ensures)) in
     absurd (omega (arith, some, none))
 
 pub returns-clause-read : goal.returns-clause-read
 returns-clause-read g c =
     let f = g.N.Nodes.node c.args.nodes.now in
     let limit = g.N.Nodes.limit c.args.nodes.now - body_front in
-    let room = c.room_in-room.ensures in
+    let capacity = c.capacity_in-capacity.ensures in
     let block = c.in_ok-block.block in
-    let index = (c.min-end.result - 1) / c.room_in-room.result in
+    let index = (c.min-end.result - 1) / c.capacity_in-capacity.result in
     let end_is : c.min-end.result ≡ min c.args.body.length (c.args.offset + c.args.count) = omega (arith, c.min-end.ensures, c.saturating_add.ensures, c.from.ensures) in
-    let range = range_found limit c.room_in-room.result f c.args.body.head c.args.body.length c.args.offset c.min-end.result block room.room room.some (omega arith) (omega arith) c.requires.body c.in_ok-block.ensures.found in
+    let range = range_found limit c.capacity_in-capacity.result f c.args.body.head c.args.body.length c.args.offset c.min-end.result block capacity.capacity capacity.some (omega arith) (omega arith) c.requires.body c.in_ok-block.ensures.found in
     let out = c.fill.new.out in
     let long : length out ≡ c.in_ok-bytes.bytes.len = omega (arith, c.fill.auto.out, c.deref_mut.ensures.len) in
     c.from_vec.ensures
     ∙ take_at out (drop (length out) c.in_ok-bytes.bytes.items) c.in_ok-bytes.bytes.len long
     ∙ c.in_ok-fill.ensures.filled
     ∙ ap (λ (blocks : Blocks). take (c.min-end.result - c.args.offset) (drop c.args.offset (data_to blocks index block))) c.in_ok-block.ensures.looks.same_nodes
-    ∙ body_read limit c.room_in-room.result f c.args.body.head c.args.body.length c.args.offset c.args.count c.min-end.result block room.room end_is (omega arith) c.requires.body range
+    ∙ body_read limit c.capacity_in-capacity.result f c.args.body.head c.args.body.length c.args.offset c.args.count c.min-end.result block capacity.capacity end_is (omega arith) c.requires.body range

@@ -7,9 +7,9 @@ use Rattle.skip_list_file.proofs.writing.edit_into.Goals as goal
 
 pub returns-clause-edited : goal.returns-clause-edited
 returns-clause-edited g c size fits =
-    let file : List ℕ = body c.args.room (g.N.Nodes.node c.args.nodes.now) c.args.body.head c.args.body.length in
+    let file : List ℕ = body c.args.capacity (g.N.Nodes.node c.args.nodes.now) c.args.body.head c.args.body.length in
     let mid = c.read_kept.new.out in
-    let start : ℕ = c.args.index * c.args.room in
+    let start : ℕ = c.args.index * c.args.capacity in
     let long : length mid ≡ length c.args.out.now = omega (arith, c.read_kept.auto.out) in
     let all = overlaid_edit file mid c.overlay.new.out c.args.bytes.now start c.args.offset size (omega (arith, c.overlay.auto.out)) (λ i lt which. c.in_ok-read_kept.ensures.kept i (omega (arith, long)) which) c.overlay.ensures (omega (arith, long)) in
     all ∙ ap (read_from (edited file c.args.offset c.args.bytes.now size) start) long

@@ -11,12 +11,12 @@ use Rattle.skip_list_file.proofs.writing.edited.Given as goal
 -- the bytes wanted stand in a body up to the node at hand, and a node was written for each index so far
 abbrev pub invariant-loop-index : goal.invariant-loop-index
 invariant-loop-index g l = record {
-  begun : IsBegun l.room (g.N.Nodes.node l.fn.nodes) (g.N.Nodes.kept l.fn.nodes) l.body (spec.edited (body l.room (g.N.Nodes.node l.fn.nodes) l.body.head l.body.length) l.offset l.bytes l.size)
-      (g.N.Nodes.node l.nodes) (g.N.Nodes.kept l.nodes) l.head (min (l.index * l.room) l.size);
+  begun : IsBegun l.capacity (g.N.Nodes.node l.fn.nodes) (g.N.Nodes.kept l.fn.nodes) l.body (spec.edited (body l.capacity (g.N.Nodes.node l.fn.nodes) l.body.head l.body.length) l.offset l.bytes l.size)
+      (g.N.Nodes.node l.nodes) (g.N.Nodes.kept l.nodes) l.head (min (l.index * l.capacity) l.size);
   table : IsTable (g.N.Nodes.node l.nodes) l.head l.index l.last l.table.blocks;
   old : AreBlocks (g.N.Nodes.node l.nodes) l.body.head l.old.items;
   few_blocks : length l.old.items ≤ head_index (g.N.Nodes.limit l.fn.nodes - 80) l.body.length + 1;
-  reads : AreFew l.room l.body.length (l.offset + length l.bytes) l.first l.index (g.N.Nodes.reads l.fn.nodes) (g.N.Nodes.reads l.nodes);
+  reads : AreFew l.capacity l.body.length (l.offset + length l.bytes) l.first l.index (g.N.Nodes.reads l.fn.nodes) (g.N.Nodes.reads l.nodes);
   writes : g.N.Nodes.writes l.nodes ≡ g.N.Nodes.writes l.fn.nodes + (l.index - l.first);
   works : Works g.N.Nodes.follows g.N.Nodes.is_sound g.N.Nodes.limit g.N.Nodes.blocks l.fn.nodes l.nodes;
 }

@@ -10,7 +10,7 @@ returns-clause-front g c =
     let f = g.N.Nodes.node c.args.nodes.now in
     let body = c.args.body in
     let part = c.args.part in
-    let steps : ℕ = (body.length - 1) / c.args.room - (part - 1) / c.args.room in
-    if_ok (λ front. front ≡ back f body.head steps) (λ front. IsFront c.args.room f body.head body.length front part) c.find.result
-    (λ front is. subst (λ (b : ℕ). IsFront c.args.room f body.head body.length b part) (sym is) (front_of c.args.room f body.head body.length part steps c.requires.least c.requires.whole (omega arith) c.requires.within refl))
+    let steps : ℕ = (body.length - 1) / c.args.capacity - (part - 1) / c.args.capacity in
+    if_ok (λ front. front ≡ back f body.head steps) (λ front. IsFront c.args.capacity f body.head body.length front part) c.find.result
+    (λ front is. subst (λ (b : ℕ). IsFront c.args.capacity f body.head body.length b part) (sym is) (front_of c.args.capacity f body.head body.length part steps c.requires.least c.requires.whole (omega arith) c.requires.within refl))
     c.find.ensures.found

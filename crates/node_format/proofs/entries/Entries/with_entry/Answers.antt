@@ -18,7 +18,7 @@ returns-clause-edited c =
     let f = subst (AreSpelled c.front.inside.count c.front.inside.bytes.now) c.front.view_is c.front.invariant in
     let b = subst (AreSpelled c.back.inside.count c.back.inside.bytes.now) c.back.view_is c.back.invariant in
     IfOk-weaker c.directory_bytes.result _ _
-    (λ v is. (written_with _ _ _ _ c.args.place _ _ _ _ _ _ v.items c.split-front.ensures.split c.split-front.ensures.few c.requires.room c.requires.name c.requires.place f b (c.deref.ensures.value ∙ c.in_ok-entry.ensures) is).edit)
+    (λ v is. (written_with _ _ _ _ c.args.place _ _ _ _ _ _ v.items c.split-front.ensures.split c.split-front.ensures.few c.requires.capacity c.requires.name c.requires.place f b (c.deref.ensures.value ∙ c.in_ok-entry.ensures) is).edit)
     c.directory_bytes.ensures
 
 pub returns-clause-node : goal.returns-clause-node
@@ -26,5 +26,5 @@ returns-clause-node c =
     let f = subst (AreSpelled c.front.inside.count c.front.inside.bytes.now) c.front.view_is c.front.invariant in
     let b = subst (AreSpelled c.back.inside.count c.back.inside.bytes.now) c.back.view_is c.back.invariant in
     IfOk-weaker c.directory_bytes.result _ _
-    (λ v is. (written_with _ _ _ _ c.args.place _ _ _ _ _ _ v.items c.split-front.ensures.split c.split-front.ensures.few c.requires.room c.requires.name c.requires.place f b (c.deref.ensures.value ∙ c.in_ok-entry.ensures) is).node)
+    (λ v is. (written_with _ _ _ _ c.args.place _ _ _ _ _ _ v.items c.split-front.ensures.split c.split-front.ensures.few c.requires.capacity c.requires.name c.requires.place f b (c.deref.ensures.value ∙ c.in_ok-entry.ensures) is).node)
     c.directory_bytes.ensures

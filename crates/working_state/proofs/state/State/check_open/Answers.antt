@@ -27,5 +27,5 @@ returns-in_default-clause-refused g c =
 
 pub returns-clause-accepted : goal.returns-clause-accepted
 returns-clause-accepted g c =
-    open_accepted (g.F.Flash.device c.args.flash.now) c.args.self.now c.args.path.now c.args.flags c.args.root c.in-Some.number c.in_ok-found.found c.requires.mounted c.requires.present
+    open_accepted (g.F.Flash.device c.args.flash.now) c.args.self.now c.args.path.now c.args.flags c.args.root c.in-Some.descriptor c.in_ok-found.found c.requires.mounted c.requires.present
     (sym c.if-not-are_lawful.ensures) c.in_ok-found.ensures.found c.in_ok-check_found.ensures.ok (sym c.in-Some.ensures)

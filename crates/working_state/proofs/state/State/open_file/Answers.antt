@@ -45,13 +45,13 @@ returns-then-not-is_changed g c =
     let t = c.check_open.new.self in
     let path = c.args.path.now in
     let flags = c.args.flags in
-    let number = c.in_ok-found.number in
+    let descriptor = c.in_ok-found.descriptor in
     let ok = c.in_ok-found.ensures in
     let same : open_changes (present_tree (machine_on d s)) path flags ≡ false =
     changes_is d s path flags c.root-root.result c.in_ok-found.found c.requires c.root-root.ensures ok.found ok.fits ∙ sym c.if-not-is_changed.ensures in
-    let is : c.open.new.self ≡ opened t.files number (record { path = path; flags = flags }) =
-    c.open.ensures ∙ ap (λ (f : Descriptor). opened t.files number f) (c.new-file.ensures ∙ ap (λ p. record { path = p; flags = flags }) c.in_ok-clone.ensures) in
-    opened_answer d s e t path flags number c.open.new.self c.requires c.check_open.ensures.looked ok.lawful ok.accepted same ok.number is
+    let is : c.open.new.self ≡ opened t.files descriptor (record { path = path; flags = flags }) =
+    c.open.ensures ∙ ap (λ (f : Descriptor). opened t.files descriptor f) (c.new-file.ensures ∙ ap (λ p. record { path = p; flags = flags }) c.in_ok-clone.ensures) in
+    opened_answer d s e t path flags descriptor c.open.new.self c.requires c.check_open.ensures.looked ok.lawful ok.accepted same ok.descriptor is
 
 pub change-requires-clause-ready : goal.change-requires-clause-ready
 change-requires-clause-ready g c = looked_ready _ _ _ _ c.requires c.check_open.ensures.looked
@@ -77,17 +77,17 @@ returns-in_err-change g c =
     let t = c.check_open.new.self in
     let path = c.args.path.now in
     let flags = c.args.flags in
-    let number = c.in_ok-found.number in
+    let descriptor = c.in_ok-found.descriptor in
     let ok = c.in_ok-found.ensures in
     let looked = c.check_open.ensures.looked in
     let call = Call.Open path flags in
     let f = g.F.Flash.device c.change.new.flash in
     let changes : open_changes (present_tree (machine_on d s)) path flags ≡ true =
     changes_is d s path flags c.root-root.result c.in_ok-found.found c.requires c.root-root.ensures ok.found ok.fits ∙ sym c.if-not-is_changed.ensures in
-    let by = open_change d s e t path flags number c.requires looked ok.accepted ok.lawful changes ok.number (found_below _ c.root-root.result path flags c.in_ok-found.found ok.found ok.fits) in
+    let by = open_change d s e t path flags descriptor c.requires looked ok.accepted ok.lawful changes ok.descriptor (found_below _ c.root-root.result path flags c.in_ok-found.found ok.found ok.fits) in
     let fault = c.in_err-change.field-0.0 in
     at_answer Reply.Fd d s f (record t { storage = c.change.new.storage; history = c.change.new.history }) call fault c.from_residual-in_err-change.result (p.1 ∙ ap Err p.2)
-    (refused_change d s e t f c.change.new.storage c.change.new.history c.root-root.result call _ (Reply.Fd number) _ fault c.requires c.root-root.ensures looked by c.in_err-change.ensures.written c.in_err-change.ensures.ends)
+    (refused_change d s e t f c.change.new.storage c.change.new.history c.root-root.result call _ (Reply.Fd descriptor) _ fault c.requires c.root-root.ensures looked by c.in_err-change.ensures.written c.in_err-change.ensures.ends)
 
 pub returns : goal.returns
 returns g c =
@@ -97,15 +97,15 @@ returns g c =
     let t = c.check_open.new.self in
     let path = c.args.path.now in
     let flags = c.args.flags in
-    let number = c.in_ok-found.number in
+    let descriptor = c.in_ok-found.descriptor in
     let ok = c.in_ok-found.ensures in
     let looked = c.check_open.ensures.looked in
     let call = Call.Open path flags in
     let f = g.F.Flash.device c.change.new.flash in
     let changes : open_changes (present_tree (machine_on d s)) path flags ≡ true =
     changes_is d s path flags c.root-root.result c.in_ok-found.found c.requires c.root-root.ensures ok.found ok.fits ∙ sym c.if-not-is_changed.ensures in
-    let by = open_change d s e t path flags number c.requires looked ok.accepted ok.lawful changes ok.number (found_below _ c.root-root.result path flags c.in_ok-found.found ok.found ok.fits) in
-    let opens : c.open-2.new.self ≡ opened t.files number (record { path = path; flags = flags }) =
-    c.open-2.ensures ∙ ap (λ (f : Descriptor). opened t.files number f) (c.new-file.ensures ∙ ap (λ p. record { path = p; flags = flags }) c.in_ok-clone.ensures) in
-    pushed_by d s e t f c.change.new.storage c.change.new.history c.open-2.new.self call (Reply.Fd number) _ c.in_ok-change.ensures.ends by c.in_ok-change.ensures.written c.requires looked
-    (open_descriptors d s e t path flags number c.open-2.new.self looked ok.number opens)
+    let by = open_change d s e t path flags descriptor c.requires looked ok.accepted ok.lawful changes ok.descriptor (found_below _ c.root-root.result path flags c.in_ok-found.found ok.found ok.fits) in
+    let opens : c.open-2.new.self ≡ opened t.files descriptor (record { path = path; flags = flags }) =
+    c.open-2.ensures ∙ ap (λ (f : Descriptor). opened t.files descriptor f) (c.new-file.ensures ∙ ap (λ p. record { path = p; flags = flags }) c.in_ok-clone.ensures) in
+    pushed_by d s e t f c.change.new.storage c.change.new.history c.open-2.new.self call (Reply.Fd descriptor) _ c.in_ok-change.ensures.ends by c.in_ok-change.ensures.written c.requires looked
+    (open_descriptors d s e t path flags descriptor c.open-2.new.self looked ok.descriptor opens)

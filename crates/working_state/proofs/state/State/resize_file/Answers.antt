@@ -24,7 +24,7 @@ returns-in_err-body g c =
     let s = c.args.self.now in
     let e = g.F.Flash.device c.find_body.new.flash in
     let t : State = record s { storage = c.find_body.new.storage } in
-    let call = Call.Ftruncate c.args.number c.args.size in
+    let call = Call.Ftruncate c.args.descriptor c.args.size in
     let path = c.in_ok-path.path.now in
     let seen = looked_worked d s e t (looked_at d s e c.find_body.new.storage c.find_body.ensures.looked) in
     at_answer empty d s e t call c.in_err-body.field-0.0 c.from_residual-in_err-body.result (p.1 ∙ ap Err p.2)
@@ -39,8 +39,8 @@ returns-then-from-size g c =
     let path = c.in_ok-path.path.now in
     let seen = looked_worked d s e t (looked_at d s e c.find_body.new.storage c.find_body.ensures.looked) in
     let there = changes.later_body d s e t c.root-root.result path c.in_ok-body.body.head c.in_ok-body.body.length c.requires c.root-root.ensures seen c.in_ok-body.ensures.found in
-    changes.same_answer d s e t (Call.Ftruncate c.args.number c.args.size) Reply.Empty c.requires (looked_at d s e c.find_body.new.storage c.find_body.ensures.looked)
-    (changes.ftruncate_nothing (machine_on d s) c.args.number c.args.size path c.in_ok-path.ensures.path
+    changes.same_answer d s e t (Call.Ftruncate c.args.descriptor c.args.size) Reply.Empty c.requires (looked_at d s e c.find_body.new.storage c.find_body.ensures.looked)
+    (changes.ftruncate_nothing (machine_on d s) c.args.descriptor c.args.size path c.in_ok-path.ensures.path
     (changes.same_length d s e t path c.in_ok-body.body.head c.in_ok-body.body.length c.from.result c.args.size c.requires seen there c.from.ensures c.if-from-size.true))
     c.in_ok-path.ensures.ok refl
 
@@ -49,7 +49,7 @@ find_body-requires-clause-file g c =
     let d = g.F.Flash.device c.args.flash.now in
     let s = c.args.self.now in
     let path = c.in_ok-path.path.now in
-    changes.present_file d s c.root-root.result path c.requires c.root-root.ensures (changes.open_file d s c.args.number path c.requires c.in_ok-path.ensures.path)
+    changes.present_file d s c.root-root.result path c.requires c.root-root.ensures (changes.open_file d s c.args.descriptor path c.requires c.in_ok-path.ensures.path)
 
 pub change-requires-clause-ready : goal.change-requires-clause-ready
 change-requires-clause-ready g c =
@@ -73,7 +73,7 @@ change-requires-clause-editable g c = λ other present.
     let t : State = record s { storage = c.find_body.new.storage } in
     let path = c.in_ok-path.path.now in
     let looked = looked_at d s e c.find_body.new.storage c.find_body.ensures.looked in
-    let file = changes.open_file d s c.args.number path c.requires c.in_ok-path.ensures.path in
+    let file = changes.open_file d s c.args.descriptor path c.requires c.in_ok-path.ensures.path in
     let body = c.in_ok-body.body in
     let there = changes.later_body d s e t c.root-root.result path body.head body.length c.requires c.root-root.ensures (looked_worked d s e t looked) c.in_ok-body.ensures.found in
     let led : look_up (node_of e) other path ≡ Ok (found.File body.head body.length) =
@@ -90,11 +90,11 @@ returns g c =
     let t : State = record s { storage = c.find_body.new.storage } in
     let path = c.in_ok-path.path.now in
     let looked = looked_at d s e c.find_body.new.storage c.find_body.ensures.looked in
-    let file = changes.open_file d s c.args.number path c.requires c.in_ok-path.ensures.path in
+    let file = changes.open_file d s c.args.descriptor path c.requires c.in_ok-path.ensures.path in
     let there = changes.later_body d s e t c.root-root.result path c.in_ok-body.body.head c.in_ok-body.body.length c.requires c.root-root.ensures (looked_worked d s e t looked) c.in_ok-body.ensures.found in
     let other = changes.other_length d s e t path c.in_ok-body.body.head c.in_ok-body.body.length c.from.result c.args.size c.requires (looked_worked d s e t looked) there c.from.ensures c.if-from-size.false in
-    let change = changes.ftruncate_change (machine_on d s) c.args.number c.args.size path c.in_ok-path.ensures.path c.in_ok-path.ensures.ok other (changes.below_root d s path c.requires file) in
-    let call = Call.Ftruncate c.args.number c.args.size in
+    let change = changes.ftruncate_change (machine_on d s) c.args.descriptor c.args.size path c.in_ok-path.ensures.path c.in_ok-path.ensures.ok other (changes.below_root d s path c.requires file) in
+    let call = Call.Ftruncate c.args.descriptor c.args.size in
     let f = g.F.Flash.device c.change.new.flash in
     let by = changes.file_change d s e t call path (λ old. resized old c.args.size) Reply.Empty c.requires looked change (λ space. refl) in
     change_by d s e t f c.change.new.storage c.change.new.history c.root-root.result call c.change.result c.change.ensures by c.requires c.root-root.ensures looked refl

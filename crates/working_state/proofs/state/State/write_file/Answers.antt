@@ -23,7 +23,7 @@ returns-in_err-body g c =
     let s = c.args.self.now in
     let e = g.F.Flash.device c.find_body.new.flash in
     let t : State = record s { storage = c.find_body.new.storage } in
-    let call = Call.Pwrite c.args.number c.args.offset c.args.bytes.now in
+    let call = Call.Pwrite c.args.descriptor c.args.offset c.args.bytes.now in
     let path = c.in_ok-path.path.now in
     let seen = looked_worked d s e t (looked_at d s e c.find_body.new.storage c.find_body.ensures.looked) in
     at_answer Reply.Count d s e t call c.in_err-body.field-0.0 c.from_residual-in_err-body.result (p.1 ∙ ap Err p.2)
@@ -34,7 +34,7 @@ find_body-requires-clause-file g c =
     let d = g.F.Flash.device c.args.flash.now in
     let s = c.args.self.now in
     let path = c.in_ok-path.path.now in
-    changes.present_file d s c.root-root.result path c.requires c.root-root.ensures (changes.open_file d s c.args.number path c.requires c.in_ok-path.ensures.path)
+    changes.present_file d s c.root-root.result path c.requires c.root-root.ensures (changes.open_file d s c.args.descriptor path c.requires c.in_ok-path.ensures.path)
 
 pub change-requires-clause-ready : goal.change-requires-clause-ready
 change-requires-clause-ready g c =
@@ -58,7 +58,7 @@ change-requires-clause-editable g c = λ other present.
     let t : State = record s { storage = c.find_body.new.storage } in
     let path = c.in_ok-path.path.now in
     let looked = looked_at d s e c.find_body.new.storage c.find_body.ensures.looked in
-    let file = changes.open_file d s c.args.number path c.requires c.in_ok-path.ensures.path in
+    let file = changes.open_file d s c.args.descriptor path c.requires c.in_ok-path.ensures.path in
     let body = c.in_ok-body.body in
     let there = changes.later_body d s e t c.root-root.result path body.head body.length c.requires c.root-root.ensures (looked_worked d s e t looked) c.in_ok-body.ensures.found in
     let led : look_up (node_of e) other path ≡ Ok (found.File body.head body.length) =
@@ -76,9 +76,9 @@ returns-in_err-change g c =
     let t : State = record s { storage = c.find_body.new.storage } in
     let path = c.in_ok-path.path.now in
     let looked = looked_at d s e c.find_body.new.storage c.find_body.ensures.looked in
-    let file = changes.open_file d s c.args.number path c.requires c.in_ok-path.ensures.path in
-    let change = changes.pwrite_change (machine_on d s) c.args.number c.args.offset c.args.bytes.now path c.in_ok-path.ensures.path c.in_ok-path.ensures.ok (sym c.is_empty.ensures ∙ c.if-is_empty.false) (changes.below_root d s path c.requires file) in
-    let call = Call.Pwrite c.args.number c.args.offset c.args.bytes.now in
+    let file = changes.open_file d s c.args.descriptor path c.requires c.in_ok-path.ensures.path in
+    let change = changes.pwrite_change (machine_on d s) c.args.descriptor c.args.offset c.args.bytes.now path c.in_ok-path.ensures.path c.in_ok-path.ensures.ok (sym c.is_empty.ensures ∙ c.if-is_empty.false) (changes.below_root d s path c.requires file) in
+    let call = Call.Pwrite c.args.descriptor c.args.offset c.args.bytes.now in
     let f = g.F.Flash.device c.change.new.flash in
     let by = changes.file_change d s e t call path (λ old. overwritten old c.args.offset c.args.bytes.now) (Reply.Count (length c.args.bytes.now)) c.requires looked change (λ space. refl) in
     at_answer Reply.Count d s f (record t { storage = c.change.new.storage; history = c.change.new.history }) call c.in_err-change.field-0.0 c.from_residual-in_err-change.result (p.1 ∙ ap Err p.2)
@@ -92,9 +92,9 @@ returns g c =
     let t : State = record s { storage = c.find_body.new.storage } in
     let path = c.in_ok-path.path.now in
     let looked = looked_at d s e c.find_body.new.storage c.find_body.ensures.looked in
-    let file = changes.open_file d s c.args.number path c.requires c.in_ok-path.ensures.path in
-    let change = changes.pwrite_change (machine_on d s) c.args.number c.args.offset c.args.bytes.now path c.in_ok-path.ensures.path c.in_ok-path.ensures.ok (sym c.is_empty.ensures ∙ c.if-is_empty.false) (changes.below_root d s path c.requires file) in
-    let call = Call.Pwrite c.args.number c.args.offset c.args.bytes.now in
+    let file = changes.open_file d s c.args.descriptor path c.requires c.in_ok-path.ensures.path in
+    let change = changes.pwrite_change (machine_on d s) c.args.descriptor c.args.offset c.args.bytes.now path c.in_ok-path.ensures.path c.in_ok-path.ensures.ok (sym c.is_empty.ensures ∙ c.if-is_empty.false) (changes.below_root d s path c.requires file) in
+    let call = Call.Pwrite c.args.descriptor c.args.offset c.args.bytes.now in
     let f = g.F.Flash.device c.change.new.flash in
     let by = changes.file_change d s e t call path (λ old. overwritten old c.args.offset c.args.bytes.now) (Reply.Count (length c.args.bytes.now)) c.requires looked change (λ space. refl) in
     pushed_by d s e t f c.change.new.storage c.change.new.history t.files call (Reply.Count (length c.args.bytes.now)) _ c.in_ok-change.ensures.ends by c.in_ok-change.ensures.written c.requires looked looked.rest.files

@@ -3,4 +3,4 @@
 
 mod set;
 
-pub use set::{BadBlocks, Full, LIMIT};
+pub use set::{BadBlocks, Full};

@@ -5,15 +5,15 @@ ghost use Rattle.std.specs.Ordering.{nat_cmp};
 ghost use Rattle.std.specs.FinSet as set;
 ghost use Rattle.std.specs.Iterator.Adapters.{IterYieldsInOrder};
 ghost use Rattle.std.specs.Slice.Iter.{iter_rest};
+ghost use Rattle.fs_types.specs.declared.limits.TheConstants.{MAX_BAD_BLOCKS};
 
 use arrayvec::ArrayVec;
+use fs_types::MAX_BAD_BLOCKS;
 use std::marker::Model;
 use std::slice;
 use thiserror::Error;
 
 /// How many blocks the set may have.
-pub const LIMIT: usize = 256;
-
 /// The block is new, and 256 are in the set.
 #[derive(Clone, Copy, Debug, PartialEq, Eq, Error)]
 #[error("256 blocks are bad already")]
@@ -22,7 +22,7 @@ pub struct Full;
 /// A set of at most 256 block numbers. No call of it takes memory.
 #[derive(Drop)]
 pub struct BadBlocks {
-    blocks: ArrayVec<u32, LIMIT>,
+    blocks: ArrayVec<u32, MAX_BAD_BLOCKS>,
 }
 
 impl Model for BadBlocks {
@@ -53,7 +53,7 @@ impl BadBlocks {
     /// How many blocks are in the set, from 0 to 256.
     pub fn len(&self) -> usize
         ensures len { result ≡ set.len self.now }
-        ensures limit { result ≤ 256 }
+        ensures limit { result ≤ MAX_BAD_BLOCKS }
     {
         self.blocks.len()
     }
@@ -67,10 +67,10 @@ impl BadBlocks {
 
     /// Whether 256 blocks are in the set, so that `add` of a new one is refused.
     pub fn is_full(&self) -> bool
-        ensures full { IsTrue result ↔ (set.len self.now ≡ 256) }
-        ensures limit { set.len self.now ≤ 256 }
+        ensures full { IsTrue result ↔ (set.len self.now ≡ MAX_BAD_BLOCKS) }
+        ensures limit { set.len self.now ≤ MAX_BAD_BLOCKS }
     {
-        self.len() == LIMIT
+        self.len() == MAX_BAD_BLOCKS
     }
 
     /// Whether `block` is in the set.
@@ -98,9 +98,9 @@ impl BadBlocks {
         ensures err { OnErr result (self.new ≡ self.old) }
 
         // It fails where the set is full and the block is new, and only there.
-        ensures full { OnErr result (set.len self.old ≡ 256) }
+        ensures full { OnErr result (set.len self.old ≡ MAX_BAD_BLOCKS) }
         ensures new_block { OnErr result (set.contains self.old block ≡ false) }
-        ensures refused { set.len self.old ≡ 256 → set.contains self.old block ≡ false → IsErr result }
+        ensures refused { set.len self.old ≡ MAX_BAD_BLOCKS → set.contains self.old block ≡ false → IsErr result }
     {
         match self.blocks.binary_search(&block) {
             Ok(_) => Ok(()),

@@ -1,6 +1,7 @@
 -- The laws of trees on a flash: what stays where blocks that no root reaches change, and what a path written anew gives.
 use Rattle.std.specs.Prelude.{◌≡◌, ◌≢◌, ◌⊎◌, ◌↔◌, ℕ, ◌-◌, ◌≤◌, Bool, false, Option, Some, None, IsSome, [], ◌∷◌, length}
 use Rattle.std.specs.FinMap.{get}
+use Rattle.fs_types.specs.declared.limits.TheConstants.{MAX_NAMES}
 use Rattle.fs_types.specs.Names.{Path}
 use Rattle.plain_trees.specs.Contents.{Contents, Entry, nothing, graft, IsLast}
 use Rattle.plain_trees.specs.Contents as plain
@@ -51,19 +52,19 @@ AllEdits = (old new : Blocks) (kept kept' : ℕ → Bool) (from to : ℕ) (path 
 -- a new empty directory at a path where nothing stood
 abbrev pub MkdirLaw : Type 0
 MkdirLaw = (capacity : ℕ) (old new : Blocks) (kept kept' : ℕ → Bool) (from to block : ℕ) (path : Path) → Keeps kept old kept' new → IsHeld old kept (Dir from) → IsRoot capacity old from
-    → tree capacity old from path ≡ None → length path ≤ 16 → entries_of (new block) ≡ Some [] → IsRewritten old kept' new from to path (Some (Dir block))
+    → tree capacity old from path ≡ None → length path ≤ MAX_NAMES → entries_of (new block) ≡ Some [] → IsRewritten old kept' new from to path (Some (Dir block))
     → IsRoot capacity new to × (root_tree capacity new to ≡ put (root_tree capacity old from) path Entry.Dir)
 
 -- an entry taken out that nothing stands below
 abbrev pub RemoveLaw : Type 0
 RemoveLaw = (capacity : ℕ) (old new : Blocks) (kept kept' : ℕ → Bool) (from to : ℕ) (path : Path) → Keeps kept old kept' new → IsHeld old kept (Dir from) → IsRoot capacity old from
-    → IsLast (tree capacity old from) path → length path ≤ 16 → IsRewritten old kept' new from to path None
+    → IsLast (tree capacity old from) path → length path ≤ MAX_NAMES → IsRewritten old kept' new from to path None
     → IsRoot capacity new to × (root_tree capacity new to ≡ remove (root_tree capacity old from) path)
 
 -- a file at a path where no directory stood
 abbrev pub PutFileLaw : Type 0
 PutFileLaw = (capacity : ℕ) (old new : Blocks) (kept kept' : ℕ → Bool) (from to head size : ℕ) (path : Path) → Keeps kept old kept' new → IsHeld old kept (Dir from) → IsRoot capacity old from
-    → tree capacity old from path ≢ Some Entry.Dir → length path ≤ 16 → IsBody capacity new head size → IsRewritten old kept' new from to path (Some (File head size))
+    → tree capacity old from path ≢ Some Entry.Dir → length path ≤ MAX_NAMES → IsBody capacity new head size → IsRewritten old kept' new from to path (Some (File head size))
     → IsRoot capacity new to × (root_tree capacity new to ≡ put (root_tree capacity old from) path (Entry.File (body capacity new head size)))
 
 -- each path below a place has so many names at most
@@ -85,13 +86,13 @@ AllMoves = (old new : Blocks) (kept kept' : ℕ → Bool) (from to : ℕ) (old_p
 -- a move as one of finite maps
 abbrev pub RenameLaw : Type 0
 RenameLaw = (capacity : ℕ) (old new : Blocks) (kept kept' : ℕ → Bool) (from to : ℕ) (old_path new_path : Path) (place : Place) → Keeps kept old kept' new → IsHeld old kept (Dir from) → IsRoot capacity old from
-    → leads old (Dir from) old_path ≡ Some place → length new_path ≤ 16 → IsShallow old place (16 - length new_path) → IsMoved old new kept kept' from to old_path new_path place
+    → leads old (Dir from) old_path ≡ Some place → length new_path ≤ MAX_NAMES → IsShallow old place (MAX_NAMES - length new_path) → IsMoved old new kept kept' from to old_path new_path place
     → IsRoot capacity new to × (root_tree capacity new to ≡ move (root_tree capacity old from) old_path new_path)
 
--- whether a path at `old` or below would have more than 16 names at `new`, of the finite map of a root and of its nodes
+-- whether a path at `old` or below would have more names than a path may have at `new`, of the finite map of a root and of its nodes
 abbrev pub DepthLaw : Type 0
 DepthLaw = (capacity : ℕ) (f : Blocks) (root : ℕ) (old new : Path) (place : Place) → IsRoot capacity f root → leads f (Dir root) old ≡ Some place → length new ≤ 16
-    → (is_too_deep (root_tree capacity f root) old new ≡ false) ↔ IsShallow f place (16 - length new)
+    → (is_too_deep (root_tree capacity f root) old new ≡ false) ↔ IsShallow f place (MAX_NAMES - length new)
 
 -- the finite map of a root has at each path what stands there, and lists the entries of its directories
 pub record MapLaw (capacity : ℕ) (f : Blocks) (root : ℕ) : Type 0 where

@@ -3,6 +3,7 @@ use Rattle.std.specs.Prelude.{◌≡◌, ℕ, zero, suc, ◌≤◌, Bool, true, 
 use Rattle.std.specs.Option.{option_map, option_and_then}
 use Rattle.std.specs.List.{flat_map}
 use Rattle.std.specs.FinMap.{from_entries}
+use Rattle.fs_types.specs.declared.limits.TheConstants.{MAX_NAMES}
 use Rattle.fs_types.specs.Names.{Name, Path}
 use Rattle.plain_trees.specs.Contents.{Contents, Entry}
 use Rattle.plain_trees.specs.Trees.{Tree}
@@ -52,9 +53,9 @@ IsWhole capacity f (File head size) = IsBody capacity f head size
 abbrev pub HasTree : ℕ → Blocks → Place → ℕ → Type 0
 HasTree capacity f from depth = (p : Path) (at : Place) → leads f from p ≡ Some at → IsWhole capacity f at × (length p ≤ depth)
 
--- a root has a tree of at most 16 names a path
+-- a root has a tree of paths that are not too long
 abbrev pub IsRoot : ℕ → Blocks → ℕ → Type 0
-IsRoot capacity f root = HasTree capacity f (Dir root) 16
+IsRoot capacity f root = HasTree capacity f (Dir root) MAX_NAMES
 
 -- a place with at most so many names below it: each path, with what stands there
 abbrev pub listed : ℕ → Blocks → ℕ → Place → List (Path × Entry)
@@ -64,7 +65,7 @@ listed capacity f (suc depth) (Dir block) = ([], Entry.Dir) ∷ flat_map (λ ite
 
 -- the tree of a root as a finite map
 abbrev pub root_tree : ℕ → Blocks → ℕ → Tree
-root_tree capacity f root = from_entries (listed capacity f 16 (Dir root))
+root_tree capacity f root = from_entries (listed capacity f MAX_NAMES (Dir root))
 
 -- the names in a directory, each with whether it is a directory itself
 abbrev pub names_of : List Item → List (Name × Bool)

@@ -8,6 +8,3 @@ mod maps;
 
 pub use laws::{edit_laws, frame_laws, move_laws};
 pub use maps::map_laws;
-
-/// The deepest path has 16 names.
-pub const DEPTH: usize = 16;

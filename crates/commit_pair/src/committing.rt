@@ -14,7 +14,8 @@ use crate::best::Found;
 use crate::parts::FIRST_DATA;
 use crate::payloads::payload_with;
 use crate::programming::{pages_for, piece_of, place_record, write_anchor};
-use bad_blocks::{BadBlocks, LIMIT};
+use bad_blocks::BadBlocks;
+use fs_types::MAX_BAD_BLOCKS;
 use flash_model::{Flash, Geometry};
 use fs_types::Fault;
 use record_format::{PageHead, Record};
@@ -32,7 +33,7 @@ fn bad_anchors(bad: &BadBlocks) -> usize
 pub(crate) fn is_read_only(bad: &BadBlocks) -> bool
     ensures { result ≡ spec.is_read_only bad.now }
 {
-    LIMIT <= bad.len() || 7 <= bad_anchors(bad)
+    MAX_BAD_BLOCKS <= bad.len() || 7 <= bad_anchors(bad)
 }
 
 /// The first page of a record that is written at a place of an anchor.

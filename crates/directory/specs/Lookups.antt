@@ -1,5 +1,6 @@
 -- Looking up a path: what it leads to, or why it is refused (POSIX.1-2017, pathname resolution).
 use Rattle.std.specs.Prelude.{ℕ, nat_le, Bool, true, false, IsTrue, Option, Some, None, Result, Ok, Err, List, [], ◌∷◌, length}
+use Rattle.fs_types.specs.declared.limits.TheConstants.{MAX_ENTRIES}
 use Rattle.fs_types.specs.Names.{Name, Path}
 use Rattle.plain_trees.specs.Contents.{Entry}
 use Rattle.fs_types.specs.declared.faults.Fault.{Fault}
@@ -40,10 +41,10 @@ found_of None is_full = found.Missing is_full
 found_of (Some (File head size)) is_full = found.File head size
 found_of (Some (Dir block)) is_full = found.Dir block
 
--- what the last component leads to in a directory's entries; a directory of 32 entries is full
+-- what the last component leads to in a directory's entries; a directory with as many as it may have is full
 abbrev pub found_in : Option (List Item) → Name → Result Found Fault
 found_in None name = Err Damaged
-found_in (Some items) name = Ok (found_of (named items name) (nat_le 32 (length items)))
+found_in (Some items) name = Ok (found_of (named items name) (nat_le MAX_ENTRIES (length items)))
 
 -- what a path below a directory leads to, or the refusal of its first component that is missing, a file or damaged
 abbrev pub look_up : Blocks → ℕ → Path → Result Found Fault

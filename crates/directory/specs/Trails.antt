@@ -1,6 +1,7 @@
 -- The directories that a path goes through, and what an edit by them asks.
 use Rattle.std.specs.Prelude.{◌≡◌, ℕ, ◌<◌, Bool, true, false, not, ◌||◌, nat_le, IsTrue, Option, Some, None, Result, Ok, Err, List, [], length, take, ◌-◌, slice_index, slice_index_or}
 use Rattle.std.specs.Option.{is_some}
+use Rattle.fs_types.specs.declared.limits.TheConstants.{MAX_ENTRIES}
 use Rattle.fs_types.specs.Names.{Name, Path}
 use Rattle.fs_types.specs.declared.faults.Fault.{Fault}
 use Rattle.fs_types.specs.declared.faults.Fault.TheVariants.{Damaged}
@@ -27,11 +28,11 @@ has_room (Ok (found.File head size)) = true
 has_room (Ok (found.Dir block)) = true
 has_room (Err fault) = false
 
--- a directory takes an edit of a name: it is one, and where the name is put, it is there or there are fewer than 32
+-- a directory takes an edit of a name: it is one, and where the name is put, it is there, or there are fewer than there may be
 abbrev pub takes : Option (List Item) → Name → Option Place → Bool
 takes None name place = false
 takes (Some items) name None = true
-takes (Some items) name (Some place) = is_some (named items name) || not (nat_le 32 (length items))
+takes (Some items) name (Some place) = is_some (named items name) || not (nat_le MAX_ENTRIES (length items))
 
 -- so does the last directory of a trail, with the last name of its path
 abbrev pub IsTaken : Blocks → List ℕ → Path → Option Place → Type 0

@@ -6,6 +6,7 @@ ghost use Rattle.block_trees.specs.Trees.{items_of};
 ghost use Rattle.block_trees.specs.Laws.{IsShallow};
 ghost use Rattle.directory.specs.Depths as spec;
 ghost use Rattle.node_store.specs.Frames.{OnlyLooks};
+ghost use Rattle.fs_types.specs.declared.limits.TheConstants.{MAX_NAMES};
 
 use allocator::BlockSet;
 use fs_types::Fault;
@@ -162,7 +163,7 @@ pub fn any_is_deeper<N: Nodes>(
     most: usize,
 ) -> Result<bool, Fault>
     requires sound { N.is_sound nodes.old }
-    requires most { most ≤ 16 }
+    requires most { most ≤ MAX_NAMES }
     ensures deeper { IfOk result (λ deep. deep ≡ true → (root : ℕ) × Contains roots.now root × spec.IsDeeper (N.node nodes.old) (Dir root) most) }
     ensures shallow { IfOk result (λ deep. deep ≡ false → (root : ℕ) → Contains roots.now root → IsShallow (N.node nodes.old) (Dir root) most) }
     ensures why { IfErr result (λ fault. N.causes nodes.old nodes.new fault) }
@@ -188,7 +189,7 @@ pub fn is_deeper<N: Nodes>(
     most: usize,
 ) -> Result<bool, Fault>
     requires sound { N.is_sound nodes.old }
-    requires most { most ≤ 16 }
+    requires most { most ≤ MAX_NAMES }
     ensures deeper { IfOk result (λ deep. deep ≡ true → spec.IsDeeper (N.node nodes.old) (Dir block) most) }
     ensures shallow { IfOk result (λ deep. deep ≡ false → IsShallow (N.node nodes.old) (Dir block) most) }
     ensures why { IfErr result (λ fault. N.causes nodes.old nodes.new fault) }

@@ -12,7 +12,6 @@ use node_format::{Entries, Place};
 use node_store::Nodes;
 
 /// The entries of a full directory.
-const MOST_ENTRIES: usize = MAX_ENTRIES;
 
 /// What a path leads to.
 #[derive(Clone, Copy, Debug, PartialEq, Eq)]
@@ -83,7 +82,7 @@ pub(crate) fn found_in<N: Nodes>(nodes: &mut N, block: u32, name: &Name) -> Resu
     let Some(entries) = Entries::of(nodes.lent()) else {
         return Err(Fault::Damaged);
     };
-    let is_full = entries.len() >= MOST_ENTRIES;
+    let is_full = entries.len() >= MAX_ENTRIES;
     Ok(Found::of(entries.named(name.as_bytes()), is_full))
 }
 

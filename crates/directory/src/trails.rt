@@ -3,10 +3,11 @@ ghost use Rattle.std.specs.Prelude.{◌≡◌, ℕ, ◌+◌, ◌≤◌, ◌<◌,
 ghost use Rattle.directory.specs.Lookups as spec;
 ghost use Rattle.directory.specs.Trails.{IsTrail};
 ghost use Rattle.node_store.specs.Frames.{OnlyLooks};
+ghost use Rattle.fs_types.specs.declared.limits.TheConstants.{MAX_NAMES};
 
 use crate::lookups::{Found, directory_at, found_in, place_in};
 use arrayvec::ArrayVec;
-use block_trees::DEPTH;
+use fs_types::MAX_NAMES;
 use fs_types::{Fault, Path};
 use node_store::Nodes;
 use std::marker::Model;
@@ -15,7 +16,7 @@ use std::marker::Model;
 /// most 16. It takes no memory.
 #[derive(Drop)]
 pub struct Trail {
-    blocks: ArrayVec<u32, DEPTH>,
+    blocks: ArrayVec<u32, MAX_NAMES>,
 }
 
 impl Model for Trail {
@@ -36,7 +37,7 @@ impl Trail {
     }
 
     fn push(&mut self, block: u32)
-        requires { length self.old < DEPTH }
+        requires { length self.old < MAX_NAMES }
         ensures { self.new ≡ self.old ++ block ∷ [] }
     {
         self.blocks.push(block);

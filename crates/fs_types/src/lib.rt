@@ -15,8 +15,8 @@ pub use checkpoint_names::CpName;
 pub use faults::Fault;
 pub use flags::OpenFlags;
 pub use limits::{
-    MAX_CHECKPOINT_BYTES, MAX_CHECKPOINTS, MAX_ENTRIES, MAX_FILE_BYTES, MAX_NAME_BYTES, MAX_NAMES,
-    MAX_OPEN_FILES, MAX_VERSIONS, MIN_VERSIONS,
+    MAX_BAD_BLOCKS, MAX_CHECKPOINT_BYTES, MAX_CHECKPOINTS, MAX_ENTRIES, MAX_FILE_BYTES,
+    MAX_NAME_BYTES, MAX_NAMES, MAX_OPEN_FILES, MAX_VERSIONS, MIN_VERSIONS,
 };
 pub use names::Name;
 pub use paths::{Path, is_lawful_name};

@@ -24,5 +24,8 @@ pub const MAX_VERSIONS: u16 = 64;
 /// The most checkpoints.
 pub const MAX_CHECKPOINTS: usize = 16;
 
+/// The most bad blocks.
+pub const MAX_BAD_BLOCKS: usize = 256;
+
 /// The most open files.
 pub const MAX_OPEN_FILES: usize = 16;

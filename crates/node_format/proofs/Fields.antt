@@ -6,9 +6,10 @@ use Rattle.std.proofs.lemmas.List.{take_at, drop_at, take-append-drop, length-ap
 use Rattle.std.proofs.lemmas.Nat.{le_bytes_4}
 use Rattle.byteorder.specs.Endian.{little_number, little_bytes}
 use Rattle.byteorder.specs.Numbers.{little_number-reads_back}
+use Rattle.fs_types.specs.declared.limits.TheConstants.{MAX_FILE_BYTES}
 use Rattle.fs_types.specs.Names.{Name, is_name}
 use Rattle.node_format.specs.Order.{both_true, and_true}
-use Rattle.node_format.specs.Items.{Item, most_length, is_place}
+use Rattle.node_format.specs.Items.{Item, is_place}
 use Rattle.node_format.specs.Directories.{◌>>=◌, byte_at, number_at, name_at, place_at, kind_of, head_of, size_of}
 use Rattle.node_format.specs.declared.places.Place.{Place}
 use Rattle.node_format.specs.declared.places.Place.TheVariants.{Dir, File}
@@ -113,9 +114,9 @@ pub record HasFields (place : Place) (k h s : ℕ) : Type 0 where
   pub size : s ≡ size_of place
   pub lawful : is_place place ≡ true
 
-file_takes : (head size : ℕ) (place : Place) → head < 2 ^ 32 → cond (leb size most_length) (Some (File head size)) None ≡ Some place → HasFields place 1 head size
+file_takes : (head size : ℕ) (place : Place) → head < 2 ^ 32 → cond (leb size MAX_FILE_BYTES) (Some (File head size)) None ≡ Some place → HasFields place 1 head size
 file_takes head size place lt e =
-    let g = passed (leb size most_length) (Some (File head size)) place e in
+    let g = passed (leb size MAX_FILE_BYTES) (Some (File head size)) place e in
     subst (λ (p : Place). HasFields p 1 head size) (some_is (File head size) place g.1)
     (record { kind = refl; head = refl; size = refl; lawful = and_true _ _ (lt-ltb _ _ lt) g.0 })
 
@@ -132,7 +133,7 @@ chosen false x y z e = inr (refl, e)
 
 pub place_takes : (kind head size : ℕ) (place : Place) → head < 2 ^ 32 → place_at kind head size ≡ Some place → HasFields place kind head size
 place_takes kind head size place lt e =
-    let file = cond (leb size most_length) (Some (File head size)) None in
+    let file = cond (leb size MAX_FILE_BYTES) (Some (File head size)) None in
     let dir = cond (eqb size 0) (Some (Dir head)) None in
     elim (chosen (eqb kind 1) file (cond (eqb kind 2) dir None) (Some place) e) [
       | inl f ↦ subst (λ (k : ℕ). HasFields place k head size) (sym (eqb-true kind 1 f.0)) (file_takes head size place lt f.1)
@@ -143,15 +144,15 @@ place_takes kind head size place lt e =
 pub place_again : (place : Place) → is_place place ≡ true → place_at (kind_of place) (head_of place) (size_of place) ≡ Some place
 place_again (Dir block) lawful = refl
 place_again (File head size) lawful =
-    let parts = both_true (ltb head (2 ^ 32)) (leb size most_length) lawful in
+    let parts = both_true (ltb head (2 ^ 32)) (leb size MAX_FILE_BYTES) lawful in
     rw parts.1 refl
 
 pub head_fits : (place : Place) → is_place place ≡ true → head_of place < 2 ^ 32
 head_fits (Dir block) lawful = ltb-true _ _ lawful
-head_fits (File head size) lawful = ltb-true _ _ (both_true (ltb head (2 ^ 32)) (leb size most_length) lawful).0
+head_fits (File head size) lawful = ltb-true _ _ (both_true (ltb head (2 ^ 32)) (leb size MAX_FILE_BYTES) lawful).0
 
 pub size_fits : (place : Place) → is_place place ≡ true → size_of place < 2 ^ 32
 size_fits (Dir block) lawful = omega arith
 size_fits (File head size) lawful =
-    let le : size ≤ most_length = leb-true _ _ (both_true (ltb head (2 ^ 32)) (leb size most_length) lawful).1 in
+    let le : size ≤ MAX_FILE_BYTES = leb-true _ _ (both_true (ltb head (2 ^ 32)) (leb size MAX_FILE_BYTES) lawful).1 in
     omega arith

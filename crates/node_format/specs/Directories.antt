@@ -3,9 +3,10 @@ use Rattle.std.specs.Prelude.{◌≡◌, ℕ, zero, suc, ◌+◌, ◌==◌, Bool
 use Rattle.std.specs.Option.{option_map_or}
 use Rattle.std.specs.List.{flat_map}
 use Rattle.byteorder.specs.Endian.{little_number, little_bytes}
+use Rattle.fs_types.specs.declared.limits.TheConstants.{MAX_ENTRIES, MAX_FILE_BYTES}
 use Rattle.fs_types.specs.Names.{Name, is_name}
-use Rattle.node_format.specs.Headers.{field, directory_front, directory_magic, most_entries}
-use Rattle.node_format.specs.Items.{Item, most_length, is_before, are_entries}
+use Rattle.node_format.specs.Headers.{field, directory_front, directory_magic}
+use Rattle.node_format.specs.Items.{Item, is_before, are_entries}
 use Rattle.node_format.specs.declared.places.Place.{Place}
 use Rattle.node_format.specs.declared.places.Place.TheVariants.{Dir, File}
 
@@ -65,7 +66,7 @@ name_at size bytes = if nat_lt (length bytes) size then None else if is_name (ta
 -- the place of these fields
 abbrev pub place_at : ℕ → ℕ → ℕ → Option Place
 place_at kind head size =
-    if kind == 1 then (if nat_le size most_length then Some (File head size) else None)
+    if kind == 1 then (if nat_le size MAX_FILE_BYTES then Some (File head size) else None)
     else if kind == 2 then (if size == 0 then Some (Dir head) else None)
     else None
 
@@ -93,7 +94,7 @@ are_filled (suc count) before bytes = option_map_or (λ read. if is_before befor
 -- the entries of the directory whose header says so many entries and used bytes
 unfoldable pub entries_at : ℕ → ℕ → List ℕ → Option (List Item)
 entries_at count used bytes =
-    if nat_lt most_entries count then None
+    if nat_lt MAX_ENTRIES count then None
     else if used == length bytes then (if are_filled count [] bytes then Some (items_at count bytes) else None)
     else None
 

@@ -1,6 +1,7 @@
 -- The header of a node, its first 16 bytes; numbers are little-endian.
 use Rattle.std.specs.Prelude.{◌≡◌, ℕ, ◌+◌, ◌==◌, nat_lt, nat_le, Option, Some, None, List, length, codes, if◌then◌else◌}
 use Rattle.byteorder.specs.Endian.{little_from}
+use Rattle.fs_types.specs.declared.limits.TheConstants.{MAX_ENTRIES}
 
 -- the bytes before the data of a body node: its header and 16 slots of 4 bytes
 abbrev pub body_front : ℕ
@@ -9,10 +10,6 @@ body_front = 80
 -- the bytes before the entries of a directory node: its header
 abbrev pub directory_front : ℕ
 directory_front = 16
-
--- the most entries of a directory
-abbrev pub most_entries : ℕ
-most_entries = 32
 
 -- the number in the four bytes from an offset
 abbrev pub field : List ℕ → ℕ → ℕ
@@ -32,7 +29,7 @@ body_size block used = if nat_lt 0 used then (if nat_le (body_front + used) bloc
 
 -- a directory node has at most 32 entries, and fits in its block
 abbrev pub directory_size : ℕ → ℕ → ℕ → Option ℕ
-directory_size block count used = if nat_le count most_entries then (if nat_le (directory_front + used) block then Some (directory_front + used) else None) else None
+directory_size block count used = if nat_le count MAX_ENTRIES then (if nat_le (directory_front + used) block then Some (directory_front + used) else None) else None
 
 -- the size of the node that begins with these bytes, in a block of so many; none where its header is not well formed
 abbrev pub node_size : ℕ → List ℕ → Option ℕ

@@ -2,8 +2,8 @@
 use Rattle.std.specs.Prelude.{ℕ, ◌+◌, ◌^◌, Bool, true, false, ◌&&◌, nat_lt, nat_le, Option, Some, None, List, [], ◌∷◌, ◌++◌, length, if◌then◌else◌}
 use Rattle.std.specs.List.{list_all}
 use Rattle.std.specs.Ordering.{is_lt}
+use Rattle.fs_types.specs.declared.limits.TheConstants.{MAX_ENTRIES, MAX_FILE_BYTES}
 use Rattle.fs_types.specs.Names.{Name, is_name, same_name, name_cmp}
-use Rattle.node_format.specs.Headers.{most_entries}
 use Rattle.node_format.specs.declared.places.Place.{Place}
 use Rattle.node_format.specs.declared.places.Place.TheVariants.{Dir, File}
 
@@ -12,14 +12,10 @@ pub record Item : Type 0 where
   pub name : Name
   pub place : Place
 
--- the most bytes of a file
-abbrev pub most_length : ℕ
-most_length = 16777216
-
 -- a place has numbers of four bytes, and a file is not too long
 abbrev pub is_place : Place → Bool
 is_place (Dir block) = nat_lt block (2 ^ 32)
-is_place (File head size) = nat_lt head (2 ^ 32) && nat_le size most_length
+is_place (File head size) = nat_lt head (2 ^ 32) && nat_le size MAX_FILE_BYTES
 
 abbrev pub is_dir_place : Place → Bool
 is_dir_place (Dir block) = true
@@ -40,7 +36,7 @@ are_ascending (item ∷ items) = list_all (λ other. is_before item.name other.n
 
 -- the entries of a directory: at most 32, each lawful, in strict byte order
 abbrev pub are_entries : List Item → Bool
-are_entries items = nat_le (length items) most_entries && (list_all is_item items && are_ascending items)
+are_entries items = nat_le (length items) MAX_ENTRIES && (list_all is_item items && are_ascending items)
 
 -- the place that a name leads to
 abbrev pub named : List Item → Name → Option Place

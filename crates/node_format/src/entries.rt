@@ -3,6 +3,7 @@ ghost use Rattle.std.specs.Prelude.{◌≡◌, ◌≤◌, ◌==◌, ◌∷◌, [
 ghost use Rattle.std.specs.Iterator.{YieldsFirst, item_count};
 ghost use Rattle.std.specs.Option.{option_map};
 ghost use Rattle.node_format.specs.Items.{Item};
+ghost use Rattle.fs_types.specs.declared.limits.TheConstants.{MAX_ENTRIES};
 ghost use Rattle.fs_types.specs.Names.{is_name, same_name};
 ghost use Rattle.node_format.specs.Items.{named};
 ghost use Rattle.node_format.specs.Directories.{byte_at, number_at, name_at, place_at, item_at, are_filled, items_at, entries_at, directory_at, IsDirectory};
@@ -212,7 +213,7 @@ impl<'a> Entries<'a> {
     /// The entries before a name, what the name leads to, and the entries after it.
     pub(crate) fn split(&self, name: &[u8]) -> Split<'a>
         ensures split { IsSplit self.now name.now result.front result.found result.back }
-        ensures few { length self.now ≤ 32 }
+        ensures few { length self.now ≤ MAX_ENTRIES }
     {
         let count = self.count;
         let bytes = self.bytes;

@@ -1,6 +1,7 @@
 //! The bytes of a directory node with one entry changed.
 ghost use Rattle.std.specs.Prelude.{◌≡◌, ℕ, ◌+◌, ◌^◌, ◌<◌, ◌≤◌, [], ◌++◌, length, true, codes, replicate, Some, None, OnOk, IfOk};
 ghost use Rattle.byteorder.specs.Endian.{little_bytes};
+ghost use Rattle.fs_types.specs.declared.limits.TheConstants.{MAX_ENTRIES};
 ghost use Rattle.fs_types.specs.Names.{is_name};
 ghost use Rattle.node_format.specs.Headers.{IsNode};
 ghost use Rattle.node_format.specs.Items.{is_place, named};
@@ -32,7 +33,7 @@ impl<'a> Entries<'a> {
     ) -> Result<Vec<u8>, AllocError>
         requires name { is_name name.now ≡ true }
         requires place { is_place place ≡ true }
-        requires capacity { named self.now name.now ≡ None → length self.now < 32 }
+        requires capacity { named self.now name.now ≡ None → length self.now < MAX_ENTRIES }
         ensures edited { IfOk result (λ bytes. IsEdited self.now name.now (Some place) bytes.items) }
         ensures node { IfOk result (λ bytes. (block : ℕ) → 4096 ≤ block → IsNode block bytes.items) }
     {

@@ -2,6 +2,7 @@
 use Rattle.std.specs.Prelude.{◌≡◌, ℕ, ◌+◌, ◌<◌, ◌≤◌, Bool, true, false, List, Option, Some, None, Result, Ok, Err}
 use Rattle.std.specs.FinSet as set
 use Rattle.std.specs.Ordering.{nat_cmp}
+use Rattle.fs_types.specs.declared.limits.TheConstants.{MAX_BAD_BLOCKS}
 use Rattle.fs_types.specs.declared.faults.Fault.{Fault}
 use Rattle.fs_types.specs.declared.faults.Fault.TheVariants.{FlashFull, ReadOnly, PowerCut}
 use Rattle.flash_model.specs.Device.{Device, block_of}
@@ -34,10 +35,6 @@ pub record IsTaken (old : Ring) (bad : set.FinSet nat_cmp) (b : ℕ) (new : Ring
   pub note_stays : (c : ℕ) → set.contains old.note c ≡ true → set.contains new.note c ≡ true
   pub takes : new.takes ≡ old.takes + 1
   pub paid : free_count new bad + new.takes ≡ free_count old bad + old.takes
-
--- the most blocks that the bad list has
-abbrev pub most_bad : ℕ
-most_bad = 256
 
 -- what calls lead to, whatever they answer
 pub record Evolved (s t : Storage) : Type 0 where
@@ -74,14 +71,14 @@ pub record IsAdded (s : Storage) (bytes : List ℕ) (t : Storage) (b : ℕ) : Ty
   pub fresh : is_kept s b ≡ false
   pub kept : is_kept t b ≡ true
   pub node : node_of t.device b ≡ Some bytes
-  pub room : set.len t.bad < most_bad
+  pub room : set.len t.bad < MAX_BAD_BLOCKS
 
 -- a write adds the node, or is refused: no block is free, the bad list is at its limit, or power is off
 abbrev pub Adds : Storage → List ℕ → Storage → Result ℕ Fault → Type 0
 Adds s bytes t (Ok b) = IsAdded s bytes t b
-Adds s bytes t (Err FlashFull) = (free_count t.ring t.bad ≡ 0) × (set.len t.bad < most_bad)
-Adds s bytes t (Err ReadOnly) = set.len t.bad ≡ most_bad
-Adds s bytes t (Err PowerCut) = (t.device.powered ≡ false) × (set.len t.bad < most_bad)
+Adds s bytes t (Err FlashFull) = (free_count t.ring t.bad ≡ 0) × (set.len t.bad < MAX_BAD_BLOCKS)
+Adds s bytes t (Err ReadOnly) = set.len t.bad ≡ MAX_BAD_BLOCKS
+Adds s bytes t (Err PowerCut) = (t.device.powered ≡ false) × (set.len t.bad < MAX_BAD_BLOCKS)
 Adds s bytes t (Err _) = ⊥
 
 -- the takes that no bad block paid for: of the block that was written, or in which power went
@@ -97,7 +94,7 @@ Pays s t takes = t.ring.takes + set.len s.bad ≡ s.ring.takes + set.len t.bad +
 -- an attempt adds the node, or its block is bad and others may be tried, or it is refused as a write is
 abbrev pub Tries : Storage → List ℕ → Storage → Result (Option ℕ) Fault → Type 0
 Tries s bytes t (Ok (Some b)) = IsAdded s bytes t b
-Tries s bytes t (Ok None) = (free_count t.ring t.bad < free_count s.ring s.bad) × (set.len t.bad < most_bad)
+Tries s bytes t (Ok None) = (free_count t.ring t.bad < free_count s.ring s.bad) × (set.len t.bad < MAX_BAD_BLOCKS)
 Tries s bytes t (Err fault) = Adds s bytes t (Err fault)
 
 abbrev pub unpaid_try : Result (Option ℕ) Fault → ℕ

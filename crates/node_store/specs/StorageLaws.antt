@@ -20,7 +20,8 @@ use Rattle.node_format.specs.Headers.{IsNode}
 use Rattle.node_store.specs.NodeLaws.{node_of-pages}
 use Rattle.flash_model.specs.Reading.{OnlyReads_itself, OnlyReads_on}
 use Rattle.node_store.specs.Writing.{WritesBlock}
-use Rattle.node_store.specs.Storage.{Storage, storage, is_kept, most_bad, IsTaken, Evolved, IsUntouched, IsAdded, Pays}
+use Rattle.node_store.specs.Storage.{Storage, storage, is_kept, IsTaken, Evolved, IsUntouched, IsAdded, Pays}
+use Rattle.fs_types.specs.declared.limits.TheConstants.{MAX_BAD_BLOCKS}
 
 pub Evolved_itself : (s : Storage) → Evolved s s
 Evolved_itself s = record {
@@ -213,7 +214,7 @@ none_free r bad busy =
 
 -- a take, and a write that was done, add the node
 pub took_added : (s : Storage) (b : ℕ) (ring : Ring) (bytes : List ℕ) (d : Device) (u : Unit {0}) → IsGeometry s.device.geometry
-    → s.ring.blocks ≡ s.device.geometry.blocks → IsNode (block_bytes s.device.geometry) bytes → set.len s.bad < most_bad
+    → s.ring.blocks ≡ s.device.geometry.blocks → IsNode (block_bytes s.device.geometry) bytes → set.len s.bad < MAX_BAD_BLOCKS
     → IsTaken s.ring s.bad b ring → WritesBlock s.device b bytes d (Ok u) → IsAdded s bytes (storage d s.bad ring) b
 took_added s b ring bytes d u lawful blocks node room take w =
     let same = sym w.geometry in

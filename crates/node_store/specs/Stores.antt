@@ -1,13 +1,14 @@
 -- How the states of a store follow one another.
 use Rattle.std.specs.Prelude.{◌≡◌, ◌+◌, ◌<◌, ◌≤◌, false, vec_len, vec_capacity}
 use Rattle.std.specs.FinSet as set
+use Rattle.fs_types.specs.declared.limits.TheConstants.{MAX_BAD_BLOCKS}
 use Rattle.fs_types.specs.declared.faults.Fault.{Fault}
 use Rattle.fs_types.specs.declared.faults.Fault.TheVariants.{FlashFull, ReadOnly, ReadFailed, PowerCut, NoMemory}
 use Rattle.flash_model.specs.Geometry.{IsGeometry, block_bytes}
 use Rattle.flash_model.specs.Device.{Device}
 use Rattle.allocator.specs.Ring.{free_count}
 use Rattle.node_store.specs.declared.stores.Store.{Store}
-use Rattle.node_store.specs.Storage.{Storage, storage, most_bad, Evolved, IsUntouched}
+use Rattle.node_store.specs.Storage.{Storage, storage, Evolved, IsUntouched}
 
 module _ {F : Type 0} (device : F → Device) where
   -- the parts that it works on
@@ -33,18 +34,18 @@ module _ {F : Type 0} (device : F → Device) where
     pub paid : t.storage.now.ring.takes + set.len s.storage.now.bad + s.writes.n ≤ s.storage.now.ring.takes + set.len t.storage.now.bad + t.writes.n
     pub untouched : t.writes.n ≡ s.writes.n → IsUntouched (parts s) (parts t)
     -- where the bad list is at its limit, nothing is written any more
-    pub at_limit : set.len s.storage.now.bad ≡ most_bad → IsUntouched (parts s) (parts t)
+    pub at_limit : set.len s.storage.now.bad ≡ MAX_BAD_BLOCKS → IsUntouched (parts s) (parts t)
 
   -- no block is free, and those that were free were fewer than the writes asked and the blocks that went bad
   pub record IsFull (s t : Store F) : Type 0 where
     pub none_free : free_count t.storage.now.ring t.storage.now.bad ≡ 0
     pub few_free : free_count s.storage.now.ring s.storage.now.bad + set.len s.storage.now.bad + s.writes.n < set.len t.storage.now.bad + t.writes.n
-    pub room : set.len t.storage.now.bad < most_bad
+    pub room : set.len t.storage.now.bad < MAX_BAD_BLOCKS
 
   -- why a refusal may come between two states
   abbrev pub Reasons : Store F → Store F → Fault → Type 0
   Reasons s t FlashFull = IsFull s t
-  Reasons s t ReadOnly = set.len t.storage.now.bad ≡ most_bad
+  Reasons s t ReadOnly = set.len t.storage.now.bad ≡ MAX_BAD_BLOCKS
   Reasons s t ReadFailed = (device s.flash.now).failed_reads < (device t.flash.now).failed_reads
   Reasons s t PowerCut = (device t.flash.now).powered ≡ false
   Reasons s t NoMemory = Unit {0}

@@ -4,7 +4,8 @@ ghost use Rattle.std.specs.FinSet as set;
 ghost use Rattle.allocator.specs.Ring.{free_count};
 ghost use Rattle.flash_model.specs.Geometry.{IsGeometry, block_bytes};
 ghost use Rattle.node_format.specs.Headers.{IsNode};
-ghost use Rattle.node_store.specs.Storage.{IsTaken, IsUntouched, storage, most_bad, Evolved, Adds, Tries, Pays, unpaid, unpaid_try};
+ghost use Rattle.node_store.specs.Storage.{IsTaken, IsUntouched, storage, Evolved, Adds, Tries, Pays, unpaid, unpaid_try};
+ghost use Rattle.fs_types.specs.declared.limits.TheConstants.{MAX_BAD_BLOCKS};
 
 use crate::writing::write_block;
 use allocator::Ring;
@@ -27,9 +28,9 @@ fn take_block(ring: &mut Ring, bad: &BadBlocks) -> Result<u32, Fault>
 /// then at its limit.
 fn list_block(bad: &mut BadBlocks, block: u32) -> Result<(), Fault>
     requires good { set.contains bad.old block ≡ false }
-    requires room { set.len bad.old < most_bad }
+    requires room { set.len bad.old < MAX_BAD_BLOCKS }
     ensures listed { bad.new ≡ set.insert bad.old block }
-    ensures limit { MatchResult result (λ _. set.len bad.new < most_bad) (λ fault. (fault ≡ Fault.ReadOnly) × (set.len bad.new ≡ most_bad)) }
+    ensures limit { MatchResult result (λ _. set.len bad.new < MAX_BAD_BLOCKS) (λ fault. (fault ≡ Fault.ReadOnly) × (set.len bad.new ≡ MAX_BAD_BLOCKS)) }
 {
     bad.add(block).unwrap();
     if bad.is_full() {
@@ -51,7 +52,7 @@ fn write_next<F: Flash>(
     requires ring_blocks { ring.old.blocks ≡ (F.device flash.old).geometry.blocks }
     requires whole { vec_len page.old ≡ (F.device flash.old).geometry.page }
     requires node { IsNode (block_bytes (F.device flash.old).geometry) bytes.now }
-    requires room { set.len bad.old < most_bad }
+    requires room { set.len bad.old < MAX_BAD_BLOCKS }
     ensures tries { Tries (storage (F.device flash.old) bad.old ring.old) bytes.now (storage (F.device flash.new) bad.new ring.new) result }
     ensures evolved { Evolved (storage (F.device flash.old) bad.old ring.old) (storage (F.device flash.new) bad.new ring.new) }
     ensures pays { Pays (storage (F.device flash.old) bad.old ring.old) (storage (F.device flash.new) bad.new ring.new) (unpaid_try result) }
@@ -86,7 +87,7 @@ pub fn write_node<F: Flash>(
     ensures evolved { Evolved (storage (F.device flash.old) bad.old ring.old) (storage (F.device flash.new) bad.new ring.new) }
     ensures pays { Pays (storage (F.device flash.old) bad.old ring.old) (storage (F.device flash.new) bad.new ring.new) (unpaid result) }
     ensures page { vec_len page.new ≡ vec_len page.old }
-    ensures at_limit { set.len bad.old ≡ most_bad → IsUntouched (storage (F.device flash.old) bad.old ring.old) (storage (F.device flash.new) bad.new ring.new) }
+    ensures at_limit { set.len bad.old ≡ MAX_BAD_BLOCKS → IsUntouched (storage (F.device flash.old) bad.old ring.old) (storage (F.device flash.new) bad.new ring.new) }
 {
     if bad.is_full() {
         return Err(Fault::ReadOnly);

@@ -6,7 +6,7 @@ use Rattle.std.proofs.Math.Nat.{div-mul-le_self, pow-le-pow_right}
 use Rattle.std.proofs.lemmas.Bool.{leb-true, cases_lt}
 use Rattle.std.proofs.lemmas.Nat.{mul-le}
 use Rattle.node_format.specs.Headers.{field, directory_magic}
-use Rattle.node_format.specs.Items.{Item, most_length}
+use Rattle.node_format.specs.Items.{Item}
 use Rattle.node_format.specs.Directories.{size_of, byte_at, number_at, name_at, place_at, item_at, items_at, are_filled, entries_at, directory_at}
 use Rattle.node_format.specs.declared.places.Place.{Place}
 use Rattle.node_format.specs.declared.places.Place.TheVariants.{Dir, File}
@@ -14,23 +14,24 @@ use Rattle.node_format.proofs.Fields.{bind_some, passed, not_refused, chosen, so
 use Rattle.block_trees.specs.Bodies.{head_index, Divides}
 use Rattle.block_trees.specs.Trees.{items_of}
 use Rattle.reclaim.proofs.Chains.{divides_least}
+use Rattle.fs_types.specs.declared.limits.TheConstants.{MAX_FILE_BYTES}
 
 -- ---- files
 
-place_short : (kind head size : ℕ) (place : Place) → place_at kind head size ≡ Some place → size_of place ≤ most_length
+place_short : (kind head size : ℕ) (place : Place) → place_at kind head size ≡ Some place → size_of place ≤ MAX_FILE_BYTES
 place_short kind head size place e =
-    let file = cond (leb size most_length) (Some (File head size)) None in
+    let file = cond (leb size MAX_FILE_BYTES) (Some (File head size)) None in
     let dir = cond (eqb size 0) (Some (Dir head)) None in
     elim (chosen (eqb kind 1) file (cond (eqb kind 2) dir None) (Some place) e) [
       | inl f ↦
-          let own = passed (leb size most_length) (Some (File head size)) place f.1 in
-          subst (λ (p : Place). size_of p ≤ most_length) (some_is (File head size) place own.1) (leb-true size most_length own.0)
+          let own = passed (leb size MAX_FILE_BYTES) (Some (File head size)) place f.1 in
+          subst (λ (p : Place). size_of p ≤ MAX_FILE_BYTES) (some_is (File head size) place own.1) (leb-true size MAX_FILE_BYTES own.0)
       | inr d ↦
           let own = passed (eqb size 0) (Some (Dir head)) place (passed (eqb kind 2) dir place d.1).1 in
-          subst (λ (p : Place). size_of p ≤ most_length) (some_is (Dir head) place own.1) (omega arith)
+          subst (λ (p : Place). size_of p ≤ MAX_FILE_BYTES) (some_is (Dir head) place own.1) (omega arith)
     ]
 
-item_short : (bytes : List ℕ) (x : Item × List ℕ) → item_at bytes ≡ Some x → size_of x.0.place ≤ most_length
+item_short : (bytes : List ℕ) (x : Item × List ℕ) → item_at bytes ≡ Some x → size_of x.0.place ≤ MAX_FILE_BYTES
 unfolding item_at
 item_short bytes x e =
     let a = bind_some (byte_at bytes) _ x e in
@@ -40,30 +41,30 @@ item_short bytes x e =
     let s = bind_some (number_at h.0.1) _ x h.2 in
     let p = bind_some (place_at a.0.0 h.0.0 s.0.0) _ x s.2 in
     let made : Item × List ℕ = (record { name = n.0.0; place = p.0 }, s.0.1) in
-    subst (λ (y : Item × List ℕ). size_of y.0.place ≤ most_length) (some_is made x p.2) (place_short a.0.0 h.0.0 s.0.0 p.0 p.1)
+    subst (λ (y : Item × List ℕ). size_of y.0.place ≤ MAX_FILE_BYTES) (some_is made x p.2) (place_short a.0.0 h.0.0 s.0.0 p.0 p.1)
 
 -- an item of a list with one more is that one or among the others
 first_or : (x : Item) (xs : List Item) (item : Item) → Contains (x ∷ xs) item → (x ≡ item) ⊎ Contains xs item
 first_or x xs item (zero, lt, is) = inl is
 first_or x xs item (suc k, lt, is) = inr (k, omega (arith, lt), is)
 
-items_short : (count : ℕ) (bytes : List ℕ) (item : Item) → Contains (items_at count bytes) item → size_of item.place ≤ most_length
+items_short : (count : ℕ) (bytes : List ℕ) (item : Item) → Contains (items_at count bytes) item → size_of item.place ≤ MAX_FILE_BYTES
 unfolding items_at
 items_short zero bytes item h = absurd (omega (arith, h.1))
 items_short (suc count) bytes item h = on (item_at bytes) refl h (λ after. items_short count after item)
   where
     on : (read : Option (Item × List ℕ)) → item_at bytes ≡ read → Contains (option_map_or (λ x. x.0 ∷ items_at count x.1) read []) item
-        → ((after : List ℕ) → Contains (items_at count after) item → size_of item.place ≤ most_length) → size_of item.place ≤ most_length
+        → ((after : List ℕ) → Contains (items_at count after) item → size_of item.place ≤ MAX_FILE_BYTES) → size_of item.place ≤ MAX_FILE_BYTES
     on None is h again = absurd (omega (arith, h.1))
     on (Some x) is h again = elim (first_or x.0 (items_at count x.1) item h) [
-      | inl same ↦ subst (λ (y : Item). size_of y.place ≤ most_length) same (item_short bytes x is)
+      | inl same ↦ subst (λ (y : Item). size_of y.place ≤ MAX_FILE_BYTES) same (item_short bytes x is)
       | inr other ↦ again x.1 other
     ]
 
 abbrev some_items : List Item → Option (List Item)
 some_items items = Some items
 
-directory_short : (bytes : List ℕ) (items : List Item) → directory_at bytes ≡ Some items → (item : Item) → Contains items item → size_of item.place ≤ most_length
+directory_short : (bytes : List ℕ) (items : List Item) → directory_at bytes ≡ Some items → (item : Item) → Contains items item → size_of item.place ≤ MAX_FILE_BYTES
 unfolding directory_at entries_at
 directory_short bytes items e item h =
     let rest = drop 16 bytes in
@@ -75,25 +76,25 @@ directory_short bytes items e item h =
     items_short (field bytes 4) rest item (subst (λ (l : List Item). Contains l item) (sym (some_is (items_at (field bytes 4) rest) items f.1)) h)
 
 -- no entry of a node is a file that is too long
-pub entry_short : (node : Option (List ℕ)) (item : Item) → Contains (items_of node) item → size_of item.place ≤ most_length
+pub entry_short : (node : Option (List ℕ)) (item : Item) → Contains (items_of node) item → size_of item.place ≤ MAX_FILE_BYTES
 entry_short None item h = absurd (omega (arith, h.1))
 entry_short (Some bytes) item h = on (directory_at bytes) refl h
   where
-    on : (o : Option (List Item)) → directory_at bytes ≡ o → Contains (unwrap_or o []) item → size_of item.place ≤ most_length
+    on : (o : Option (List Item)) → directory_at bytes ≡ o → Contains (unwrap_or o []) item → size_of item.place ≤ MAX_FILE_BYTES
     on None is h = absurd (omega (arith, h.1))
     on (Some items) is h = directory_short bytes items is item h
 
 -- ---- indices
 
 -- the head of a file has a small index, and so has each node before it
-pub head_short : (capacity n : ℕ) → suc n ≤ most_length → head_index capacity (suc n) * capacity < most_length
+pub head_short : (capacity n : ℕ) → suc n ≤ MAX_FILE_BYTES → head_index capacity (suc n) * capacity < MAX_FILE_BYTES
 head_short capacity n few = omega (arith, div-mul-le_self (suc n - 1) capacity)
 
-pub shorter : (capacity i j : ℕ) → j ≤ i → i * capacity < most_length → j * capacity < most_length
+pub shorter : (capacity i j : ℕ) → j ≤ i → i * capacity < MAX_FILE_BYTES → j * capacity < MAX_FILE_BYTES
 shorter capacity i j le short = omega (arith, mul-le j capacity i capacity le (omega arith), short)
 
 -- a small index, where nodes are large
-pub index_small : (capacity index : ℕ) → 2 ^ 11 ≤ capacity → index * capacity < most_length → index < 2 ^ 13
+pub index_small : (capacity index : ℕ) → 2 ^ 11 ≤ capacity → index * capacity < MAX_FILE_BYTES → index < 2 ^ 13
 index_small capacity index large short = elim (cases_lt index (2 ^ 13)) [
   | inl below ↦ below
   | inr past ↦ absurd (omega (arith, mul-le (2 ^ 13) (2 ^ 11) index capacity past large, short))

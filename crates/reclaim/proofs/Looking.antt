@@ -6,7 +6,7 @@ use Rattle.std.proofs.Math.Nat.{div-add-mod'}
 use Rattle.std.proofs.lemmas.Bool.{true≢false, and_parts, and_from, ltb-true, lt-ltb, eqb-true, eq-eqb}
 use Rattle.std.proofs.lemmas.List.{length-map}
 use Rattle.std.proofs.lemmas.List.Elements.{All-nil, All-cons, All-head, All-tail, All-map, All-contains, All-contains_itself, All-weaker}
-use Rattle.node_format.specs.Items.{Item, most_length}
+use Rattle.node_format.specs.Items.{Item}
 use Rattle.node_format.specs.Directories.{directory_at}
 use Rattle.node_format.specs.declared.places.Place.{Place}
 use Rattle.block_trees.specs.Bodies.{Blocks, index_of, pointer_of, data_of, head_index}
@@ -17,6 +17,7 @@ use Rattle.reclaim.specs.Sound.{IsDirectoryAt, IsHead, IsSoundPlace, HoldsSlot, 
 use Rattle.reclaim.specs.Looks.{body_of, look_reads, AreSteppedTo}
 use Rattle.reclaim.proofs.NamedLaws.{has_slot-divides, divides-has_slot, divides-below}
 use Rattle.reclaim.proofs.Lengths.{divides-short}
+use Rattle.fs_types.specs.declared.limits.TheConstants.{MAX_FILE_BYTES}
 
 pub never : IsTrue false → ⊥
 never is = true≢false (sym is)
@@ -193,13 +194,13 @@ node_plain capacity f node places good is exact well none = (
 )
 
 -- no file has a node of such an index
-pub node_long : (capacity : ℕ) (f : Blocks) (held : Option (List ℕ)) (index : ℕ) (short : Bool) → index_of held ≡ Some index → short ≡ nat_lt (index * capacity) most_length
+pub node_long : (capacity : ℕ) (f : Blocks) (held : Option (List ℕ)) (index : ℕ) (short : Bool) → index_of held ≡ Some index → short ≡ nat_lt (index * capacity) MAX_FILE_BYTES
     → short ≡ false → IsTrue false ↔ IsSoundNode capacity f held
-node_long capacity f held index short has is long = (λ t. absurd (never t), λ h. sym long ∙ is ∙ lt-ltb (index * capacity) most_length (h.short index has))
+node_long capacity f held index short has is long = (λ t. absurd (never t), λ h. sym long ∙ is ∙ lt-ltb (index * capacity) MAX_FILE_BYTES (h.short index has))
 
 pub node_body : (capacity : ℕ) (f : Blocks) (node : Option (List ℕ)) (places : List Place) (good : Bool) → places ≡ map (λ (item : Item). item.place) (items_of node)
     → (IsTrue good ↔ All (IsSoundPlace capacity f) places) → good ≡ true
-    → (index : ℕ) (pointers : ℕ → ℕ) (sound : Bool) → index_of node ≡ Some index → index < 2 ^ 32 → ((x : ℕ) → x < 32 → pointers x ≡ pointer_of node x) → index * capacity < most_length
+    → (index : ℕ) (pointers : ℕ → ℕ) (sound : Bool) → index_of node ≡ Some index → index < 2 ^ 32 → ((x : ℕ) → x < 32 → pointers x ≡ pointer_of node x) → index * capacity < MAX_FILE_BYTES
     → (IsTrue sound ↔ IsSoundBody capacity f pointers index) → IsTrue sound ↔ IsSoundNode capacity f node
 node_body capacity f node places good is exact well index pointers sound has fits same short body = (
   λ t. record {
@@ -207,7 +208,7 @@ node_body capacity f node places good is exact well index pointers sound has fit
     pointers = λ i some.
         let own : index ≡ i = some_is index i (sym has ∙ some) in
         subst (IsSoundBody capacity f (pointer_of node)) own (body_same capacity f pointers (pointer_of node) index fits same (body.0 t));
-    short = λ i some. subst (λ (k : ℕ). k * capacity < most_length) (some_is index i (sym has ∙ some)) short;
+    short = λ i some. subst (λ (k : ℕ). k * capacity < MAX_FILE_BYTES) (some_is index i (sym has ∙ some)) short;
   },
   λ h. body.1 (body_same capacity f (pointer_of node) pointers index fits (λ x below. sym (same x below)) (h.pointers index has)),
 )

@@ -3,8 +3,9 @@ use Rattle.std.proofs.Common.{◌≡◌, ◌≢◌, ◌⊎◌, inl, inr, ℕ, ze
 use Rattle.std.specs.Prelude.{Contains, IsSome, unwrap_or}
 use Rattle.std.specs.Option.{option_and_then}
 use Rattle.std.proofs.lemmas.Nat.{pow_pos}
+use Rattle.fs_types.specs.declared.limits.TheConstants.{MAX_FILE_BYTES}
 use Rattle.fs_types.specs.Names.{Name, Path}
-use Rattle.node_format.specs.Items.{Item, most_length}
+use Rattle.node_format.specs.Items.{Item}
 use Rattle.node_format.specs.Directories.{size_of}
 use Rattle.node_format.specs.EntryLaws.{named-contained}
 use Rattle.node_format.specs.declared.places.Place.{Place}
@@ -54,7 +55,7 @@ places_linked f i block linked stepped (suc x) divides =
 pub record IsLinkedChain (capacity : ℕ) (f : Blocks) (i block : ℕ) : Type 0 where
   pub chain : IsChain capacity f i block
   pub linked : IsLinked f i block
-  pub short : i * capacity < most_length
+  pub short : i * capacity < MAX_FILE_BYTES
 
 chain_sound : (capacity : ℕ) (f : Blocks) (roots : List ℕ) → ((b : ℕ) → Reached f roots b → IsSoundNode capacity f (f b))
     → (i block : ℕ) → Reached f roots block → index_of (f block) ≡ Some i → IsLinkedChain capacity f i block
@@ -148,10 +149,10 @@ entry_tree capacity f block depth item tree within = λ path at is.
 abbrev IsShaped : ℕ → Blocks → ℕ → Type 0
 IsShaped capacity f block = ((depth : ℕ) × HasTree capacity f (Dir block) depth) ⊎ ((i : ℕ) × IsLinkedChain capacity f i block)
 
-body_shape : (capacity : ℕ) (f : Blocks) (head n : ℕ) → suc n ≤ most_length → IsBody capacity f head (suc n) → IsShaped capacity f head
+body_shape : (capacity : ℕ) (f : Blocks) (head n : ℕ) → suc n ≤ MAX_FILE_BYTES → IsBody capacity f head (suc n) → IsShaped capacity f head
 body_shape capacity f head n few whole = inr (head_index capacity (suc n), record { chain = whole.0; linked = whole.2; short = head_short capacity n few })
 
-place_shape : (capacity : ℕ) (f : Blocks) (place : Place) (depth next : ℕ) → size_of place ≤ most_length → HasTree capacity f place depth → PlaceNames place next → IsShaped capacity f next
+place_shape : (capacity : ℕ) (f : Blocks) (place : Place) (depth next : ℕ) → size_of place ≤ MAX_FILE_BYTES → HasTree capacity f place depth → PlaceNames place next → IsShaped capacity f next
 place_shape capacity f (Dir block) depth next few tree same = subst (IsShaped capacity f) same (inl (depth, tree))
 place_shape capacity f (File head zero) depth next few tree names = absurd (omega (arith, names.0))
 place_shape capacity f (File head (suc n)) depth next few tree names =
@@ -256,7 +257,7 @@ shape_sound capacity f block (inr (i, c)) =
       entries = λ items is item within. absurd (no_number i (sym node ∙ directory_no_index (f block) items is));
       pointers = λ index is.
           subst (IsSoundBody capacity f (pointer_of (f block))) (number_is i index (sym node ∙ is)) (chain_body capacity f i block c);
-      short = λ index is. subst (λ (k : ℕ). k * capacity < most_length) (number_is i index (sym node ∙ is)) c.short;
+      short = λ index is. subst (λ (k : ℕ). k * capacity < MAX_FILE_BYTES) (number_is i index (sym node ∙ is)) c.short;
     }
 
 found_place : (o : Option Place) → IsSome o → (at : Place) × (o ≡ Some at)

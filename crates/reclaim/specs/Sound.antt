@@ -1,13 +1,14 @@
 -- What one look at a block, and at the blocks that it names, shows: where each reached block is sound, whole trees hang
 -- from the roots.
 use Rattle.std.specs.Prelude.{◌≡◌, ◌≢◌, ℕ, zero, suc, ◌+◌, ◌*◌, ◌<◌, ◌≤◌, Option, Some, None, List, length, Contains}
-use Rattle.node_format.specs.Items.{Item, most_length}
+use Rattle.node_format.specs.Items.{Item}
 use Rattle.node_format.specs.declared.places.Place.{Place}
 use Rattle.node_format.specs.declared.places.Place.TheVariants.{Dir, File}
 use Rattle.block_trees.specs.Bodies.{Blocks, index_of, pointer_of, data_of, head_index, Divides}
 use Rattle.block_trees.specs.Trees.{entries_of, IsRoot}
 use Rattle.block_trees.specs.Reached.{Reached}
 use Rattle.block_trees.specs.Laws.{IsShallow}
+use Rattle.fs_types.specs.declared.limits.TheConstants.{MAX_FILE_BYTES}
 
 -- the block holds a directory node
 abbrev pub IsDirectoryAt : Blocks → ℕ → Type 0
@@ -42,7 +43,7 @@ IsSoundBody capacity f pointer (suc i) =
 pub record IsSoundNode (capacity : ℕ) (f : Blocks) (node : Option (List ℕ)) : Type 0 where
   pub entries : (items : List Item) → entries_of node ≡ Some items → (item : Item) → Contains items item → IsSoundPlace capacity f item.place
   pub pointers : (index : ℕ) → index_of node ≡ Some index → IsSoundBody capacity f (pointer_of node) index
-  pub short : (index : ℕ) → index_of node ≡ Some index → index * capacity < most_length
+  pub short : (index : ℕ) → index_of node ≡ Some index → index * capacity < MAX_FILE_BYTES
 
 -- all that the roots reach is sound, and they are directories below which no path has more than 16 names
 pub record AreSound (capacity : ℕ) (f : Blocks) (roots : List ℕ) : Type 0 where

@@ -1,8 +1,9 @@
 //! One look at a block, and at the blocks that it names.
 ghost use Rattle.std.specs.Prelude.{◌≡◌, ◌≢◌, ℕ, ◌+◌, ◌*◌, ◌^◌, ◌-◌, ◌≤◌, ◌<◌, ◌↔◌, ◌++◌, ◌/◌, ◌%◌, ◌&&◌, nat_eq, nat_lt, All, true, false, IsTrue, map, length, Some, None, OnOk, IfOk, IfErr, IsErrOf, slice_index};
+ghost use Rattle.fs_types.specs.declared.limits.TheConstants.{MAX_FILE_BYTES};
 ghost use Rattle.fs_types.specs.declared.faults.Fault.TheVariants.{Damaged};
 ghost use Rattle.node_format.specs.declared.places.Place.TheVariants.{Dir, File};
-ghost use Rattle.node_format.specs.Items.{most_length};
+
 ghost use Rattle.block_trees.specs.Bodies.{index_of, pointer_of, data_of};
 ghost use Rattle.block_trees.specs.Trees.{entries_of, items_of};
 ghost use Rattle.reclaim.specs.Sound.{IsDirectoryAt, IsHead, IsSoundPlace, HoldsSlot, IsSoundBody, IsSoundNode, AreStepped};
@@ -236,7 +237,7 @@ fn is_sound_body<N: Nodes>(
 
 /// Whether a file can have a node of an index.
 fn is_short(capacity: u32, index: u32) -> bool
-    ensures { result ≡ nat_lt (index * capacity) most_length }
+    ensures { result ≡ nat_lt (index * capacity) MAX_FILE_BYTES }
 {
     index as u64 * (capacity as u64) < MOST_LENGTH
 }

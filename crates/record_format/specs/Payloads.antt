@@ -5,6 +5,7 @@ use Rattle.std.specs.Option.{ok_or}
 use Rattle.std.specs.Ordering.{is_lt}
 use Rattle.std.specs.Str.{bytes_eq}
 use Rattle.byteorder.specs.Endian.{little_from, little_bytes}
+use Rattle.fs_types.specs.declared.limits.TheConstants.{MIN_VERSIONS, MAX_VERSIONS, MAX_CHECKPOINTS, MAX_BAD_BLOCKS}
 use Rattle.fs_types.specs.Names.{Name, name_cmp, is_checkpoint_name}
 use Rattle.fs_types.specs.declared.faults.Fault.{Fault}
 use Rattle.fs_types.specs.declared.faults.Fault.TheVariants.{Damaged, BadGeometry}
@@ -80,11 +81,11 @@ abbrev pub numbers_ascend : ℕ → List ℕ → Bool
 numbers_ascend least [] = true
 numbers_ascend least (n ∷ numbers) = nat_le least n && numbers_ascend (n + 1) numbers
 
--- the counts of a record: 2 to 64 versions may be kept, some are, the cursor is at one of them, 16 checkpoints and 256 bad blocks at most, and the last block taken is a data block
+-- the counts of a record: a lawful number of versions may be kept, some are, the cursor is at one of them, no more checkpoints and bad blocks than may be, and the last block taken is a data block
 abbrev pub has_counts : Record → Bool
 has_counts r =
-    nat_le 2 r.limit && nat_le r.limit 64 && nat_le (length r.versions) r.limit && nat_lt r.cursor (length r.versions)
-    && nat_le (length r.checkpoints) 16 && nat_le (length r.bad) 256 && nat_le 8 r.last && nat_lt r.last r.geometry.blocks
+    nat_le MIN_VERSIONS r.limit && nat_le r.limit MAX_VERSIONS && nat_le (length r.versions) r.limit && nat_lt r.cursor (length r.versions)
+    && nat_le (length r.checkpoints) MAX_CHECKPOINTS && nat_le (length r.bad) MAX_BAD_BLOCKS && nat_le 8 r.last && nat_lt r.last r.geometry.blocks
 
 -- versions from serial 1 on, below the next serial, in order
 abbrev pub has_versions : Record → Bool

@@ -3,8 +3,9 @@ ghost use Rattle.std.specs.Prelude.{◌≡◌, [], nat_lt};
 ghost use Rattle.std.specs.List.{list_all};
 ghost use Rattle.record_format.specs.Payloads as payload;
 
-use crate::records::{Checkpoint, FIRST_DATA, MOST_BAD, MOST_CHECKPOINTS, MOST_VERSIONS, Record};
-use fs_types::Version;
+use crate::records::{Checkpoint, Record};
+use flash_model::FIRST_DATA_BLOCK;
+use fs_types::{MAX_BAD_BLOCKS, MAX_CHECKPOINTS, MAX_VERSIONS, MIN_VERSIONS, Version};
 
 impl Record {
     /// Whether a payload may say this record: the counts are within their limits, and versions,
@@ -19,13 +20,13 @@ impl Record {
         ensures { result ≡ payload.has_counts self.now }
     {
         let versions = self.versions.as_slice().len();
-        2 <= self.limit
-            && self.limit <= MOST_VERSIONS
+        MIN_VERSIONS <= self.limit
+            && self.limit <= MAX_VERSIONS
             && versions <= self.limit as usize
             && (self.cursor as usize) < versions
-            && self.checkpoints.as_slice().len() <= MOST_CHECKPOINTS
-            && self.bad.as_slice().len() <= MOST_BAD
-            && FIRST_DATA <= self.last
+            && self.checkpoints.as_slice().len() <= MAX_CHECKPOINTS
+            && self.bad.as_slice().len() <= MAX_BAD_BLOCKS
+            && FIRST_DATA_BLOCK <= self.last
             && self.last < self.geometry.blocks
     }
 

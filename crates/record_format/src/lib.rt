@@ -13,7 +13,5 @@ mod writing;
 pub use laws::{page_laws, payload_laws};
 pub use pages::{HEAD_SIZE, PageHead, write_page};
 pub use reading::read_payload;
-pub use records::{
-    Checkpoint, LONGEST_PAYLOAD, MOST_BAD, MOST_CHECKPOINTS, MOST_VERSIONS, Payload, Record,
-};
+pub use records::{Checkpoint, LONGEST_PAYLOAD, Payload, Record};
 pub use writing::write_payload;

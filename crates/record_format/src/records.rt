@@ -3,21 +3,9 @@ use arrayvec::ArrayVec;
 use flash_model::Geometry;
 use fs_types::{CpName, Sequence, Version};
 
-/// The most versions that a record keeps.
-pub const MOST_VERSIONS: u16 = 64;
-
-/// The most checkpoints of a record.
-pub const MOST_CHECKPOINTS: usize = 16;
-
-/// The most bad blocks of a record.
-pub const MOST_BAD: usize = 256;
-
 /// The bytes of the longest payload: 40 in front, and 12 for each version, 36 for each checkpoint
 /// and 4 for each bad block.
 pub const LONGEST_PAYLOAD: usize = 2408;
-
-/// The first block that is no anchor.
-pub(crate) const FIRST_DATA: u32 = 8;
 
 /// The bytes of a payload. They take no memory.
 pub type Payload = ArrayVec<u8, LONGEST_PAYLOAD>;

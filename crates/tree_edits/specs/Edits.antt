@@ -1,5 +1,6 @@
 -- Edits of trees: when one can be applied, the tree that it makes, and how many nodes it writes.
 use Rattle.std.specs.Prelude.{◌≡◌, ℕ, ◌+◌, ◌-◌, ◌*◌, ◌^◌, ◌<◌, ◌≤◌, ◌&&◌, Bool, true, false, Some, Ok, List, [], length}
+use Rattle.fs_types.specs.declared.limits.TheConstants.{MAX_NAMES, MAX_FILE_BYTES}
 use Rattle.fs_types.specs.Names.{Path, is_path, same_path}
 use Rattle.plain_trees.specs.Contents.{Entry, Apart, parent_of, overwritten, resized, pwrite_need, ftruncate_need}
 use Rattle.plain_trees.specs.Trees.{Tree, put, remove, move, bytes_at}
@@ -38,7 +39,7 @@ pub record IsMovable (f : Blocks) (root : ℕ) (old : Path) (old_trail : List �
   pub old_way : IsTrail f root old old_trail
   pub new_way : IsTrail f root new new_trail
   pub stands : leads f (Dir root) old ≡ Some place
-  pub shallow : IsShallow f place (16 - length new)
+  pub shallow : IsShallow f place (MAX_NAMES - length new)
   pub capacity : same_path (parent_of old) (parent_of new) ≡ false → has_room (look_up f root new) ≡ true
 
 -- what look ups told of an edit of the tree of a root
@@ -46,9 +47,9 @@ abbrev pub IsEditable : ℕ → Blocks → (ℕ → Bool) → ℕ → Edit → T
 IsEditable capacity f kept root (Edit.MakeDirectory path trail) = (is_path path.now ≡ true) × IsTrail f root path.now trail.now × (look_up f root path.now ≡ Ok (found.Missing false))
 IsEditable capacity f kept root (Edit.PutEmptyFile path trail) = (is_path path.now ≡ true) × IsTrail f root path.now trail.now × (x : Found) × (look_up f root path.now ≡ Ok x) × TakesFile x
 IsEditable capacity f kept root (Edit.Overwrite path trail body offset bytes) =
-    (is_path path.now ≡ true) × IsTrail f root path.now trail.now × (look_up f root path.now ≡ Ok (found.File body.head body.length)) × (body.length ≤ 16777216) × (0 < length bytes.now) × (offset + length bytes.now ≤ 16777216)
+    (is_path path.now ≡ true) × IsTrail f root path.now trail.now × (look_up f root path.now ≡ Ok (found.File body.head body.length)) × (body.length ≤ MAX_FILE_BYTES) × (0 < length bytes.now) × (offset + length bytes.now ≤ 16777216)
 IsEditable capacity f kept root (Edit.SetLength path trail body size) =
-    (is_path path.now ≡ true) × IsTrail f root path.now trail.now × (look_up f root path.now ≡ Ok (found.File body.head body.length)) × (size ≤ 16777216)
+    (is_path path.now ≡ true) × IsTrail f root path.now trail.now × (look_up f root path.now ≡ Ok (found.File body.head body.length)) × (size ≤ MAX_FILE_BYTES)
 IsEditable capacity f kept root (Edit.Remove path trail) = (is_path path.now ≡ true) × IsTrail f root path.now trail.now × (0 < length path.now) × (x : Found) × (look_up f root path.now ≡ Ok x) × IsRemovable f x
 IsEditable capacity f kept root (Edit.Move old old_trail new new_trail place) = Apart old.now new.now × IsMovable f root old.now old_trail.now new.now new_trail.now place
 IsEditable capacity f kept root (Edit.Restore other) = IsHeld f kept (Dir other) × IsRoot capacity f other

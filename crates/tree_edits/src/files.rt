@@ -2,6 +2,7 @@
 ghost use Rattle.std.specs.Prelude.{◌≡◌, ℕ, ◌+◌, ◌-◌, ◌^◌, ◌≤◌, ◌<◌, true, length, Some, Ok, [], IfOk, IfErr};
 ghost use Rattle.plain_trees.specs.Contents.{Entry, overwritten, resized, pwrite_need, ftruncate_need};
 ghost use Rattle.plain_trees.specs.Trees.{bytes_at, put};
+ghost use Rattle.fs_types.specs.declared.limits.TheConstants.{MAX_FILE_BYTES};
 ghost use Rattle.fs_types.specs.Names.{is_path};
 ghost use Rattle.node_format.specs.Headers.{body_front};
 ghost use Rattle.node_format.specs.declared.places.Place.TheVariants.{Dir, File};
@@ -37,7 +38,7 @@ fn put_body<N: Nodes>(
     requires held { IsHeld (N.node nodes.old) (N.kept nodes.old) (Dir root) }
     requires way { IsTrail (N.node nodes.old) root path.now trail.now }
     requires fits { (x : Found) × (look_up (N.node nodes.old) root path.now ≡ Ok x) × TakesFile x }
-    requires short { body.length ≤ 16777216 }
+    requires short { body.length ≤ MAX_FILE_BYTES }
     ensures rewritten { IfOk result (λ to. IsRewritten (N.node nodes.old) (N.kept nodes.new) (N.node nodes.new) root to path.now (Some (File body.head body.length))) }
     ensures reaches { IfOk result (λ to. OnlyReaches (N.node nodes.old) (N.node nodes.new) (N.kept nodes.old) root to (Some (File body.head body.length))) }
     ensures keeps { Keeps (N.kept nodes.old) (N.node nodes.old) (N.kept nodes.new) (N.node nodes.new) }
@@ -99,9 +100,9 @@ pub(crate) fn overwrite<N: Nodes>(
     requires lawful { is_path path.now ≡ true }
     requires way { IsTrail (N.node nodes.old) root path.now trail.now }
     requires found { look_up (N.node nodes.old) root path.now ≡ Ok (found.File body.head body.length) }
-    requires short { body.length ≤ 16777216 }
+    requires short { body.length ≤ MAX_FILE_BYTES }
     requires some { 0 < length bytes.now }
-    requires fits { offset + length bytes.now ≤ 16777216 }
+    requires fits { offset + length bytes.now ≤ MAX_FILE_BYTES }
     ensures root { IfOk result (λ to. IsNewRoot (N.limit nodes.old - body_front) (N.node nodes.old) (N.kept nodes.old) (N.node nodes.new) (N.kept nodes.new) root to (put (root_tree (N.limit nodes.old - body_front) (N.node nodes.old) root) path.now (Entry.File (overwritten (bytes_at (root_tree (N.limit nodes.old - body_front) (N.node nodes.old) root) path.now) offset bytes.now)))) }
     ensures why { IfErr result (λ fault. N.causes nodes.old nodes.new fault) }
     ensures faults { IfErr result IsChangeFault }
@@ -130,7 +131,7 @@ pub(crate) fn resize<N: Nodes>(
     requires lawful { is_path path.now ≡ true }
     requires way { IsTrail (N.node nodes.old) root path.now trail.now }
     requires found { look_up (N.node nodes.old) root path.now ≡ Ok (found.File body.head body.length) }
-    requires fits { size ≤ 16777216 }
+    requires fits { size ≤ MAX_FILE_BYTES }
     ensures root { IfOk result (λ to. IsNewRoot (N.limit nodes.old - body_front) (N.node nodes.old) (N.kept nodes.old) (N.node nodes.new) (N.kept nodes.new) root to (put (root_tree (N.limit nodes.old - body_front) (N.node nodes.old) root) path.now (Entry.File (resized (bytes_at (root_tree (N.limit nodes.old - body_front) (N.node nodes.old) root) path.now) size)))) }
     ensures why { IfErr result (λ fault. N.causes nodes.old nodes.new fault) }
     ensures faults { IfErr result IsChangeFault }

@@ -4,13 +4,14 @@ use Rattle.std.specs.FinSet as set
 use Rattle.history_machine.specs.History.{fresh}
 use Rattle.plain_trees.specs.Trees.{bare}
 use Rattle.history_machine.specs.Machine.{mounted}
+use Rattle.fs_types.specs.declared.limits.TheConstants.{MAX_BAD_BLOCKS}
 use Rattle.fs_types.specs.declared.faults.Fault.{Fault}
 use Rattle.fs_types.specs.declared.faults.Fault.TheVariants.{BadGeometry, Invalid, FlashFull, ReadOnly, PowerCut, NoMemory}
 use Rattle.flash_model.specs.Device.{Device}
 use Rattle.flash_model.specs.Geometry.{IsGeometry}
 use Rattle.allocator.specs.Ring.{Ring, free_count}
 use Rattle.node_store.specs.NodePages.{first_data}
-use Rattle.node_store.specs.Storage.{Storage, storage, most_bad, Evolved}
+use Rattle.node_store.specs.Storage.{Storage, storage, Evolved}
 use Rattle.working_state.specs.Moments.{Moment, machine_at, IsMountedAt}
 use Rattle.working_state.specs.Worked.{storage_on}
 
@@ -37,7 +38,7 @@ abbrev pub FreshCause : Device → ℕ → Fault → Device → Type 0
 FreshCause given limit BadGeometry left = IsGeometry given.geometry → ⊥
 FreshCause given limit Invalid left = (limit < 2) ⊎ (64 < limit)
 FreshCause given limit FlashFull left = given.failures + (given.geometry.blocks - first_data) ≤ left.failures
-FreshCause given limit ReadOnly left = left.failures ≡ given.failures + most_bad
+FreshCause given limit ReadOnly left = left.failures ≡ given.failures + MAX_BAD_BLOCKS
 FreshCause given limit PowerCut left = left.powered ≡ false
 FreshCause given limit NoMemory left = Unit {0}
 FreshCause given limit _ left = ⊥
@@ -55,6 +56,6 @@ IsFreshFault _ = ⊥
 -- why the root of a fresh system is not written
 abbrev pub RootCause : Storage → Fault → Storage → Type 0
 RootCause s FlashFull t = free_count s.ring s.bad + set.len s.bad < set.len t.bad + 1
-RootCause s ReadOnly t = set.len t.bad ≡ most_bad
+RootCause s ReadOnly t = set.len t.bad ≡ MAX_BAD_BLOCKS
 RootCause s PowerCut t = t.device.powered ≡ false
 RootCause s _ t = ⊥

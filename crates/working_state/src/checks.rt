@@ -6,7 +6,8 @@ ghost use Rattle.working_state.specs.Seen.{is_read_only, bad_anchors};
 ghost use Rattle.working_state.specs.Steps.{last_serial, is_cut_answer};
 
 use crate::state::State;
-use bad_blocks::{BadBlocks, LIMIT};
+use bad_blocks::BadBlocks;
+use fs_types::MAX_BAD_BLOCKS;
 use fs_types::Fault;
 use history::History;
 use node_store::Storage;
@@ -52,7 +53,7 @@ impl State {
 fn is_read_only(bad: &BadBlocks) -> bool
     ensures { result ≡ is_read_only bad.now }
 {
-    bad.len() >= LIMIT || bad_anchors(bad) >= 7
+    bad.len() >= MAX_BAD_BLOCKS || bad_anchors(bad) >= 7
 }
 
 /// How many of the anchors, blocks 0 to 7, are bad.

@@ -1,12 +1,13 @@
 use Rattle.std.proofs.Common.{◌≡◌, ◌↔◌, ℕ, List, Option, Some, ap, sym, subst, ◌∙◌, ◌*◌, arith}
 use Rattle.std.proofs.lemmas.Bool.{ltb-true}
 use Rattle.std.specs.Prelude.{IsTrue, All, map, slice_index}
-use Rattle.node_format.specs.Items.{Item, most_length}
+use Rattle.node_format.specs.Items.{Item}
 use Rattle.block_trees.specs.Bodies.{Blocks, index_of, pointer_of}
 use Rattle.block_trees.specs.Trees.{items_of}
 use Rattle.reclaim.specs.Sound.{IsSoundPlace, IsSoundBody}
 use Rattle.reclaim.proofs.Looking.{node_bad, node_plain, node_body, look_body}
 use Rattle.reclaim.proofs.looks.look.Goals as goal
+use Rattle.fs_types.specs.declared.limits.TheConstants.{MAX_FILE_BYTES}
 
 pub returns-then-not-good-clause-exact : goal.returns-then-not-good-clause-exact
 returns-then-not-good-clause-exact g c =
@@ -43,7 +44,7 @@ returns-clause-exact g c =
     c.in-Some.ensures.fits
     (λ x below. ap (λ (l : List ℕ). slice_index l x) c.deref-2.ensures.value ∙ c.in_ok-pointers.ensures.each x below
     ∙ ap (λ (node : Option (List ℕ)). pointer_of node x) (ap (λ (b : List ℕ). Some b) c.lent-2.ensures ∙ sym at))
-    (ltb-true (c.in-Some.index * c.args.capacity) most_length (sym c.is_short.ensures ∙ c.if-not-is_short.false))
+    (ltb-true (c.in-Some.index * c.args.capacity) MAX_FILE_BYTES (sym c.is_short.ensures ∙ c.if-not-is_short.false))
     (subst (λ (f : Blocks). IsTrue c.in_ok-sound.sound ↔ IsSoundBody c.args.capacity f (slice_index c.deref-2.result.now) c.in-Some.index)
     (c.are_sound_places.ensures.looks.same_nodes ∙ c.brings.ensures.looks.same_nodes) c.in_ok-sound.ensures.exact)
 

@@ -2,13 +2,14 @@ use Rattle.std.proofs.Common.{◌≡◌, true, Ok, Err, ap, subst, ◌∙◌, in
 use Rattle.std.proofs.lemmas.Bool.{and_from, le-leb}
 use Rattle.std.specs.Prelude.{nat_lt, nat_le}
 use Rattle.node_store.specs.NodePages.{node_of}
-use Rattle.node_format.specs.Items.{most_length}
+
 use Rattle.directory.specs.Lookups.{look_up}
 use Rattle.directory.proofs.LookupLaws.{found_leads, found_leads_file}
 use Rattle.std.proofs.lemmas.Result.{err_from_is_err_and}
 use Rattle.directory.specs.declared.lookups.Found.TheVariants as found
 use Rattle.working_state.proofs.MovedEntries.{of_fault, PlaceRefused, place_look, place_by, place_file, place_dir, file_short}
 use Rattle.working_state.proofs.state.State.find_place.Goals as goal
+use Rattle.fs_types.specs.declared.limits.TheConstants.{MAX_FILE_BYTES}
 
 pub returns-in_err-found-clause-refused : goal.returns-in_err-found-clause-refused
 returns-in_err-found-clause-refused g c =
@@ -34,7 +35,7 @@ pub returns-in-File-clause-place : goal.returns-in-File-clause-place
 returns-in-File-clause-place g c =
     let short = file_short (g.F.Flash.device c.args.flash.now) c.args.self.now c.args.root c.args.path.now c.requires.mounted c.requires.present _ c.in-File.head c.in-File.length c.in_ok-found.ensures.found c.in-File.is in
     let head : nat_lt c.in-File.head 4294967296 ≡ true = search rules in
-    and_from (nat_lt c.in-File.head 4294967296) (nat_le c.in-File.length most_length) head (le-leb c.in-File.length most_length short)
+    and_from (nat_lt c.in-File.head 4294967296) (nat_le c.in-File.length MAX_FILE_BYTES) head (le-leb c.in-File.length MAX_FILE_BYTES short)
 
 pub returns-in-Dir-clause-stands : goal.returns-in-Dir-clause-stands
 returns-in-Dir-clause-stands g c = found_leads (node_of (g.F.Flash.device c.args.flash.now)) c.args.root c.args.path.now c.in-Dir.block (subst (λ x. look_up (node_of (g.F.Flash.device c.args.flash.now)) c.args.root c.args.path.now ≡ Ok x) c.in-Dir.is c.in_ok-found.ensures.found)

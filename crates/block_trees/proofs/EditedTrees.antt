@@ -13,7 +13,7 @@ use Rattle.node_format.specs.Items.{Item, named}
 use Rattle.node_format.specs.declared.places.Place.{Place}
 use Rattle.node_format.specs.declared.places.Place.TheVariants.{Dir}
 use Rattle.block_trees.specs.Bodies.{Blocks, pointer_of}
-use Rattle.block_trees.specs.Trees.{entries_of, items_of, child, leads, entry_at, tree_at, tree, IsWhole, HasTree, IsRoot, root_tree}
+use Rattle.block_trees.specs.Trees.{entries_in, items_of, child, leads, entry_at, tree_at, tree, IsWhole, HasTree, IsRoot, root_tree}
 use Rattle.block_trees.specs.Trees as trees
 use Rattle.block_trees.specs.Reached.{IsHeld, Keeps, Reached, Names, BodyNames, PlaceNames}
 use Rattle.block_trees.specs.Rewritten.{IsDirectoryEdit, IsRewritten, AreFresh}
@@ -221,14 +221,14 @@ nothing_below capacity f (k ∷ path) at e n q = on (child f at k) e (nothing_be
     on None e again = refl
     on (Some next) e again = again next e n q
 
-empty_child : (f : Blocks) (block : ℕ) → entries_of (f block) ≡ Some [] → (n : Name) → child f (Dir block) n ≡ None
+empty_child : (f : Blocks) (block : ℕ) → entries_in f block ≡ Some [] → (n : Name) → child f (Dir block) n ≡ None
 empty_child f block is n = ap (λ (found : Option (List Item)). named (unwrap_or found []) n) is
 
-empty_tree : (capacity : ℕ) (f : Blocks) (block : ℕ) → entries_of (f block) ≡ Some [] → (q : Path) → tree capacity f block q ≡ leaf Entry.Dir q
+empty_tree : (capacity : ℕ) (f : Blocks) (block : ℕ) → entries_in f block ≡ Some [] → (q : Path) → tree capacity f block q ≡ leaf Entry.Dir q
 empty_tree capacity f block is [] = refl
 empty_tree capacity f block is (n ∷ q) = ap (λ (o : Option Place). option_map (entry_at capacity f) (option_and_then (λ next. leads f next q) o)) (empty_child f block is n)
 
-empty_shape : (capacity : ℕ) (f : Blocks) (block depth : ℕ) → entries_of (f block) ≡ Some [] → HasTree capacity f (Dir block) depth
+empty_shape : (capacity : ℕ) (f : Blocks) (block depth : ℕ) → entries_in f block ≡ Some [] → HasTree capacity f (Dir block) depth
 empty_shape capacity f block depth is [] there e = (subst (IsWhole capacity f) (place_is (Dir block) there e) ([], is), omega arith)
 empty_shape capacity f block depth is (n ∷ q) there e =
     let none : None ≡ Some there = sym (ap (option_and_then (λ next. leads f next q)) (empty_child f block is n)) ∙ e in

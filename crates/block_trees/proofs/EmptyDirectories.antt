@@ -4,11 +4,11 @@ use Rattle.std.specs.Prelude.{Contains}
 use Rattle.node_format.specs.Items.{Item}
 use Rattle.node_format.specs.declared.places.Place.TheVariants.{Dir}
 use Rattle.block_trees.specs.Bodies.{Blocks, pointer_of}
-use Rattle.block_trees.specs.Trees.{entries_of}
+use Rattle.block_trees.specs.Trees.{entries_in}
 use Rattle.block_trees.specs.Reached.{IsHeld, Reached, IsFirst, IsNamed, Names, BodyNames}
 use Rattle.block_trees.proofs.Entries.{directory_no_index}
 
-module _ (f : Blocks) (block : ℕ) (empty : entries_of (f block) ≡ Some []) where
+module _ (f : Blocks) (block : ℕ) (empty : entries_in f block ≡ Some []) where
   none_named : (b : ℕ) → Names (f block) b → ⊥
   none_named b (inl (item, within, names)) = none-in (subst (λ (o : Option (List Item)). Contains (unwrap_or o []) item) empty within)
     where

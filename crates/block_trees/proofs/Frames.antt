@@ -10,7 +10,7 @@ use Rattle.node_format.specs.Items.{Item, named}
 use Rattle.node_format.specs.declared.places.Place.{Place}
 use Rattle.node_format.specs.declared.places.Place.TheVariants.{Dir, File}
 use Rattle.block_trees.specs.Bodies.{Blocks, index_of, pointer_of, data_of, back, data_to, head_index, body, Divides, IsChain, IsLinked, IsBody}
-use Rattle.block_trees.specs.Trees.{entries_of, items_of, child, leads, entry_at, tree_at, IsWhole, HasTree, listed}
+use Rattle.block_trees.specs.Trees.{entries_of, items_of, child, leads, entry_at, tree_at, IsWhole, HasTree, listed, items_in}
 use Rattle.block_trees.specs.Reached.{IsHeld, Keeps, Reached, IsFirst, IsNamed, Names}
 use Rattle.block_trees.specs.Laws.{FrameLaw, AllFrames}
 use Rattle.block_trees.proofs.Entries.{entry_named}
@@ -132,7 +132,7 @@ module _ (old new : Blocks) (kept kept' : ℕ → Bool) (keeps : Keeps kept old 
 
   -- ---- finite maps
 
-  whole_item : (capacity block : ℕ) (item : Item) → Contains (items_of (old block)) item → Whole capacity (Dir block) → Whole capacity item.place
+  whole_item : (capacity block : ℕ) (item : Item) → Contains (items_in old block) item → Whole capacity (Dir block) → Whole capacity item.place
   whole_item capacity block item inside whole path place is =
       whole (item.name ∷ path) place (ap (option_and_then (λ next. leads old next path)) (entry_named (old block) item inside) ∙ is)
 
@@ -142,7 +142,7 @@ module _ (old new : Blocks) (kept kept' : ℕ → Bool) (keeps : Keeps kept old 
   listed_same capacity (suc depth) (Dir block) held whole =
       ap (λ (node : Option (List ℕ)). ([], Entry.Dir) ∷ flat_map (λ item. map (λ e. (item.name ∷ e.0, e.1)) (listed capacity new depth item.place)) (items_of node)) (same_node block (held block refl))
       ∙ ap (λ (es : List (Path × Entry)). ([], Entry.Dir) ∷ es)
-      (flat_map-same (λ item. map (λ e. (item.name ∷ e.0, e.1)) (listed capacity new depth item.place)) (λ item. map (λ e. (item.name ∷ e.0, e.1)) (listed capacity old depth item.place)) (items_of (old block))
+      (flat_map-same (λ item. map (λ e. (item.name ∷ e.0, e.1)) (listed capacity new depth item.place)) (λ item. map (λ e. (item.name ∷ e.0, e.1)) (listed capacity old depth item.place)) (items_in old block)
       (λ item inside. ap (map (λ e. (item.name ∷ e.0, e.1)))
       (listed_same capacity depth item.place (held_child old kept (Dir block) item.name item.place (entry_named (old block) item inside) held) (whole_item capacity block item inside whole))))
 

@@ -15,7 +15,7 @@ use Rattle.node_format.specs.Items.{Item, named}
 use Rattle.node_format.specs.declared.places.Place.{Place}
 use Rattle.node_format.specs.declared.places.Place.TheVariants.{Dir, File}
 use Rattle.block_trees.specs.Bodies.{Blocks, pointer_of}
-use Rattle.block_trees.specs.Trees.{entries_of, child, leads, entry_at, tree_at, tree, IsWhole, HasTree, IsRoot, root_tree}
+use Rattle.block_trees.specs.Trees.{entries_in, child, leads, entry_at, tree_at, tree, IsWhole, HasTree, IsRoot, root_tree}
 use Rattle.block_trees.specs.Trees as trees
 use Rattle.block_trees.specs.Reached.{IsHeld, Keeps, Reached, Names, BodyNames, PlaceNames}
 use Rattle.block_trees.specs.Rewritten.{IsDirectoryEdit, IsSecondEdit, IsBranch, IsMoved}
@@ -53,7 +53,7 @@ module _ (old new : Blocks) (kept kept' : ℕ → Bool) (keeps : Keeps kept old 
   abbrev AllReached : (ℕ → Type 0) → Place → Type 0
   AllReached P place = (root : ℕ) → PlaceNames place root → (b : ℕ) → Reached new (root ∷ []) b → P b
 
-  level_reached : (P : ℕ → Type 0) (from to : ℕ) (items : List Item) → IsHeld old kept (Dir from) → entries_of (new to) ≡ Some items → P to → ((b : ℕ) → Reached old (from ∷ []) b → P b)
+  level_reached : (P : ℕ → Type 0) (from to : ℕ) (items : List Item) → IsHeld old kept (Dir from) → entries_in new to ≡ Some items → P to → ((b : ℕ) → Reached old (from ∷ []) b → P b)
       → OldOr from to (AllReached P) → (b : ℕ) → Reached new (to ∷ []) b → P b
   level_reached P from to items held spelled here before each b reached = on (reached_by new to reached)
     where
@@ -71,7 +71,7 @@ module _ (old new : Blocks) (kept kept' : ℕ → Bool) (keeps : Keeps kept old 
       on (inl own) = subst P own here
       on (inr (next, names, reached)) = named_next next names reached
 
-  level_shape : (capacity depth from to : ℕ) (items : List Item) → 1 ≤ depth → IsHeld old kept (Dir from) → HasTree capacity old (Dir from) depth → entries_of (new to) ≡ Some items
+  level_shape : (capacity depth from to : ℕ) (items : List Item) → 1 ≤ depth → IsHeld old kept (Dir from) → HasTree capacity old (Dir from) depth → entries_in new to ≡ Some items
       → OldOr from to (λ place. HasTree capacity new place (depth - 1)) → HasTree capacity new (Dir to) depth
   level_shape capacity depth from to items deep held has spelled each [] there is = (subst (IsWhole capacity new) (place_is (Dir to) there is) (items, spelled), omega arith)
   level_shape capacity depth from to items deep held has spelled each (k ∷ path) there is = on (child new (Dir to) k) refl is

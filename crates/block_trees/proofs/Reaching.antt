@@ -7,7 +7,7 @@ use Rattle.node_format.specs.EntryLaws.{named-contained}
 use Rattle.node_format.specs.declared.places.Place.{Place}
 use Rattle.node_format.specs.declared.places.Place.TheVariants.{Dir, File}
 use Rattle.block_trees.specs.Bodies.{Blocks, index_of, pointer_of}
-use Rattle.block_trees.specs.Trees.{items_of, child, leads}
+use Rattle.block_trees.specs.Trees.{items_in, child, leads}
 use Rattle.block_trees.specs.Reached.{IsHeld, Reached, IsFirst, IsNamed, Names, BodyNames, PlaceNames}
 use Rattle.block_trees.proofs.Entries.{place_is}
 
@@ -40,7 +40,7 @@ reached_by f block {b} (IsNamed {block = before} reached names) = one_more f blo
 -- an entry of a directory names what its place names
 pub child_names : (f : Blocks) (block : ℕ) (name : Name) (place : Place) (root : ℕ) → child f (Dir block) name ≡ Some place → PlaceNames place root → Names (f block) root
 child_names f block name place root is names =
-    let found = named-contained (items_of (f block)) name place is in
+    let found = named-contained (items_in f block) name place is in
     inl (found.0, found.1, subst (λ (p : Place). PlaceNames p root) (sym found.2) names)
 
 -- place 0 of a body node after the first names the node before it

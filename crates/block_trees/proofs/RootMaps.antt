@@ -21,7 +21,7 @@ use Rattle.node_format.specs.Order.{both_true}
 use Rattle.node_format.specs.declared.places.Place.{Place}
 use Rattle.node_format.specs.declared.places.Place.TheVariants.{Dir, File}
 use Rattle.block_trees.specs.Bodies.{Blocks}
-use Rattle.block_trees.specs.Trees.{items_of, entries_of, child, leads, entry_at, tree_at, tree, IsWhole, HasTree, IsRoot, listed, root_tree, names_of, is_dir_place}
+use Rattle.block_trees.specs.Trees.{items_of, entries_in, child, leads, entry_at, tree_at, tree, IsWhole, HasTree, IsRoot, listed, root_tree, names_of, is_dir_place, items_in}
 use Rattle.block_trees.specs.Laws.{AllMaps}
 
 -- ---- the first entry of a path in a list
@@ -123,10 +123,10 @@ module _ (capacity : ℕ) (f : Blocks) where
   first-listed zero (Dir block) has (n ∷ q) = ap (λ o. option_map (entry_at capacity f) (option_and_then (λ next. leads f next q) o)) (sym (no-child block n has))
   first-listed (suc depth) (Dir block) has [] = refl
   first-listed (suc depth) (Dir block) has (n ∷ q) =
-      first-items (listed capacity f depth) (items_of (f block)) n q (ascending-items (f block))
-      ∙ go (named (items_of (f block)) n) refl (λ at tree. first-listed depth at tree q)
+      first-items (listed capacity f depth) (items_in f block) n q (ascending-items (f block))
+      ∙ go (named (items_in f block) n) refl (λ at tree. first-listed depth at tree q)
     where
-      go : (o : Option Place) → named (items_of (f block)) n ≡ o → ((at : Place) → HasTree capacity f at depth → first q (listed capacity f depth at) ≡ tree_at capacity f at q)
+      go : (o : Option Place) → named (items_in f block) n ≡ o → ((at : Place) → HasTree capacity f at depth → first q (listed capacity f depth at) ≡ tree_at capacity f at q)
           → option_and_then (λ at. first q (listed capacity f depth at)) o ≡ option_map (entry_at capacity f) (option_and_then (λ next. leads f next q) o)
       go None is rest = refl
       go (Some at) is rest = rest at (tree-below depth block n at has is)
@@ -164,29 +164,29 @@ leads-append f at (n ∷ p) q = go (child f at n) (λ next. leads-append f next 
     go None rest = refl
     go (Some next) rest = rest next
 
-leads-child : (f : Blocks) (at : Place) (p : Path) (block : ℕ) (n : Name) → leads f at p ≡ Some (Dir block) → leads f at (p ++ n ∷ []) ≡ named (items_of (f block)) n
-leads-child f at p block n is = leads-append f at p (n ∷ []) ∙ ap (option_and_then (λ next. leads f next (n ∷ []))) is ∙ go (named (items_of (f block)) n)
+leads-child : (f : Blocks) (at : Place) (p : Path) (block : ℕ) (n : Name) → leads f at p ≡ Some (Dir block) → leads f at (p ++ n ∷ []) ≡ named (items_in f block) n
+leads-child f at p block n is = leads-append f at p (n ∷ []) ∙ ap (option_and_then (λ next. leads f next (n ∷ []))) is ∙ go (named (items_in f block) n)
   where
     go : (o : Option Place) → option_and_then (λ next. leads f next []) o ≡ o
     go None = refl
     go (Some to) = refl
 
 find-children : (capacity : ℕ) (f : Blocks) (root : ℕ) → IsRoot capacity f root → (path : Path) (block : ℕ) → leads f (Dir root) path ≡ Some (Dir block)
-    → (n : Name) → find name_cmp n (children (root_tree capacity f root) path) ≡ find name_cmp n (names_of (items_of (f block)))
+    → (n : Name) → find name_cmp n (children (root_tree capacity f root) path) ≡ find name_cmp n (names_of (items_in f block))
 find-children capacity f root has path block is n =
     let t = root_tree capacity f root in
     ap (find name_cmp n) (sym (entries-directory t path))
     ∙ sym (get-entries (directory t path) n)
     ∙ get-directory t path n
     ∙ ap (option_map is_dir) (get-root_tree capacity f root has (path ++ n ∷ []) ∙ ap (option_map (entry_at capacity f)) (leads-child f (Dir root) path block n is))
-    ∙ sym (find-names capacity f (items_of (f block)) n)
+    ∙ sym (find-names capacity f (items_in f block) n)
 
 pub children-root_tree : (capacity : ℕ) (f : Blocks) (root : ℕ) → IsRoot capacity f root → (path : Path) (block : ℕ) → leads f (Dir root) path ≡ Some (Dir block)
-    → children (root_tree capacity f root) path ≡ names_of (items_of (f block))
+    → children (root_tree capacity f root) path ≡ names_of (items_in f block)
 children-root_tree capacity f root has path block is =
-    same_entries name_cmp names_total names_exact (children (root_tree capacity f root) path) (names_of (items_of (f block)))
+    same_entries name_cmp names_total names_exact (children (root_tree capacity f root) path) (names_of (items_in f block))
     (children-sorted (root_tree capacity f root) path)
-    (subst T (sym (sorted-names (items_of (f block)) ∙ ascending-items (f block))) tt)
+    (subst T (sym (sorted-names (items_in f block) ∙ ascending-items (f block))) tt)
     (find-children capacity f root has path block is)
 
 pub map_law : AllMaps
@@ -199,17 +199,17 @@ map_law capacity f root has = record {
 
 -- a directory is full where its node has 32 entries
 pub full_directory : (capacity : ℕ) (f : Blocks) (root : ℕ) (path : Path) (block : ℕ) → IsRoot capacity f root → leads f (Dir root) path ≡ Some (Dir block)
-    → is_full (root_tree capacity f root) path ≡ nat_le 32 (length (items_of (f block)))
+    → is_full (root_tree capacity f root) path ≡ nat_le 32 (length (items_in f block))
 full_directory capacity f root path block has is =
     ap (λ es. nat_le 32 (length es)) (children-root_tree capacity f root has path block is)
-    ∙ ap (nat_le 32) (length-map (items_of (f block)) (λ (item : Item). (item.name, is_dir_place item.place)))
+    ∙ ap (nat_le 32) (length-map (items_in f block) (λ (item : Item). (item.name, is_dir_place item.place)))
 
 -- nothing stands below a directory without entries
-empty-child : (f : Blocks) (block : ℕ) → entries_of (f block) ≡ Some [] → (n : Name) → child f (Dir block) n ≡ None
+empty-child : (f : Blocks) (block : ℕ) → entries_in f block ≡ Some [] → (n : Name) → child f (Dir block) n ≡ None
 empty-child f block empty n = ap (λ o. named (unwrap_or o []) n) empty
 
 -- an empty directory is a root, and has the bare tree
-pub empty_root : (capacity : ℕ) (f : Blocks) (root : ℕ) → entries_of (f root) ≡ Some [] → IsRoot capacity f root × (root_tree capacity f root ≡ bare)
+pub empty_root : (capacity : ℕ) (f : Blocks) (root : ℕ) → entries_in f root ≡ Some [] → IsRoot capacity f root × (root_tree capacity f root ≡ bare)
 empty_root capacity f root empty = (has, same_tree (root_tree capacity f root) bare (λ q. get-root_tree capacity f root has q ∙ alone q ∙ sym (get-bare q)))
   where
     none : (n : Name) (p : Path) → leads f (Dir root) (n ∷ p) ≡ None

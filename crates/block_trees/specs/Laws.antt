@@ -9,7 +9,7 @@ use Rattle.plain_trees.specs.Trees.{put, remove, move, children, is_too_deep}
 use Rattle.node_format.specs.declared.places.Place.{Place}
 use Rattle.node_format.specs.declared.places.Place.TheVariants.{Dir, File}
 use Rattle.block_trees.specs.Bodies.{Blocks, body, IsBody}
-use Rattle.block_trees.specs.Trees.{items_of, entries_of, leads, tree_at, tree, HasTree, IsRoot, root_tree, names_of}
+use Rattle.block_trees.specs.Trees.{items_in, entries_in, leads, tree_at, tree, HasTree, IsRoot, root_tree, names_of}
 use Rattle.block_trees.specs.Reached.{Reached, IsHeld, Keeps, PlaceNames}
 use Rattle.block_trees.specs.Rewritten.{IsRewritten, AreFresh, IsMoved}
 
@@ -52,7 +52,7 @@ AllEdits = (old new : Blocks) (kept kept' : ℕ → Bool) (from to : ℕ) (path 
 -- a new empty directory at a path where nothing stood
 abbrev pub MkdirLaw : Type 0
 MkdirLaw = (capacity : ℕ) (old new : Blocks) (kept kept' : ℕ → Bool) (from to block : ℕ) (path : Path) → Keeps kept old kept' new → IsHeld old kept (Dir from) → IsRoot capacity old from
-    → tree capacity old from path ≡ None → length path ≤ MAX_NAMES → entries_of (new block) ≡ Some [] → IsRewritten old kept' new from to path (Some (Dir block))
+    → tree capacity old from path ≡ None → length path ≤ MAX_NAMES → entries_in new block ≡ Some [] → IsRewritten old kept' new from to path (Some (Dir block))
     → IsRoot capacity new to × (root_tree capacity new to ≡ put (root_tree capacity old from) path Entry.Dir)
 
 -- an entry taken out that nothing stands below
@@ -97,7 +97,7 @@ DepthLaw = (capacity : ℕ) (f : Blocks) (root : ℕ) (old new : Path) (place : 
 -- the finite map of a root has at each path what stands there, and lists the entries of its directories
 pub record MapLaw (capacity : ℕ) (f : Blocks) (root : ℕ) : Type 0 where
   pub same : get (root_tree capacity f root) ≡ tree capacity f root
-  pub lists : (path : Path) (block : ℕ) → leads f (Dir root) path ≡ Some (Dir block) → children (root_tree capacity f root) path ≡ names_of (items_of (f block))
+  pub lists : (path : Path) (block : ℕ) → leads f (Dir root) path ≡ Some (Dir block) → children (root_tree capacity f root) path ≡ names_of (items_in f block)
 
 abbrev pub AllMaps : Type 0
 AllMaps = (capacity : ℕ) (f : Blocks) (root : ℕ) → IsRoot capacity f root → MapLaw capacity f root

@@ -5,12 +5,12 @@ use Rattle.node_format.specs.Items.{Item, named}
 use Rattle.node_format.specs.declared.places.Place.{Place}
 use Rattle.node_format.specs.declared.places.Place.TheVariants.{Dir}
 use Rattle.block_trees.specs.Bodies.{Blocks}
-use Rattle.block_trees.specs.Trees.{entries_of, child}
+use Rattle.block_trees.specs.Trees.{entries_in, child}
 
 -- the directory at `to` has the entries of the one at `from`, but that a name leads to this place (None: to nothing)
 abbrev pub IsDirectoryEdit : Blocks → Blocks → ℕ → ℕ → Name → Option Place → Type 0
 IsDirectoryEdit old new from to n at =
-    (items : List Item) × (entries_of (new to) ≡ Some items) × ((m : Name) → named items m ≡ (if same_name n m then at else child old (Dir from) m))
+    (items : List Item) × (entries_in new to ≡ Some items) × ((m : Name) → named items m ≡ (if same_name n m then at else child old (Dir from) m))
 
 -- each directory along the path was written anew, to a kept block, so that the path leads to this place
 abbrev pub IsRewritten : Blocks → (ℕ → Bool) → Blocks → ℕ → ℕ → Path → Option Place → Type 0
@@ -30,7 +30,7 @@ AreFresh kept kept' new to (name ∷ next ∷ path) =
 -- in new the directory at `to` has the entries of the one at `from` in old, but that one name leads to one place and another to another (None: to nothing)
 abbrev pub IsSecondEdit : Blocks → Blocks → ℕ → ℕ → Name → Option Place → Name → Option Place → Type 0
 IsSecondEdit old new from to n at m at' =
-    (items : List Item) × (entries_of (new to) ≡ Some items) × ((k : Name) → named items k ≡ (if same_name m k then at' else if same_name n k then at else child old (Dir from) k))
+    (items : List Item) × (entries_in new to ≡ Some items) × ((k : Name) → named items k ≡ (if same_name m k then at' else if same_name n k then at else child old (Dir from) k))
 
 -- what a name of a directory leads to now, so that the names after it lead on to this place: the place itself where
 -- none come after it, else the directory below, written anew in blocks that were not kept

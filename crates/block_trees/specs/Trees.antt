@@ -14,16 +14,23 @@ use Rattle.node_format.specs.declared.places.Place.{Place}
 use Rattle.node_format.specs.declared.places.Place.TheVariants.{Dir, File}
 use Rattle.block_trees.specs.Bodies.{Blocks, body, IsBody}
 
--- the entries of the directory node in a block, none where it holds no directory node
+-- the entries of a directory node; none of any other node
 abbrev pub entries_of : Option (List ℕ) → Option (List Item)
 entries_of node = option_and_then directory_at node
 
 abbrev pub items_of : Option (List ℕ) → List Item
 items_of node = unwrap_or (entries_of node) []
 
+-- the entries of the directory in a block; none where it holds no directory
+abbrev pub entries_in : Blocks → ℕ → Option (List Item)
+entries_in f block = entries_of (f block)
+
+abbrev pub items_in : Blocks → ℕ → List Item
+items_in f block = unwrap_or (entries_in f block) []
+
 -- what a name in a directory leads to
 abbrev pub child : Blocks → Place → Name → Option Place
-child f (Dir block) n = named (items_of (f block)) n
+child f (Dir block) n = named (items_in f block) n
 child f (File head size) n = None
 
 -- what a path leads to
@@ -46,7 +53,7 @@ tree capacity f root = tree_at capacity f (Dir root)
 
 -- a directory has a directory node, a file has a body
 abbrev pub IsWhole : ℕ → Blocks → Place → Type 0
-IsWhole capacity f (Dir block) = (items : List Item) × (entries_of (f block) ≡ Some items)
+IsWhole capacity f (Dir block) = (items : List Item) × (entries_in f block ≡ Some items)
 IsWhole capacity f (File head size) = IsBody capacity f head size
 
 -- all that paths lead to is whole, and no path has more names than `depth`; so no directory is below itself
@@ -61,7 +68,7 @@ IsRoot capacity f root = HasTree capacity f (Dir root) MAX_NAMES
 abbrev pub listed : ℕ → Blocks → ℕ → Place → List (Path × Entry)
 listed capacity f depth (File head size) = ([], Entry.File (body capacity f head size)) ∷ []
 listed capacity f zero (Dir block) = ([], Entry.Dir) ∷ []
-listed capacity f (suc depth) (Dir block) = ([], Entry.Dir) ∷ flat_map (λ item. map (λ e. (item.name ∷ e.0, e.1)) (listed capacity f depth item.place)) (items_of (f block))
+listed capacity f (suc depth) (Dir block) = ([], Entry.Dir) ∷ flat_map (λ item. map (λ e. (item.name ∷ e.0, e.1)) (listed capacity f depth item.place)) (items_in f block)
 
 -- the tree of a root as a finite map
 abbrev pub root_tree : ℕ → Blocks → ℕ → Tree

@@ -9,7 +9,7 @@ use Rattle.node_format.specs.Items.{named}
 use Rattle.node_format.specs.declared.places.Place.{Place}
 use Rattle.node_format.specs.declared.places.Place.TheVariants.{Dir}
 use Rattle.block_trees.specs.Bodies.{Blocks}
-use Rattle.block_trees.specs.Trees.{entries_of, items_of}
+use Rattle.block_trees.specs.Trees.{entries_in, items_of}
 use Rattle.block_trees.specs.Reached.{Keeps}
 use Rattle.block_trees.specs.Rewritten.{IsDirectoryEdit, IsRewritten, AreFresh, IsBranch, IsMoved}
 use Rattle.directory.specs.Trails.{IsTrail, IsHeldTrail, takes}
@@ -49,28 +49,28 @@ gone_on f0 f1 k0 k1 block n (m ∷ p) former branch some = omega arith
 -- a new name is put there only where it has room: it is there, or a look up of the new path found room
 pub fork_room : (f0 f1 f2 : Blocks) (k0 k1 k2 : ℕ → Bool) (old new : Path) (old_trail new_trail : List ℕ) (place : Place) (fork : ℕ) (gone here : Option Place) → IsFork f0 k0 old old_trail new new_trail place fork
     → IsBranch f0 f1 k0 k1 (slice_index old_trail fork) (get_or old fork []) (drop (fork + 1) old) None gone → IsBranch f1 f2 k1 k2 (slice_index new_trail fork) (get_or new fork []) (drop (fork + 1) new) (Some place) here
-    → IsSome gone → takes (entries_of (f0 (slice_index old_trail fork))) (get_or new fork []) here ≡ true
+    → IsSome gone → takes (entries_in f0 (slice_index old_trail fork)) (get_or new fork []) here ≡ true
 fork_room f0 f1 f2 k0 k1 k2 old new old_trail new_trail place fork gone here is branch branch' some =
-    subst (λ (b : ℕ). takes (entries_of (f0 b)) (get_or new fork []) here ≡ true) is.same (elim (last_or_more fork (length new) is.in_new) [ inl last ↦ put last | inr more ↦ relinked more ])
+    subst (λ (b : ℕ). takes (entries_in f0 b) (get_or new fork []) here ≡ true) is.same (elim (last_or_more fork (length new) is.in_new) [ inl last ↦ put last | inr more ↦ relinked more ])
   where
     goes_on : fork + 1 < length old
     goes_on = let some_left = gone_on f0 f1 k0 k1 (slice_index old_trail fork) (get_or old fork []) (drop (fork + 1) old) gone branch some in omega (arith, length-drop (fork + 1) old)
 
-    put : fork + 1 ≡ length new → takes (entries_of (f0 (slice_index new_trail fork))) (get_or new fork []) here ≡ true
+    put : fork + 1 ≡ length new → takes (entries_in f0 (slice_index new_trail fork)) (get_or new fork []) here ≡ true
     put last =
         let none : drop (fork + 1) new ≡ [] = drop_all (fork + 1) new (omega arith) in
         let here_is : here ≡ Some place = subst (λ (q : Path). IsBranch f1 f2 k1 k2 (slice_index new_trail fork) (get_or new fork []) q (Some place) here) none branch' in
         let taken = is.here (omega (arith, goes_on)) in
         let at : length new - 1 ≡ fork = omega arith in
-        ap (λ (o : Option Place). takes (entries_of (f0 (slice_index new_trail fork))) (get_or new fork []) o) here_is
-        ∙ subst (λ (k : ℕ). takes (entries_of (f0 (slice_index new_trail k))) (get_or new k []) (Some place) ≡ true) at taken
+        ap (λ (o : Option Place). takes (entries_in f0 (slice_index new_trail fork)) (get_or new fork []) o) here_is
+        ∙ subst (λ (k : ℕ). takes (entries_in f0 (slice_index new_trail k)) (get_or new k []) (Some place) ≡ true) at taken
 
-    relinked : fork + 1 < length new → takes (entries_of (f0 (slice_index new_trail fork))) (get_or new fork []) here ≡ true
+    relinked : fork + 1 < length new → takes (entries_in f0 (slice_index new_trail fork)) (get_or new fork []) here ≡ true
     relinked more =
         let e = first_name (fork + 1) new more in
         let down = subst (λ (q : Path). IsBranch f1 f2 k1 k2 (slice_index new_trail fork) (get_or new fork []) q (Some place) here) e branch' in
-        ap (λ (o : Option Place). takes (entries_of (f0 (slice_index new_trail fork))) (get_or new fork []) o) down.3
-        ∙ takes_named (entries_of (f0 (slice_index new_trail fork))) (get_or new fork []) (Dir (slice_index new_trail (fork + 1))) (Dir down.1) (level_child f0 is.new_way.root new new_trail fork is.new_way.trail_of more)
+        ap (λ (o : Option Place). takes (entries_in f0 (slice_index new_trail fork)) (get_or new fork []) o) down.3
+        ∙ takes_named (entries_in f0 (slice_index new_trail fork)) (get_or new fork []) (Dir (slice_index new_trail (fork + 1))) (Dir down.1) (level_child f0 is.new_way.root new new_trail fork is.new_way.trail_of more)
 
 -- ---- a directory that both paths go through: at first (0), with those below written (1), and with this one too (2)
 

@@ -16,7 +16,7 @@ use Rattle.node_format.specs.Order.{both_true, and_true}
 use Rattle.node_format.specs.declared.places.Place.{Place}
 use Rattle.node_format.specs.declared.places.Place.TheVariants.{Dir, File}
 use Rattle.block_trees.specs.Bodies.{Blocks}
-use Rattle.block_trees.specs.Trees.{items_of, child, leads}
+use Rattle.block_trees.specs.Trees.{items_of, child, leads, items_in}
 use Rattle.block_trees.specs.Laws.{IsShallow}
 use Rattle.block_trees.proofs.Entries.{entry_named}
 use Rattle.block_trees.proofs.EditedTrees.{by_test}
@@ -37,9 +37,9 @@ pub directory_is : (place : Place) (b : ℕ) → is_directory_at place b ≡ tru
 directory_is (Dir block) b is = ap Dir (eqb-true block b is)
 directory_is (File head size) b is = absurd cc
 
-named_child : (f : Blocks) (parent b : ℕ) → names_directory (items_of (f parent)) b ≡ true → (n : Name) × (child f (Dir parent) n ≡ Some (Dir b))
+named_child : (f : Blocks) (parent b : ℕ) → names_directory (items_in f parent) b ≡ true → (n : Name) × (child f (Dir parent) n ≡ Some (Dir b))
 named_child f parent b names =
-    let found = any_contains (λ item. is_directory_at item.place b) (items_of (f parent)) names in
+    let found = any_contains (λ item. is_directory_at item.place b) (items_in f parent) names in
     (found.0.name, entry_named (f parent) found.0 found.1 ∙ ap (λ (place : Place). Some place) (directory_is found.0.place b found.2))
 
 abbrev some_place : Place → Option Place
@@ -115,7 +115,7 @@ goes_on f most k blocks level next more beyond names b (m ∷ a ∷ q) here led 
     on : (o : Option Place) → child f (Dir b) m ≡ o → IsSome (option_and_then (λ next. leads f next (a ∷ q)) o) → GoesOn f most k blocks next
     on None is led = absurd cc
     on (Some (File head size)) is led = absurd cc
-    on (Some (Dir to)) is led = (to, a ∷ q, names.all b to here (below to led) (child_named (items_of (f b)) m to is), led, omega arith)
+    on (Some (Dir to)) is led = (to, a ∷ q, names.all b to here (below to led) (child_named (items_in f b) m to is), led, omega arith)
 
 pub next_is_level : (f : Blocks) (roots : List ℕ) (most k blocks : ℕ) (level next : FinSet nat_cmp) → k < most → ((b : ℕ) → blocks ≤ b → f b ≡ None) → IsLevel f roots most k blocks level → AreNamedBy f blocks (contains level) next
     → IsLevel f roots most (k + 1) blocks next
@@ -149,13 +149,13 @@ no_items : (items : List Item) (n : Name) → length items ≡ 0 → named items
 no_items [] n none = refl
 no_items (item ∷ items) n none = absurd (omega arith)
 
-pub last_shallow : (f : Blocks) (roots : List ℕ) (most blocks : ℕ) (level : FinSet nat_cmp) → IsLevel f roots most most blocks level → ((b : ℕ) → contains level b ≡ true → length (items_of (f b)) ≡ 0)
+pub last_shallow : (f : Blocks) (roots : List ℕ) (most blocks : ℕ) (level : FinSet nat_cmp) → IsLevel f roots most most blocks level → ((b : ℕ) → contains level b ≡ true → length (items_in f b) ≡ 0)
     → (root : ℕ) → Contains roots root → IsShallow f (Dir root) most
 last_shallow f roots most blocks level is none root rooted path led = by_test (nat_le (length path) most) (λ short. leb-true (length path) most short) (λ long. absurd (never (leb-false (length path) most long)))
   where
     ends : (b : ℕ) (q : Path) → contains level b ≡ true → IsSome (leads f (Dir b) q) → most + length q ≡ suc most → ⊥
     ends b [] here goes long = omega arith
-    ends b (m ∷ q) here goes long = true≢false (sym (some_leads f (Dir b) (m ∷ q) m q refl goes) ∙ ap is_some (no_items (items_of (f b)) m (none b here)))
+    ends b (m ∷ q) here goes long = true≢false (sym (some_leads f (Dir b) (m ∷ q) m q refl goes) ∙ ap is_some (no_items (items_in f b) m (none b here)))
 
     never : most < length path → ⊥
     never long =
@@ -167,11 +167,11 @@ first_named : (items : List Item) → 0 < length items → (n : Name) × IsSome 
 first_named [] some = absurd (omega arith)
 first_named (item ∷ items) some = (item.name, ap (λ (t : Bool). is_some (cond t (Some item.place) (named items item.name))) (same_name-own item.name))
 
-pub last_deeper : (f : Blocks) (roots : List ℕ) (most blocks b : ℕ) (level : FinSet nat_cmp) → IsLevel f roots most most blocks level → contains level b ≡ true → 0 < length (items_of (f b))
+pub last_deeper : (f : Blocks) (roots : List ℕ) (most blocks b : ℕ) (level : FinSet nat_cmp) → IsLevel f roots most most blocks level → contains level b ≡ true → 0 < length (items_in f b)
     → (root : ℕ) × Contains roots root × IsDeeper f (Dir root) most
 last_deeper f roots most blocks b level is here some =
     let before = is.reached b here in
-    let entry = first_named (items_of (f b)) some in (
+    let entry = first_named (items_in f b) some in (
       before.0,
       before.1,
       (
@@ -239,17 +239,17 @@ none_named f blocks level next none = record {
 }
 
 pub one_named : (f : Blocks) (blocks i : ℕ) (level next next' : FinSet nat_cmp) → AreNamedBy f blocks (λ b. nat_lt b i && contains level b) next
-    → ((b : ℕ) → contains next' b ≡ (contains next b || (contains level i && (nat_lt b blocks && names_directory (items_of (f i)) b))))
+    → ((b : ℕ) → contains next' b ≡ (contains next b || (contains level i && (nat_lt b blocks && names_directory (items_in f i) b))))
     → AreNamedBy f blocks (λ b. nat_lt b (i + 1) && contains level b) next'
 one_named f blocks i level next next' before added = record { within = within_now; named = named_now; all = all_now }
   where
-    split : (b : ℕ) → contains next' b ≡ true → (contains next b ≡ true) ⊎ ((contains level i ≡ true) × (nat_lt b blocks ≡ true) × (names_directory (items_of (f i)) b ≡ true))
-    split b here = or_true (contains next b) (contains level i) (nat_lt b blocks) (names_directory (items_of (f i)) b) (sym (added b) ∙ here)
+    split : (b : ℕ) → contains next' b ≡ true → (contains next b ≡ true) ⊎ ((contains level i ≡ true) × (nat_lt b blocks ≡ true) × (names_directory (items_in f i) b ≡ true))
+    split b here = or_true (contains next b) (contains level i) (nat_lt b blocks) (names_directory (items_in f i) b) (sym (added b) ∙ here)
 
     within_now : (b : ℕ) → contains next' b ≡ true → b < blocks
     within_now b here = elim (split b here) [ inl was ↦ before.within b was | inr new ↦ ltb-true b blocks new.1 ]
 
-    named_now : (b : ℕ) → contains next' b ≡ true → (parent : ℕ) × ((nat_lt parent (i + 1) && contains level parent) ≡ true) × (names_directory (items_of (f parent)) b ≡ true)
+    named_now : (b : ℕ) → contains next' b ≡ true → (parent : ℕ) × ((nat_lt parent (i + 1) && contains level parent) ≡ true) × (names_directory (items_in f parent) b ≡ true)
     named_now b here = elim (split b here) [
       | inl was ↦
           let parent = before.named b was in
@@ -259,7 +259,7 @@ one_named f blocks i level next next' before added = record { within = within_no
       | inr new ↦ (i, and_true _ _ (lt-ltb i (i + 1) (omega arith)) new.0, new.2)
     ]
 
-    all_now : (parent b : ℕ) → (nat_lt parent (i + 1) && contains level parent) ≡ true → b < blocks → names_directory (items_of (f parent)) b ≡ true → contains next' b ≡ true
+    all_now : (parent b : ℕ) → (nat_lt parent (i + 1) && contains level parent) ≡ true → b < blocks → names_directory (items_in f parent) b ≡ true → contains next' b ≡ true
     all_now parent b in_level below names =
         let both = both_true (nat_lt parent (i + 1)) (contains level parent) in_level in
         let less = ltb-true parent (i + 1) both.0 in
@@ -268,7 +268,7 @@ one_named f blocks i level next next' before added = record { within = within_no
         (λ not_earlier.
         let past = ltb-false parent i not_earlier in
         let same : parent ≡ i = omega arith in
-        or_right (contains next b) _ _ _ (ap (contains level) (sym same) ∙ both.1) (lt-ltb b blocks below) (ap (λ (k : ℕ). names_directory (items_of (f k)) b) (sym same) ∙ names))
+        or_right (contains next b) _ _ _ (ap (contains level) (sym same) ∙ both.1) (lt-ltb b blocks below) (ap (λ (k : ℕ). names_directory (items_in f k) b) (sym same) ∙ names))
 
 pub all_named : (f : Blocks) (blocks n : ℕ) (level next : FinSet nat_cmp) → ((b : ℕ) → contains level b ≡ true → b < n) → AreNamedBy f blocks (λ b. nat_lt b n && contains level b) next → AreNamedBy f blocks (contains level) next
 all_named f blocks n level next within names = record {

@@ -10,7 +10,7 @@ use Rattle.node_format.specs.Items.{Item, named}
 use Rattle.node_format.specs.declared.places.Place.{Place}
 use Rattle.node_format.specs.declared.places.Place.TheVariants.{Dir, File}
 use Rattle.block_trees.specs.Bodies.{Blocks}
-use Rattle.block_trees.specs.Trees.{entries_of, items_of, child, leads, entry_at, tree, HasTree, IsRoot}
+use Rattle.block_trees.specs.Trees.{entries_in, items_in, child, leads, entry_at, tree, HasTree, IsRoot}
 use Rattle.directory.specs.declared.lookups.Found.{Found}
 use Rattle.directory.specs.declared.lookups.Found.TheVariants as variant
 use Rattle.directory.specs.Lookups.{directory_at, below_in, found_of, found_in, look_up, place_of, entry_of, ◌>>=◌}
@@ -46,8 +46,8 @@ and_then_same : {A : Type 0} (o : Option A) → option_and_then (λ x. Some x) o
 and_then_same None = refl
 and_then_same (Some x) = refl
 
-leads_one : (f : Blocks) (block : ℕ) (name : Name) → leads f (Dir block) (name ∷ []) ≡ named (items_of (f block)) name
-leads_one f block name = and_then_same (named (items_of (f block)) name)
+leads_one : (f : Blocks) (block : ℕ) (name : Name) → leads f (Dir block) (name ∷ []) ≡ named (items_in f block) name
+leads_one f block name = and_then_same (named (items_in f block) name)
 
 leads_below : (f : Blocks) (block below : ℕ) (name : Name) (path : Path) → child f (Dir block) name ≡ Some (Dir below) → leads f (Dir block) (name ∷ path) ≡ leads f (Dir below) path
 leads_below f block below name path led = ap (λ (o : Option Place). option_and_then (λ next. leads f next path) o) led
@@ -55,9 +55,9 @@ leads_below f block below name path led = ap (λ (o : Option Place). option_and_
 -- a path leads to what a look up finds
 pub found_place : (f : Blocks) (root : ℕ) (path : Path) (found : Found) → look_up f root path ≡ Ok found → leads f (Dir root) path ≡ place_of found
 found_place f root [] found e = ap place_of (found_same (variant.Dir root) found e)
-found_place f root (n ∷ []) found e = leads_one f root n ∙ place_found (entries_of (f root)) n found e
+found_place f root (n ∷ []) found e = leads_one f root n ∙ place_found (entries_in f root) n found e
 found_place f root (n ∷ m ∷ p) found e =
-    let step = on_below (below_in (entries_of (f root)) n) (λ below. look_up f below (m ∷ p)) found e in
+    let step = on_below (below_in (entries_in f root) n) (λ below. look_up f below (m ∷ p)) found e in
     leads_below f root step.0 n (m ∷ p) (child_below f root n step.0 step.1) ∙ found_place f step.0 (m ∷ p) found step.2
 
 pub found_leads : (f : Blocks) (root : ℕ) (path : Path) (block : ℕ) → look_up f root path ≡ Ok (variant.Dir block) → leads f (Dir root) path ≡ Some (Dir block)
@@ -85,7 +85,7 @@ pub found_passes : (capacity : ℕ) (f : Blocks) (root : ℕ) (path : Path) (fou
 found_passes capacity f root [] found e = refl
 found_passes capacity f root (n ∷ []) found e = refl
 found_passes capacity f root (n ∷ m ∷ p) found e =
-    let step = on_below (below_in (entries_of (f root)) n) (λ below. look_up f below (m ∷ p)) found e in
+    let step = on_below (below_in (entries_in f root) n) (λ below. look_up f below (m ∷ p)) found e in
     way_below capacity f root step.0 n m p (child_below f root n step.0 step.1) ∙ found_passes capacity f step.0 (m ∷ p) found step.2
 
 -- a look up that finds something finds what stands there, and path resolution is not refused
@@ -107,11 +107,11 @@ full_in (Some items) name is_full e = on (named items name) e
     on (Some (Dir block)) same = absurd cc
 
 pub missing_parent : (f : Blocks) (root : ℕ) (path : Path) (is_full : Bool) → look_up f root path ≡ Ok (variant.Missing is_full)
-    → (block : ℕ) × (leads f (Dir root) (parent_of path) ≡ Some (Dir block)) × (is_full ≡ nat_le 32 (length (items_of (f block))))
+    → (block : ℕ) × (leads f (Dir root) (parent_of path) ≡ Some (Dir block)) × (is_full ≡ nat_le 32 (length (items_in f block)))
 missing_parent f root [] is_full e = absurd cc
-missing_parent f root (n ∷ []) is_full e = (root, refl, full_in (entries_of (f root)) n is_full e)
+missing_parent f root (n ∷ []) is_full e = (root, refl, full_in (entries_in f root) n is_full e)
 missing_parent f root (n ∷ m ∷ p) is_full e =
-    let step = on_below (below_in (entries_of (f root)) n) (λ below. look_up f below (m ∷ p)) (variant.Missing is_full) e in
+    let step = on_below (below_in (entries_in f root) n) (λ below. look_up f below (m ∷ p)) (variant.Missing is_full) e in
     let found = missing_parent f step.0 (m ∷ p) is_full step.2 in
     let led : leads f (Dir root) (parent_of (n ∷ m ∷ p)) ≡ Some (Dir found.0) =
     ap (λ (q : Path). leads f (Dir root) q) (parent_cons n m p) ∙ leads_below f root step.0 n (parent_of (m ∷ p)) (child_below f root n step.0 step.1) ∙ found.1 in
@@ -126,7 +126,7 @@ has_tree_below capacity f depth block below name led has = λ p at leads_to.
     (whole.0, omega (arith, whole.1))
 
 -- a component on the way is refused for what stands there
-way_refused : (capacity : ℕ) (f : Blocks) (block : ℕ) (name next : Name) (path : Path) (items : List Item) (fault : Fault) → entries_of (f block) ≡ Some items → directory_at (named items name) ≡ Err fault
+way_refused : (capacity : ℕ) (f : Blocks) (block : ℕ) (name next : Name) (path : Path) (items : List Item) (fault : Fault) → entries_in f block ≡ Some items → directory_at (named items name) ≡ Err fault
     → lookup_refusal (tree capacity f block) (name ∷ next ∷ path) ≡ Some fault
 way_refused capacity f block name next path items fault spelled e = on (named items name) led e
   where
@@ -157,7 +157,7 @@ refused_at capacity f depth root (n ∷ []) fault has e =
     absurd cc
 refused_at capacity f depth root (n ∷ m ∷ p) fault has e =
     let whole = (has [] (Dir root) refl).0 in
-    elim (split_below (below_in (entries_of (f root)) n) (λ below. look_up f below (m ∷ p)) fault e) [
+    elim (split_below (below_in (entries_in f root) n) (λ below. look_up f below (m ∷ p)) fault e) [
       | inl here ↦ way_refused capacity f root n m p whole.0 fault whole.1 (ap (λ (entries : Option (List Item)). below_in entries n) (sym whole.1) ∙ here)
       | inr later ↦
           let led = child_below f root n later.0 later.1 in

@@ -8,7 +8,7 @@ use Rattle.node_format.specs.Items.{Item, named}
 use Rattle.node_format.specs.declared.places.Place.{Place}
 use Rattle.node_format.specs.declared.places.Place.TheVariants.{Dir, File}
 use Rattle.block_trees.specs.Bodies.{Blocks}
-use Rattle.block_trees.specs.Trees.{entries_of, items_of, child}
+use Rattle.block_trees.specs.Trees.{entries_of, items_of, child, entries_in}
 use Rattle.block_trees.specs.Reached.{Keeps}
 use Rattle.block_trees.specs.Rewritten.{IsDirectoryEdit, IsRewritten, AreFresh}
 use Rattle.directory.specs.Lookups.{directory_at, below_in}
@@ -30,8 +30,8 @@ below_named (Some items) name below e = on (named items name) refl e
     on (Some (File head size)) is e = absurd cc
     on (Some (Dir block)) is e = is ∙ ap (λ (b : ℕ). Some (Dir b)) (ok_is block below e)
 
-pub child_below : (f : Blocks) (block : ℕ) (name : Name) (below : ℕ) → below_in (entries_of (f block)) name ≡ Ok below → child f (Dir block) name ≡ Some (Dir below)
-child_below f block name below e = below_named (entries_of (f block)) name below e
+pub child_below : (f : Blocks) (block : ℕ) (name : Name) (below : ℕ) → below_in (entries_in f block) name ≡ Ok below → child f (Dir block) name ≡ Some (Dir below)
+child_below f block name below e = below_named (entries_in f block) name below e
 
 pub edit_later : (f0 f1 f2 : Blocks) (from to : ℕ) (name : Name) (at : Option Place) → f2 to ≡ f1 to → IsDirectoryEdit f0 f1 from to name at → IsDirectoryEdit f0 f2 from to name at
 edit_later f0 f1 f2 from to name at same (items, spelled, leads) = (items, ap entries_of same ∙ spelled, leads)

@@ -9,7 +9,7 @@ use Rattle.node_format.specs.Items.{Item, named}
 use Rattle.node_format.specs.declared.places.Place.{Place}
 use Rattle.node_format.specs.declared.places.Place.TheVariants.{Dir, File}
 use Rattle.block_trees.specs.Bodies.{Blocks}
-use Rattle.block_trees.specs.Trees.{entries_of, items_of, child, leads}
+use Rattle.block_trees.specs.Trees.{entries_of, items_of, child, leads, entries_in}
 use Rattle.block_trees.specs.Reached.{IsHeld, Keeps}
 use Rattle.block_trees.specs.Rewritten.{IsDirectoryEdit, IsRewritten, AreFresh}
 use Rattle.block_trees.proofs.Reaching.{held_child, held_leads}
@@ -59,10 +59,10 @@ takes_named None name there here is = absurd cc
 takes_named (Some items) name there here is = ap (λ (o : Option Place). is_some o || not (nat_le 32 (length items))) is
 
 -- so it takes another directory in its place, also later
-pub level_takes : (f g : Blocks) (k l : ℕ → Bool) (path : Path) (trail : List ℕ) (i below : ℕ) → IsHeldTrail f k path trail → i + 1 < length path → Keeps k f l g → takes (entries_of (g (slice_index trail i))) (get_or path i []) (Some (Dir below)) ≡ true
+pub level_takes : (f g : Blocks) (k l : ℕ → Bool) (path : Path) (trail : List ℕ) (i below : ℕ) → IsHeldTrail f k path trail → i + 1 < length path → Keeps k f l g → takes (entries_in g (slice_index trail i)) (get_or path i []) (Some (Dir below)) ≡ true
 level_takes f g k l path trail i below way more keeps =
     ap (λ (node : Option (List ℕ)). takes (entries_of node) (get_or path i []) (Some (Dir below))) (level_same f g k l path trail i way (omega arith) keeps)
-    ∙ takes_named (entries_of (f (slice_index trail i))) (get_or path i []) (Dir (slice_index trail (i + 1))) (Dir below) (level_child f way.root path trail i way.trail_of more)
+    ∙ takes_named (entries_in f (slice_index trail i)) (get_or path i []) (Dir (slice_index trail (i + 1))) (Dir below) (level_child f way.root path trail i way.trail_of more)
 
 -- ---- one level more: at first (0), with the directories below written (1), and with this one too (2)
 
@@ -124,7 +124,7 @@ looks_to f root path trail zero way less = ap (λ (b : ℕ). look_up f b path) (
 looks_to f root path trail (suc i) way less =
     let e : i + 1 ≡ suc i = omega arith in
     looks_to f root path trail i way (omega arith)
-    ∙ looks_on f (slice_index trail i) (slice_index trail (i + 1)) i path (omega arith) (below_named (entries_of (f (slice_index trail i))) (get_or path i []) (slice_index trail (i + 1)) (level_child f root path trail i way (omega arith)))
+    ∙ looks_on f (slice_index trail i) (slice_index trail (i + 1)) i path (omega arith) (below_named (entries_in f (slice_index trail i)) (get_or path i []) (slice_index trail (i + 1)) (level_child f root path trail i way (omega arith)))
     ∙ ap (λ (k : ℕ). look_up f (slice_index trail k) (drop k path)) e
 
 room_takes : (entries : Option (List Item)) (name : Name) (at : Option Place) → has_room (found_in entries name) ≡ true → takes entries name at ≡ true
@@ -142,8 +142,8 @@ pub room_taken : (f : Blocks) (root : ℕ) (path : Path) (trail : List ℕ) (at 
 room_taken f root path trail at way some room =
     let i = length path - 1 in
     let last : i + 1 ≡ length path = omega arith in
-    let looked : look_up f root path ≡ found_in (entries_of (f (slice_index trail i))) (get_or path i []) = looks_to f root path trail i way (omega arith) ∙ ap (look_up f (slice_index trail i)) (last_name i path last) in
-    room_takes (entries_of (f (slice_index trail i))) (get_or path i []) at (sym (ap has_room looked) ∙ room)
+    let looked : look_up f root path ≡ found_in (entries_in f (slice_index trail i)) (get_or path i []) = looks_to f root path trail i way (omega arith) ∙ ap (look_up f (slice_index trail i)) (last_name i path last) in
+    room_takes (entries_in f (slice_index trail i)) (get_or path i []) at (sym (ap has_room looked) ∙ room)
 
 stands_takes : (entries : Option (List Item)) (name : Name) → IsSome (named (unwrap_or entries []) name) → takes entries name None ≡ true
 stands_takes None name stands = absurd cc
@@ -153,7 +153,7 @@ stands_takes (Some items) name stands = refl
 pub stands_taken : (f : Blocks) (root : ℕ) (path : Path) (trail : List ℕ) → IsTrail f root path trail → 0 < length path → IsSome (leads f (Dir root) path) → IsTaken f trail path None
 stands_taken f root path trail way some stands =
     let i = length path - 1 in
-    stands_takes (entries_of (f (slice_index trail i))) (get_or path i []) (subst (λ (o : Option Place). IsSome o) (leads_last f root path trail i way (omega arith)) stands)
+    stands_takes (entries_in f (slice_index trail i)) (get_or path i []) (subst (λ (o : Option Place). IsSome o) (leads_last f root path trail i way (omega arith)) stands)
 
 -- ---- what stands of a look up while other nodes are written
 
@@ -173,9 +173,9 @@ look_later f g k l keeps [] root held = refl
 look_later f g k l keeps (n ∷ []) root held = ap (λ (node : Option (List ℕ)). found_in (entries_of node) n) (same_held f g k l keeps root held)
 look_later f g k l keeps (n ∷ m ∷ path) root held =
     ap (λ (node : Option (List ℕ)). below_in (entries_of node) n >>= (λ below. look_up g below (m ∷ path))) (same_held f g k l keeps root held)
-    ∙ on (below_in (entries_of (f root)) n) refl (look_later f g k l keeps (m ∷ path))
+    ∙ on (below_in (entries_in f root) n) refl (look_later f g k l keeps (m ∷ path))
   where
-    on : (r : Result ℕ Fault) → below_in (entries_of (f root)) n ≡ r → ((next : ℕ) → IsHeld f k (Dir next) → look_up g next (m ∷ path) ≡ look_up f next (m ∷ path)) → (r >>= (λ below. look_up g below (m ∷ path))) ≡ (r >>= (λ below. look_up f below (m ∷ path)))
+    on : (r : Result ℕ Fault) → below_in (entries_in f root) n ≡ r → ((next : ℕ) → IsHeld f k (Dir next) → look_up g next (m ∷ path) ≡ look_up f next (m ∷ path)) → (r >>= (λ below. look_up g below (m ∷ path))) ≡ (r >>= (λ below. look_up f below (m ∷ path)))
     on (Err fault) is again = refl
     on (Ok next) is again = again next (held_child f k (Dir root) n (Dir next) (child_below f root n next is) held)
 

@@ -9,7 +9,7 @@ use Rattle.fs_types.specs.declared.faults.Fault.{Fault}
 use Rattle.node_format.specs.declared.places.Place.{Place}
 use Rattle.node_format.specs.declared.places.Place.TheVariants.{Dir}
 use Rattle.block_trees.specs.Bodies.{Blocks}
-use Rattle.block_trees.specs.Trees.{entries_of, child, leads}
+use Rattle.block_trees.specs.Trees.{entries_in, child, leads}
 use Rattle.block_trees.proofs.RootMaps.{leads-append}
 use Rattle.directory.specs.Lookups.{below_in, look_up, ◌>>=◌}
 use Rattle.directory.specs.Trails.{IsTrail}
@@ -81,7 +81,7 @@ whole f root path i trail block goes last = record {
 }
 
 -- a look up of the names from one on goes on at the directory that the name leads to
-pub looks_on : (f : Blocks) (block below i : ℕ) (path : Path) → i + 1 < length path → below_in (entries_of (f block)) (get_or path i []) ≡ Ok below → look_up f block (drop i path) ≡ look_up f below (drop (i + 1) path)
+pub looks_on : (f : Blocks) (block below i : ℕ) (path : Path) → i + 1 < length path → below_in (entries_in f block) (get_or path i []) ≡ Ok below → look_up f block (drop i path) ≡ look_up f below (drop (i + 1) path)
 looks_on f block below i path less is =
     let first = drop-cons path i [] (omega arith) in
     let second = drop-cons path (suc i) [] (omega arith) in

@@ -11,7 +11,7 @@ use Rattle.node_format.specs.Items.{Item}
 use Rattle.node_format.specs.declared.places.Place.{Place}
 use Rattle.node_format.specs.declared.places.Place.TheVariants.{Dir, File}
 use Rattle.block_trees.specs.Bodies.{Blocks}
-use Rattle.block_trees.specs.Trees.{items_of, leads, IsRoot}
+use Rattle.block_trees.specs.Trees.{items_in, leads, IsRoot}
 use Rattle.block_trees.specs.Laws.{IsShallow}
 
 -- some path below a place has more names than these
@@ -30,8 +30,8 @@ names_directory items b = list_any (λ item. is_directory_at item.place b) items
 -- the set has just the blocks of directories that directories of these blocks name, of so many blocks
 pub record AreNamedBy (f : Blocks) (blocks : ℕ) (level : ℕ → Bool) (next : FinSet nat_cmp) : Type 0 where
   pub within : (b : ℕ) → contains next b ≡ true → b < blocks
-  pub named : (b : ℕ) → contains next b ≡ true → (parent : ℕ) × (level parent ≡ true) × (names_directory (items_of (f parent)) b ≡ true)
-  pub all : (parent b : ℕ) → level parent ≡ true → b < blocks → names_directory (items_of (f parent)) b ≡ true → contains next b ≡ true
+  pub named : (b : ℕ) → contains next b ≡ true → (parent : ℕ) × (level parent ≡ true) × (names_directory (items_in f parent) b ≡ true)
+  pub all : (parent b : ℕ) → level parent ≡ true → b < blocks → names_directory (items_in f parent) b ≡ true → contains next b ≡ true
 
 -- the set has just the blocks of a list, of so many blocks
 pub record HasBlocks (blocks : ℕ) (list : List ℕ) (level : FinSet nat_cmp) : Type 0 where
@@ -42,7 +42,7 @@ pub record HasBlocks (blocks : ℕ) (list : List ℕ) (level : FinSet nat_cmp) :
 -- the list has these roots, and each directory that one of its directories names, of so many blocks
 pub record HasDirectories (f : Blocks) (blocks : ℕ) (roots list : List ℕ) : Type 0 where
   pub first : (b : ℕ) → Contains roots b → b < blocks → Contains list b
-  pub next : (parent b : ℕ) → Contains list parent → b < blocks → names_directory (items_of (f parent)) b ≡ true → Contains list b
+  pub next : (parent b : ℕ) → Contains list parent → b < blocks → names_directory (items_in f parent) b ≡ true → Contains list b
 
 -- the refusals of reading nodes that may be missing: those of reads, but that nothing is damaged
 abbrev pub is_depth_fault : Fault → Bool

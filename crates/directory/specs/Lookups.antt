@@ -1,8 +1,8 @@
 -- Looking up a path: what it leads to, or why it is refused (POSIX.1-2017, pathname resolution).
-use Rattle.std.specs.Prelude.{ℕ, nat_le, Bool, true, false, IsTrue, Option, Some, None, Result, Ok, Err, List, [], ◌∷◌, length}
+use Rattle.std.specs.Prelude.{◌≡◌, ℕ, nat_le, Bool, true, false, IsTrue, Option, Some, None, Result, Ok, Err, List, [], ◌∷◌, length}
 use Rattle.fs_types.specs.declared.limits.TheConstants.{MAX_ENTRIES}
 use Rattle.fs_types.specs.Names.{Name, Path}
-use Rattle.plain_trees.specs.Contents.{Entry}
+use Rattle.plain_trees.specs.Contents.{Entry, Contents, lookup_refusal}
 use Rattle.fs_types.specs.declared.faults.Fault.{Fault}
 use Rattle.fs_types.specs.declared.faults.Fault.TheVariants.{NoEntry, NotDirectory, Damaged}
 use Rattle.node_store.specs.Faults.{is_read_fault}
@@ -10,7 +10,7 @@ use Rattle.node_format.specs.Items.{Item, named}
 use Rattle.node_format.specs.declared.places.Place.{Place}
 use Rattle.node_format.specs.declared.places.Place.TheVariants.{Dir, File}
 use Rattle.block_trees.specs.Bodies.{Blocks, body}
-use Rattle.block_trees.specs.Trees.{entries_of}
+use Rattle.block_trees.specs.Trees.{entries_in, tree, IsRoot}
 use Rattle.directory.specs.declared.lookups.Found.{Found}
 use Rattle.directory.specs.declared.lookups.Found.TheVariants as found
 
@@ -49,8 +49,8 @@ found_in (Some items) name = Ok (found_of (named items name) (nat_le MAX_ENTRIES
 -- what a path below a directory leads to, or the refusal of its first component that is missing, a file or damaged
 abbrev pub look_up : Blocks → ℕ → Path → Result Found Fault
 look_up f block [] = Ok (found.Dir block)
-look_up f block (name ∷ []) = found_in (entries_of (f block)) name
-look_up f block (name ∷ next ∷ path) = below_in (entries_of (f block)) name >>= λ below. look_up f below (next ∷ path)
+look_up f block (name ∷ []) = found_in (entries_in f block) name
+look_up f block (name ∷ next ∷ path) = below_in (entries_in f block) name >>= λ below. look_up f below (next ∷ path)
 
 -- what was found, as a place
 abbrev pub place_of : Found → Option Place
@@ -63,6 +63,15 @@ abbrev pub entry_of : ℕ → Blocks → Found → Option Entry
 entry_of capacity f (found.Missing is_full) = None
 entry_of capacity f (found.File head size) = Some (Entry.File (body capacity f head size))
 entry_of capacity f (found.Dir block) = Some Entry.Dir
+
+-- what a look up tells of a path in a tree: what stands there, or the refusal of the path
+abbrev pub Tells : ℕ → Blocks → Contents → Path → Result Found Fault → Type 0
+Tells capacity f t path (Ok found) = (lookup_refusal t path ≡ None) × (t path ≡ entry_of capacity f found)
+Tells capacity f t path (Err fault) = lookup_refusal t path ≡ Some fault
+
+-- a look up tells of each path in the tree of a root
+abbrev pub LookupLaw : Type 0
+LookupLaw = (capacity : ℕ) (f : Blocks) (root : ℕ) (path : Path) → IsRoot capacity f root → Tells capacity f (tree capacity f root) path (look_up f root path)
 
 -- the refusals that say what the nodes hold
 abbrev pub is_path_fault : Fault → Bool

@@ -10,7 +10,7 @@ use Rattle.node_format.specs.Items.{Item, named}
 use Rattle.node_format.specs.declared.places.Place.{Place}
 use Rattle.node_format.specs.declared.places.Place.TheVariants.{Dir}
 use Rattle.block_trees.specs.Bodies.{Blocks}
-use Rattle.block_trees.specs.Trees.{entries_of, leads}
+use Rattle.block_trees.specs.Trees.{entries_in, leads}
 use Rattle.block_trees.specs.Reached.{IsHeld}
 use Rattle.directory.specs.declared.lookups.Found.{Found}
 use Rattle.directory.specs.declared.lookups.Found.TheVariants as found
@@ -36,7 +36,7 @@ takes (Some items) name (Some place) = is_some (named items name) || not (nat_le
 
 -- so does the last directory of a trail, with the last name of its path
 abbrev pub IsTaken : Blocks → List ℕ → Path → Option Place → Type 0
-IsTaken f trail path place = takes (entries_of (f (slice_index trail (length path - 1)))) (slice_index_or path (length path - 1) []) place ≡ true
+IsTaken f trail path place = takes (entries_in f (slice_index trail (length path - 1))) (slice_index_or path (length path - 1) []) place ≡ true
 
 -- the trail of a path below a root of which all is kept
 pub record IsHeldTrail (f : Blocks) (kept : ℕ → Bool) (path : Path) (trail : List ℕ) : Type 0 where

@@ -2,7 +2,7 @@
 ghost use Rattle.std.specs.Prelude.{◌≡◌, ℕ, ◌+◌, ◌*◌, ◌≤◌, ◌<◌, true, false, ◌||◌, ◌&&◌, nat_lt, List, Contains, length, if◌then◌else◌, Some, None, OnOk, IfOk, IfErr};
 ghost use Rattle.std.specs.FinSet as set;
 ghost use Rattle.node_format.specs.declared.places.Place.TheVariants.{Dir};
-ghost use Rattle.block_trees.specs.Trees.{items_of};
+ghost use Rattle.block_trees.specs.Trees.{items_in};
 ghost use Rattle.block_trees.specs.Laws.{IsShallow};
 ghost use Rattle.directory.specs.Depths as spec;
 ghost use Rattle.node_store.specs.Frames.{OnlyLooks};
@@ -55,7 +55,7 @@ fn add_named<N: Nodes>(
     found: &mut BlockSet,
 ) -> Result<(), Fault>
     requires { N.is_sound nodes.old }
-    ensures added { OnOk result ((b : ℕ) → set.contains found.new.members b ≡ (set.contains found.old.members b || (set.contains level.now.members block && (nat_lt b found.old.blocks && spec.names_directory (items_of (N.node nodes.old block)) b)))) }
+    ensures added { OnOk result ((b : ℕ) → set.contains found.new.members b ≡ (set.contains found.old.members b || (set.contains level.now.members block && (nat_lt b found.old.blocks && spec.names_directory (items_in (N.node nodes.old) block) b)))) }
     ensures size { found.new.blocks ≡ found.old.blocks }
     ensures why { IfErr result (λ fault. N.causes nodes.old nodes.new fault) }
     ensures faults { IfErr result spec.IsDepthFault }
@@ -79,7 +79,7 @@ fn add_named<N: Nodes>(
 /// Whether the directory of a block has entries. A block without a directory node has none.
 fn has_entries<N: Nodes>(nodes: &mut N, block: u32) -> Result<bool, Fault>
     requires { N.is_sound nodes.old }
-    ensures value { IfOk result (λ some. some ≡ nat_lt 0 (length (items_of (N.node nodes.old block)))) }
+    ensures value { IfOk result (λ some. some ≡ nat_lt 0 (length (items_in (N.node nodes.old) block))) }
     ensures why { IfErr result (λ fault. N.causes nodes.old nodes.new fault) }
     ensures faults { IfErr result spec.IsDepthFault }
     ensures looks { OnlyLooks N.node N.kept N.writes N.follows N.is_sound N.limit N.blocks nodes.old nodes.new }
@@ -117,8 +117,8 @@ fn next_level<N: Nodes>(alloc: Global, nodes: &mut N, level: &BlockSet) -> Resul
 fn any_has_entries<N: Nodes>(nodes: &mut N, level: &BlockSet) -> Result<bool, Fault>
     requires sound { N.is_sound nodes.old }
     requires within { (b : ℕ) → set.contains level.now.members b ≡ true → b < level.now.blocks }
-    ensures some { IfOk result (λ some. some ≡ true → (b : ℕ) × (set.contains level.now.members b ≡ true) × (0 < length (items_of (N.node nodes.old b)))) }
-    ensures none { IfOk result (λ some. some ≡ false → (b : ℕ) → set.contains level.now.members b ≡ true → length (items_of (N.node nodes.old b)) ≡ 0) }
+    ensures some { IfOk result (λ some. some ≡ true → (b : ℕ) × (set.contains level.now.members b ≡ true) × (0 < length (items_in (N.node nodes.old) b))) }
+    ensures none { IfOk result (λ some. some ≡ false → (b : ℕ) → set.contains level.now.members b ≡ true → length (items_in (N.node nodes.old) b) ≡ 0) }
     ensures why { IfErr result (λ fault. N.causes nodes.old nodes.new fault) }
     ensures faults { IfErr result spec.IsDepthFault }
     ensures looks { OnlyLooks N.node N.kept N.writes N.follows N.is_sound N.limit N.blocks nodes.old nodes.new }

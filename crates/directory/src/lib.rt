@@ -10,7 +10,7 @@ mod trails;
 
 pub use depths::{any_is_deeper, depth_laws, is_deeper};
 pub use listings::{entry_count, names};
-pub use lookups::{Found, lookup};
+pub use lookups::{Found, lookup, lookup_laws};
 pub use moving::move_entry;
 pub use rewriting::{put_directory, put_entry, remove_entry};
 pub use trails::{Trail, find};

@@ -4,7 +4,7 @@ ghost use Rattle.fs_types.specs.declared.faults.Fault.TheVariants.{NoMemory, Dam
 ghost use Rattle.node_store.specs.Faults.{IsReadFault};
 ghost use Rattle.node_store.specs.Frames.{OnlyLooks};
 ghost use Rattle.node_format.specs.Items.{Item};
-ghost use Rattle.block_trees.specs.Trees.{entries_of, names_of};
+ghost use Rattle.block_trees.specs.Trees.{entries_in, names_of};
 ghost use Rattle.directory.specs.Lookups.{is_path_fault};
 
 use fs_types::{Fault, Name, Sequence};
@@ -36,8 +36,8 @@ pub fn names<N: Nodes>(
     block: u32,
 ) -> Result<Sequence<(Name, bool)>, Fault>
     requires { N.is_sound nodes.old }
-    ensures names { IfOk result (λ names. (items : List Item) × (entries_of (N.node nodes.old block) ≡ Some items) × (names ≡ names_of items)) }
-    ensures damaged { IsErrOf result Damaged → entries_of (N.node nodes.old block) ≡ None }
+    ensures names { IfOk result (λ names. (items : List Item) × (entries_in (N.node nodes.old) block ≡ Some items) × (names ≡ names_of items)) }
+    ensures damaged { IsErrOf result Damaged → entries_in (N.node nodes.old) block ≡ None }
     ensures why { IfErr result (λ fault. is_path_fault fault ≡ false → N.causes nodes.old nodes.new fault) }
     ensures faults { IfErr result IsReadFault }
     ensures looks { OnlyLooks N.node N.kept N.writes N.follows N.is_sound N.limit N.blocks nodes.old nodes.new }
@@ -57,8 +57,8 @@ pub fn names<N: Nodes>(
 /// with.
 pub fn entry_count<N: Nodes>(nodes: &mut N, block: u32) -> Result<usize, Fault>
     requires { N.is_sound nodes.old }
-    ensures count { IfOk result (λ count. (items : List Item) × (entries_of (N.node nodes.old block) ≡ Some items) × (count ≡ length items)) }
-    ensures damaged { IsErrOf result Damaged → entries_of (N.node nodes.old block) ≡ None }
+    ensures count { IfOk result (λ count. (items : List Item) × (entries_in (N.node nodes.old) block ≡ Some items) × (count ≡ length items)) }
+    ensures damaged { IsErrOf result Damaged → entries_in (N.node nodes.old) block ≡ None }
     ensures why { IfErr result (λ fault. is_path_fault fault ≡ false → N.causes nodes.old nodes.new fault) }
     ensures faults { IfErr result IsReadFault }
     ensures looks { OnlyLooks N.node N.kept N.writes N.follows N.is_sound N.limit N.blocks nodes.old nodes.new }

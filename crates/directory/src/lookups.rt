@@ -3,7 +3,7 @@ ghost use Rattle.std.specs.Prelude.{◌≡◌, ℕ, ◌+◌, ◌≤◌, true, fa
 ghost use Rattle.fs_types.specs.declared.faults.Fault.TheVariants.{NoEntry, NotDirectory, Damaged};
 ghost use Rattle.node_store.specs.Faults.{IsReadFault};
 ghost use Rattle.node_store.specs.Frames.{OnlyLooks};
-ghost use Rattle.block_trees.specs.Trees.{entries_of};
+ghost use Rattle.block_trees.specs.Trees.{entries_in};
 ghost use Rattle.directory.specs.Lookups as spec;
 
 use crate::trails::find;
@@ -11,12 +11,10 @@ use fs_types::{Fault, MAX_ENTRIES, Name, Path};
 use node_format::{Entries, Place};
 use node_store::Nodes;
 
-/// The entries of a full directory.
-
 /// What a path leads to.
 #[derive(Clone, Copy, Debug, PartialEq, Eq)]
 pub enum Found {
-    /// The last component is missing, from a directory that has room for it or 32 entries already.
+    /// The last component is missing, from a directory that has room for it or as many entries as it may.
     Missing { is_full: bool },
     /// A file, by the block of the last node of its body, and its length in bytes.
     File { head: u32, length: u32 },
@@ -43,8 +41,8 @@ pub(crate) fn place_in<N: Nodes>(
     name: &Name,
 ) -> Result<Option<Place>, Fault>
     requires { N.is_sound nodes.old }
-    ensures found { IfOk result (λ place. spec.place_in (entries_of (N.node nodes.old block)) name.now ≡ Ok place) }
-    ensures damaged { IsErrOf result Damaged → entries_of (N.node nodes.old block) ≡ None }
+    ensures found { IfOk result (λ place. spec.place_in (entries_in (N.node nodes.old) block) name.now ≡ Ok place) }
+    ensures damaged { IsErrOf result Damaged → entries_in (N.node nodes.old) block ≡ None }
     ensures why { IfErr result (λ fault. spec.is_path_fault fault ≡ false → N.causes nodes.old nodes.new fault) }
     ensures faults { IfErr result IsReadFault }
     ensures looks { OnlyLooks N.node N.kept N.writes N.follows N.is_sound N.limit N.blocks nodes.old nodes.new }
@@ -71,8 +69,8 @@ pub(crate) fn directory_at(place: Option<Place>) -> Result<u32, Fault>
 /// What a name leads to in the directory of a block, as the last component of a path.
 pub(crate) fn found_in<N: Nodes>(nodes: &mut N, block: u32, name: &Name) -> Result<Found, Fault>
     requires { N.is_sound nodes.old }
-    ensures found { IfOk result (λ found. spec.found_in (entries_of (N.node nodes.old block)) name.now ≡ Ok found) }
-    ensures damaged { IsErrOf result Damaged → entries_of (N.node nodes.old block) ≡ None }
+    ensures found { IfOk result (λ found. spec.found_in (entries_in (N.node nodes.old) block) name.now ≡ Ok found) }
+    ensures damaged { IsErrOf result Damaged → entries_in (N.node nodes.old) block ≡ None }
     ensures why { IfErr result (λ fault. spec.is_path_fault fault ≡ false → N.causes nodes.old nodes.new fault) }
     ensures faults { IfErr result IsReadFault }
     ensures looks { OnlyLooks N.node N.kept N.writes N.follows N.is_sound N.limit N.blocks nodes.old nodes.new }
@@ -104,3 +102,9 @@ pub fn lookup<N: Nodes>(nodes: &mut N, root: u32, path: &Path) -> Result<Found, 
     let (found, _trail) = find(nodes, root, path)?;
     Ok(found)
 }
+
+/// In a tree a look up finds what stands at the path, and is refused as POSIX.1-2017 refuses the path.
+/// The function does nothing: its contract is the law.
+pub fn lookup_laws()
+    ensures { spec.LookupLaw }
+{}

@@ -5,7 +5,7 @@ ghost use Rattle.plain_trees.specs.Contents.{Apart, parent_of};
 ghost use Rattle.node_format.specs.Items.{is_place, named};
 ghost use Rattle.node_format.specs.Headers.{IsNode};
 ghost use Rattle.node_format.specs.declared.places.Place.TheVariants.{Dir};
-ghost use Rattle.block_trees.specs.Trees.{entries_of, items_of, child, leads};
+ghost use Rattle.block_trees.specs.Trees.{entries_of, items_of, child, leads, entries_in};
 ghost use Rattle.block_trees.specs.Reached.{IsHeld, Keeps};
 ghost use Rattle.block_trees.specs.Rewritten.{IsSecondEdit, IsBranch, IsMoved};
 ghost use Rattle.directory.specs.Lookups.{look_up};
@@ -79,7 +79,7 @@ fn edit_directory_twice<N: Nodes>(
     requires here { IfSome here (λ p. is_place p ≡ true) }
     requires apart { same_name name.now other.now ≡ false }
     requires named { IsSome (child (N.node nodes.old) (Dir block) name.now) }
-    requires room { IsSome gone → takes (entries_of (N.node nodes.old block)) other.now here ≡ true }
+    requires room { IsSome gone → takes (entries_in (N.node nodes.old) block) other.now here ≡ true }
     ensures edited { IfOk result (λ to. IsSecondEdit (N.node nodes.old) (N.node nodes.new) block to name.now gone other.now here) }
     ensures fresh { IfOk result (λ to. N.kept nodes.old to ≡ false) }
     ensures kept { IfOk result (λ to. N.kept nodes.new to ≡ true) }

@@ -5,7 +5,7 @@ ghost use Rattle.node_format.specs.Items.{is_place};
 ghost use Rattle.node_format.specs.Edits.{IsEdited};
 ghost use Rattle.node_format.specs.Headers.{IsNode};
 ghost use Rattle.node_format.specs.declared.places.Place.TheVariants.{Dir};
-ghost use Rattle.block_trees.specs.Trees.{entries_of, items_of, leads};
+ghost use Rattle.block_trees.specs.Trees.{entries_of, items_of, leads, entries_in};
 ghost use Rattle.block_trees.specs.Reached.{IsHeld, Keeps};
 ghost use Rattle.block_trees.specs.Rewritten.{IsDirectoryEdit, IsRewritten, AreFresh};
 ghost use Rattle.directory.specs.Lookups.{look_up};
@@ -53,7 +53,7 @@ pub(crate) fn edit_directory<N: Nodes>(
 ) -> Result<u32, Fault>
     requires sound { N.is_sound nodes.old }
     requires place { IfSome place (λ p. is_place p ≡ true) }
-    requires takes { spec.takes (entries_of (N.node nodes.old block)) name.now place ≡ true }
+    requires takes { spec.takes (entries_in (N.node nodes.old) block) name.now place ≡ true }
     ensures edited { IfOk result (λ to. IsDirectoryEdit (N.node nodes.old) (N.node nodes.new) block to name.now place) }
     ensures fresh { IfOk result (λ to. N.kept nodes.old to ≡ false) }
     ensures kept { IfOk result (λ to. N.kept nodes.new to ≡ true) }

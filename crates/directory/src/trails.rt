@@ -7,8 +7,7 @@ ghost use Rattle.fs_types.specs.declared.limits.TheConstants.{MAX_NAMES};
 
 use crate::lookups::{Found, directory_at, found_in, place_in};
 use arrayvec::ArrayVec;
-use fs_types::MAX_NAMES;
-use fs_types::{Fault, Path};
+use fs_types::{Fault, MAX_NAMES, Path};
 use node_store::Nodes;
 use std::marker::Model;
 

@@ -9,7 +9,7 @@ use Rattle.history_machine.specs.History.{Past, fresh, changed, undone, undo_ref
 use Rattle.fs_types.specs.declared.calls.Call.{Call}
 use Rattle.fs_types.specs.declared.calls.View.TheVariants.{Serial, Checkpoint}
 use Rattle.fs_types.specs.declared.faults.Fault.TheVariants.{NothingToUndo, TooOld, NothingToRedo, NoSuchVersion, Discarded, Invalid, NotEmpty, Exists, NotPermitted, IsDirectory, NotDirectory, NoEntry, Busy}
-use Rattle.history_machine.specs.Machine.{Machine, mounted, refusal, tree_after}
+use Rattle.history_machine.specs.Machine.{Machine, mounted, refusal, tree_after, machine_with}
 
 -- a history of numbers for trees
 
@@ -123,7 +123,7 @@ names = rw (held small tt) refl
 
 -- while a file is open, it is not removed and undo is refused
 abbrev opened : Machine
-opened = record { history = here.history; descriptors = Some (record { path = f ∷ []; flags = record { 0 = 7 } }) ∷ none_open }
+opened = machine_with here.history (Some (record { path = f ∷ []; flags = record { 0 = 7 } }) ∷ none_open)
 
 in-use : (refusal opened (Call.Unlink (f ∷ [])) ≡ Some Busy) × (refusal opened Call.Undo ≡ Some Busy) × (refusal opened (Call.Rename (b ∷ []) (f ∷ [])) ≡ Some NotDirectory) × (least_free opened.descriptors ≡ Some 1)
 in-use = (rw (seen small tt) refl, refl, rw (seen small tt) (rw (seen small tt) refl), refl)

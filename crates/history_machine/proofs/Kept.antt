@@ -20,7 +20,7 @@ use Rattle.fs_types.specs.declared.flags.OpenFlags.{OpenFlags}
 use Rattle.fs_types.specs.declared.faults.Fault.{Fault}
 use Rattle.fs_types.specs.declared.faults.Fault.TheVariants.{Busy, Invalid, BadDescriptor, TooBig}
 use Rattle.history_machine.specs.History.{Past, fresh, present_root, changed, forgotten, with_checkpoint}
-use Rattle.history_machine.specs.Machine.{Machine, IsMachine, mounted, present_tree, has_paths, file_put, open_changes, pwrite_refusal, ftruncate_refusal, refusal, tree_after, history_moved, descriptors_after, machine_of, next}
+use Rattle.history_machine.specs.Machine.{Machine, IsMachine, mounted, present_tree, has_paths, file_put, open_changes, pwrite_refusal, ftruncate_refusal, refusal, tree_after, history_moved, descriptors_after, machine_of, next, machine_with}
 use Rattle.history_machine.specs.Laws.{MachineLaw, RenameLaw}
 use Rattle.fs_types.proofs.Orders.{same_path-is, same_path-own}
 use Rattle.plain_trees.proofs.Beneath.{None≢Some, same_Some, begins-append}
@@ -386,7 +386,7 @@ places-after m (Call.Close descriptor) = length-set m.descriptors descriptor Non
 places-after m _ = refl
 
 -- an accepted call
-accepted-kept : (m : Machine) (call : Call) → IsMachine m → has_paths call ≡ true → refusal m call ≡ None → (o : Option Tree) → tree_after m call ≡ o → IsMachine (record { history = option_map_or (changed m.history) o (history_moved m.history call); descriptors = descriptors_after m call })
+accepted-kept : (m : Machine) (call : Call) → IsMachine m → has_paths call ≡ true → refusal m call ≡ None → (o : Option Tree) → tree_after m call ≡ o → IsMachine (machine_with (option_map_or (changed m.history) o (history_moved m.history call)) (descriptors_after m call))
 accepted-kept m call is good ok None e =
     let k = moved-kept m.history call (record { trees = is.trees; kept = is.kept; named = is.named }) in
     record { lawful = moved-lawful m call ok is.lawful; trees = k.trees; kept = k.kept; named = k.named; places = places-after m call ∙ is.places; files = moved-files m call is ok e }

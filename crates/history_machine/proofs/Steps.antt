@@ -13,7 +13,7 @@ use Rattle.fs_types.specs.declared.calls.Call.{Call}
 use Rattle.fs_types.specs.declared.faults.Fault.{Fault}
 use Rattle.fs_types.specs.declared.faults.Fault.TheVariants.{Busy, Exists, CheckpointsFull, Invalid, NothingToUndo, TooOld, NothingToRedo}
 use Rattle.history_machine.specs.History.{Past, IsLawful, present_root, changed, undone, redone, gone_to, checkpoint_root, with_checkpoint, without_checkpoint, undo_refusal, redo_refusal, checkpoint_refusal, forget_refusal}
-use Rattle.history_machine.specs.Machine.{Machine, Space, present_tree, refusal, tree_after, history_moved, machine_of, answer_of, next, step, after, makes_version, travel_refusal}
+use Rattle.history_machine.specs.Machine.{Machine, Space, present_tree, refusal, tree_after, history_moved, machine_of, answer_of, next, step, after, makes_version, travel_refusal, machine_with}
 use Rattle.history_machine.specs.Laws.{RefusalLaw, VersionLaw, EachKeeps, NoneRemoves, UndoLaw, RedoLaw, RollbackLaw}
 use Rattle.plain_trees.proofs.Beneath.{None≢Some}
 use Rattle.fs_types.proofs.Orders.{same_name-is, same_name-own}
@@ -182,13 +182,13 @@ redo_law space m l e =
     let ok = accepted space m Call.Undo e in
     let parts : (any_open m.descriptors ≡ false) × (undo_refusal m.history ≡ None) = passes _ Busy _ ok in
     let some : m.history.cursor ≢ 0 = eqb-false _ _ (passes _ _ None parts.1).0 in
-    let n : Machine = record { history = undone m.history; descriptors = m.descriptors } in
+    let n : Machine = machine_with (undone m.history) m.descriptors in
     let is : next m Call.Undo ≡ n = ap (machine_of m Call.Undo) ok in
     let c : m.history.cursor < length m.history.versions = l.cursor_in in
     let again : redo_refusal n.history ≡ None = ap (λ b. cond b None (Some NothingToRedo)) (lt-ltb (m.history.cursor - 1 + 1) (length m.history.versions) (omega arith)) in
     let back : refusal n Call.Redo ≡ None = free n (redo_refusal n.history) parts.0 ∙ again in (
       ap (λ k. (step space k Call.Redo).reply) is ∙ ap (answer_of space n Call.Redo) back,
-      ap (λ k. (step space k Call.Redo).machine) is ∙ ap (machine_of n Call.Redo) back ∙ (λ i. record { history = redone-undone m.history some i; descriptors = m.descriptors }),
+      ap (λ k. (step space k Call.Redo).machine) is ∙ ap (machine_of n Call.Redo) back ∙ (λ i. machine_with (redone-undone m.history some i) m.descriptors),
     )
 
 -- the checkpoint keeps its root through a call that does not remove it

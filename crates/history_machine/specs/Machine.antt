@@ -22,9 +22,13 @@ pub record Machine : Type 0 where
   pub history : Past Tree
   pub descriptors : Descriptors
 
+-- the machine of a history and of open files
+abbrev pub machine_with : Past Tree → Descriptors → Machine
+machine_with past files = record { history = past; descriptors = files }
+
 -- what a mount makes of a history: no file is open
 abbrev pub mounted : Past Tree → Machine
-mounted history = record { history = history; descriptors = none_open }
+mounted history = machine_with history none_open
 
 -- the tree at the cursor
 abbrev pub present_tree : Machine → Tree
@@ -249,7 +253,7 @@ answer_of space m call None = Ok (reply_of space m call)
 
 abbrev pub machine_of : Machine → Call → Option Fault → Machine
 machine_of m call (Some fault) = m
-machine_of m call None = record { history = history_after m call; descriptors = descriptors_after m call }
+machine_of m call None = machine_with (history_after m call) (descriptors_after m call)
 
 -- what a call answers
 abbrev pub answer : Space → Machine → Call → Result Reply Fault
@@ -278,17 +282,21 @@ is_accepted m call = is_none (refusal m call)
 abbrev pub makes_version : Machine → Call → Bool
 makes_version m call = is_accepted m call && is_some (tree_after m call)
 
+-- how many nodes a change of what stands at a path may write: one for each directory on the way to it
+abbrev pub path_need : Tree → Path → ℕ
+path_need t path = length path
+
 -- how many nodes a change may write, where a body node has room for so many data bytes
 abbrev pub change_need : ℕ → Machine → Call → ℕ
-change_need room m (Call.Open path flags) = length path
-change_need room m (Call.Pwrite descriptor offset bytes) = option_map_or (λ d. pwrite_need room (length (bytes_at (present_tree m) d.path)) offset (length bytes) + length d.path) (descriptor_at m.descriptors descriptor) 0
-change_need room m (Call.Ftruncate descriptor n) = option_map_or (λ d. ftruncate_need room (length (bytes_at (present_tree m) d.path)) n + length d.path) (descriptor_at m.descriptors descriptor) 0
-change_need room m (Call.Rename old new) = length old + length new
-change_need room m (Call.Unlink path) = length path
-change_need room m (Call.Mkdir path) = length path + 1
-change_need room m (Call.Rmdir path) = length path
-change_need room m _ = 0
+change_need capacity m (Call.Open path flags) = path_need (present_tree m) path
+change_need capacity m (Call.Pwrite descriptor offset bytes) = option_map_or (λ d. pwrite_need capacity (length (bytes_at (present_tree m) d.path)) offset (length bytes) + path_need (present_tree m) d.path) (descriptor_at m.descriptors descriptor) 0
+change_need capacity m (Call.Ftruncate descriptor n) = option_map_or (λ d. ftruncate_need capacity (length (bytes_at (present_tree m) d.path)) n + path_need (present_tree m) d.path) (descriptor_at m.descriptors descriptor) 0
+change_need capacity m (Call.Rename old new) = path_need (present_tree m) old + path_need (present_tree m) new
+change_need capacity m (Call.Unlink path) = path_need (present_tree m) path
+change_need capacity m (Call.Mkdir path) = path_need (present_tree m) path + 1
+change_need capacity m (Call.Rmdir path) = path_need (present_tree m) path
+change_need capacity m _ = 0
 
 -- a call that makes no version writes none
 abbrev pub need : ℕ → Machine → Call → ℕ
-need room m call = if makes_version m call then change_need room m call else 0
+need capacity m call = if makes_version m call then change_need capacity m call else 0

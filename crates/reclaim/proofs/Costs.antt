@@ -10,7 +10,7 @@ use Rattle.node_format.specs.Items.{Item}
 use Rattle.node_format.specs.declared.places.Place.{Place}
 use Rattle.node_format.specs.declared.places.Place.TheVariants.{Dir}
 use Rattle.block_trees.specs.Bodies.{Blocks}
-use Rattle.block_trees.specs.Trees.{entries_of, items_of}
+use Rattle.block_trees.specs.Trees.{entries_in, items_in}
 use Rattle.block_trees.specs.Reached.{Reached, PlaceNames, IsFirst, IsNamed}
 use Rattle.directory.specs.Depths.{HasDirectories, names_directory, is_directory_at}
 use Rattle.directory.proofs.Levels.{any_contains, directory_is}
@@ -42,22 +42,22 @@ look_cost f g b before after same most = subst (λ (h : Blocks). after ≤ befor
 
 -- whether a block holds a directory node
 abbrev pub holds_directory : Blocks → ℕ → Bool
-holds_directory f b = is_some (entries_of (f b))
+holds_directory f b = is_some (entries_in f b)
 
 -- a look at each block, and 17 levels that have directories alone
-pub looks_and_levels : (f : Blocks) (xs : List ℕ) → sum_by (λ b. look_reads (f b)) xs + 17 * length (filter (holds_directory f) xs) ≤ sum_by (λ b. 18 + 2 * length (items_of (f b))) xs
+pub looks_and_levels : (f : Blocks) (xs : List ℕ) → sum_by (λ b. look_reads (f b)) xs + 17 * length (filter (holds_directory f) xs) ≤ sum_by (λ b. 18 + 2 * length (items_in f b)) xs
 looks_and_levels f [] = omega arith
-looks_and_levels f (x ∷ xs) = on (entries_of (f x)) refl (looks_and_levels f xs)
+looks_and_levels f (x ∷ xs) = on (entries_in f x) refl (looks_and_levels f xs)
   where
     one : sum_by (λ b. look_reads (f b)) (x ∷ xs) ≡ look_reads (f x) + sum_by (λ b. look_reads (f b)) xs
     one = sum_by-cons (λ b. look_reads (f b)) x xs
 
-    all : sum_by (λ b. 18 + 2 * length (items_of (f b))) (x ∷ xs) ≡ (18 + 2 * length (items_of (f x))) + sum_by (λ b. 18 + 2 * length (items_of (f b))) xs
-    all = sum_by-cons (λ b. 18 + 2 * length (items_of (f b))) x xs
+    all : sum_by (λ b. 18 + 2 * length (items_in f b)) (x ∷ xs) ≡ (18 + 2 * length (items_in f x)) + sum_by (λ b. 18 + 2 * length (items_in f b)) xs
+    all = sum_by-cons (λ b. 18 + 2 * length (items_in f b)) x xs
 
-    on : (o : Option (List Item)) → entries_of (f x) ≡ o
-        → sum_by (λ b. look_reads (f b)) xs + 17 * length (filter (holds_directory f) xs) ≤ sum_by (λ b. 18 + 2 * length (items_of (f b))) xs
-        → sum_by (λ b. look_reads (f b)) (x ∷ xs) + 17 * length (filter (holds_directory f) (x ∷ xs)) ≤ sum_by (λ b. 18 + 2 * length (items_of (f b))) (x ∷ xs)
+    on : (o : Option (List Item)) → entries_in f x ≡ o
+        → sum_by (λ b. look_reads (f b)) xs + 17 * length (filter (holds_directory f) xs) ≤ sum_by (λ b. 18 + 2 * length (items_in f b)) xs
+        → sum_by (λ b. look_reads (f b)) (x ∷ xs) + 17 * length (filter (holds_directory f) (x ∷ xs)) ≤ sum_by (λ b. 18 + 2 * length (items_in f b)) (x ∷ xs)
     on None is rest =
         let look : look_reads (f x) ≡ 14 = ap (λ (o : Option (List Item)). option_map_or (λ items. 1 + length items) o 14) is in
         let size : length (filter (holds_directory f) (x ∷ xs)) ≡ length (filter (holds_directory f) xs) =
@@ -65,7 +65,7 @@ looks_and_levels f (x ∷ xs) = on (entries_of (f x)) refl (looks_and_levels f x
         omega (arith, one, all, look, size, rest)
     on (Some items) is rest =
         let look : look_reads (f x) ≡ 1 + length items = ap (λ (o : Option (List Item)). option_map_or (λ items. 1 + length items) o 14) is in
-        let own : length (items_of (f x)) ≡ length items = ap (λ (o : Option (List Item)). length (unwrap_or o [])) is in
+        let own : length (items_in f x) ≡ length items = ap (λ (o : Option (List Item)). length (unwrap_or o [])) is in
         let size : length (filter (holds_directory f) (x ∷ xs)) ≡ suc (length (filter (holds_directory f) xs)) =
         ap (λ (o : Option (List Item)). length (cond (is_some o) (x ∷ filter (holds_directory f) xs) (filter (holds_directory f) xs))) is in
         omega (arith, one, all, look, own, size, rest)
@@ -100,10 +100,10 @@ is_held f b own = ap is_some own.1
 some_list : (o : Option (List Item)) (items : List Item) → o ≡ Some items → unwrap_or o [] ≡ items
 some_list o items is = ap (λ (p : Option (List Item)). unwrap_or p []) is
 
-held_items : (f : Blocks) (parent : ℕ) (item : Item) → Contains (items_of (f parent)) item → (items : List Item) × (entries_of (f parent) ≡ Some items) × Contains items item
-held_items f parent item h = on (entries_of (f parent)) refl h
+held_items : (f : Blocks) (parent : ℕ) (item : Item) → Contains (items_in f parent) item → (items : List Item) × (entries_in f parent ≡ Some items) × Contains items item
+held_items f parent item h = on (entries_in f parent) refl h
   where
-    on : (o : Option (List Item)) → entries_of (f parent) ≡ o → Contains (unwrap_or o []) item → (items : List Item) × (entries_of (f parent) ≡ Some items) × Contains items item
+    on : (o : Option (List Item)) → entries_in f parent ≡ o → Contains (unwrap_or o []) item → (items : List Item) × (entries_in f parent ≡ Some items) × Contains items item
     on None is h = absurd (omega (arith, h.1))
     on (Some items) is h = (items, is, h)
 
@@ -115,15 +115,15 @@ reached_directories capacity blocks f roots marked has only sound directories = 
     first : (b : ℕ) → Contains roots b → b < blocks → Contains (filter (holds_directory f) marked) b
     first b rooted below = filter_has (holds_directory f) marked b (has b (IsFirst rooted)) (is_held f b (All-contains (IsDirectoryAt f) roots b directories rooted))
 
-    place : (parent : ℕ) (item : Item) → Contains marked parent → Contains (items_of (f parent)) item → IsSoundPlace capacity f item.place
+    place : (parent : ℕ) (item : Item) → Contains marked parent → Contains (items_in f parent) item → IsSoundPlace capacity f item.place
     place parent item within h =
         let own = held_items f parent item h in
         (All-contains (λ b. IsSoundNode capacity f (f b)) marked parent sound within).entries own.0 own.1 item own.2
 
-    next : (parent b : ℕ) → Contains (filter (holds_directory f) marked) parent → b < blocks → names_directory (items_of (f parent)) b ≡ true → Contains (filter (holds_directory f) marked) b
+    next : (parent b : ℕ) → Contains (filter (holds_directory f) marked) parent → b < blocks → names_directory (items_in f parent) b ≡ true → Contains (filter (holds_directory f) marked) b
     next parent b held below names =
         let within = filter_only (holds_directory f) marked parent held in
-        let found = any_contains (λ item. is_directory_at item.place b) (items_of (f parent)) names in
+        let found = any_contains (λ item. is_directory_at item.place b) (items_in f parent) names in
         let is : found.0.place ≡ Dir b = directory_is found.0.place b found.2 in
         let own : IsDirectoryAt f b = subst (IsSoundPlace capacity f) is (place parent found.0 within found.1) in
         let reached : Reached f roots b = IsNamed (only parent within) (inl (found.0, found.1, subst (λ (p : Place). PlaceNames p b) (sym is) refl)) in
@@ -154,16 +154,16 @@ pub few_reads : (f : Blocks) (roots blocks : List ℕ) (before after : ℕ) → 
 few_reads f roots blocks before after are most = record {
   blocks = blocks;
   are = are;
-  most = omega (arith, sum_two (λ b. 2 * length (items_of (f b))) blocks, most);
+  most = omega (arith, sum_two (λ b. 2 * length (items_in f b)) blocks, most);
 }
 
 -- and those of looks and levels
 pub all_reads : (f : Blocks) (roots blocks : List ℕ) (before after : ℕ) → AreReached f roots blocks
-    → after ≤ before + 2 * length blocks + sum_by (λ b. 18 + 2 * length (items_of (f b))) blocks → HasCost f roots before after
+    → after ≤ before + 2 * length blocks + sum_by (λ b. 18 + 2 * length (items_in f b)) blocks → HasCost f roots before after
 all_reads f roots blocks before after are most = record {
   blocks = blocks;
   are = are;
-  most = omega (arith, sum_two (λ b. 2 * length (items_of (f b))) blocks, most);
+  most = omega (arith, sum_two (λ b. 2 * length (items_in f b)) blocks, most);
 }
 
 -- ---- the parts of verification
@@ -186,12 +186,12 @@ pass_reads f g roots marked p before mid after same own listed begun most read =
 
 -- and the marked blocks were looked at
 pub tree_reads : (f g : Blocks) (roots first marked : List ℕ) (old p : Pass) (before mid next after : ℕ) → g ≡ f → IsPass g p → IsFinished p → p.roots ≡ roots → first ≡ old.order → marked ≡ p.order
-    → Begins old.order p.order → old.next ≡ 0 → mid ≤ before + length first → next + old.next ≡ mid + p.next → after ≤ next + sum_by (λ b. 18 + 2 * length (items_of (g b))) marked
+    → Begins old.order p.order → old.next ≡ 0 → mid ≤ before + length first → next + old.next ≡ mid + p.next → after ≤ next + sum_by (λ b. 18 + 2 * length (items_in g b)) marked
     → HasCost f roots before after
 tree_reads f g roots first marked old p before mid next after same pass end own listed all begins begun most read last =
     let size : length first ≡ length old.order = ap length listed in
     let count : p.next ≡ length p.order = end in
-    let sum : sum_by (λ b. 18 + 2 * length (items_of (g b))) marked ≡ sum_by (λ b. 18 + 2 * length (items_of (f b))) p.order =
-    (λ i. sum_by (λ b. 18 + 2 * length (items_of (same i b))) (all i)) in
+    let sum : sum_by (λ b. 18 + 2 * length (items_in g b)) marked ≡ sum_by (λ b. 18 + 2 * length (items_in f b)) p.order =
+    (λ i. sum_by (λ b. 18 + 2 * length (items_in (same i) b)) (all i)) in
     all_reads f roots p.order before after (subst (λ (h : Blocks). AreReached h roots p.order) same (pass_reached g roots p pass own))
     (omega (arith, begins_length old.order p.order begins, last, sum, read, most, size, count))

@@ -11,7 +11,7 @@ use Rattle.node_format.specs.EntryLaws.{named-contained}
 use Rattle.node_format.specs.declared.places.Place.{Place}
 use Rattle.node_format.specs.declared.places.Place.TheVariants.{Dir, File}
 use Rattle.block_trees.specs.Bodies.{Blocks, index_of, pointer_of, back, head_index, Divides, IsChain, IsLinked, IsBody}
-use Rattle.block_trees.specs.Trees.{items_of, entries_of, child, leads, IsWhole, HasTree, IsRoot}
+use Rattle.block_trees.specs.Trees.{items_of, entries_of, child, leads, IsWhole, HasTree, IsRoot, entries_in, items_in}
 use Rattle.block_trees.specs.Reached.{PlaceNames, BodyNames, Names, Reached, IsFirst, IsNamed}
 use Rattle.block_trees.proofs.Entries.{entry_named, directory_no_index, place_is}
 use Rattle.block_trees.proofs.Reaching.{before_named}
@@ -85,7 +85,7 @@ head_body capacity f roots sound block head (suc n) reached names is =
     (whole.chain, omega (arith, is.1, data_length capacity f (head_index capacity (suc n)) head whole.chain), whole.linked)
 
 -- an entry of a directory names what its place names
-item_names : (f : Blocks) (block b : ℕ) (item : Item) → Contains (items_of (f block)) item → PlaceNames item.place b → Names (f block) b
+item_names : (f : Blocks) (block b : ℕ) (item : Item) → Contains (items_in f block) item → PlaceNames item.place b → Names (f block) b
 item_names f block b item within names = inl (item, within, names)
 
 good_place : (capacity : ℕ) (f : Blocks) (roots : List ℕ) → ((b : ℕ) → Reached f roots b → IsSoundNode capacity f (f b))
@@ -97,9 +97,9 @@ good_child : (capacity : ℕ) (f : Blocks) (roots : List ℕ) → ((b : ℕ) →
     → (from : Place) (name : Name) (at : Place) → IsGood capacity f roots from → child f from name ≡ Some at → IsGood capacity f roots at
 good_child capacity f roots sound (File head size) name at good is = absurd cc
 good_child capacity f roots sound (Dir block) name at good is =
-    let found = named-contained (items_of (f block)) name at is in
+    let found = named-contained (items_in f block) name at is in
     let items = good.1.0 in
-    let within : Contains items found.0 = subst (λ (l : List Item). Contains l found.0) (some_items (entries_of (f block)) items good.1.1) found.1 in
+    let within : Contains items found.0 = subst (λ (l : List Item). Contains l found.0) (some_items (entries_in f block) items good.1.1) found.1 in
     let own : IsSoundPlace capacity f at = subst (IsSoundPlace capacity f) found.2 ((sound block good.0).entries items good.1.1 found.0 within) in
     good_place capacity f roots sound block at good.0
     (λ b names. item_names f block b found.0 found.1 (subst (λ (p : Place). PlaceNames p b) (sym found.2) names)) own
@@ -140,7 +140,7 @@ tree_body : (capacity : ℕ) (f : Blocks) (head size depth : ℕ) → HasTree ca
 tree_body capacity f head size depth tree = (tree [] (File head size) refl).0
 
 -- what an entry of a tree's directory leads to has a tree
-entry_tree : (capacity : ℕ) (f : Blocks) (block depth : ℕ) (item : Item) → HasTree capacity f (Dir block) depth → Contains (items_of (f block)) item → HasTree capacity f item.place depth
+entry_tree : (capacity : ℕ) (f : Blocks) (block depth : ℕ) (item : Item) → HasTree capacity f (Dir block) depth → Contains (items_in f block) item → HasTree capacity f item.place depth
 entry_tree capacity f block depth item tree within = λ path at is.
     let whole = tree (item.name ∷ path) at (ap (option_and_then (λ next. leads f next path)) (entry_named (f block) item within) ∙ is) in
     (whole.0, omega (arith, whole.1))
@@ -247,7 +247,7 @@ shape_sound capacity f block (inl (depth, tree)) =
     record {
       entries = λ items is item within.
           place_sound capacity f item.place depth
-          (entry_tree capacity f block depth item tree (subst (λ (l : List Item). Contains l item) (sym (some_items (entries_of (f block)) items is)) within));
+          (entry_tree capacity f block depth item tree (subst (λ (l : List Item). Contains l item) (sym (some_items (entries_in f block) items is)) within));
       pointers = λ index is. absurd (no_number index (sym is ∙ directory_no_index (f block) own.0 own.1));
       short = λ index is. absurd (no_number index (sym is ∙ directory_no_index (f block) own.0 own.1));
     }

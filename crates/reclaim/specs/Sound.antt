@@ -5,14 +5,14 @@ use Rattle.node_format.specs.Items.{Item}
 use Rattle.node_format.specs.declared.places.Place.{Place}
 use Rattle.node_format.specs.declared.places.Place.TheVariants.{Dir, File}
 use Rattle.block_trees.specs.Bodies.{Blocks, index_of, pointer_of, data_of, head_index, Divides}
-use Rattle.block_trees.specs.Trees.{entries_of, IsRoot}
+use Rattle.block_trees.specs.Trees.{entries_of, IsRoot, entries_in}
 use Rattle.block_trees.specs.Reached.{Reached}
 use Rattle.block_trees.specs.Laws.{IsShallow}
 use Rattle.fs_types.specs.declared.limits.TheConstants.{MAX_FILE_BYTES}
 
 -- the block holds a directory node
 abbrev pub IsDirectoryAt : Blocks → ℕ → Type 0
-IsDirectoryAt f block = (items : List Item) × (entries_of (f block) ≡ Some items)
+IsDirectoryAt f block = (items : List Item) × (entries_in f block ≡ Some items)
 
 -- the head of a file has the index that the length asks, and bytes enough
 abbrev pub IsHead : ℕ → Blocks → ℕ → ℕ → Type 0

@@ -2,7 +2,7 @@
 use Rattle.std.specs.Prelude.{ℕ, ◌+◌, ◌*◌, ◌-◌, ◌≤◌, List, length, Contains}
 use Rattle.std.specs.List.{sum_by}
 use Rattle.block_trees.specs.Bodies.{Blocks}
-use Rattle.block_trees.specs.Trees.{items_of, IsRoot}
+use Rattle.block_trees.specs.Trees.{items_in, IsRoot}
 use Rattle.reclaim.specs.Passes.{AreReached}
 
 -- each root has a tree with linked bodies, on blocks of so many bytes
@@ -11,7 +11,7 @@ AreRoots limit f roots = (root : ℕ) → Contains roots root → IsRoot (limit 
 
 -- 20 reads for each of these blocks, and 2 for each of their entries
 abbrev pub most_reads : Blocks → List ℕ → ℕ
-most_reads f blocks = sum_by (λ b. 20 + 2 * length (items_of (f b))) blocks
+most_reads f blocks = sum_by (λ b. 20 + 2 * length (items_in f b)) blocks
 
 -- so many reads came, at most those of some blocks that the roots reach, none twice: a list that there is whatever the
 -- flash holds, and that has all reached blocks at most

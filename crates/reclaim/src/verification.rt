@@ -3,7 +3,7 @@ ghost use Rattle.std.specs.Prelude.{◌≡◌, ◌≢◌, ◌↔◌, ℕ, ◌+�
 ghost use Rattle.std.specs.List.{sum_by};
 ghost use Rattle.allocator.specs.Ring.{IsDataBlock};
 ghost use Rattle.node_format.specs.declared.places.Place.TheVariants.{Dir};
-ghost use Rattle.block_trees.specs.Trees.{items_of};
+ghost use Rattle.block_trees.specs.Trees.{items_in};
 ghost use Rattle.block_trees.specs.Laws.{IsShallow};
 ghost use Rattle.directory.specs.Depths.{HasDirectories};
 ghost use Rattle.block_trees.specs.Reached.{Reached};
@@ -113,7 +113,7 @@ fn have_trees<N: Nodes>(
     ensures why { IfErr result (λ fault. N.causes nodes.old nodes.new fault) }
     ensures faults { IfErr result IsLookFault }
     ensures looks { OnlyLooks N.node N.kept N.writes N.follows N.is_sound N.limit N.blocks nodes.old nodes.new }
-    ensures reads { N.reads nodes.new ≤ N.reads nodes.old + sum_by (λ b. 18 + 2 * length (items_of (N.node nodes.old b))) marked.now }
+    ensures reads { N.reads nodes.new ≤ N.reads nodes.old + sum_by (λ b. 18 + 2 * length (items_in (N.node nodes.old) b)) marked.now }
 {
     let capacity = nodes.block_bytes() - FRONT;
     let are_sound = are_sound(alloc, nodes, capacity, marked)?;

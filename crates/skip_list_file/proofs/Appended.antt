@@ -5,7 +5,7 @@ use Rattle.std.proofs.lemmas.Nat.{pow_pos, div-mul-add}
 use Rattle.std.specs.Prelude.{Contains, unwrap_or}
 use Rattle.node_format.specs.Items.{Item}
 use Rattle.block_trees.specs.Bodies.{Blocks, index_of, pointer_of, data_of, back, data_to, head_index, body, Divides, IsChain, IsLinked, IsBody}
-use Rattle.block_trees.specs.Trees.{entries_of}
+use Rattle.block_trees.specs.Trees.{entries_in}
 use Rattle.block_trees.specs.Reached.{Reached, Names, BodyNames}
 use Rattle.block_trees.proofs.Entries.{directory_no_index}
 use Rattle.block_trees.proofs.Reaching.{IsReachedBy, reached_by}
@@ -43,12 +43,12 @@ index_at capacity i more size least most e =
 
 -- a body node names what its slots say, and nothing else
 named_by : (f : Blocks) (i block b : ℕ) → index_of (f block) ≡ Some i → Names (f block) b → BodyNames (Some i) (pointer_of (f block)) b
-named_by f i block b is (inl (item, within, names)) = on (entries_of (f block)) refl
+named_by f i block b is (inl (item, within, names)) = on (entries_in f block) refl
   where
     none-in : Contains [] item → ⊥
     none-in (k, below, is) = omega arith
 
-    on : (entries : Option (List Item)) → entries_of (f block) ≡ entries → BodyNames (Some i) (pointer_of (f block)) b
+    on : (entries : Option (List Item)) → entries_in f block ≡ entries → BodyNames (Some i) (pointer_of (f block)) b
     on None e = absurd (none-in (subst (λ (o : Option (List Item)). Contains (unwrap_or o []) item) e within))
     on (Some items) e = let none = directory_no_index (f block) items e in absurd cc
 named_by f i block b is (inr names) = subst (λ (index : Option ℕ). BodyNames index (pointer_of (f block)) b) is names

@@ -10,7 +10,7 @@ use Rattle.node_format.specs.declared.places.Place.TheVariants.{Dir}
 use Rattle.block_trees.specs.Bodies.{Blocks, head_index}
 use Rattle.block_trees.specs.Laws.{IsShallow}
 use Rattle.block_trees.specs.Reached.{IsHeld}
-use Rattle.block_trees.specs.Trees.{entries_of, leads, IsRoot}
+use Rattle.block_trees.specs.Trees.{entries_in, leads, IsRoot}
 use Rattle.directory.specs.declared.lookups.Found.{Found}
 use Rattle.directory.specs.declared.lookups.Found.TheVariants as found
 use Rattle.directory.specs.Lookups.{look_up}
@@ -29,7 +29,7 @@ TakesFile (found.Dir block) = ⊥
 abbrev pub IsRemovable : Blocks → Found → Type 0
 IsRemovable f (found.Missing is_full) = ⊥
 IsRemovable f (found.File head size) = Unit {0}
-IsRemovable f (found.Dir block) = entries_of (f block) ≡ Some []
+IsRemovable f (found.Dir block) = entries_in f block ≡ Some []
 
 -- what an old path leads to can be moved to a new one: the trails are those of the paths, no path gets too long, and the
 -- new name has room, which a move within one directory does not ask

@@ -2,7 +2,7 @@ use Rattle.std.proofs.Common.{◌≡◌, ◌<◌, ◌≤◌, ◌+◌, ◌*◌, �
 use Rattle.std.specs.FinSet as set
 use Rattle.std.proofs.lemmas.Nat.{mul-le}
 use Rattle.block_trees.specs.Bodies.{Blocks}
-use Rattle.block_trees.specs.Trees.{items_of}
+use Rattle.block_trees.specs.Trees.{items_in}
 use Rattle.directory.specs.Depths.{AreNamedBy, HasDirectories}
 use Rattle.directory.proofs.MovedPaths.{if_ok}
 use Rattle.directory.proofs.Levels.{IsLevel, one_level_more, first_level, next_is_level, next_listed, last_shallow, last_deeper}
@@ -55,7 +55,7 @@ returns-clause-deeper g c =
     let last : IsLevel f roots c.args.most c.args.most level.blocks level.members = subst (λ (k : ℕ). IsLevel f roots c.args.most k level.blocks level.members) at_end c.loop-done.invariant.level in
     if_ok _ _ c.any_has_entries.result (λ deep found is.
     let entry = found is in
-    last_deeper f roots c.args.most level.blocks entry.0 level.members last entry.1 (subst (λ (f : Blocks). 0 < length (items_of (f entry.0))) c.loop-done.invariant.looks.same_nodes entry.2)) c.any_has_entries.ensures.some
+    last_deeper f roots c.args.most level.blocks entry.0 level.members last entry.1 (subst (λ (f : Blocks). 0 < length (items_in f entry.0)) c.loop-done.invariant.looks.same_nodes entry.2)) c.any_has_entries.ensures.some
 
 pub returns-clause-shallow : goal.returns-clause-shallow
 returns-clause-shallow g c =
@@ -66,7 +66,7 @@ returns-clause-shallow g c =
     let last : IsLevel f roots c.args.most c.args.most level.blocks level.members = subst (λ (k : ℕ). IsLevel f roots c.args.most k level.blocks level.members) at_end c.loop-done.invariant.level in
     if_ok _ _ c.any_has_entries.result (λ deep none is.
     last_shallow f roots c.args.most level.blocks level.members last
-    (λ b here. subst (λ (f : Blocks). length (items_of (f b)) ≡ 0) c.loop-done.invariant.looks.same_nodes (none is b here))) c.any_has_entries.ensures.none
+    (λ b here. subst (λ (f : Blocks). length (items_in f b) ≡ 0) c.loop-done.invariant.looks.same_nodes (none is b here))) c.any_has_entries.ensures.none
 
 pub returns-in_err-level-2-clause-reads : goal.returns-in_err-level-2-clause-reads
 returns-in_err-level-2-clause-reads g c list all =

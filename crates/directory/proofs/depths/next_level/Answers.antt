@@ -1,6 +1,6 @@
 use Rattle.std.proofs.Common.{◌≡◌, nat_lt, ◌&&◌, ◌||◌, ap, refl, ◌∙◌, rules, arith, ◌+◌}
 use Rattle.std.specs.FinSet as set
-use Rattle.block_trees.specs.Trees.{items_of}
+use Rattle.block_trees.specs.Trees.{items_in}
 use Rattle.allocator.specs.BlockSet.{BlockSet}
 use Rattle.directory.specs.Depths.{names_directory}
 use Rattle.directory.proofs.Levels.{none_named, one_named}
@@ -22,7 +22,7 @@ pub loop-block-preserved : goal.loop-block-preserved
 loop-block-preserved g c = record {
   named = one_named (g.N.Nodes.node c.args.nodes.now) c.args.level.now.blocks c.loop-block.block c.args.level.now.members c.loop-block.next.members c.add_named.new.found.members c.loop-block.invariant.named
       (λ b. c.in_ok-add_named.ensures.added b ∙ (λ i. set.contains c.loop-block.next.members b || (set.contains c.args.level.now.members c.loop-block.block
-      && (nat_lt b (c.loop-block.invariant.size i) && names_directory (items_of (c.loop-block.invariant.looks.same_nodes i c.loop-block.block)) b))));
+      && (nat_lt b (c.loop-block.invariant.size i) && names_directory (items_in (c.loop-block.invariant.looks.same_nodes i) c.loop-block.block) b))));
   size = c.add_named.ensures.size ∙ c.loop-block.invariant.size;
   reads = omega (arith, one_more (set.contains c.args.level.now.members) c.loop-block.block, c.add_named.ensures.reads, c.loop-block.invariant.reads);
   looks = g.met.N.Nodes.looks_on c.args.nodes.now c.loop-block.nodes c.add_named.new.nodes c.loop-block.invariant.looks c.add_named.ensures.looks;

@@ -4,7 +4,7 @@ use Rattle.std.proofs.lemmas.Result.{err_from_is_err_and}
 use Rattle.std.specs.Prelude.{slice_index, Ok}
 use Rattle.fs_types.specs.Names.{Name, Path, same_name}
 use Rattle.node_format.specs.declared.places.Place.TheVariants.{Dir}
-use Rattle.block_trees.specs.Trees.{entries_of}
+use Rattle.block_trees.specs.Trees.{entries_in}
 use Rattle.block_trees.specs.Reached.{Keeps}
 use Rattle.block_trees.specs.Rewritten.{IsDirectoryEdit, IsMoved}
 use Rattle.directory.specs.Trails.{IsHeldTrail, takes}
@@ -63,7 +63,7 @@ edit_directory-requires-clause-takes g c =
       same = λ b kept. g.met.N.Nodes.same_node old mid b c.requires.sound c.loop-i.invariant.works.came kept;
       stays = λ b kept. g.met.N.Nodes.stays_kept old mid b c.loop-i.invariant.works.came kept;
     } in
-    subst (λ (n : Name). takes (entries_of (f1 (slice_index trail i))) n (Some (Dir c.loop-i.to)) ≡ true) (sym name) (level_takes f0 f1 k0 k1 names trail i c.loop-i.to way more before)
+    subst (λ (n : Name). takes (entries_in f1 (slice_index trail i)) n (Some (Dir c.loop-i.to)) ≡ true) (sym name) (level_takes f0 f1 k0 k1 names trail i c.loop-i.to way more before)
 
 pub returns-in_err-to-2-clause-keeps : goal.returns-in_err-to-2-clause-keeps
 returns-in_err-to-2-clause-keeps g c =

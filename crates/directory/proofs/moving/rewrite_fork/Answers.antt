@@ -5,7 +5,7 @@ use Rattle.std.specs.Prelude.{slice_index, IsSome, IfOk}
 use Rattle.fs_types.specs.Names.{Name, Path}
 use Rattle.node_format.specs.declared.places.Place.TheVariants.{Dir}
 use Rattle.node_format.specs.Items.{named}
-use Rattle.block_trees.specs.Trees.{entries_of, items_of}
+use Rattle.block_trees.specs.Trees.{entries_of, items_of, entries_in, items_in}
 use Rattle.block_trees.specs.Reached.{IsHeld, Keeps}
 use Rattle.block_trees.specs.Rewritten.{IsSecondEdit, IsBranch, IsMoved}
 use Rattle.directory.specs.Trails.{takes}
@@ -81,7 +81,7 @@ edit_directory_twice-requires-clause-named g c =
     let held : IsHeld f0 k0 (Dir block) = level_held f0 k0 old_names c.args.old_trail.now fork c.requires.fork.old_way in_old in
     let same = same_parted f0 f1 f2 k0 k1 k2 block first second held in
     subst (λ (node : Option (List ℕ)). IsSome (named (items_of node) c.index-old-fork.result)) (sym same)
-    (subst (λ (n : Name). IsSome (named (items_of (f0 block)) n)) (sym old_name) c.requires.fork.stands)
+    (subst (λ (n : Name). IsSome (named (items_in f0 block) n)) (sym old_name) c.requires.fork.stands)
 
 pub edit_directory_twice-requires-clause-room : goal.edit_directory_twice-requires-clause-room
 edit_directory_twice-requires-clause-room g c some =
@@ -114,7 +114,7 @@ edit_directory_twice-requires-clause-room g c some =
     let same = same_parted f0 f1 f2 k0 k1 k2 block first second held in
     let room = fork_room f0 f1 f2 k0 k1 k2 old_names new_names c.args.old_trail.now c.args.new_trail.now c.args.place fork c.in_ok-gone.gone c.in_ok-here.here c.requires.fork c.in_ok-gone.ensures.branch c.in_ok-here.ensures.branch some in
     subst (λ (node : Option (List ℕ)). takes (entries_of node) c.index-new-fork.result c.in_ok-here.here ≡ true) (sym same)
-    (subst (λ (n : Name). takes (entries_of (f0 block)) n c.in_ok-here.here ≡ true) (sym new_name) room)
+    (subst (λ (n : Name). takes (entries_in f0 block) n c.in_ok-here.here ≡ true) (sym new_name) room)
 
 pub returns-clause-moved : goal.returns-clause-moved
 returns-clause-moved g c =

@@ -4,7 +4,7 @@ use Rattle.std.proofs.lemmas.List.{get_or_default}
 use Rattle.std.proofs.lemmas.Result.{err_from_is_err_and}
 use Rattle.fs_types.specs.Names.{Name}
 use Rattle.node_format.specs.declared.places.Place.TheVariants.{Dir}
-use Rattle.block_trees.specs.Trees.{entries_of}
+use Rattle.block_trees.specs.Trees.{entries_in}
 use Rattle.block_trees.specs.Reached.{Keeps}
 use Rattle.block_trees.specs.Rewritten.{IsDirectoryEdit, IsRewritten, AreFresh}
 use Rattle.directory.specs.Trails.{takes}
@@ -26,7 +26,7 @@ edit_directory-requires-in-loop-i-clause-takes g c =
       same = λ b kept. g.met.N.Nodes.same_node old mid b c.requires.sound c.loop-i.invariant.works.came kept;
       stays = λ b kept. g.met.N.Nodes.stays_kept old mid b c.loop-i.invariant.works.came kept;
     } in
-    subst (λ (n : Name). takes (entries_of (g.N.Nodes.node mid (slice_index c.args.trail.now i))) n (Some (Dir c.loop-i.to)) ≡ true) (sym name)
+    subst (λ (n : Name). takes (entries_in (g.N.Nodes.node mid) (slice_index c.args.trail.now i)) n (Some (Dir c.loop-i.to)) ≡ true) (sym name)
     (level_takes (g.N.Nodes.node old) (g.N.Nodes.node mid) (g.N.Nodes.kept old) (g.N.Nodes.kept mid) names c.args.trail.now i c.loop-i.to c.requires.way more before)
 
 pub returns-in_err-to-2-clause-why : goal.returns-in_err-to-2-clause-why

@@ -2,7 +2,7 @@ use Rattle.std.proofs.Common.{◌≡◌, ◌+◌, ◌<◌, Ok, [], length, get_o
 use Rattle.std.proofs.lemmas.List.{get_or_default}
 use Rattle.fs_types.specs.Names.{Name}
 use Rattle.block_trees.specs.Bodies.{Blocks}
-use Rattle.block_trees.specs.Trees.{entries_of}
+use Rattle.block_trees.specs.Trees.{entries_in}
 use Rattle.directory.specs.Lookups.{below_in, directory_at, place_in, ◌>>=◌}
 use Rattle.directory.proofs.Rewrites.{child_below}
 use Rattle.directory.proofs.Ways.{goes_on, looks_on}
@@ -17,10 +17,10 @@ loop-i-preserved g c =
     let differs = c.if-i-names.false in
     let more : i + 1 < length path = omega arith in
     let name : c.index-names-i.result ≡ get_or path i [] = c.index-names-i.is ∙ get_or_default path i c.index-names-i.result [] within in
-    let place : place_in (entries_of (f c.loop-i.block)) (get_or path i []) ≡ Ok c.in_ok-place.place =
-    subst (λ (n : Name). place_in (entries_of (f c.loop-i.block)) n ≡ Ok c.in_ok-place.place) name
-    (subst (λ (h : Blocks). place_in (entries_of (h c.loop-i.block)) c.index-names-i.result ≡ Ok c.in_ok-place.place) c.loop-i.invariant.looks.same_nodes c.in_ok-place.ensures.found) in
-    let below : below_in (entries_of (f c.loop-i.block)) (get_or path i []) ≡ Ok c.in_ok-block.block = ap (λ r. r >>= directory_at) place ∙ sym c.in_ok-block.ensures in
+    let place : place_in (entries_in f c.loop-i.block) (get_or path i []) ≡ Ok c.in_ok-place.place =
+    subst (λ (n : Name). place_in (entries_in f c.loop-i.block) n ≡ Ok c.in_ok-place.place) name
+    (subst (λ (h : Blocks). place_in (entries_in h c.loop-i.block) c.index-names-i.result ≡ Ok c.in_ok-place.place) c.loop-i.invariant.looks.same_nodes c.in_ok-place.ensures.found) in
+    let below : below_in (entries_in f c.loop-i.block) (get_or path i []) ≡ Ok c.in_ok-block.block = ap (λ r. r >>= directory_at) place ∙ sym c.in_ok-block.ensures in
     let led = child_below f c.loop-i.block (get_or path i []) c.in_ok-block.block below in
     record {
       looked = sym (looks_on f c.loop-i.block c.in_ok-block.block i path more below) ∙ c.loop-i.invariant.looked;

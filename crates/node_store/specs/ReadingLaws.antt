@@ -1,7 +1,9 @@
 -- What reads after reads bring, and that they leave each node.
-use Rattle.std.specs.Prelude.{◌≡◌, ℕ, zero, suc, ◌+◌, ◌*◌, ◌<◌, ◌≤◌, List, Option, Some, None, Result, Ok, Err, option_and_then}
+use Rattle.std.specs.Prelude.{◌≡◌, ℕ, zero, suc, ◌+◌, ◌-◌, ◌*◌, ◌<◌, ◌≤◌, List, Option, Some, None, Result, Ok, Err, option_and_then}
 use Rattle.std.proofs.Common.{sym, ◌∙◌, ap, subst, inl, inr, arith}
+use Rattle.std.specs.Result.{OnOk}
 use Rattle.std.proofs.lemmas.Bool.{cases_eq}
+use Rattle.std.proofs.lemmas.Grind.{div_ceil_times}
 use Rattle.std.proofs.lemmas.Nat.{mul-le}
 use Rattle.fs_types.specs.declared.faults.Fault.{Fault}
 use Rattle.fs_types.specs.declared.faults.Fault.TheVariants.{ReadFailed, PowerCut, Damaged}
@@ -84,3 +86,19 @@ node_after_first old mid b first size head r least below at begins tells =
     ∙ ap (option_and_then (bytes_at old.geometry old.pages first)) tells
     ∙ ap (λ (h : Geometry). bytes_at h old.pages first size) (sym r.geometry)
     ∙ ap (λ (pages : ℕ → Page). bytes_at mid.geometry pages first size) (λ i p. sym (r.pages p) i)
+
+some_pages : (k page size : ℕ) → 16 ≤ size → size ≤ k * page → 1 ≤ k
+some_pages zero page size least fits = omega (arith, least, fits)
+some_pages (suc k) page size least fits = omega arith
+
+-- the first page and the rest are as many reads as the node has pages
+pub each_once : (g h : Geometry) (size len a b c : ℕ) (head : List ℕ) (result : Result (Unit {0}) Fault) → IsGeometry g → h ≡ g
+    → node_size (block_bytes g) head ≡ Some size → b ≤ a + 1 → c ≤ b + (pages_for h.page size - 1) → OnOk result (len ≡ size)
+    → OnOk result (c ≤ a + pages_for g.page len)
+each_once g h size len a b c head (Err fault) lawful same tells first rest is = tt
+each_once g h size len a b c head (Ok x) lawful same tells first rest is =
+    let room = has_room g lawful in
+    let within = size_within (block_bytes g) size head tells in
+    let some = some_pages (pages_for g.page size) g.page size within.least (div_ceil_times size g.page (omega arith)).0 in
+    let last : c ≤ b + (pages_for g.page size - 1) = subst (λ (k : Geometry). c ≤ b + (pages_for k.page size - 1)) same rest in
+    subst (λ (n : ℕ). c ≤ a + pages_for g.page n) (sym is) (omega (arith, last, first, some))

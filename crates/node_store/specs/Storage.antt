@@ -1,5 +1,5 @@
 -- A flash with the set of its bad blocks and the ring of its used ones: what calls of a store lead to.
-use Rattle.std.specs.Prelude.{◌≡◌, ℕ, ◌+◌, ◌<◌, ◌≤◌, Bool, true, false, List, Option, Some, None, Result, Ok, Err}
+use Rattle.std.specs.Prelude.{◌≡◌, ℕ, ◌+◌, ◌*◌, ◌<◌, ◌≤◌, Bool, true, false, List, length, Option, Some, None, Result, Ok, Err}
 use Rattle.std.specs.FinSet as set
 use Rattle.std.specs.Ordering.{nat_cmp}
 use Rattle.fs_types.specs.declared.limits.TheConstants.{MAX_BAD_BLOCKS}
@@ -7,7 +7,7 @@ use Rattle.fs_types.specs.declared.faults.Fault.{Fault}
 use Rattle.fs_types.specs.declared.faults.Fault.TheVariants.{FlashFull, ReadOnly, PowerCut}
 use Rattle.flash_model.specs.Device.{Device, block_of}
 use Rattle.allocator.specs.Ring.{Ring, IsDataBlock, free_count}
-use Rattle.node_store.specs.NodePages.{first_data, node_of}
+use Rattle.node_store.specs.NodePages.{first_data, node_of, pages_for}
 use Rattle.flash_model.specs.Reading.{OnlyReads}
 
 -- the parts that a store works on
@@ -90,6 +90,12 @@ unpaid (Err _) = 0
 -- so many takes more than bad blocks came
 abbrev pub Pays : Storage → Storage → ℕ → Type 0
 Pays s t takes = t.ring.takes + set.len s.bad ≡ s.ring.takes + set.len t.bad + takes
+
+-- each block that was taken was erased at most once, and each page that the bytes need programmed at most once in it
+abbrev pub Spends : Storage → Storage → List ℕ → Type 0
+Spends s t bytes =
+    t.device.operations + s.ring.takes * (1 + pages_for s.device.geometry.page (length bytes))
+    ≤ s.device.operations + t.ring.takes * (1 + pages_for s.device.geometry.page (length bytes))
 
 -- an attempt adds the node, or its block is bad and others may be tried, or it is refused as a write is
 abbrev pub Tries : Storage → List ℕ → Storage → Result (Option ℕ) Fault → Type 0

@@ -1,5 +1,5 @@
 -- How erases and programs make up an attempt to write a block.
-use Rattle.std.specs.Prelude.{◌≡◌, ◌≢◌, ℕ, ◌+◌, ◌*◌, ◌/◌, ◌<◌, ◌≤◌, true, List, length, Result, Ok, Err, refl}
+use Rattle.std.specs.Prelude.{◌≡◌, ◌≢◌, ℕ, ◌+◌, ◌*◌, ◌/◌, ◌<◌, ◌≤◌, Bool, true, false, if◌then◌else◌, List, length, Result, Ok, Err, refl}
 use Rattle.std.proofs.Common.{sym, ◌∙◌, ap, subst, inl, inr, arith}
 use Rattle.std.proofs.lemmas.Bool.{cases_eq}
 use Rattle.flash_model.specs.declared.sizes.Geometry.{Geometry}
@@ -175,3 +175,8 @@ place_below g h place size same lawful fits below =
     let most = pages_for-most g.page g.pages size (omega arith) fits in
     let count : pages_for h.page size ≡ pages_for g.page size = ap (λ (k : Geometry). pages_for k.page size) same in
     omega arith
+
+-- an operation counts once, where power is on
+pub one_more : (on : Bool) (before after : ℕ) → after ≡ before + (if on then 1 else 0) → after ≤ before + 1
+one_more true before after e = omega (arith, e)
+one_more false before after e = omega (arith, e)

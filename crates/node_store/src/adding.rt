@@ -4,7 +4,7 @@ ghost use Rattle.std.specs.FinSet as set;
 ghost use Rattle.allocator.specs.Ring.{free_count};
 ghost use Rattle.flash_model.specs.Geometry.{IsGeometry, block_bytes};
 ghost use Rattle.node_format.specs.Headers.{IsNode};
-ghost use Rattle.node_store.specs.Storage.{IsTaken, IsUntouched, storage, Evolved, Adds, Tries, Pays, unpaid, unpaid_try};
+ghost use Rattle.node_store.specs.Storage.{IsTaken, IsUntouched, storage, Evolved, Adds, Tries, Pays, Spends, unpaid, unpaid_try};
 ghost use Rattle.fs_types.specs.declared.limits.TheConstants.{MAX_BAD_BLOCKS};
 
 use crate::writing::write_block;
@@ -57,6 +57,7 @@ fn write_next<F: Flash>(
     ensures evolved { Evolved (storage (F.device flash.old) bad.old ring.old) (storage (F.device flash.new) bad.new ring.new) }
     ensures pays { Pays (storage (F.device flash.old) bad.old ring.old) (storage (F.device flash.new) bad.new ring.new) (unpaid_try result) }
     ensures page { vec_len page.new ≡ vec_len page.old }
+    ensures operations { Spends (storage (F.device flash.old) bad.old ring.old) (storage (F.device flash.new) bad.new ring.new) bytes.now }
 {
     let block = take_block(ring, bad)?;
     match write_block(flash, block, page, bytes) {
@@ -87,6 +88,7 @@ pub fn write_node<F: Flash>(
     ensures evolved { Evolved (storage (F.device flash.old) bad.old ring.old) (storage (F.device flash.new) bad.new ring.new) }
     ensures pays { Pays (storage (F.device flash.old) bad.old ring.old) (storage (F.device flash.new) bad.new ring.new) (unpaid result) }
     ensures page { vec_len page.new ≡ vec_len page.old }
+    ensures operations { Spends (storage (F.device flash.old) bad.old ring.old) (storage (F.device flash.new) bad.new ring.new) bytes.now }
     ensures at_limit { set.len bad.old ≡ MAX_BAD_BLOCKS → IsUntouched (storage (F.device flash.old) bad.old ring.old) (storage (F.device flash.new) bad.new ring.new) }
 {
     if bad.is_full() {

@@ -1,5 +1,5 @@
 //! Reading the node of a block: its pages, one at a time, joined in a buffer.
-ghost use Rattle.std.specs.Prelude.{◌≡◌, ℕ, ◌+◌, ◌*◌, ◌≤◌, ◌<◌, ◌^◌, length, Some, OnOk, vec_len, vec_capacity};
+ghost use Rattle.std.specs.Prelude.{◌≡◌, ℕ, ◌+◌, ◌-◌, ◌*◌, ◌≤◌, ◌<◌, ◌^◌, length, Some, OnOk, vec_len, vec_capacity};
 ghost use Rattle.flash_model.specs.Geometry.{IsGeometry, block_bytes, page_count};
 ghost use Rattle.node_store.specs.NodePages.{and_page, joined, pages_for, bytes_at, node_of};
 ghost use Rattle.flash_model.specs.Reading.{OnlyReads};
@@ -24,6 +24,7 @@ fn append_page<F: Flash>(
     ensures page { vec_len page.new ≡ vec_len page.old }
     ensures len { OnOk result (vec_len node.new ≡ vec_len node.old + vec_len page.old) }
     ensures room { vec_capacity node.old ≤ vec_capacity node.new }
+    ensures operations { (F.device flash.new).operations ≤ (F.device flash.old).operations + 1 }
 {
     match flash.read(number, page) {
         Ok(PageState::Data) => {
@@ -57,6 +58,7 @@ fn append_pages<F: Flash>(
     ensures page { vec_len page.new ≡ vec_len page.old }
     ensures len { OnOk result (vec_len node.new ≡ end * vec_len page.old) }
     ensures room { vec_capacity node.old ≤ vec_capacity node.new }
+    ensures operations { (F.device flash.new).operations ≤ (F.device flash.old).operations + (end - begin) }
 {
     for place in begin..end {
         append_page(flash, first + place, page, node)?;
@@ -82,7 +84,9 @@ fn read_rest<F: Flash>(
     ensures brings { Brings (F.device flash.old) (F.device flash.new) (bytes_at (F.device flash.old).geometry (F.device flash.old).pages first size) node.new.items result }
     ensures only_reads { OnlyReads (F.device flash.old) (F.device flash.new) }
     ensures page { vec_len page.new ≡ vec_len page.old }
+    ensures len { OnOk result (vec_len node.new ≡ size) }
     ensures room { vec_capacity node.old ≤ vec_capacity node.new }
+    ensures operations { (F.device flash.new).operations ≤ (F.device flash.old).operations + (pages_for (F.device flash.old).geometry.page size - 1) }
 {
     let count = size.div_ceil(flash.geometry().page);
     append_pages(flash, first, 1, count, page, node)?;
@@ -90,7 +94,7 @@ fn read_rest<F: Flash>(
     Ok(())
 }
 
-/// Reads the node of a block into `node`.
+/// Reads the node of a block into `node`: each of its pages once.
 pub fn read_node<F: Flash>(
     flash: &mut F,
     block: u32,
@@ -104,6 +108,7 @@ pub fn read_node<F: Flash>(
     ensures only_reads { OnlyReads (F.device flash.old) (F.device flash.new) }
     ensures page { vec_len page.new ≡ vec_len page.old }
     ensures room { vec_capacity node.old ≤ vec_capacity node.new }
+    ensures operations { OnOk result ((F.device flash.new).operations ≤ (F.device flash.old).operations + pages_for (F.device flash.old).geometry.page (vec_len node.new)) }
 {
     let geometry = flash.geometry();
     if block < FIRST_DATA_BLOCK || geometry.blocks <= block {

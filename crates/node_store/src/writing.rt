@@ -2,6 +2,7 @@
 ghost use Rattle.std.specs.Prelude.{◌≡◌, ℕ, ◌+◌, ◌*◌, ◌≤◌, ◌<◌, ◌++◌, length, take, replicate, vec_len};
 ghost use Rattle.flash_model.specs.Device.{erased};
 ghost use Rattle.flash_model.specs.Geometry.{IsGeometry, block_bytes};
+ghost use Rattle.node_store.specs.NodePages.{pages_for};
 ghost use Rattle.node_store.specs.Writing.{WritesBlock};
 
 use flash_model::{DevFault, Flash};
@@ -29,6 +30,7 @@ fn write_pages<F: Flash>(
     requires blank { (j : ℕ) → j < (F.device flash.old).geometry.pages → (F.device flash.old).pages (block * (F.device flash.old).geometry.pages + j) ≡ erased }
     ensures writes { WritesBlock (F.device flash.old) block bytes.now (F.device flash.new) result }
     ensures page { vec_len page.new ≡ vec_len page.old }
+    ensures operations { (F.device flash.new).operations ≤ (F.device flash.old).operations + pages_for (F.device flash.old).geometry.page (length bytes.now) }
 {
     let geometry = flash.geometry();
     let count = bytes.len().div_ceil(geometry.page as usize);
@@ -39,7 +41,7 @@ fn write_pages<F: Flash>(
     Ok(())
 }
 
-/// Erases a block and writes bytes to it.
+/// Erases a block and writes bytes to it: one erase, and one program for each page that they need.
 pub fn write_block<F: Flash>(
     flash: &mut F,
     block: u32,
@@ -52,6 +54,7 @@ pub fn write_block<F: Flash>(
     requires fits { length bytes.now ≤ block_bytes (F.device flash.old).geometry }
     ensures writes { WritesBlock (F.device flash.old) block bytes.now (F.device flash.new) result }
     ensures page { vec_len page.new ≡ vec_len page.old }
+    ensures operations { (F.device flash.new).operations ≤ (F.device flash.old).operations + (1 + pages_for (F.device flash.old).geometry.page (length bytes.now)) }
 {
     flash.erase(block)?;
     write_pages(flash, block, page, bytes)

@@ -1,7 +1,7 @@
 use Rattle.std.proofs.Common.{◌≡◌, ◌<◌, vec_len}
 use Rattle.std.specs.FinSet as set
 use Rattle.allocator.specs.Ring.{free_count}
-use Rattle.node_store.specs.Storage.{storage, Evolved, Pays}
+use Rattle.node_store.specs.Storage.{storage, Evolved, Pays, Spends}
 use Rattle.node_store.proofs.adding.write_node.Given as goal
 use Rattle.fs_types.specs.declared.limits.TheConstants.{MAX_BAD_BLOCKS}
 
@@ -12,6 +12,7 @@ invariant-attempts g l = record {
   room : set.len l.bad < MAX_BAD_BLOCKS;
   was_room : set.len l.initial.bad < MAX_BAD_BLOCKS;
   page : vec_len l.page ≡ vec_len l.initial.page;
+  operations : Spends (storage (g.F.Flash.device l.initial.flash) l.initial.bad l.initial.ring) (storage (g.F.Flash.device l.flash) l.bad l.ring) l.bytes;
 }
 
 abbrev pub decreases-attempts : goal.decreases-attempts

@@ -1,4 +1,4 @@
-use Rattle.std.proofs.Common.{◌≡◌, ◌*◌, ◌≤◌, Some, vec_len, vec_capacity}
+use Rattle.std.proofs.Common.{◌≡◌, ◌+◌, ◌-◌, ◌*◌, ◌≤◌, Some, vec_len, vec_capacity}
 use Rattle.node_store.specs.NodePages.{joined}
 use Rattle.flash_model.specs.Reading.{OnlyReads}
 use Rattle.node_store.proofs.reading.append_pages.Given as goal
@@ -10,4 +10,5 @@ invariant-loop-place g l = record {
   len : vec_len l.node ≡ l.place * vec_len l.page;
   page : vec_len l.page ≡ vec_len l.initial.page;
   room : vec_capacity l.initial.node ≤ vec_capacity l.node;
+  operations : (g.F.Flash.device l.flash).operations ≤ (g.F.Flash.device l.initial.flash).operations + (l.place - l.begin);
 }

@@ -5,7 +5,7 @@ use Rattle.node_format.specs.Headers.{node_size}
 use Rattle.node_store.specs.NodePages.{and_page, bytes_at, node_of}
 use Rattle.node_store.specs.NodeLaws.{node_of-first}
 use Rattle.flash_model.specs.Reading.{OnlyReads_on}
-use Rattle.node_store.specs.ReadingLaws.{Brings_from, rest_in_range, rest_has_room, node_after_first}
+use Rattle.node_store.specs.ReadingLaws.{Brings_from, rest_in_range, rest_has_room, node_after_first, each_once}
 use Rattle.node_store.proofs.reading.read_node.Goals as goal
 use Rattle.node_store.proofs.reading.read_node.Goals.{In-Some}
 use Rattle.node_store.proofs.reading.read_node.Given.{Over}
@@ -70,3 +70,11 @@ returns-in-None-clause-brings g c =
     (rw is at c.if-geometry-block.false) (rw is at c.page_number-first.ensures.value) c.in_ok-append_pages.ensures.brings
     ∙ ap (option_and_then (bytes_at old.geometry old.pages first)) (told c.geometry-geometry.result old.geometry c.block_bytes.result c.deref.result.now
     c.append_pages.new.node.items None is c.block_bytes.ensures c.deref.ensures.value c.in-None.ensures.size)
+
+pub returns-in-Some-clause-operations : goal.returns-in-Some-clause-operations
+returns-in-Some-clause-operations g c =
+    let old = g.F.Flash.device c.args.flash.now in
+    each_once old.geometry (g.F.Flash.device c.append_pages.new.flash).geometry c.in-Some.size (vec_len c.read_rest.new.node) old.operations
+    (g.F.Flash.device c.append_pages.new.flash).operations (g.F.Flash.device c.read_rest.new.flash).operations c.append_pages.new.node.items
+    c.read_rest.result c.requires.lawful c.append_pages.ensures.only_reads.geometry (size_is g (goal.at.returns-in-Some-clause-operations g c).In-Some)
+    c.append_pages.ensures.operations c.read_rest.ensures.operations c.read_rest.ensures.len

@@ -1,19 +1,16 @@
 //! A bounded list of versions with a cursor, and checkpoints by name.
-ghost use Rattle.std.specs.Prelude.{◌≡◌, ◌<◌, ◌≤◌, ◌==◌, Some, None, length, drop, position, vec_len, vec_capacity, unwrap_or, IfOk, IfErr, OnOk, OnErr, MatchResult};
-ghost use Rattle.std.specs.Bool.{OnFalse};
-ghost use Rattle.history_machine.specs.History.{fresh, changed, undo_refusal, undone, redo_refusal, redone, place_of, serial_refusal, gone_to, forget_refusal, forgotten, checkpoint_root, checkpoint_refusal, with_checkpoint, name_refusal, without_checkpoint, view_refusal, view_root};
+ghost use Rattle.std.specs.Prelude.{◌≡◌, ◌<◌, ◌≤◌, Some, None, drop, vec_len, vec_capacity, unwrap_or, IfOk, IfErr, OnOk, OnErr};
+ghost use Rattle.history_machine.specs.History.{fresh, changed, undo_refusal, undone, redo_refusal, redone, serial_refusal, gone_to, forget_refusal, forgotten, present_root, checkpoint_refusal, with_checkpoint, name_refusal, without_checkpoint};
 ghost use Rattle.history.specs.Answers.{answer};
 ghost use Rattle.history.specs.Kept.{IsKept};
 
+mod checks;
 mod readers;
 
-use fs_types::{CpName, Fault, Version, View};
+use fs_types::{CpName, Fault, Version};
 use std::alloc::Global;
 use std::collections::BTreeMap;
 use std::marker::Model;
-
-/// How many checkpoints there may be.
-pub const MAX_CHECKPOINTS: usize = 16;
 
 /// A history over roots of any type: 1 to `limit` versions, oldest first, with a cursor at the present
 /// one, and at most 16 checkpoints.
@@ -41,7 +38,7 @@ impl<R> Model for History<R> {
     ghost invariant = { λ h. IsKept (record { versions = h.versions.items; cursor = h.cursor; dropped = h.dropped; next = h.next; checkpoints = h.checkpoints.entries; limit = h.limit }) × (h.limit < vec_capacity h.versions) };
 }
 
-impl<R: Copy> History<R> {
+impl<R: Drop> History<R> {
     /// The history of a fresh system: one version, with serial 1, of which at most `limit` are kept.
     /// [`Fault::NoMemory`] where the room for `limit` versions and one more is not to be had.
     pub fn new(alloc: Global, limit: usize, root: R) -> Result<Self, Fault>
@@ -60,14 +57,6 @@ impl<R: Copy> History<R> {
             checkpoints: BTreeMap::new(alloc),
             limit,
         })
-    }
-
-    /// Whether no serial is left for a change: the next one would be the greatest `u64`.
-    pub fn is_exhausted(&self) -> bool
-        ensures value { result ≡ (self.now.next == u64.MAX) }
-        ensures room { OnFalse result (self.now.next < u64.MAX) }
-    {
-        self.next == u64::MAX
     }
 
     /// A change: the versions after the present one are given up, and one with this root follows it.
@@ -90,67 +79,6 @@ impl<R: Copy> History<R> {
         }
     }
 
-    /// The version before becomes the present one. Where there is none: [`Fault::TooOld`] if versions
-    /// were dropped, else [`Fault::NothingToUndo`].
-    pub fn undo(&mut self) -> Result<(), Fault>
-        ensures answer { result ≡ answer (undo_refusal self.old) }
-        ensures ok { OnOk result (self.new ≡ undone self.old) }
-        ensures err { OnErr result (self.new ≡ self.old) }
-    {
-        if self.cursor > 0 {
-            self.cursor -= 1;
-            return Ok(());
-        }
-        if self.dropped {
-            Err(Fault::TooOld)
-        } else {
-            Err(Fault::NothingToUndo)
-        }
-    }
-
-    /// The version after becomes the present one; [`Fault::NothingToRedo`] where there is none.
-    pub fn redo(&mut self) -> Result<(), Fault>
-        ensures answer { result ≡ answer (redo_refusal self.old) }
-        ensures ok { OnOk result (self.new ≡ redone self.old) }
-        ensures err { OnErr result (self.new ≡ self.old) }
-    {
-        if self.cursor + 1 < self.versions.len() {
-            self.cursor += 1;
-            Ok(())
-        } else {
-            Err(Fault::NothingToRedo)
-        }
-    }
-
-    /// The version with this serial becomes the present one. [`Fault::TooOld`] for a serial below the
-    /// kept ones, [`Fault::NoSuchVersion`] for one that was not given yet, and [`Fault::Discarded`] for
-    /// one that a change gave up.
-    pub fn goto(&mut self, serial: u64) -> Result<(), Fault>
-        ensures answer { result ≡ answer (serial_refusal self.old serial) }
-        ensures ok { OnOk result (self.new ≡ gone_to self.old serial) }
-        ensures err { OnErr result (self.new ≡ self.old) }
-    {
-        let place = self.place_of_serial(serial)?;
-        self.cursor = place;
-        Ok(())
-    }
-
-    fn place_of_serial(&self, serial: u64) -> Result<usize, Fault>
-        ensures { MatchResult result (λ place. (serial_refusal self.now serial ≡ None) × (place_of self.now serial ≡ Some place) × (place < length self.now.versions))
-            (λ fault. serial_refusal self.now serial ≡ Some fault) }
-    {
-        if serial < self.versions[0].serial {
-            return Err(Fault::TooOld);
-        }
-        if serial >= self.next {
-            return Err(Fault::NoSuchVersion);
-        }
-        match position_of(&self.versions, serial) {
-            Some(place) => Ok(place),
-            None => Err(Fault::Discarded),
-        }
-    }
-
     /// The oldest `count` versions are dropped; [`Fault::Invalid`] where there are not as many before
     /// the present one.
     pub fn forget(&mut self, count: u64) -> Result<(), Fault>
@@ -158,9 +86,7 @@ impl<R: Copy> History<R> {
         ensures ok { OnOk result (self.new ≡ forgotten self.old count) }
         ensures err { OnErr result (self.new ≡ self.old) }
     {
-        if count > self.cursor as u64 {
-            return Err(Fault::Invalid);
-        }
+        self.check_forget(count)?;
         let count = count as usize;
         drop_oldest(&mut self.versions, count);
         self.cursor -= count;
@@ -168,22 +94,17 @@ impl<R: Copy> History<R> {
         Ok(())
     }
 
-    /// The present root is kept under a name. [`Fault::Exists`] where the name is there,
-    /// [`Fault::CheckpointsFull`] where there are sixteen, [`Fault::NoMemory`] where memory is not to be
-    /// had.
-    pub fn checkpoint(&mut self, name: CpName) -> Result<(), Fault>
+    /// The present root, of which the caller has a copy, is kept under a name. [`Fault::Exists`] where
+    /// the name is there, [`Fault::CheckpointsFull`] where there are sixteen, [`Fault::NoMemory`] where
+    /// memory is not to be had.
+    pub fn checkpoint(&mut self, name: CpName, root: R) -> Result<(), Fault>
+        requires { present_root self.old ≡ Some root }
         ensures lawful { OnOk result (checkpoint_refusal self.old name ≡ None) }
         ensures ok { OnOk result (self.new ≡ with_checkpoint self.old name) }
         ensures refused { IfErr result (λ fault. fault ≡ unwrap_or (checkpoint_refusal self.old name) Fault.NoMemory) }
         ensures err { OnErr result (self.new ≡ self.old) }
     {
-        if self.checkpoints.contains_key(&name) {
-            return Err(Fault::Exists);
-        }
-        if self.checkpoints.len() >= MAX_CHECKPOINTS {
-            return Err(Fault::CheckpointsFull);
-        }
-        let root = self.versions[self.cursor].root;
+        self.check_checkpoint(&name)?;
         self.checkpoints.insert(name, root)?;
         Ok(())
     }
@@ -199,42 +120,47 @@ impl<R: Copy> History<R> {
             None => Err(Fault::NoSuchVersion),
         }
     }
+}
 
-    /// The root that a checkpoint keeps; [`Fault::NoSuchVersion`] where there is none of this name.
-    pub fn checkpoint_root(&self, name: &CpName) -> Result<R, Fault>
-        ensures { MatchResult result (λ root. checkpoint_root self.now name.now ≡ Some root)
-            (λ fault. name_refusal self.now name.now ≡ Some fault) }
+impl<R> History<R> {
+    /// The version before becomes the present one. Where there is none: [`Fault::TooOld`] if versions
+    /// were dropped, else [`Fault::NothingToUndo`].
+    pub fn undo(&mut self) -> Result<(), Fault>
+        ensures answer { result ≡ answer (undo_refusal self.old) }
+        ensures ok { OnOk result (self.new ≡ undone self.old) }
+        ensures err { OnErr result (self.new ≡ self.old) }
     {
-        match self.checkpoints.get(name) {
-            Some(root) => Ok(*root),
-            None => Err(Fault::NoSuchVersion),
-        }
+        self.check_undo()?;
+        self.cursor -= 1;
+        Ok(())
     }
 
-    /// The root that a view looks at. A serial is refused as by `goto`, and a name that no checkpoint
-    /// has by [`Fault::NoSuchVersion`].
-    pub fn find(&self, view: &View) -> Result<R, Fault>
-        ensures { MatchResult result (λ root. (view_refusal self.now view.now ≡ None) × (view_root self.now view.now ≡ Some root))
-            (λ fault. view_refusal self.now view.now ≡ Some fault) }
+    /// The version after becomes the present one; [`Fault::NothingToRedo`] where there is none.
+    pub fn redo(&mut self) -> Result<(), Fault>
+        ensures answer { result ≡ answer (redo_refusal self.old) }
+        ensures ok { OnOk result (self.new ≡ redone self.old) }
+        ensures err { OnErr result (self.new ≡ self.old) }
     {
-        match view {
-            View::Present => Ok(self.root()),
-            View::Serial(serial) => {
-                let place = self.place_of_serial(*serial)?;
-                Ok(self.versions[place].root)
-            }
-            View::Checkpoint(name) => self.checkpoint_root(name),
-        }
+        self.check_redo()?;
+        self.cursor += 1;
+        Ok(())
+    }
+
+    /// The version with this serial becomes the present one. [`Fault::TooOld`] for a serial below the
+    /// kept ones, [`Fault::NoSuchVersion`] for one that was not given yet, and [`Fault::Discarded`] for
+    /// one that a change gave up.
+    pub fn goto(&mut self, serial: u64) -> Result<(), Fault>
+        ensures answer { result ≡ answer (serial_refusal self.old serial) }
+        ensures ok { OnOk result (self.new ≡ gone_to self.old serial) }
+        ensures err { OnErr result (self.new ≡ self.old) }
+    {
+        let place = self.place_of_serial(serial)?;
+        self.cursor = place;
+        Ok(())
     }
 }
 
-fn position_of<R>(versions: &[Version<R>], serial: u64) -> Option<usize>
-    ensures { result ≡ position (λ v. v.serial == serial) versions.now }
-{
-    versions.iter().position(|version| version.serial == serial)
-}
-
-fn drop_oldest<R: Copy>(versions: &mut Vec<Version<R>>, count: usize)
+fn drop_oldest<R: Drop>(versions: &mut Vec<Version<R>>, count: usize)
     requires { count ≤ vec_len versions.old }
     ensures items { versions.new.items ≡ drop count versions.old.items }
     ensures capacity { vec_capacity versions.new ≡ vec_capacity versions.old }

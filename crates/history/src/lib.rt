@@ -3,4 +3,4 @@
 
 mod histories;
 
-pub use histories::{History, MAX_CHECKPOINTS};
+pub use histories::History;

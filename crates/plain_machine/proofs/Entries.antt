@@ -1,21 +1,19 @@
 -- Trees as the maps that lists of entries make.
-use Rattle.std.proofs.Common.{◌≡◌, ℕ, ◌+◌, Bool, true, false, cond, length, suc, List, [], ◌∷◌, ◌++◌, refl, sym, ◌∙◌, ap, arith, zero-add, add_assoc}
+use Rattle.std.proofs.Common.{◌≡◌, Bool, cond, length, suc, List, [], ◌∷◌, ◌++◌, refl, sym, ◌∙◌, ap}
 use Rattle.std.specs.Prelude.{Option, Some, None, is_some, filter_map, count_by}
 use Rattle.std.specs.List.{cons_option, filter, list_any}
 use Rattle.std.specs.Cmp.{IsTotalOrder, eq_by_cmp_equiv}
-use Rattle.std.specs.Cmp.Lexicographic.{slice_cmp}
 use Rattle.std.specs.List.Sorted.{IsStrictlySortedBy}
 use Rattle.std.specs.Map.{lookup, keys_of}
 use Rattle.std.specs.BTreeMap.{is_at}
-use Rattle.std.specs.FinMap.{FinMap, IsAntisymmetric, nat_cmp-IsAntisymmetric, slice_cmp-IsAntisymmetric, from_entries, find, put, get, insert, remove, entries, empty, entries-insert, get-from_entries, get-insert, get-remove, same_map, len-entries, len-empty}
+use Rattle.std.specs.FinMap.{IsAntisymmetric, nat_cmp-IsAntisymmetric, slice_cmp-IsAntisymmetric, from_entries, find, put, get, insert, remove, entries, empty, entries-insert, get-from_entries, get-insert, get-remove, same_map, len-entries, len-empty}
 use Rattle.std.proofs.lemmas.List.{nil_from_length}
 use Rattle.std.proofs.lemmas.List.Sums.{length-filter}
-use Rattle.std.specs.declared.cmp.Ordering.{Ordering}
 use Rattle.std.specs.declared.cmp.Ordering.TheVariants.{Less}
 use Rattle.std.proofs.lemmas.Cmp.{lists_total, nat_list_cmp_total}
 use Rattle.std.proofs.lemmas.Map.Keys.{sorted_head, sorted_tail}
 use Rattle.fs_types.specs.Names.{Name, Path, path_cmp}
-use Rattle.plain_trees.specs.Contents.{Entry, is_dir, beneath}
+use Rattle.plain_trees.specs.Contents.{Entry, beneath}
 use Rattle.plain_trees.specs.Trees.{Tree, child_of, children, named, move, moved_entry, is_too_deep}
 use Rattle.plain_machine.specs.Plain.{is_child, is_deep, only_name, insert_all}
 

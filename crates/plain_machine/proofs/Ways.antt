@@ -1,8 +1,8 @@
 -- Looking a path up, one name at a time.
-use Rattle.std.proofs.Common.{◌≡◌, ℕ, ◌+◌, ◌-◌, ◌<◌, ◌≤◌, length, take, drop, get_or, List, [], ◌∷◌, ◌++◌, refl, sym, ◌∙◌, ap, arith, append_assoc}
+use Rattle.std.proofs.Common.{◌≡◌, ℕ, ◌+◌, ◌-◌, ◌<◌, ◌≤◌, length, take, drop, get_or, [], ◌∷◌, ◌++◌, refl, sym, ◌∙◌, ap, arith, append_assoc}
 use Rattle.std.specs.Prelude.{Option, Some, None}
 use Rattle.std.specs.Option.{option_or}
-use Rattle.std.proofs.lemmas.List.{drop_more, take_more, drop_all, length-drop}
+use Rattle.std.proofs.lemmas.List.{drop_more, take_more, length-drop}
 use Rattle.fs_types.specs.Names.{Name, Path}
 use Rattle.plain_trees.specs.Contents.{Contents, lookup_refusal, way_refusal, under}
 use Rattle.fs_types.specs.declared.faults.Fault.{Fault}

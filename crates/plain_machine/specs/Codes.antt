@@ -1,10 +1,8 @@
 -- How machines, and what they are made of, are stored as lists and pairs.
-use Rattle.std.specs.Prelude.{ℕ, Bool, Option, Some, None, List, refl}
+use Rattle.std.specs.Prelude.{ℕ, Bool, Option, List, refl}
 use Rattle.std.specs.Coded.{Coded, code_by, coded×, coded_ℕ, coded_bool, coded_list, coded_option}
 use Rattle.std.specs.FinMap as finmap
-use Rattle.fs_types.specs.Names.{path_cmp}
 use Rattle.plain_trees.specs.Contents.{Entry}
-use Rattle.plain_trees.specs.Contents.Entry.{Dir, File}
 use Rattle.plain_trees.specs.Trees.{Tree}
 use Rattle.history_machine.specs.History.{Past}
 use Rattle.history_machine.specs.Descriptors.{Descriptors}

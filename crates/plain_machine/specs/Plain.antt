@@ -1,5 +1,5 @@
 -- What the plain machine answers and leaves.
-use Rattle.std.specs.Prelude.{◌≡◌, ℕ, ◌+◌, ◌-◌, ◌^◌, ◌<◌, not, Bool, true, false, ◌==◌, ◌&&◌, ◌⊎◌, nat_lt, Option, Some, None, Result, Ok, Err, List, [], ◌∷◌, ◌++◌, length, is_some, refl, if◌then◌else◌}
+use Rattle.std.specs.Prelude.{◌≡◌, ℕ, ◌+◌, ◌-◌, ◌^◌, ◌<◌, not, Bool, true, false, ◌==◌, ◌&&◌, ◌⊎◌, nat_lt, Option, Some, None, Result, Err, List, [], ◌∷◌, ◌++◌, length, is_some, refl, if◌then◌else◌}
 use Rattle.std.specs.FinMap.{from_entries, insert}
 use Rattle.std.specs.List.Sorted.{IsStrictlySortedBy}
 use Rattle.std.specs.Map.{keys_of}
@@ -8,7 +8,7 @@ use Rattle.fs_types.specs.Names.{Name, Path, path_cmp}
 use Rattle.plain_trees.specs.Contents.{Entry, beneath}
 use Rattle.plain_trees.specs.Contents.Entry.{Dir, File}
 use Rattle.plain_trees.specs.Trees.{Tree, entry_count, bytes_at}
-use Rattle.history_machine.specs.History.{Past, fresh, redo_refusal, forget_refusal}
+use Rattle.history_machine.specs.History.{Past, fresh, undo_refusal, redo_refusal, serial_refusal, forget_refusal, checkpoint_refusal, name_refusal}
 use Rattle.history_machine.specs.Descriptors.{Descriptor, Descriptors}
 use Rattle.history_machine.specs.Machine.{Machine, Space, Stepped, step, is_accepted, makes_version, tree_after}
 use Rattle.fs_types.specs.declared.calls.Call.{Call}
@@ -87,10 +87,14 @@ HasSerial m call = is_some (tree_after m call) ≡ true → m.history.next < 2 ^
 abbrev pub ftruncates : Tree → Option Descriptor → ℕ → Bool
 ftruncates t d n = option_map_or (λ d. not (length (bytes_at t d.path) == n)) d false
 
--- why a call can't move in the history or shorten it
+-- why a call that makes no version can't be carried out on the history
 abbrev pub moving_refusal : Past Tree → Call → Option Fault
+moving_refusal h Call.Undo = undo_refusal h
 moving_refusal h Call.Redo = redo_refusal h
+moving_refusal h (Call.Goto serial) = serial_refusal h serial
 moving_refusal h (Call.Forget count) = forget_refusal h count
+moving_refusal h (Call.Checkpoint name) = checkpoint_refusal h name
+moving_refusal h (Call.RemoveCheckpoint name) = name_refusal h name
 moving_refusal h _ = None
 
 -- the file that a call opens, if it is an open

@@ -1,41 +1,42 @@
 //! What calls leave that change something. Memory is taken first, so that nothing is changed without it.
-ghost use Rattle.std.specs.Prelude.{◌≡◌, Bool, not, ◌==◌, ◌&&◌, length, [], Some, None, is_some, IfOk, OnOk, OnErr};
+ghost use Rattle.std.specs.Prelude.{◌≡◌, Bool, not, ◌==◌, ◌&&◌, length, [], Some, None, is_some, IfOk, IfErr, OnOk, OnErr};
 ghost use Rattle.plain_trees.specs.Contents.{Entry, overwritten, resized};
 ghost use Rattle.plain_trees.specs.Trees.{bare, put, remove};
 ghost use Rattle.history_machine.specs.Descriptors.{none_open, descriptor_at};
-ghost use Rattle.history_machine.specs.History.{checkpoint_root};
+ghost use Rattle.history_machine.specs.History.{checkpoint_root, checkpoint_refusal, with_checkpoint};
 ghost use Rattle.history_machine.specs.Machine as machine;
 ghost use Rattle.fs_types.specs.declared.calls.Call.{Call};
+ghost use Rattle.fs_types.specs.declared.faults.Fault.{Fault};
 ghost use Rattle.plain_machine.specs.Plain.{machine_with, machine_at, ftruncates, file_of, moving_refusal};
 
-use crate::histories::History;
 use crate::nodes::Node;
 use crate::replies::bytes_at;
 use crate::trees::Tree;
 use bitflags::Flags;
-use fs_types::{Bytes, Call, CpName, OpenFlags, Path};
+use fs_types::{Bytes, Call, CpName, Fault, OpenFlags, Path};
+use history::History;
 use open_files::{OpenFile, OpenFiles};
 use std::alloc::{AllocError, Global};
 
 /// Whether the call makes a version, where it is not refused.
-pub fn changes(history: &History, files: &OpenFiles, call: &Call) -> bool
+pub fn changes(history: &History<Tree>, files: &OpenFiles, call: &Call) -> bool
     ensures { result ≡ is_some (machine.tree_after (machine_with history.now files.now) call.now) }
 {
     match call {
-        Call::Open { path, flags } => open_changes(history.present(), path, *flags),
+        Call::Open { path, flags } => open_changes(history.root(), path, *flags),
         Call::Pwrite {
             descriptor,
             bytes,
             ..
         } => pwrite_changes(files, *descriptor, bytes),
         Call::Ftruncate { descriptor, length } => {
-            ftruncate_changes(history.present(), files, *descriptor, *length)
+            ftruncate_changes(history.root(), files, *descriptor, *length)
         }
         Call::Rename { old, new } => old != new,
         Call::Unlink { .. } => true,
         Call::Mkdir { .. } => true,
         Call::Rmdir { .. } => true,
-        Call::Rollback { name } => history.checkpoint_root(name).is_some(),
+        Call::Rollback { name } => history.checkpoint_root(name).is_ok(),
         _ => false,
     }
 }
@@ -105,14 +106,14 @@ fn resized(alloc: Global, old: &[u8], length: usize) -> Result<Vec<u8>, AllocErr
 /// The tree that a change makes; none where the call makes no version.
 pub fn tree_after(
     alloc: Global,
-    history: &History,
+    history: &History<Tree>,
     files: &OpenFiles,
     call: &Call,
 ) -> Result<Option<Tree>, AllocError>
     requires { machine.refusal (machine_with history.now files.now) call.now ≡ None }
     ensures { IfOk result (λ next. next ≡ machine.tree_after (machine_with history.now files.now) call.now) }
 {
-    let tree = history.present();
+    let tree = history.root();
     match call {
         Call::Open { path, flags } => opened(alloc, tree, path, *flags),
         Call::Pwrite {
@@ -219,31 +220,42 @@ fn with_directory(tree: &Tree, path: &Path) -> Result<Tree, AllocError>
     Ok(next)
 }
 
-fn rolled_back(history: &History, name: &CpName) -> Result<Option<Tree>, AllocError>
+fn rolled_back(history: &History<Tree>, name: &CpName) -> Result<Option<Tree>, AllocError>
     ensures { IfOk result (λ next. next ≡ checkpoint_root history.now name.now) }
 {
     match history.checkpoint_root(name) {
-        Some(root) => Ok(Some(root.clone()?)),
-        None => Ok(None),
+        Ok(root) => Ok(Some(root.clone()?)),
+        Err(_) => Ok(None),
     }
 }
 
-/// What a call leaves of the history that makes no version; unchanged where memory is not to be had.
-pub fn move_history(history: &mut History, call: &Call) -> Result<(), AllocError>
+/// What a call leaves of the history that makes no version. The only error is [`Fault::NoMemory`],
+/// which leaves it unchanged.
+pub fn move_history(history: &mut History<Tree>, call: &Call) -> Result<(), Fault>
     requires { moving_refusal history.old call.now ≡ None }
     ensures ok { OnOk result (history.new ≡ machine.history_moved history.old call.now) }
+    ensures refused { IfErr result (λ fault. fault ≡ Fault.NoMemory) }
     ensures err { OnErr result (history.new ≡ history.old) }
 {
     match call {
         Call::Undo => history.undo(),
         Call::Redo => history.redo(),
-        Call::Goto { serial } => history.go_to(*serial),
+        Call::Goto { serial } => history.goto(*serial),
         Call::Forget { count } => history.forget(*count),
-        Call::Checkpoint { name } => history.checkpoint(name.clone()?)?,
+        Call::Checkpoint { name } => keep_present(history, name),
         Call::RemoveCheckpoint { name } => history.remove_checkpoint(name),
-        _ => {}
+        _ => Ok(()),
     }
-    Ok(())
+}
+
+fn keep_present(history: &mut History<Tree>, name: &CpName) -> Result<(), Fault>
+    requires { checkpoint_refusal history.old name.now ≡ None }
+    ensures ok { OnOk result (history.new ≡ with_checkpoint history.old name.now) }
+    ensures refused { IfErr result (λ fault. fault ≡ Fault.NoMemory) }
+    ensures err { OnErr result (history.new ≡ history.old) }
+{
+    let tree = history.root().clone()?;
+    history.checkpoint(name.clone()?, tree)
 }
 
 /// The file that a call opens, if it is an open.

@@ -2,7 +2,6 @@
 #![tactic(auto)]
 
 mod effects;
-mod histories;
 mod machines;
 mod maps;
 mod names;

@@ -7,20 +7,20 @@ ghost use Rattle.fs_types.specs.declared.faults.Fault.{Fault};
 ghost use Rattle.plain_machine.specs.Plain.{machine_with, HasSerial, IsPlainStep};
 ghost use Rattle.plain_machine.specs.Spaces.{space_of};
 
-use crate::histories::History;
 use crate::refusals::refusal;
 use crate::spaces::Space;
 use crate::trees::Tree;
 use crate::{effects, replies};
 use fs_types::{Call, Fault, Reply};
+use history::History;
 use open_files::OpenFiles;
-use std::alloc::{AllocError, Global};
+use std::alloc::Global;
 use std::marker::Model;
 
 /// A whole file system in memory: a history of trees, and the open files.
 #[derive(Drop)]
 pub struct PlainMachine {
-    history: History,
+    history: History<Tree>,
     files: OpenFiles,
 }
 
@@ -59,36 +59,36 @@ impl PlainMachine {
         if let Some(fault) = refusal(&self.history, &self.files, call) {
             return Err(fault);
         }
-        if self.history.next() == u64::MAX {
+        if self.history.is_exhausted() {
             if effects::changes(&self.history, &self.files, call) {
                 return Err(Fault::Overflow);
             }
         }
-        let reply = carry_out(alloc, &mut self.history, &mut self.files, space, call)?;
-        Ok(reply)
+        carry_out(alloc, &mut self.history, &mut self.files, space, call)
     }
 }
 
-/// Carries out a call that is not refused.
+/// Carries out a call that is not refused. The only error is [`Fault::NoMemory`].
 fn carry_out(
     alloc: Global,
-    history: &mut History,
+    history: &mut History<Tree>,
     files: &mut OpenFiles,
     space: Space,
     call: &Call,
-) -> Result<Reply, AllocError>
+) -> Result<Reply, Fault>
     requires accepted { machine.refusal (machine_with history.old files.old) call.now ≡ None }
     requires serial { HasSerial (machine_with history.old files.old) call.now }
     ensures reply { IfOk result (λ reply. reply ≡ machine.reply_of (space_of space) (machine_with history.old files.old) call.now) }
     ensures history { OnOk result (history.new ≡ machine.history_after (machine_with history.old files.old) call.now) }
     ensures files { OnOk result (files.new ≡ machine.descriptors_after (machine_with history.old files.old) call.now) }
+    ensures refused { IfErr result (λ fault. fault ≡ Fault.NoMemory) }
     ensures err_history { OnErr result (history.new ≡ history.old) }
     ensures err_files { OnErr result (files.new ≡ files.old) }
 {
     let reply = replies::reply(alloc, history, files, space, call)?;
     let file = effects::opened_file(call)?;
     match effects::tree_after(alloc, history, files, call)? {
-        Some(tree) => history.change(tree)?,
+        Some(tree) => history.push(tree),
         None => effects::move_history(history, call)?,
     }
     effects::settle_files(files, call, file);

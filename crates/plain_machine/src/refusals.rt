@@ -9,19 +9,19 @@ ghost use Rattle.fs_types.specs.declared.calls.Call.{Call};
 ghost use Rattle.fs_types.specs.declared.faults.Fault.{Fault};
 ghost use Rattle.plain_machine.specs.Plain.{machine_with, machine_at, size_refusal, emptiness_refusal};
 
-use crate::histories::History;
 use crate::nodes::Node;
 use crate::trees::Tree;
 use bitflags::Flags;
 use fs_types::{Bytes, Call, Fault, MAX_FILE_BYTES, Name, OpenFlags, Path, View};
+use history::History;
 use open_files::OpenFiles;
 use plain_trees::{is_beginning, parent};
 
 /// The first refusal of a call, if any.
-pub fn refusal(history: &History, files: &OpenFiles, call: &Call) -> Option<Fault>
+pub fn refusal(history: &History<Tree>, files: &OpenFiles, call: &Call) -> Option<Fault>
     ensures { result ≡ machine.refusal (machine_with history.now files.now) call.now }
 {
-    let tree = history.present();
+    let tree = history.root();
     match call {
         Call::Open { path, flags } => open_refusal(tree, files, path, *flags),
         Call::Close { descriptor } => descriptor_refusal(files, *descriptor),
@@ -43,13 +43,13 @@ pub fn refusal(history: &History, files: &OpenFiles, call: &Call) -> Option<Faul
         Call::ReadAt { view, path, .. } => read_at_refusal(history, view, path),
         Call::Log => None,
         Call::Df => None,
-        Call::Undo => travel_refusal(files, history.undo_refusal()),
-        Call::Redo => travel_refusal(files, history.redo_refusal()),
-        Call::Goto { serial } => travel_refusal(files, history.serial_refusal(*serial)),
-        Call::Rollback { name } => travel_refusal(files, history.name_refusal(name)),
-        Call::Forget { count } => history.forget_refusal(*count),
-        Call::Checkpoint { name } => history.checkpoint_refusal(name),
-        Call::RemoveCheckpoint { name } => history.name_refusal(name),
+        Call::Undo => travel_refusal(files, history.check_undo().err()),
+        Call::Redo => travel_refusal(files, history.check_redo().err()),
+        Call::Goto { serial } => travel_refusal(files, history.check_goto(*serial).err()),
+        Call::Rollback { name } => travel_refusal(files, history.check_name(name).err()),
+        Call::Forget { count } => history.check_forget(*count).err(),
+        Call::Checkpoint { name } => history.check_checkpoint(name).err(),
+        Call::RemoveCheckpoint { name } => history.check_name(name).err(),
     }
 }
 
@@ -298,7 +298,7 @@ fn rmdir_refusal(tree: &Tree, path: &Path) -> Option<Fault>
 }
 
 /// The node that a view shows at a path, or why there is none.
-fn found_in<'a>(history: &'a History, view: &View, path: &Path) -> Result<&'a Node, Fault>
+fn found_in<'a>(history: &'a History<Tree>, view: &View, path: &Path) -> Result<&'a Node, Fault>
     ensures node { IfOk result (λ node. (refuse : Entry → Option Fault) → machine.view_path_refusal (machine_with history.now descriptors.none_open) view.now path.now refuse ≡ refuse node.now) }
     ensures refused { IfErr result (λ fault. (refuse : Entry → Option Fault) → machine.view_path_refusal (machine_with history.now descriptors.none_open) view.now path.now refuse ≡ Some fault) }
 {
@@ -308,7 +308,7 @@ fn found_in<'a>(history: &'a History, view: &View, path: &Path) -> Result<&'a No
     }
 }
 
-fn stat_refusal(history: &History, view: &View, path: &Path) -> Option<Fault>
+fn stat_refusal(history: &History<Tree>, view: &View, path: &Path) -> Option<Fault>
     ensures { result ≡ machine.refusal (machine_with history.now descriptors.none_open) (Call.Stat view.now path.now) }
 {
     match found_in(history, view, path) {
@@ -317,7 +317,7 @@ fn stat_refusal(history: &History, view: &View, path: &Path) -> Option<Fault>
     }
 }
 
-fn list_refusal(history: &History, view: &View, path: &Path) -> Option<Fault>
+fn list_refusal(history: &History<Tree>, view: &View, path: &Path) -> Option<Fault>
     ensures { result ≡ machine.refusal (machine_with history.now descriptors.none_open) (Call.List view.now path.now) }
 {
     match found_in(history, view, path) {
@@ -327,7 +327,7 @@ fn list_refusal(history: &History, view: &View, path: &Path) -> Option<Fault>
     }
 }
 
-fn read_at_refusal(history: &History, view: &View, path: &Path) -> Option<Fault>
+fn read_at_refusal(history: &History<Tree>, view: &View, path: &Path) -> Option<Fault>
     ensures { result ≡ machine.refusal (machine_with history.now descriptors.none_open) (Call.ReadAt view.now path.now 0 0) }
 {
     match found_in(history, view, path) {

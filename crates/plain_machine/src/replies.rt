@@ -11,10 +11,10 @@ ghost use Rattle.fs_types.specs.declared.calls.Reply.{Reply};
 ghost use Rattle.plain_machine.specs.Plain.{machine_with, machine_at, no_space};
 ghost use Rattle.plain_machine.specs.Spaces.{space_of};
 
-use crate::histories::History;
 use crate::spaces::Space;
 use crate::trees::Tree;
 use fs_types::{Call, Path, Reply, Sequence, Stat, View};
+use history::History;
 use open_files::OpenFiles;
 use std::alloc::{AllocError, Global};
 
@@ -51,7 +51,7 @@ fn bytes_reply(alloc: Global, bytes: &[u8]) -> Result<Reply, AllocError>
 /// What an accepted call answers, of the machine as it is before the call.
 pub fn reply(
     alloc: Global,
-    history: &History,
+    history: &History<Tree>,
     files: &OpenFiles,
     space: Space,
     call: &Call,
@@ -65,14 +65,7 @@ pub fn reply(
             descriptor,
             offset,
             count,
-        } => pread(
-            alloc,
-            history.present(),
-            files,
-            *descriptor,
-            *offset,
-            *count,
-        ),
+        } => pread(alloc, history.root(), files, *descriptor, *offset, *count),
         Call::Pwrite { bytes, .. } => Ok(Reply::Count(bytes.as_slice().len() as u64)),
         Call::Stat { view, path } => Ok(stat(history, view, path)),
         Call::List { view, path } => list(alloc, history, view, path),
@@ -112,7 +105,7 @@ fn pread(
     }
 }
 
-fn stat(history: &History, view: &View, path: &Path) -> Reply
+fn stat(history: &History<Tree>, view: &View, path: &Path) -> Reply
     requires { machine.refusal (machine_with history.now none_open) (Call.Stat view.now path.now) ≡ None }
     ensures { result ≡ machine.reply_of no_space (machine_with history.now none_open) (Call.Stat view.now path.now) }
 {
@@ -131,7 +124,12 @@ fn stat_of(tree: &Tree, path: &Path) -> Stat
     }
 }
 
-fn list(alloc: Global, history: &History, view: &View, path: &Path) -> Result<Reply, AllocError>
+fn list(
+    alloc: Global,
+    history: &History<Tree>,
+    view: &View,
+    path: &Path,
+) -> Result<Reply, AllocError>
     requires { machine.refusal (machine_with history.now none_open) (Call.List view.now path.now) ≡ None }
     ensures { IfOk result (λ reply. reply ≡ machine.reply_of no_space (machine_with history.now none_open) (Call.List view.now path.now)) }
 {
@@ -143,7 +141,7 @@ fn list(alloc: Global, history: &History, view: &View, path: &Path) -> Result<Re
 
 fn read_at(
     alloc: Global,
-    history: &History,
+    history: &History<Tree>,
     view: &View,
     path: &Path,
     offset: u64,
@@ -158,16 +156,16 @@ fn read_at(
     }
 }
 
-fn log(alloc: Global, history: &History) -> Result<Reply, AllocError>
+fn log(alloc: Global, history: &History<Tree>) -> Result<Reply, AllocError>
     ensures { IfOk result (λ reply. reply ≡ machine.log_of history.now) }
 {
     let versions = history.serials(alloc)?;
     let checkpoints = history.checkpoint_names(alloc)?;
     Ok(Reply::Log {
-        next: history.next(),
-        dropped: history.dropped(),
+        next: history.next_serial(),
+        dropped: history.has_dropped(),
         versions,
-        cursor: history.cursor(),
+        cursor: history.cursor() as u64,
         checkpoints,
     })
 }

@@ -1,4 +1,4 @@
-use Rattle.std.proofs.Common.{◌≡◌, ◌∙◌, ap, sym, ◌∷◌, [], ◌++◌}
+use Rattle.std.proofs.Common.{◌∙◌, ap, sym}
 use Rattle.plain_machine.specs.Plain.{insert_all, tree_of}
 use Rattle.plain_machine.proofs.Entries.{insert_all-push, insert_all-empty}
 use Rattle.plain_machine.proofs.maps.map_of.Goals as goal

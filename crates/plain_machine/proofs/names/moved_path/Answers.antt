@@ -1,4 +1,4 @@
-use Rattle.std.proofs.Common.{◌≡◌, ◌∙◌, sym, ap}
+use Rattle.std.proofs.Common.{◌∙◌, sym, ap}
 use Rattle.plain_trees.specs.Contents.{beneath}
 use Rattle.plain_machine.proofs.Beneath.{joined_path}
 use Rattle.plain_machine.proofs.names.moved_path.Goals as goal

@@ -1,4 +1,3 @@
-use Rattle.std.proofs.Common.{◌≡◌, sym}
 use Rattle.plain_machine.proofs.Entries.{children_made}
 use Rattle.plain_machine.proofs.trees.Tree.children.Goals as goal
 

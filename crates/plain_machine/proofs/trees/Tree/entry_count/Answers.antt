@@ -1,4 +1,4 @@
-use Rattle.std.proofs.Common.{◌≡◌, ◌∙◌, ap, sym, length}
+use Rattle.std.proofs.Common.{◌∙◌, ap, sym, length}
 use Rattle.plain_machine.proofs.Entries.{children_made, count_of_children}
 use Rattle.plain_machine.proofs.trees.Tree.entry_count.Goals as goal
 

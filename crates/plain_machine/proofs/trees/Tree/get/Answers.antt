@@ -1,4 +1,4 @@
-use Rattle.std.proofs.Common.{◌≡◌, ◌∙◌, ap, sym}
+use Rattle.std.proofs.Common.{◌∙◌, ap, sym}
 use Rattle.std.specs.FinMap.{get}
 use Rattle.plain_machine.proofs.Entries.{get_made}
 use Rattle.plain_machine.proofs.trees.Tree.get.Goals as goal

@@ -1,4 +1,4 @@
-use Rattle.std.proofs.Common.{◌≡◌, ◌∙◌, sym}
+use Rattle.std.proofs.Common.{◌∙◌, sym}
 use Rattle.plain_machine.proofs.Entries.{deep_made}
 use Rattle.plain_machine.proofs.trees.Tree.is_too_deep.Goals as goal
 

@@ -1,8 +1,6 @@
-use Rattle.std.proofs.Common.{◌≡◌, ◌∙◌, ◌-◌, ◌+◌, refl, sym, ap, arith, take}
-use Rattle.std.specs.Prelude.{None}
-use Rattle.std.specs.Option.{option_or, option_copied}
+use Rattle.std.proofs.Common.{◌∙◌, refl, sym, ap}
 use Rattle.std.specs.FinMap.{get}
-use Rattle.plain_trees.specs.Contents.{way_refusal, lookup_refusal, under}
+use Rattle.plain_trees.specs.Contents.{way_refusal}
 use Rattle.plain_machine.proofs.Ways.{way_stops, way_goes_on, way_end}
 use Rattle.plain_machine.proofs.trees.Tree.lookup_refusal.Goals as goal
 

@@ -1,4 +1,4 @@
-use Rattle.std.proofs.Common.{◌≡◌, ◌∙◌, sym, ap}
+use Rattle.std.proofs.Common.{◌∙◌, sym, ap}
 use Rattle.plain_machine.specs.Plain.{tree_of}
 use Rattle.plain_machine.proofs.Entries.{deep_made, move_made}
 use Rattle.plain_machine.proofs.trees.Tree.moved.Goals as goal

@@ -135,7 +135,7 @@ pub is_next : (old new : Blocks) (head i next : ℕ) (pointers bytes node : List
 is_next old new head i next pointers bytes node is spelled few slots = record {
   index = ap index_of is ∙ found (field node 0) spelled.node.magic ∙ ap (λ (n : ℕ). Some n) spelled.index_is;
   bytes = ap data_of is ∙ spelled.data_is;
-  places = λ x some divides. ap (λ (n : Option (List ℕ)). pointer_of n x) is ∙ spelled.slots x (few_slots x i some few divides) ∙ places x some divides;
+  places = λ x some divides. ap (λ (n : Option (List ℕ)). pointer_of n x) is ∙ spelled.slots x (few_slots x i some few divides) ∙ slots x some divides;
 }
   where
     found : (magic : ℕ) → magic ≡ body_magic → (if magic == body_magic then Some (field node 4) else None) ≡ Some (field node 4)

@@ -5,8 +5,8 @@ use Rattle.skip_list_file.proofs.Places.{HasPointer}
 use Rattle.skip_list_file.proofs.Kept.{more_listed, listed_pointer, listed_next}
 use Rattle.skip_list_file.proofs.old_nodes.list_blocks.Goals as goal
 
-pub pointer_at-requires-clause-place : goal.pointer_at-requires-clause-place
-pointer_at-requires-clause-place g c =
+pub pointer_at-requires-clause-slot : goal.pointer_at-requires-clause-slot
+pointer_at-requires-clause-slot g c =
     let f = g.N.Nodes.node c.args.nodes.now in
     let now = c.loop-step.invariant in
     let step : ℕ = c.loop-step._step - 1 in

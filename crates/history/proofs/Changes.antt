@@ -69,7 +69,7 @@ module _ {R : Type 0} where
           few = h.lawful.few;
         };
         from_one = serials.from_one;
-        at_most_64 = h.at_most_64;
+        at_most = h.at_most;
       }
 
   pub trimmed_kept : (p : Past R) (root : R) → IsKept p → p.limit < p.cursor + 2
@@ -86,5 +86,5 @@ module _ {R : Type 0} where
           few = h.lawful.few;
         };
         from_one = serials.from_one;
-        at_most_64 = h.at_most_64;
+        at_most = h.at_most;
       }

@@ -3,6 +3,7 @@ ghost use Rattle.std.specs.Prelude.{◌≡◌, ◌<◌, ◌≤◌, Some, None, d
 ghost use Rattle.history_machine.specs.History.{fresh, changed, undo_refusal, undone, redo_refusal, redone, serial_refusal, gone_to, forget_refusal, forgotten, present_root, checkpoint_refusal, with_checkpoint, name_refusal, without_checkpoint};
 ghost use Rattle.history.specs.Answers.{answer};
 ghost use Rattle.history.specs.Kept.{IsKept};
+ghost use Rattle.fs_types.specs.declared.limits.TheConstants.{MIN_VERSIONS, MAX_VERSIONS};
 
 mod checks;
 mod readers;
@@ -42,8 +43,8 @@ impl<R: Drop> History<R> {
     /// The history of a fresh system: one version, with serial 1, of which at most `limit` are kept.
     /// [`Fault::NoMemory`] where the room for `limit` versions and one more is not to be had.
     pub fn new(alloc: Global, limit: usize, root: R) -> Result<Self, Fault>
-        requires at_least { 2 ≤ limit }
-        requires at_most { limit ≤ 64 }
+        requires at_least { MIN_VERSIONS ≤ limit }
+        requires at_most { limit ≤ MAX_VERSIONS }
         ensures made { IfOk result (λ history. history ≡ fresh limit root) }
         ensures refused { IfErr result (λ fault. fault ≡ Fault.NoMemory) }
     {

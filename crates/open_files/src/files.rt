@@ -5,7 +5,7 @@ ghost use Rattle.fs_types.specs.Names.{same_path};
 ghost use Rattle.plain_trees.specs.Contents.{begins};
 ghost use Rattle.history_machine.specs.Descriptors as descriptors;
 
-use fs_types::{OpenFlags, Path};
+use fs_types::{MAX_OPEN_FILES, OpenFlags, Path};
 use plain_trees::is_beginning;
 use std::marker::Model;
 
@@ -47,10 +47,10 @@ impl OpenFile {
     }
 }
 
-/// Sixteen places, numbered from 0; each is free or has an open file.
+/// Places, numbered from 0; each is free or has an open file.
 #[derive(Drop)]
 pub struct OpenFiles {
-    places: [Option<OpenFile>; 16],
+    places: [Option<OpenFile>; MAX_OPEN_FILES],
 }
 
 impl Model for OpenFiles {

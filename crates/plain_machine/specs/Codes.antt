@@ -6,7 +6,7 @@ use Rattle.plain_trees.specs.Contents.{Entry}
 use Rattle.plain_trees.specs.Trees.{Tree}
 use Rattle.history_machine.specs.History.{Past}
 use Rattle.history_machine.specs.Descriptors.{Descriptors}
-use Rattle.history_machine.specs.Machine.{Machine}
+use Rattle.history_machine.specs.Machine.{Machine, machine_with}
 use Rattle.fs_types.specs.declared.calls.Version.{Version}
 use Rattle.open_files.specs.Codes.{path_code, descriptors_code}
 use Rattle.plain_machine.specs.Plain.{entry_of, bytes_in, entry_of-bytes_in}
@@ -31,4 +31,4 @@ history_code =
     (λ _. refl)
 
 abbrev pub machine_code : Coded Machine
-machine_code = code_by (Past Tree × Descriptors) (coded× history_code descriptors_code) (λ m. (m.history, m.descriptors)) (λ p. record { history = p.0; descriptors = p.1 }) (λ _. refl)
+machine_code = code_by (Past Tree × Descriptors) (coded× history_code descriptors_code) (λ m. (m.history, m.descriptors)) (λ p. machine_with p.0 p.1) (λ _. refl)

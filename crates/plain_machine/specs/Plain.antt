@@ -4,13 +4,14 @@ use Rattle.std.specs.FinMap.{from_entries, insert}
 use Rattle.std.specs.List.Sorted.{IsStrictlySortedBy}
 use Rattle.std.specs.Map.{keys_of}
 use Rattle.std.specs.Option.{option_map_or}
+use Rattle.fs_types.specs.declared.limits.TheConstants.{MAX_NAMES, MAX_FILE_BYTES}
 use Rattle.fs_types.specs.Names.{Name, Path, path_cmp}
 use Rattle.plain_trees.specs.Contents.{Entry, beneath}
 use Rattle.plain_trees.specs.Contents.Entry.{Dir, File}
 use Rattle.plain_trees.specs.Trees.{Tree, entry_count, bytes_at}
 use Rattle.history_machine.specs.History.{Past, fresh, undo_refusal, redo_refusal, serial_refusal, forget_refusal, checkpoint_refusal, name_refusal}
 use Rattle.history_machine.specs.Descriptors.{Descriptor, Descriptors}
-use Rattle.history_machine.specs.Machine.{Machine, Space, Stepped, step, is_accepted, makes_version, tree_after}
+use Rattle.history_machine.specs.Machine.{Machine, Space, Stepped, step, is_accepted, makes_version, tree_after, machine_with}
 use Rattle.fs_types.specs.declared.calls.Call.{Call}
 use Rattle.fs_types.specs.declared.calls.Reply.{Reply}
 use Rattle.fs_types.specs.declared.faults.Fault.{Fault}
@@ -63,13 +64,9 @@ pub record IsTreeOf (es : List (Path × Entry)) (t : Tree) : Type 0 where
   pub sorted : IsStrictlySortedBy path_cmp (keys_of es)
   pub made : tree_of es ≡ t
 
--- a path at `old` or below it would have more than 16 names, where `old` becomes so many
+-- a path at `old` or below it would have more names than a path may have, where `old` becomes so many
 abbrev pub is_deep : Path → ℕ → Path → Bool
-is_deep old depth p = option_map_or (λ rest. nat_lt 16 (depth + length rest)) (beneath old p) false
-
--- a machine of a history and open files
-abbrev pub machine_with : Past Tree → Descriptors → Machine
-machine_with history descriptors = record { history = history; descriptors = descriptors }
+is_deep old depth p = option_map_or (λ rest. nat_lt MAX_NAMES (depth + length rest)) (beneath old p) false
 
 -- a machine with this present tree
 abbrev pub machine_at : Tree → Descriptors → Machine
@@ -104,7 +101,7 @@ file_of _ = None
 
 -- why so many bytes don't fit a file from an offset on; no bytes always do
 abbrev pub size_refusal : ℕ → List ℕ → Option Fault
-size_refusal offset bytes = if length bytes == 0 then None else if nat_lt 16777216 (offset + length bytes) then Some TooBig else None
+size_refusal offset bytes = if length bytes == 0 then None else if nat_lt MAX_FILE_BYTES (offset + length bytes) then Some TooBig else None
 
 -- why a directory is not empty
 abbrev pub emptiness_refusal : Tree → Path → Option Fault

@@ -3,9 +3,11 @@ ghost use Rattle.std.specs.Prelude.{◌≡◌, ◌≤◌, Some, None, IfOk, IfEr
 ghost use Rattle.plain_trees.specs.Trees.{bare};
 ghost use Rattle.history_machine.specs.History.{fresh};
 ghost use Rattle.history_machine.specs.Machine as machine;
+ghost use Rattle.fs_types.specs.declared.limits.TheConstants.{MAX_VERSIONS};
 ghost use Rattle.fs_types.specs.declared.faults.Fault.{Fault};
-ghost use Rattle.plain_machine.specs.Plain.{machine_with, HasSerial, IsPlainStep};
+ghost use Rattle.plain_machine.specs.Plain.{HasSerial, IsPlainStep};
 ghost use Rattle.plain_machine.specs.Spaces.{space_of};
+ghost use Rattle.history_machine.specs.Machine.{machine_with};
 
 use crate::refusals::refusal;
 use crate::spaces::Space;
@@ -25,21 +27,21 @@ pub struct PlainMachine {
 }
 
 impl Model for PlainMachine {
-    ghost use Rattle.history_machine.specs.Machine.{Machine};
+    ghost use Rattle.history_machine.specs.Machine.{Machine, machine_with};
     ghost use Rattle.plain_machine.specs.Codes.{machine_code};
 
     ghost Value = { Machine };
 
     ghost coded = { machine_code };
 
-    ghost view = { λ m. record { history = m.history; descriptors = m.files } };
+    ghost view = { λ m. machine_with m.history m.files };
 }
 
 impl PlainMachine {
     /// A fresh system, which keeps `limit` versions, 2 to 64. The only error is [`Fault::NoMemory`].
     pub fn new(alloc: Global, limit: usize) -> Result<PlainMachine, Fault>
         requires low { 2 ≤ limit }
-        requires high { limit ≤ 64 }
+        requires high { limit ≤ MAX_VERSIONS }
         ensures machine { IfOk result (λ m. m ≡ machine.mounted (fresh limit bare)) }
         ensures refused { IfErr result (λ fault. fault ≡ Fault.NoMemory) }
     {

@@ -7,7 +7,8 @@ ghost use Rattle.history_machine.specs.Descriptors as descriptors;
 ghost use Rattle.history_machine.specs.Machine as machine;
 ghost use Rattle.fs_types.specs.declared.calls.Call.{Call};
 ghost use Rattle.fs_types.specs.declared.faults.Fault.{Fault};
-ghost use Rattle.plain_machine.specs.Plain.{machine_with, machine_at, size_refusal, emptiness_refusal};
+ghost use Rattle.plain_machine.specs.Plain.{machine_at, size_refusal, emptiness_refusal};
+ghost use Rattle.history_machine.specs.Machine.{machine_with};
 
 use crate::nodes::Node;
 use crate::trees::Tree;

@@ -8,8 +8,9 @@ ghost use Rattle.plain_trees.specs.Contents as contents;
 ghost use Rattle.plain_trees.specs.Trees as plain;
 ghost use Rattle.fs_types.specs.declared.calls.Call.{Call};
 ghost use Rattle.fs_types.specs.declared.calls.Reply.{Reply};
-ghost use Rattle.plain_machine.specs.Plain.{machine_with, machine_at, no_space};
+ghost use Rattle.plain_machine.specs.Plain.{machine_at, no_space};
 ghost use Rattle.plain_machine.specs.Spaces.{space_of};
+ghost use Rattle.history_machine.specs.Machine.{machine_with};
 
 use crate::spaces::Space;
 use crate::trees::Tree;

@@ -4,7 +4,7 @@ ghost use Rattle.std.specs.FinSet as set;
 ghost use Rattle.flash_model.specs.Geometry.{IsGeometry};
 ghost use Rattle.flash_model.specs.Device.{block_of, erased};
 ghost use Rattle.commit_pair.specs.Parts.{first_data};
-ghost use Rattle.commit_pair.specs.Anchored.{OnlyAnchors, Fades, AreErased};
+ghost use Rattle.commit_pair.specs.Anchored.{OnlyAnchors, Tries, Fades, AreErased};
 
 use crate::parts::FIRST_DATA;
 use bad_blocks::BadBlocks;
@@ -29,6 +29,7 @@ pub(crate) fn erase_anchor<F: Flash>(
     ensures fades { Fades (F.device flash.old).pages (F.device flash.new).pages }
     ensures only_anchors { OnlyAnchors (F.device flash.old) bad.old (F.device flash.new) bad.new }
     ensures reads { (F.device flash.new).failed_reads ≡ (F.device flash.old).failed_reads }
+    ensures tries { IfOk result (Tries (F.device flash.old) (F.device flash.new) 1) }
     ensures why { IfErr result (λ fault. (fault ≡ Fault.PowerCut) × ((F.device flash.new).powered ≡ false)) }
 {
     match flash.erase(anchor) {

@@ -5,7 +5,7 @@ ghost use Rattle.flash_model.specs.Device.{erased};
 ghost use Rattle.flash_model.specs.Geometry.{IsGeometry};
 ghost use Rattle.record_format.specs.Payloads.{is_record};
 ghost use Rattle.commit_pair.specs.Parts.{first_data};
-ghost use Rattle.commit_pair.specs.Anchored.{OnlyAnchors};
+ghost use Rattle.commit_pair.specs.Anchored.{OnlyAnchors, Asked};
 ghost use Rattle.commit_pair.specs.Keeping.{AreOlder, Spares};
 ghost use Rattle.commit_pair.specs.Programming.{head_for};
 ghost use Rattle.commit_pair.specs.Committing as spec;
@@ -88,6 +88,8 @@ pub(crate) fn commit_anew<F: Flash>(
     ensures good { spec.IfPlaced result (λ found. set.contains bad.old anchor ≡ false) }
     ensures refused { spec.OnNone result (set.contains bad.new anchor ≡ true) }
     ensures untouched { spec.OnNone result (spec.Untouched (F.device flash.old) bad.new (F.device flash.new)) }
+    ensures asked { spec.IfPlaced result (λ found. Asked (F.device flash.old) (F.device flash.new) (1 + found.head.count)) }
+    ensures tried { spec.OnNone result (Asked (F.device flash.old) (F.device flash.new) 0) }
     ensures only_anchors { OnlyAnchors (F.device flash.old) bad.old (F.device flash.new) bad.new }
     ensures why { IfErr result (λ fault. (fault ≡ Fault.PowerCut) × ((F.device flash.new).powered ≡ false)) }
     ensures room { saved.now.geometry.page ≤ vec_capacity page.new }
@@ -132,6 +134,9 @@ pub(crate) fn commit_after<F: Flash>(
     ensures good { spec.IfPlaced result (λ found. set.contains bad.old anchor ≡ false) }
     ensures refused { spec.OnNone result ((set.contains bad.new anchor ≡ true) ⊎ spec.LacksRoom saved.now bad.old place) }
     ensures untouched { spec.OnNone result (spec.Untouched (F.device flash.old) bad.new (F.device flash.new)) }
+    ensures fits { spec.IfPlaced result (λ found. place < saved.now.geometry.pages) }
+    ensures asked { spec.IfPlaced result (λ found. Asked (F.device flash.old) (F.device flash.new) found.head.count) }
+    ensures tried { spec.OnNone result (Asked (F.device flash.old) (F.device flash.new) 0) }
     ensures only_anchors { OnlyAnchors (F.device flash.old) bad.old (F.device flash.new) bad.new }
     ensures why { IfErr result (λ fault. (fault ≡ Fault.PowerCut) × ((F.device flash.new).powered ≡ false)) }
     ensures room { saved.now.geometry.page ≤ vec_capacity page.new }

@@ -4,7 +4,7 @@ ghost use Rattle.std.specs.FinSet as set;
 ghost use Rattle.flash_model.specs.Device.{block_of, erased};
 ghost use Rattle.flash_model.specs.Geometry.{IsGeometry};
 ghost use Rattle.commit_pair.specs.Parts.{first_data, room};
-ghost use Rattle.commit_pair.specs.Anchored.{OnlyAnchors, Touches};
+ghost use Rattle.commit_pair.specs.Anchored.{OnlyAnchors, Tries, Touches};
 ghost use Rattle.commit_pair.specs.Keeping.{AreOlder, Placed, Spares};
 ghost use Rattle.commit_pair.specs.Reading.{IsEnd};
 ghost use Rattle.commit_pair.specs.Programming as spec;
@@ -63,6 +63,7 @@ pub(crate) fn program_record<F: Flash>(
     requires room { geometry.page ≤ vec_capacity page.old }
     ensures programmed { (n : ℕ) × spec.EndsAt count n result × spec.HasPages geometry (F.device flash.old).pages (F.device flash.new).pages (anchor * geometry.pages + place) sequence payload.now count n }
     ensures touches { Touches (F.device flash.old) anchor (F.device flash.new) result }
+    ensures tries { spec.TriesPages (F.device flash.old) (F.device flash.new) count result }
     ensures room { geometry.page ≤ vec_capacity page.new }
 {
     for n in 0..count {
@@ -108,6 +109,7 @@ pub(crate) fn place_record<F: Flash>(
     ensures list_stays { OnErr result (bad.new ≡ bad.old) }
     ensures others { (p : ℕ) → block_of (F.device flash.old) p ≢ anchor → (F.device flash.new).pages p ≡ (F.device flash.old).pages p }
     ensures only_anchors { OnlyAnchors (F.device flash.old) bad.old (F.device flash.new) bad.new }
+    ensures tries { IfOk result (Tries (F.device flash.old) (F.device flash.new) count) }
     ensures why { IfErr result (λ fault. (fault ≡ Fault.PowerCut) × ((F.device flash.new).powered ≡ false)) }
     ensures room { geometry.page ≤ vec_capacity page.new }
 {
@@ -152,6 +154,7 @@ pub(crate) fn write_anchor<F: Flash>(
     ensures list_stays { OnErr result (bad.new ≡ bad.old) }
     ensures others { (p : ℕ) → block_of (F.device flash.old) p ≢ anchor → (F.device flash.new).pages p ≡ (F.device flash.old).pages p }
     ensures only_anchors { OnlyAnchors (F.device flash.old) bad.old (F.device flash.new) bad.new }
+    ensures tries { IfOk result (Tries (F.device flash.old) (F.device flash.new) (1 + count)) }
     ensures why { IfErr result (λ fault. (fault ≡ Fault.PowerCut) × ((F.device flash.new).powered ≡ false)) }
     ensures room { geometry.page ≤ vec_capacity page.new }
 {

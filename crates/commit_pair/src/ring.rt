@@ -1,11 +1,11 @@
 //! Attempts to commit a record on one anchor after the other.
-ghost use Rattle.std.specs.Prelude.{◌≡◌, ◌≢◌, ◌⊎◌, ℕ, ◌+◌, ◌*◌, ◌<◌, ◌≤◌, [], true, false, OnOk, IfOk, IfErr, vec_capacity};
+ghost use Rattle.std.specs.Prelude.{◌≡◌, ◌≢◌, ◌⊎◌, ℕ, ◌+◌, ◌*◌, ◌/◌, ◌<◌, ◌≤◌, [], true, false, OnOk, IfOk, IfErr, vec_capacity};
 ghost use Rattle.std.specs.FinSet as set;
 ghost use Rattle.flash_model.specs.Device.{erased};
 ghost use Rattle.flash_model.specs.Geometry.{IsGeometry};
 ghost use Rattle.record_format.specs.Payloads.{is_record};
 ghost use Rattle.commit_pair.specs.Parts.{first_data};
-ghost use Rattle.commit_pair.specs.Anchored.{OnlyAnchors};
+ghost use Rattle.commit_pair.specs.Anchored.{OnlyAnchors, Asked};
 ghost use Rattle.commit_pair.specs.Keeping.{AreOlder, Spares};
 ghost use Rattle.commit_pair.specs.Committing as spec;
 
@@ -40,6 +40,7 @@ pub(crate) fn commit_next<F: Flash>(
     ensures commits { spec.Commits (F.device flash.old).pages (F.device flash.new).pages saved.now sequence bad.new result }
     ensures stands { IfOk result (spec.Stands (F.device flash.new).pages saved.now) }
     ensures next { IfOk result (λ found. (anchor : ℕ) × (found.page ≡ anchor * saved.now.geometry.pages) × spec.IsNext bad.new home anchor) }
+    ensures asked { IfOk result (λ found. Asked (F.device flash.old) (F.device flash.new) (1 + found.head.count)) }
     ensures open { OnOk result (spec.is_read_only bad.new ≡ false) }
     ensures untouched { IfErr result (λ fault. fault ≢ Fault.PowerCut → spec.Untouched (F.device flash.old) bad.new (F.device flash.new)) }
     ensures only_anchors { OnlyAnchors (F.device flash.old) bad.old (F.device flash.new) bad.new }
@@ -85,6 +86,8 @@ pub(crate) fn commit_from<F: Flash>(
     ensures commits { spec.Commits (F.device flash.old).pages (F.device flash.new).pages saved.now sequence bad.new result }
     ensures stands { IfOk result (spec.Stands (F.device flash.new).pages saved.now) }
     ensures goes { IfOk result (λ found. spec.GoesTo saved.now bad.old bad.new home place found.page) }
+    ensures begun { IfOk result (λ found. found.page / saved.now.geometry.pages ≡ home → Asked (F.device flash.old) (F.device flash.new) found.head.count) }
+    ensures elsewhere { IfOk result (λ found. found.page / saved.now.geometry.pages ≢ home → Asked (F.device flash.old) (F.device flash.new) (1 + found.head.count)) }
     ensures open { OnOk result (spec.is_read_only bad.new ≡ false) }
     ensures untouched { IfErr result (λ fault. fault ≢ Fault.PowerCut → spec.Untouched (F.device flash.old) bad.new (F.device flash.new)) }
     ensures only_anchors { OnlyAnchors (F.device flash.old) bad.old (F.device flash.new) bad.new }

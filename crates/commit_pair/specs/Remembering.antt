@@ -6,6 +6,7 @@ use Rattle.fs_types.specs.declared.faults.Fault.{Fault}
 use Rattle.fs_types.specs.declared.faults.Fault.TheVariants.{ReadOnly, Overflow, ReadFailed, PowerCut, NoMemory}
 use Rattle.flash_model.specs.declared.sizes.Geometry.{Geometry}
 use Rattle.flash_model.specs.Device.{Device}
+use Rattle.read_only.specs.Modes.{is_read_only}
 use Rattle.record_format.specs.declared.records.Record.{Record}
 use Rattle.commit_pair.specs.declared.best.Found.{Found}
 use Rattle.commit_pair.specs.declared.anchors.Anchors.{Anchors}
@@ -13,7 +14,7 @@ use Rattle.commit_pair.specs.Parts.{first_data, parts_on, newest_at, greatest_on
 use Rattle.commit_pair.specs.Reading.{IsEnd}
 use Rattle.commit_pair.specs.Anchored.{AreErased, Asked}
 use Rattle.commit_pair.specs.Newest.{remembered, IsCleared}
-use Rattle.commit_pair.specs.Committing.{is_read_only, IsLowest, GoesTo}
+use Rattle.commit_pair.specs.Committing.{IsLowest, GoesTo}
 
 -- the place of the newest record is remembered, and, while its anchor is not bad, where that ends
 pub record KnowsNewest (d : Device) (bad : set.FinSet nat_cmp) (anchors : Anchors) : Type 0 where

@@ -6,7 +6,7 @@ ghost use Rattle.flash_model.specs.Geometry.{IsGeometry};
 ghost use Rattle.commit_pair.specs.Parts as spec;
 ghost use Rattle.commit_pair.specs.Reading.{OnlyReads};
 ghost use Rattle.commit_pair.specs.Anchored.{OnlyAnchors, Fades, AreErased};
-ghost use Rattle.commit_pair.specs.Newest.{remembered, IsCleared, KnowsEnd, IsNewestRecord, NewestCause};
+ghost use Rattle.commit_pair.specs.Newest.{remembered, IsCleared, IsUncleared, KnowsEnd, IsNewestRecord, NewestCause};
 ghost use Rattle.commit_pair.specs.Remembering.{MayCommit};
 
 use crate::best::{Best, Found};
@@ -30,7 +30,8 @@ pub struct Anchors {
 impl Anchors {
     /// No place is known.
     pub fn new() -> Anchors
-        ensures { remembered result ≡ None }
+        ensures none { remembered result ≡ None }
+        ensures uncleared { IsUncleared result }
     {
         Anchors {
             newest: None,
@@ -56,6 +57,7 @@ impl Anchors {
         ensures end { OnOk result (KnowsEnd (F.device flash.old) self.new) }
         ensures ready { IfOk result (λ newest. newest ≢ None → (bad : set.FinSet nat_cmp) → MayCommit (F.device flash.new) bad self.new) }
         ensures forgets { OnErr result (remembered self.new ≡ None) }
+        ensures uncleared { IsUncleared self.new }
         ensures only_reads { OnlyReads (F.device flash.old) (F.device flash.new) }
         ensures why { IfErr result (NewestCause (F.device flash.old) (F.device flash.new)) }
     {

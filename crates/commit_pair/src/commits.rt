@@ -2,23 +2,24 @@
 ghost use Rattle.std.specs.Prelude.{◌≡◌, ◌≢◌, ◌⊎◌, ℕ, ◌+◌, ◌-◌, ◌*◌, ◌/◌, ◌^◌, ◌<◌, ◌≤◌, [], true, false, length, None, IfOk, OnOk, IfErr, IsErr, Err, vec_capacity};
 ghost use Rattle.std.specs.FinSet as set;
 ghost use Rattle.flash_model.specs.Geometry.{IsGeometry};
+ghost use Rattle.read_only.specs.Modes.{is_read_only};
 ghost use Rattle.record_format.specs.Payloads.{is_record};
 ghost use Rattle.commit_pair.specs.Parts.{first_data, greatest_on};
 ghost use Rattle.commit_pair.specs.Anchored.{OnlyAnchors};
 ghost use Rattle.commit_pair.specs.Keeping.{AreOlder};
 ghost use Rattle.commit_pair.specs.Newest.{remembered};
 ghost use Rattle.commit_pair.specs.Reading.{OnlyReads, ReadCause};
-ghost use Rattle.commit_pair.specs.Committing.{is_read_only, IsLowest, Commits, Untouched, TryCause};
+ghost use Rattle.commit_pair.specs.Committing.{IsLowest, Commits, Untouched, TryCause};
 ghost use Rattle.commit_pair.specs.Remembering.{MayCommit, BeginsAt, ReadsNone, IsPlaced, CommitCause};
 
 use crate::anchors::Anchors;
-use crate::committing::is_read_only;
 use crate::left::find_greatest;
 use crate::parts::FIRST_DATA;
 use crate::ring::commit_from;
 use bad_blocks::BadBlocks;
 use flash_model::{Flash, Geometry};
 use fs_types::Fault;
+use read_only::is_read_only;
 use record_format::Record;
 use std::alloc::Global;
 

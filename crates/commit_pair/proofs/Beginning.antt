@@ -24,6 +24,7 @@ use Rattle.commit_pair.specs.Following.{StillMayCommit, CommittedIsNewest}
 use Rattle.commit_pair.proofs.Following.{was_good}
 use Rattle.commit_pair.proofs.NewestLaws.{found_is_newest, greatest_most, same_place}
 use Rattle.commit_pair.proofs.Places.{anchor_below}
+use Rattle.commit_pair.proofs.Sparing.{Keeps_itself}
 
 at_newest : (g : Geometry) (bad : set.FinSet nat_cmp) (end : ℕ) (o : Option Found) (home place : ℕ) (found : Found) → o ≡ Some found → begins g bad end o home place → (home ≡ found.page / g.pages) × (place ≡ end)
 at_newest g bad end o home place found is b = subst (λ (o : Option Found). begins g bad end o home place) is b
@@ -168,3 +169,15 @@ committed_is_newest d r sequence bad same is = (
       ∙ ap (option_map (λ (entry : Entry). payload_at r.geometry entry.sequence entry.payload)) is.newest
       ∙ ap (λ (x : Result Record Fault). Some x) is.means.means,
 )
+
+-- ---- after reads
+
+pub reads_may_commit : (d e : Device) (bad : set.FinSet nat_cmp) (anchors : Anchors) → OnlyReads d e → MayCommit d bad anchors → MayCommit e bad anchors
+reads_may_commit d e bad anchors reads ready = still_may_commit d e bad bad anchors reads.geometry (λ p lt i. (reads.pages i) p) (λ b is. is) ready
+
+reads_keep : (g : Geometry) (was now : ℕ → Page) → now ≡ was → Keeps g was now
+reads_keep g was now same = subst (λ (pages : ℕ → Page). Keeps g was pages) (sym same) (Keeps_itself g was)
+
+pub reads_commit : (d e : Device) (r : Record) (sequence : ℕ) (bad : set.FinSet nat_cmp) (fault : Fault) → OnlyReads d e → Commits {T = Unit {0}} d.pages e.pages r sequence bad (Err fault)
+reads_commit d e r sequence bad PowerCut reads = inl (reads_keep r.geometry d.pages e.pages reads.pages)
+reads_commit d e r sequence bad _ reads = reads_keep r.geometry d.pages e.pages reads.pages

@@ -10,11 +10,12 @@ use Rattle.fs_types.specs.declared.faults.Fault.{Fault}
 use Rattle.fs_types.specs.declared.faults.Fault.TheVariants.{PowerCut}
 use Rattle.flash_model.specs.declared.sizes.Geometry.{Geometry}
 use Rattle.flash_model.specs.Device.{Device, Page, block_of}
+use Rattle.read_only.specs.Modes.{bad_anchors, is_read_only}
 use Rattle.record_format.specs.declared.records.Record.{Record}
 use Rattle.commit_pair.specs.Parts.{first_data, part_of}
 use Rattle.commit_pair.specs.Anchored.{OnlyAnchors}
 use Rattle.commit_pair.specs.Keeping.{Keeps, AreOlder, Spares}
-use Rattle.commit_pair.specs.Committing.{bad_anchors, is_read_only, IsCommitted, Attempts, Commits, Untouched, IsNext, after}
+use Rattle.commit_pair.specs.Committing.{IsCommitted, Attempts, Commits, Untouched, IsNext, after}
 use Rattle.commit_pair.proofs.Sparing.{Keeps_on}
 
 -- a block that is not in the list was not before

@@ -12,4 +12,5 @@ pub mod Ascending
 pub mod Ending
 pub mod Attempting
 pub mod Following
+pub mod Asking
 pub mod Beginning

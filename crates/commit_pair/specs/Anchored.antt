@@ -1,5 +1,5 @@
 -- What erases and programs of anchors lead to, with the list of bad blocks.
-use Rattle.std.specs.Prelude.{◌≡◌, ◌≢◌, ◌⊎◌, ℕ, ◌+◌, ◌<◌, ◌≤◌, true, false, Result, Ok, Err}
+use Rattle.std.specs.Prelude.{◌≡◌, ◌≢◌, ◌⊎◌, ℕ, ◌+◌, ◌*◌, ◌<◌, ◌≤◌, Bool, true, false, Result, Ok, Err}
 use Rattle.std.specs.FinSet as set
 use Rattle.std.specs.Ordering.{nat_cmp}
 use Rattle.flash_model.specs.declared.device.DevFault.{DevFault}
@@ -39,6 +39,18 @@ pub record Touches (old : Device) (b : ℕ) (new : Device) (result : Result (Uni
   pub was_on : new.powered ≡ true → old.powered ≡ true
   pub stays_off : old.powered ≡ false → new ≡ old
   pub power : PowerLeft new result
+
+-- so many operations were asked for on a block, none after one that failed
+abbrev pub Tries : Device → Device → ℕ → Bool → Type 0
+Tries old new n true = (new.failures ≡ old.failures) × (new.operations ≡ old.operations + n)
+Tries old new n false = (new.failures ≡ old.failures + 1) × (old.operations < new.operations) × (new.operations ≤ old.operations + n)
+
+-- n operations were asked for, and more only on blocks that failed: on each of these one at least, an erase and all its pages at most
+pub record Asked (old new : Device) (n : ℕ) : Type 0 where
+  pub failed : ℕ
+  pub failures : new.failures ≡ old.failures + failed
+  pub least : old.operations + n + failed ≤ new.operations
+  pub most : new.operations ≤ old.operations + n + failed * (old.geometry.pages + 1)
 
 -- each page is as it was, erased or unreadable
 abbrev pub Fades : (ℕ → Page) → (ℕ → Page) → Type 0

@@ -1,11 +1,11 @@
 -- What attempts to commit a record leave, and which anchors are tried.
-use Rattle.std.specs.Prelude.{◌≡◌, ◌⊎◌, ℕ, ◌+◌, ◌*◌, ◌/◌, ◌%◌, ◌<◌, ◌≤◌, ◌||◌, Bool, true, false, Option, Some, None, List, nat_le, count_by, Result, Ok, Err}
-use Rattle.std.specs.List.{range_with_len}
+use Rattle.std.specs.Prelude.{◌≡◌, ◌⊎◌, ℕ, ◌+◌, ◌*◌, ◌/◌, ◌%◌, ◌<◌, ◌≤◌, true, false, Option, Some, None, List, Result, Ok, Err}
 use Rattle.std.specs.FinSet as set
 use Rattle.std.specs.Ordering.{nat_cmp}
 use Rattle.fs_types.specs.declared.faults.Fault.{Fault}
 use Rattle.fs_types.specs.declared.faults.Fault.TheVariants.{ReadOnly, PowerCut}
 use Rattle.flash_model.specs.Device.{Device, Page, block_of}
+use Rattle.read_only.specs.Modes.{is_read_only}
 use Rattle.record_format.specs.declared.records.Record.{Record}
 use Rattle.commit_pair.specs.declared.best.Found.{Found}
 use Rattle.commit_pair.specs.Parts.{first_data, parts_on, newest_at, newest_on}
@@ -13,14 +13,6 @@ use Rattle.commit_pair.specs.Payloads.{Means}
 use Rattle.commit_pair.specs.Programming.{Fills}
 use Rattle.commit_pair.specs.Reading.{IsEnd}
 use Rattle.commit_pair.specs.Keeping.{Keeps}
-
--- how many anchors are bad
-abbrev pub bad_anchors : set.FinSet nat_cmp → ℕ
-bad_anchors bad = count_by (set.contains bad) (range_with_len 0 first_data)
-
--- nothing is committed while 256 blocks or seven anchors are bad
-abbrev pub is_read_only : set.FinSet nat_cmp → Bool
-is_read_only bad = nat_le 256 (set.len bad) || nat_le 7 (bad_anchors bad)
 
 -- the newest record on the pages means this one, with a sequence and a list of bad blocks
 pub record IsCommitted (pages : ℕ → Page) (r : Record) (sequence : ℕ) (bad : set.FinSet nat_cmp) : Type 0 where

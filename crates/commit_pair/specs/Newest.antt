@@ -20,6 +20,10 @@ remembered anchors = anchors.newest
 abbrev pub IsCleared : Anchors → Type 0
 IsCleared anchors = anchors.cleared ≡ true
 
+-- they were not, since they were made or read
+abbrev pub IsUncleared : Anchors → Type 0
+IsUncleared anchors = anchors.cleared ≡ false
+
 -- on the anchor of the newest record the place is known that all pages from it on are erased, and the one before it is not
 abbrev pub KnowsEnd : Device → Anchors → Type 0
 KnowsEnd d anchors = (found : Found) → anchors.newest ≡ Some found → IsEnd d.geometry d.pages (found.page / d.geometry.pages) d.geometry.pages anchors.end

@@ -1,11 +1,12 @@
 -- The pages of a record, as they are programmed on an anchor.
-use Rattle.std.specs.Prelude.{◌≡◌, ◌⊎◌, ℕ, ◌+◌, ◌*◌, ◌<◌, ◌≤◌, None, List, length, take, drop, Result, Ok, Err}
+use Rattle.std.specs.Prelude.{◌≡◌, ◌⊎◌, ℕ, ◌+◌, ◌*◌, ◌<◌, ◌≤◌, true, false, None, List, length, take, drop, Result, Ok, Err}
 use Rattle.flash_model.specs.declared.sizes.Geometry.{Geometry}
 use Rattle.flash_model.specs.declared.device.DevFault.{DevFault}
 use Rattle.flash_model.specs.declared.device.DevFault.TheVariants.{Failed, PowerCut}
-use Rattle.flash_model.specs.Device.{Page, bytes_of}
+use Rattle.flash_model.specs.Device.{Device, Page, bytes_of}
 use Rattle.record_format.specs.Pages.{page_bytes}
 use Rattle.record_format.specs.declared.pages.PageHead.{PageHead}
+use Rattle.commit_pair.specs.Anchored.{Tries}
 use Rattle.commit_pair.specs.Parts.{room, part_of}
 
 -- the piece of a payload that the n-th page holds, and the header of that page
@@ -35,3 +36,9 @@ abbrev pub EndsAt : ℕ → ℕ → Result (Unit {0}) DevFault → Type 0
 EndsAt count n (Ok _) = n ≡ count
 EndsAt count n (Err Failed) = n < count
 EndsAt count n (Err PowerCut) = n ≤ count
+
+-- a program of each page was asked for, none after one that failed
+abbrev pub TriesPages : Device → Device → ℕ → Result (Unit {0}) DevFault → Type 0
+TriesPages old new count (Ok _) = Tries old new count true
+TriesPages old new count (Err Failed) = Tries old new count false
+TriesPages old new count (Err PowerCut) = Unit {0}

@@ -16,6 +16,7 @@ pub record OnlyReads (old new : Device) : Type 0 where
   pub failures : new.failures ≡ old.failures
   pub failed_reads : old.failed_reads ≤ new.failed_reads
   pub cuts : old.cuts ≤ new.cuts
+  pub operations : old.operations ≤ new.operations
   pub was_on : new.powered ≡ true → old.powered ≡ true
   pub stays_off : old.powered ≡ false → new ≡ old
 
@@ -27,6 +28,7 @@ OnlyReads_itself d = record {
   failures = refl;
   failed_reads = omega arith;
   cuts = omega arith;
+  operations = omega arith;
   was_on = λ on. on;
   stays_off = λ off. refl;
 }
@@ -39,6 +41,7 @@ OnlyReads_on d e f first next = record {
   failures = next.failures ∙ first.failures;
   failed_reads = omega arith;
   cuts = let h = first.cuts in let k = next.cuts in omega arith;
+  operations = let h = first.operations in let k = next.operations in omega arith;
   was_on = λ on. first.was_on (next.was_on on);
   stays_off = λ off. next.stays_off (ap (λ (x : Device). x.powered) (first.stays_off off) ∙ off) ∙ first.stays_off off;
 }
@@ -51,6 +54,7 @@ OnlyReads_from old p was new now result reads = record {
   failures = let h = reads.operates.failures in omega arith;
   failed_reads = let h = reads.operates.failed_reads in omega arith;
   cuts = let h = reads.operates.cuts in omega arith;
+  operations = let h = reads.operates.operations in omega arith;
   was_on = λ on. reads.operates.was_on (sym reads.operates.power ∙ on);
   stays_off = reads.operates.off;
 }

@@ -1,19 +1,20 @@
 -- What is remembered of the anchors from call to call, and what a commit makes of it.
-use Rattle.std.specs.Prelude.{◌≡◌, ◌⊎◌, ℕ, ◌/◌, ◌-◌, ◌^◌, ◌<◌, true, false, Option, Some, None}
+use Rattle.std.specs.Prelude.{◌≡◌, ◌≢◌, ◌⊎◌, ℕ, ◌+◌, ◌/◌, ◌-◌, ◌^◌, ◌<◌, true, false, Option, Some, None}
 use Rattle.std.specs.FinSet as set
 use Rattle.std.specs.Ordering.{nat_cmp}
 use Rattle.fs_types.specs.declared.faults.Fault.{Fault}
 use Rattle.fs_types.specs.declared.faults.Fault.TheVariants.{ReadOnly, Overflow, ReadFailed, PowerCut, NoMemory}
 use Rattle.flash_model.specs.declared.sizes.Geometry.{Geometry}
 use Rattle.flash_model.specs.Device.{Device}
+use Rattle.read_only.specs.Modes.{is_read_only}
 use Rattle.record_format.specs.declared.records.Record.{Record}
 use Rattle.commit_pair.specs.declared.best.Found.{Found}
 use Rattle.commit_pair.specs.declared.anchors.Anchors.{Anchors}
 use Rattle.commit_pair.specs.Parts.{first_data, parts_on, newest_at, greatest_on}
 use Rattle.commit_pair.specs.Reading.{IsEnd}
-use Rattle.commit_pair.specs.Anchored.{AreErased}
+use Rattle.commit_pair.specs.Anchored.{AreErased, Asked}
 use Rattle.commit_pair.specs.Newest.{remembered, IsCleared}
-use Rattle.commit_pair.specs.Committing.{is_read_only, IsLowest, GoesTo}
+use Rattle.commit_pair.specs.Committing.{IsLowest, GoesTo}
 
 -- the place of the newest record is remembered, and, while its anchor is not bad, where that ends
 pub record KnowsNewest (d : Device) (bad : set.FinSet nat_cmp) (anchors : Anchors) : Type 0 where
@@ -40,14 +41,20 @@ begins g bad end (Some found) home place = (home ≡ found.page / g.pages) × (p
 abbrev pub BeginsAt : Geometry → set.FinSet nat_cmp → Anchors → ℕ → ℕ → Type 0
 BeginsAt g bad anchors home place = begins g bad anchors.end anchors.newest home place
 
--- the newest record is where a commit from there puts it
-pub record IsPlaced (old : Device) (was : set.FinSet nat_cmp) (anchors : Anchors) (r : Record) (new : Device) (now : set.FinSet nat_cmp) : Type 0 where
+-- no anchor is read: the newest record's place is known, or all anchors are erased
+abbrev pub ReadsNone : set.FinSet nat_cmp → Anchors → Type 0
+ReadsNone bad anchors = (remembered anchors ≢ None) ⊎ ((b : ℕ) → b < first_data → set.contains bad b ≡ false)
+
+-- the newest record is where a commit from there puts it. After so many reads a program of each of its pages was asked for, and an erase first exactly where it is not on the anchor on which the commit began
+pub record IsPlaced (old : Device) (was : set.FinSet nat_cmp) (anchors : Anchors) (r : Record) (reads : ℕ) (new : Device) (now : set.FinSet nat_cmp) : Type 0 where
   pub home : ℕ
   pub place : ℕ
   pub found : Found
   pub begins_at : BeginsAt old.geometry was anchors home place
   pub newest : newest_at new.geometry (parts_on new.geometry new.pages) ≡ Some found
   pub goes : GoesTo r was now home place found.page
+  pub begun : found.page / old.geometry.pages ≡ home → Asked old new (reads + found.head.count)
+  pub elsewhere : found.page / old.geometry.pages ≢ home → Asked old new (reads + (1 + found.head.count))
 
 -- why a commit is refused. All but the first come only where the list was short enough on entry; of the others power alone may go once something was written
 abbrev pub CommitCause : Device → set.FinSet nat_cmp → Anchors → Device → set.FinSet nat_cmp → Fault → Type 0

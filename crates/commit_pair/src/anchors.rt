@@ -6,8 +6,9 @@ ghost use Rattle.flash_model.specs.Geometry.{IsGeometry};
 ghost use Rattle.commit_pair.specs.Parts as spec;
 ghost use Rattle.commit_pair.specs.Reading.{OnlyReads};
 ghost use Rattle.commit_pair.specs.Anchored.{OnlyAnchors, Fades, AreErased};
-ghost use Rattle.commit_pair.specs.Newest.{remembered, IsCleared, KnowsEnd, IsNewestRecord, NewestCause};
+ghost use Rattle.commit_pair.specs.Newest.{remembered, IsCleared, IsUncleared, KnowsEnd, IsNewestRecord, NewestCause};
 ghost use Rattle.commit_pair.specs.Remembering.{MayCommit};
+ghost use Rattle.fs_types.specs.declared.limits.TheConstants.{MAX_BAD_BLOCKS};
 
 use crate::best::{Best, Found};
 use crate::clearing::erase_anchors;
@@ -30,7 +31,8 @@ pub struct Anchors {
 impl Anchors {
     /// No place is known.
     pub fn new() -> Anchors
-        ensures { remembered result ≡ None }
+        ensures none { remembered result ≡ None }
+        ensures uncleared { IsUncleared result }
     {
         Anchors {
             newest: None,
@@ -56,6 +58,7 @@ impl Anchors {
         ensures end { OnOk result (KnowsEnd (F.device flash.old) self.new) }
         ensures ready { IfOk result (λ newest. newest ≢ None → (bad : set.FinSet nat_cmp) → MayCommit (F.device flash.new) bad self.new) }
         ensures forgets { OnErr result (remembered self.new ≡ None) }
+        ensures uncleared { IsUncleared self.new }
         ensures only_reads { OnlyReads (F.device flash.old) (F.device flash.new) }
         ensures why { IfErr result (NewestCause (F.device flash.old) (F.device flash.new)) }
     {
@@ -79,7 +82,7 @@ impl Anchors {
     pub fn clear<F: Flash>(&mut self, flash: &mut F, bad: &mut BadBlocks) -> Result<(), Fault>
         requires lawful { IsGeometry (F.device flash.old).geometry }
         requires good { (b : ℕ) → b < spec.first_data → set.contains bad.old b ≡ false }
-        requires room { set.len bad.old + spec.first_data ≤ 256 }
+        requires room { set.len bad.old + spec.first_data ≤ MAX_BAD_BLOCKS }
         ensures cleared { OnOk result (IsCleared self.new) }
         ensures ready { OnOk result (MayCommit (F.device flash.new) bad.new self.new) }
         ensures erased { OnOk result (AreErased (F.device flash.new) bad.new spec.first_data) }

@@ -4,7 +4,8 @@ ghost use Rattle.std.specs.FinSet as set;
 ghost use Rattle.flash_model.specs.Geometry.{IsGeometry};
 ghost use Rattle.flash_model.specs.Device.{block_of, erased};
 ghost use Rattle.commit_pair.specs.Parts.{first_data};
-ghost use Rattle.commit_pair.specs.Anchored.{OnlyAnchors, Fades, AreErased};
+ghost use Rattle.commit_pair.specs.Anchored.{OnlyAnchors, Tries, Fades, AreErased};
+ghost use Rattle.fs_types.specs.declared.limits.TheConstants.{MAX_BAD_BLOCKS};
 
 use crate::parts::FIRST_DATA;
 use bad_blocks::BadBlocks;
@@ -21,7 +22,7 @@ pub(crate) fn erase_anchor<F: Flash>(
     requires lawful { IsGeometry (F.device flash.old).geometry }
     requires anchor { anchor < first_data }
     requires good { set.contains bad.old anchor ≡ false }
-    requires room { set.len bad.old < 256 }
+    requires room { set.len bad.old < MAX_BAD_BLOCKS }
     ensures erased { IfOk result (λ done. done ≡ true → (p : ℕ) → block_of (F.device flash.old) p ≡ anchor → (F.device flash.new).pages p ≡ erased) }
     ensures list { IfOk result (λ done. bad.new ≡ (if done then bad.old else set.insert bad.old anchor)) }
     ensures list_stays { OnErr result (bad.new ≡ bad.old) }
@@ -29,6 +30,7 @@ pub(crate) fn erase_anchor<F: Flash>(
     ensures fades { Fades (F.device flash.old).pages (F.device flash.new).pages }
     ensures only_anchors { OnlyAnchors (F.device flash.old) bad.old (F.device flash.new) bad.new }
     ensures reads { (F.device flash.new).failed_reads ≡ (F.device flash.old).failed_reads }
+    ensures tries { IfOk result (Tries (F.device flash.old) (F.device flash.new) 1) }
     ensures why { IfErr result (λ fault. (fault ≡ Fault.PowerCut) × ((F.device flash.new).powered ≡ false)) }
 {
     match flash.erase(anchor) {
@@ -45,7 +47,7 @@ pub(crate) fn erase_anchor<F: Flash>(
 pub(crate) fn erase_anchors<F: Flash>(flash: &mut F, bad: &mut BadBlocks) -> Result<(), Fault>
     requires lawful { IsGeometry (F.device flash.old).geometry }
     requires good { (b : ℕ) → b < first_data → set.contains bad.old b ≡ false }
-    requires room { set.len bad.old + first_data ≤ 256 }
+    requires room { set.len bad.old + first_data ≤ MAX_BAD_BLOCKS }
     ensures erased { OnOk result (AreErased (F.device flash.new) bad.new first_data) }
     ensures fades { Fades (F.device flash.old).pages (F.device flash.new).pages }
     ensures only_anchors { OnlyAnchors (F.device flash.old) bad.old (F.device flash.new) bad.new }

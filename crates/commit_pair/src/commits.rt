@@ -1,24 +1,25 @@
 //! Commits of records on the anchors.
-ghost use Rattle.std.specs.Prelude.{◌≡◌, ◌≢◌, ◌⊎◌, ℕ, ◌+◌, ◌-◌, ◌*◌, ◌^◌, ◌<◌, ◌≤◌, [], true, false, length, None, IfOk, OnOk, IfErr, IsErr, Err, vec_capacity};
+ghost use Rattle.std.specs.Prelude.{◌≡◌, ◌≢◌, ◌⊎◌, ℕ, ◌+◌, ◌-◌, ◌*◌, ◌/◌, ◌^◌, ◌<◌, ◌≤◌, [], true, false, length, None, IfOk, OnOk, IfErr, IsErr, Err, vec_capacity};
 ghost use Rattle.std.specs.FinSet as set;
 ghost use Rattle.flash_model.specs.Geometry.{IsGeometry};
+ghost use Rattle.read_only.specs.Modes.{is_read_only};
 ghost use Rattle.record_format.specs.Payloads.{is_record};
 ghost use Rattle.commit_pair.specs.Parts.{first_data, greatest_on};
 ghost use Rattle.commit_pair.specs.Anchored.{OnlyAnchors};
 ghost use Rattle.commit_pair.specs.Keeping.{AreOlder};
 ghost use Rattle.commit_pair.specs.Newest.{remembered};
 ghost use Rattle.commit_pair.specs.Reading.{OnlyReads, ReadCause};
-ghost use Rattle.commit_pair.specs.Committing.{is_read_only, IsLowest, Commits, Untouched, TryCause};
-ghost use Rattle.commit_pair.specs.Remembering.{MayCommit, BeginsAt, IsPlaced, CommitCause};
+ghost use Rattle.commit_pair.specs.Committing.{IsLowest, Commits, Untouched, TryCause};
+ghost use Rattle.commit_pair.specs.Remembering.{MayCommit, BeginsAt, ReadsNone, IsPlaced, CommitCause};
 
 use crate::anchors::Anchors;
-use crate::committing::is_read_only;
 use crate::left::find_greatest;
 use crate::parts::FIRST_DATA;
 use crate::ring::commit_from;
 use bad_blocks::BadBlocks;
 use flash_model::{Flash, Geometry};
 use fs_types::Fault;
+use read_only::is_read_only;
 use record_format::Record;
 use std::alloc::Global;
 
@@ -66,7 +67,7 @@ impl Anchors {
         requires on_flash { (b : ℕ) → set.contains bad.old b ≡ true → b < saved.now.geometry.blocks }
         requires ready { MayCommit (F.device flash.old) bad.old self.old }
         ensures commits { Commits (F.device flash.old).pages (F.device flash.new).pages saved.now (greatest_on saved.now.geometry (F.device flash.old).pages + 1) bad.new result }
-        ensures placed { OnOk result (IsPlaced (F.device flash.old) bad.old self.old saved.now (F.device flash.new) bad.new) }
+        ensures placed { OnOk result ((reads : ℕ) × (ReadsNone bad.old self.old → reads ≡ 0) × IsPlaced (F.device flash.old) bad.old self.old saved.now reads (F.device flash.new) bad.new) }
         ensures only_anchors { OnlyAnchors (F.device flash.old) bad.old (F.device flash.new) bad.new }
         ensures untouched { IfErr result (λ fault. fault ≢ Fault.PowerCut → Untouched (F.device flash.old) bad.new (F.device flash.new)) }
         ensures ready { result ≢ Err Fault.PowerCut → MayCommit (F.device flash.new) bad.new self.new }
@@ -106,6 +107,7 @@ impl Anchors {
         ensures greatest { IfOk result (λ greatest. greatest ≡ greatest_on geometry (F.device flash.old).pages) }
         ensures only_reads { OnlyReads (F.device flash.old) (F.device flash.new) }
         ensures none { IfErr result (λ fault. remembered self.now ≡ None) }
+        ensures quiet { ReadsNone bad.now self.now → (F.device flash.new).operations ≡ (F.device flash.old).operations }
         ensures why { IfErr result (ReadCause (F.device flash.old) (F.device flash.new)) }
     {
         match self.newest {
@@ -144,7 +146,7 @@ impl Anchors {
         requires open { is_read_only bad.old ≡ false }
         requires room { saved.now.geometry.page ≤ vec_capacity page.old }
         ensures commits { Commits (F.device flash.old).pages (F.device flash.new).pages saved.now sequence bad.new result }
-        ensures placed { OnOk result (IsPlaced (F.device flash.old) bad.old self.old saved.now (F.device flash.new) bad.new) }
+        ensures placed { OnOk result (IsPlaced (F.device flash.old) bad.old self.old saved.now 0 (F.device flash.new) bad.new) }
         ensures only_anchors { OnlyAnchors (F.device flash.old) bad.old (F.device flash.new) bad.new }
         ensures untouched { IfErr result (λ fault. fault ≢ Fault.PowerCut → Untouched (F.device flash.old) bad.new (F.device flash.new)) }
         ensures ready { result ≢ Err Fault.PowerCut → MayCommit (F.device flash.new) bad.new self.new }

@@ -1,40 +1,23 @@
-//! Attempts to commit a record on one anchor, and when none is made.
+//! Attempts to commit a record on one anchor.
 ghost use Rattle.std.specs.Prelude.{◌≡◌, ◌≢◌, ◌⊎◌, ℕ, ◌+◌, ◌*◌, ◌^◌, ◌<◌, ◌≤◌, [], true, false, IfErr, vec_capacity, length};
 ghost use Rattle.std.specs.FinSet as set;
 ghost use Rattle.flash_model.specs.Device.{erased};
 ghost use Rattle.flash_model.specs.Geometry.{IsGeometry};
+ghost use Rattle.read_only.specs.Modes.{is_read_only};
 ghost use Rattle.record_format.specs.Payloads.{is_record};
 ghost use Rattle.commit_pair.specs.Parts.{first_data};
-ghost use Rattle.commit_pair.specs.Anchored.{OnlyAnchors};
+ghost use Rattle.commit_pair.specs.Anchored.{OnlyAnchors, Asked};
 ghost use Rattle.commit_pair.specs.Keeping.{AreOlder, Spares};
 ghost use Rattle.commit_pair.specs.Programming.{head_for};
 ghost use Rattle.commit_pair.specs.Committing as spec;
 
 use crate::best::Found;
-use crate::parts::FIRST_DATA;
 use crate::payloads::payload_with;
 use crate::programming::{pages_for, piece_of, place_record, write_anchor};
 use bad_blocks::BadBlocks;
-use fs_types::MAX_BAD_BLOCKS;
 use flash_model::{Flash, Geometry};
 use fs_types::Fault;
 use record_format::{PageHead, Record};
-
-/// How many anchors are in the list.
-fn bad_anchors(bad: &BadBlocks) -> usize
-    ensures { result ≡ spec.bad_anchors bad.now }
-{
-    (0..FIRST_DATA)
-        .filter(|anchor| bad.contains(*anchor))
-        .count()
-}
-
-/// Whether seven anchors or 256 blocks are in the list, so that nothing is committed.
-pub(crate) fn is_read_only(bad: &BadBlocks) -> bool
-    ensures { result ≡ spec.is_read_only bad.now }
-{
-    MAX_BAD_BLOCKS <= bad.len() || 7 <= bad_anchors(bad)
-}
 
 /// The first page of a record that is written at a place of an anchor.
 fn first_page(
@@ -81,7 +64,7 @@ pub(crate) fn commit_anew<F: Flash>(
     requires anchor { anchor < first_data }
     requires spares { set.contains bad.old anchor ≡ false → Spares saved.now.geometry (F.device flash.old).pages anchor }
     requires older { AreOlder saved.now.geometry (F.device flash.old).pages sequence }
-    requires open { spec.is_read_only bad.old ≡ false }
+    requires open { is_read_only bad.old ≡ false }
     requires room { saved.now.geometry.page ≤ vec_capacity page.old }
     ensures attempts { spec.Attempts (F.device flash.old).pages (F.device flash.new).pages saved.now sequence bad.new result }
     ensures place { spec.IfPlaced result (λ found. found.page ≡ anchor * saved.now.geometry.pages) }
@@ -89,6 +72,8 @@ pub(crate) fn commit_anew<F: Flash>(
     ensures good { spec.IfPlaced result (λ found. set.contains bad.old anchor ≡ false) }
     ensures refused { spec.OnNone result (set.contains bad.new anchor ≡ true) }
     ensures untouched { spec.OnNone result (spec.Untouched (F.device flash.old) bad.new (F.device flash.new)) }
+    ensures asked { spec.IfPlaced result (λ found. Asked (F.device flash.old) (F.device flash.new) (1 + found.head.count)) }
+    ensures tried { spec.OnNone result (Asked (F.device flash.old) (F.device flash.new) 0) }
     ensures only_anchors { OnlyAnchors (F.device flash.old) bad.old (F.device flash.new) bad.new }
     ensures why { IfErr result (λ fault. (fault ≡ Fault.PowerCut) × ((F.device flash.new).powered ≡ false)) }
     ensures room { saved.now.geometry.page ≤ vec_capacity page.new }
@@ -125,7 +110,7 @@ pub(crate) fn commit_after<F: Flash>(
     requires in_block { set.contains bad.old anchor ≡ false → place ≤ saved.now.geometry.pages }
     requires blank { set.contains bad.old anchor ≡ false → (m : ℕ) → place ≤ m → m < saved.now.geometry.pages → (F.device flash.old).pages (anchor * saved.now.geometry.pages + m) ≡ erased }
     requires older { AreOlder saved.now.geometry (F.device flash.old).pages sequence }
-    requires open { spec.is_read_only bad.old ≡ false }
+    requires open { is_read_only bad.old ≡ false }
     requires room { saved.now.geometry.page ≤ vec_capacity page.old }
     ensures attempts { spec.Attempts (F.device flash.old).pages (F.device flash.new).pages saved.now sequence bad.new result }
     ensures place { spec.IfPlaced result (λ found. found.page ≡ anchor * saved.now.geometry.pages + place) }
@@ -133,6 +118,9 @@ pub(crate) fn commit_after<F: Flash>(
     ensures good { spec.IfPlaced result (λ found. set.contains bad.old anchor ≡ false) }
     ensures refused { spec.OnNone result ((set.contains bad.new anchor ≡ true) ⊎ spec.LacksRoom saved.now bad.old place) }
     ensures untouched { spec.OnNone result (spec.Untouched (F.device flash.old) bad.new (F.device flash.new)) }
+    ensures fits { spec.IfPlaced result (λ found. place < saved.now.geometry.pages) }
+    ensures asked { spec.IfPlaced result (λ found. Asked (F.device flash.old) (F.device flash.new) found.head.count) }
+    ensures tried { spec.OnNone result (Asked (F.device flash.old) (F.device flash.new) 0) }
     ensures only_anchors { OnlyAnchors (F.device flash.old) bad.old (F.device flash.new) bad.new }
     ensures why { IfErr result (λ fault. (fault ≡ Fault.PowerCut) × ((F.device flash.new).powered ≡ false)) }
     ensures room { saved.now.geometry.page ≤ vec_capacity page.new }

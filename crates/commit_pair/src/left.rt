@@ -1,5 +1,6 @@
 //! Records that are left on anchors of which the erase failed.
-ghost use Rattle.std.specs.Prelude.{◌≡◌, ◌*◌, ◌<◌, length, IfOk, IfErr};
+ghost use Rattle.std.specs.Prelude.{◌≡◌, ℕ, ◌*◌, ◌/◌, ◌<◌, false, length, IfOk, IfErr};
+ghost use Rattle.std.specs.FinSet as set;
 ghost use Rattle.flash_model.specs.Geometry.{IsGeometry};
 ghost use Rattle.commit_pair.specs.Anchored.{AreErased};
 ghost use Rattle.commit_pair.specs.Parts as spec;
@@ -28,6 +29,7 @@ fn read_left_head<F: Flash>(
     requires erased { AreErased (F.device flash.old) bad.now spec.first_data }
     ensures head { IfOk result (λ head. head ≡ spec.record_head geometry (spec.parts_on geometry (F.device flash.old).pages) page) }
     ensures only_reads { OnlyReads (F.device flash.old) (F.device flash.new) }
+    ensures quiet { set.contains bad.now (page / geometry.pages) ≡ false → (F.device flash.new).operations ≡ (F.device flash.old).operations }
     ensures why { IfErr result (ReadCause (F.device flash.old) (F.device flash.new)) }
 {
     if !bad.contains(page / geometry.pages) {
@@ -50,6 +52,7 @@ pub(crate) fn find_greatest<F: Flash>(
     requires erased { AreErased (F.device flash.old) bad.now spec.first_data }
     ensures greatest { IfOk result (λ greatest. greatest ≡ spec.greatest_on geometry (F.device flash.old).pages) }
     ensures only_reads { OnlyReads (F.device flash.old) (F.device flash.new) }
+    ensures quiet { ((b : ℕ) → b < spec.first_data → set.contains bad.now b ≡ false) → (F.device flash.new).operations ≡ (F.device flash.old).operations }
     ensures why { IfErr result (ReadCause (F.device flash.old) (F.device flash.new)) }
 {
     let mut best = Best {

@@ -3,6 +3,7 @@ ghost use Rattle.std.specs.Prelude.{◌≡◌, ℕ, ◌<◌, ◌≤◌, [], leng
 ghost use Rattle.std.specs.FinSet as set;
 ghost use Rattle.record_format.specs.Payloads.{is_record};
 ghost use Rattle.commit_pair.specs.Payloads.{Means};
+ghost use Rattle.fs_types.specs.declared.limits.TheConstants.{MAX_BAD_BLOCKS};
 
 use bad_blocks::BadBlocks;
 use record_format::{Payload, Record, payload_laws, write_payload};
@@ -11,7 +12,7 @@ use record_format::{Payload, Record, payload_laws, write_payload};
 pub(crate) fn payload_with(saved: &Record, bad: &BadBlocks) -> Payload
     requires lawful { is_record (record saved.now { bad = [] }) ≡ true }
     requires on_flash { (b : ℕ) → set.contains bad.now b ≡ true → b < saved.now.geometry.blocks }
-    requires room { set.len bad.now ≤ 256 }
+    requires room { set.len bad.now ≤ MAX_BAD_BLOCKS }
     ensures means { (sequence : ℕ) → Means saved.now sequence bad.now result.items }
     ensures some { 0 < length result.items }
     ensures short { length result.items ≤ 2408 }

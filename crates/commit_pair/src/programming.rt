@@ -4,10 +4,11 @@ ghost use Rattle.std.specs.FinSet as set;
 ghost use Rattle.flash_model.specs.Device.{block_of, erased};
 ghost use Rattle.flash_model.specs.Geometry.{IsGeometry};
 ghost use Rattle.commit_pair.specs.Parts.{first_data, room};
-ghost use Rattle.commit_pair.specs.Anchored.{OnlyAnchors, Touches};
+ghost use Rattle.commit_pair.specs.Anchored.{OnlyAnchors, Tries, Touches};
 ghost use Rattle.commit_pair.specs.Keeping.{AreOlder, Placed, Spares};
 ghost use Rattle.commit_pair.specs.Reading.{IsEnd};
 ghost use Rattle.commit_pair.specs.Programming as spec;
+ghost use Rattle.fs_types.specs.declared.limits.TheConstants.{MAX_BAD_BLOCKS};
 
 use crate::clearing::erase_anchor;
 use bad_blocks::BadBlocks;
@@ -63,6 +64,7 @@ pub(crate) fn program_record<F: Flash>(
     requires room { geometry.page ≤ vec_capacity page.old }
     ensures programmed { (n : ℕ) × spec.EndsAt count n result × spec.HasPages geometry (F.device flash.old).pages (F.device flash.new).pages (anchor * geometry.pages + place) sequence payload.now count n }
     ensures touches { Touches (F.device flash.old) anchor (F.device flash.new) result }
+    ensures tries { spec.TriesPages (F.device flash.old) (F.device flash.new) count result }
     ensures room { geometry.page ≤ vec_capacity page.new }
 {
     for n in 0..count {
@@ -101,13 +103,14 @@ pub(crate) fn place_record<F: Flash>(
     requires room { geometry.page ≤ vec_capacity page.old }
     requires older { AreOlder geometry (F.device flash.old).pages sequence }
     requires good { set.contains bad.old anchor ≡ false }
-    requires room_in_list { set.len bad.old < 256 }
+    requires room_in_list { set.len bad.old < MAX_BAD_BLOCKS }
     ensures placed { Placed geometry (F.device flash.old).pages (F.device flash.new).pages (record { page = anchor * geometry.pages + place; head = spec.head_for geometry sequence payload.now count 0 }) (record { sequence = sequence; payload = payload.now }) result }
     ensures end { IfOk result (λ done. done ≡ true → IsEnd geometry (F.device flash.new).pages anchor geometry.pages (place + count)) }
     ensures list { IfOk result (λ done. bad.new ≡ (if done then bad.old else set.insert bad.old anchor)) }
     ensures list_stays { OnErr result (bad.new ≡ bad.old) }
     ensures others { (p : ℕ) → block_of (F.device flash.old) p ≢ anchor → (F.device flash.new).pages p ≡ (F.device flash.old).pages p }
     ensures only_anchors { OnlyAnchors (F.device flash.old) bad.old (F.device flash.new) bad.new }
+    ensures tries { IfOk result (Tries (F.device flash.old) (F.device flash.new) count) }
     ensures why { IfErr result (λ fault. (fault ≡ Fault.PowerCut) × ((F.device flash.new).powered ≡ false)) }
     ensures room { geometry.page ≤ vec_capacity page.new }
 {
@@ -145,13 +148,14 @@ pub(crate) fn write_anchor<F: Flash>(
     requires room { geometry.page ≤ vec_capacity page.old }
     requires older { AreOlder geometry (F.device flash.old).pages sequence }
     requires good { set.contains bad.old anchor ≡ false }
-    requires room_in_list { set.len bad.old < 256 }
+    requires room_in_list { set.len bad.old < MAX_BAD_BLOCKS }
     ensures placed { Placed geometry (F.device flash.old).pages (F.device flash.new).pages (record { page = anchor * geometry.pages + 0; head = spec.head_for geometry sequence payload.now count 0 }) (record { sequence = sequence; payload = payload.now }) result }
     ensures end { IfOk result (λ done. done ≡ true → IsEnd geometry (F.device flash.new).pages anchor geometry.pages (0 + count)) }
     ensures list { IfOk result (λ done. bad.new ≡ (if done then bad.old else set.insert bad.old anchor)) }
     ensures list_stays { OnErr result (bad.new ≡ bad.old) }
     ensures others { (p : ℕ) → block_of (F.device flash.old) p ≢ anchor → (F.device flash.new).pages p ≡ (F.device flash.old).pages p }
     ensures only_anchors { OnlyAnchors (F.device flash.old) bad.old (F.device flash.new) bad.new }
+    ensures tries { IfOk result (Tries (F.device flash.old) (F.device flash.new) (1 + count)) }
     ensures why { IfErr result (λ fault. (fault ≡ Fault.PowerCut) × ((F.device flash.new).powered ≡ false)) }
     ensures room { geometry.page ≤ vec_capacity page.new }
 {

@@ -1,20 +1,22 @@
 //! Attempts to commit a record on one anchor after the other.
-ghost use Rattle.std.specs.Prelude.{◌≡◌, ◌≢◌, ◌⊎◌, ℕ, ◌+◌, ◌*◌, ◌<◌, ◌≤◌, [], true, false, OnOk, IfOk, IfErr, vec_capacity};
+ghost use Rattle.std.specs.Prelude.{◌≡◌, ◌≢◌, ◌⊎◌, ℕ, ◌+◌, ◌*◌, ◌/◌, ◌<◌, ◌≤◌, [], true, false, OnOk, IfOk, IfErr, vec_capacity};
 ghost use Rattle.std.specs.FinSet as set;
 ghost use Rattle.flash_model.specs.Device.{erased};
 ghost use Rattle.flash_model.specs.Geometry.{IsGeometry};
+ghost use Rattle.read_only.specs.Modes as mode;
 ghost use Rattle.record_format.specs.Payloads.{is_record};
 ghost use Rattle.commit_pair.specs.Parts.{first_data};
-ghost use Rattle.commit_pair.specs.Anchored.{OnlyAnchors};
+ghost use Rattle.commit_pair.specs.Anchored.{OnlyAnchors, Asked};
 ghost use Rattle.commit_pair.specs.Keeping.{AreOlder, Spares};
 ghost use Rattle.commit_pair.specs.Committing as spec;
 
 use crate::best::Found;
-use crate::committing::{commit_after, commit_anew, is_read_only};
+use crate::committing::{commit_after, commit_anew};
 use crate::parts::FIRST_DATA;
 use bad_blocks::BadBlocks;
 use flash_model::Flash;
 use fs_types::Fault;
+use read_only::is_read_only;
 use record_format::Record;
 
 /// Commits a record on the first anchor after `home`, in ring order, that is not bad and does not
@@ -40,7 +42,8 @@ pub(crate) fn commit_next<F: Flash>(
     ensures commits { spec.Commits (F.device flash.old).pages (F.device flash.new).pages saved.now sequence bad.new result }
     ensures stands { IfOk result (spec.Stands (F.device flash.new).pages saved.now) }
     ensures next { IfOk result (λ found. (anchor : ℕ) × (found.page ≡ anchor * saved.now.geometry.pages) × spec.IsNext bad.new home anchor) }
-    ensures open { OnOk result (spec.is_read_only bad.new ≡ false) }
+    ensures asked { IfOk result (λ found. Asked (F.device flash.old) (F.device flash.new) (1 + found.head.count)) }
+    ensures open { OnOk result (mode.is_read_only bad.new ≡ false) }
     ensures untouched { IfErr result (λ fault. fault ≢ Fault.PowerCut → spec.Untouched (F.device flash.old) bad.new (F.device flash.new)) }
     ensures only_anchors { OnlyAnchors (F.device flash.old) bad.old (F.device flash.new) bad.new }
     ensures why { IfErr result (spec.TryCause (F.device flash.new) bad.new) }
@@ -80,12 +83,14 @@ pub(crate) fn commit_from<F: Flash>(
     requires blank { set.contains bad.old home ≡ false → (m : ℕ) → place ≤ m → m < saved.now.geometry.pages → (F.device flash.old).pages (home * saved.now.geometry.pages + m) ≡ erased }
     requires spares { (b : ℕ) → b < first_data → b ≢ home → set.contains bad.old b ≡ false → Spares saved.now.geometry (F.device flash.old).pages b }
     requires older { AreOlder saved.now.geometry (F.device flash.old).pages sequence }
-    requires open { spec.is_read_only bad.old ≡ false }
+    requires open { mode.is_read_only bad.old ≡ false }
     requires room { saved.now.geometry.page ≤ vec_capacity page.old }
     ensures commits { spec.Commits (F.device flash.old).pages (F.device flash.new).pages saved.now sequence bad.new result }
     ensures stands { IfOk result (spec.Stands (F.device flash.new).pages saved.now) }
     ensures goes { IfOk result (λ found. spec.GoesTo saved.now bad.old bad.new home place found.page) }
-    ensures open { OnOk result (spec.is_read_only bad.new ≡ false) }
+    ensures begun { IfOk result (λ found. found.page / saved.now.geometry.pages ≡ home → Asked (F.device flash.old) (F.device flash.new) found.head.count) }
+    ensures elsewhere { IfOk result (λ found. found.page / saved.now.geometry.pages ≢ home → Asked (F.device flash.old) (F.device flash.new) (1 + found.head.count)) }
+    ensures open { OnOk result (mode.is_read_only bad.new ≡ false) }
     ensures untouched { IfErr result (λ fault. fault ≢ Fault.PowerCut → spec.Untouched (F.device flash.old) bad.new (F.device flash.new)) }
     ensures only_anchors { OnlyAnchors (F.device flash.old) bad.old (F.device flash.new) bad.new }
     ensures why { IfErr result (spec.TryCause (F.device flash.new) bad.new) }

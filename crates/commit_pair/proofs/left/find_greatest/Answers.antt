@@ -1,13 +1,15 @@
-use Rattle.std.proofs.Common.{ℕ, ap, ◌∙◌}
+use Rattle.std.proofs.Common.{ℕ, ◌/◌, refl, ap, ◌∙◌}
 use Rattle.flash_model.specs.Device.{Page}
 use Rattle.commit_pair.specs.Parts.{parts_on, record_head}
 use Rattle.commit_pair.specs.Reading.{OnlyReads_itself, OnlyReads_on}
+use Rattle.commit_pair.proofs.Places.{anchor_below}
 use Rattle.commit_pair.proofs.ReadParts.{best_none, best_more}
 use Rattle.commit_pair.proofs.left.find_greatest.Goals as goal
 
 pub loop-page-init : goal.loop-page-init
 loop-page-init g c = record {
   only_reads = OnlyReads_itself (g.F.Flash.device c.args.flash.now);
+  quiet = λ good. refl;
   best = best_none c.args.geometry (parts_on c.args.geometry (g.F.Flash.device c.args.flash.now).pages);
 }
 
@@ -17,6 +19,15 @@ loop-page-preserved g c =
     let mid = g.F.Flash.device c.loop-page.flash in
     record {
       only_reads = OnlyReads_on old mid (g.F.Flash.device c.read_left_head.new.flash) c.loop-page.invariant.only_reads c.in_ok-head.ensures.only_reads;
+      quiet = λ good. c.in_ok-head.ensures.quiet (good (c.loop-page.page / c.args.geometry.pages) (anchor_below c.args.geometry c.loop-page.page c.requires.lawful c.loop-page-test.true)) ∙ c.loop-page.invariant.quiet good;
       best = best_more c.args.geometry (parts_on c.args.geometry old.pages) c.loop-page.page c.loop-page.best c.considered-best.result c.in_ok-head.head c.loop-page.invariant.best
           (c.in_ok-head.ensures.head ∙ ap (λ (pages : ℕ → Page). record_head c.args.geometry (parts_on c.args.geometry pages) c.loop-page.page) c.loop-page.invariant.only_reads.pages) c.considered-best.ensures;
     }
+
+pub returns-in_err-head-clause-quiet : goal.returns-in_err-head-clause-quiet
+returns-in_err-head-clause-quiet g c = λ good.
+    c.in_err-head.ensures.quiet (good (c.loop-page.page / c.args.geometry.pages) (anchor_below c.args.geometry c.loop-page.page c.requires.lawful c.loop-page-test.true))
+    ∙ c.loop-page.invariant.quiet good
+
+pub returns-clause-quiet : goal.returns-clause-quiet
+returns-clause-quiet g c = c.loop-page.invariant.quiet

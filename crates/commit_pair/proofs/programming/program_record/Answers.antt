@@ -1,4 +1,4 @@
-use Rattle.std.proofs.Common.{◌≡◌, ℕ, ◌+◌, ◌*◌, ◌<◌, List, length, Ok, Err, sym, ap, subst, ◌∙◌, arith}
+use Rattle.std.proofs.Common.{◌≡◌, ℕ, ◌+◌, ◌*◌, ◌<◌, List, length, Ok, Err, refl, sym, ap, subst, ◌∙◌, arith}
 use Rattle.std.proofs.lemmas.Result.{err_from_is_err_and}
 use Rattle.flash_model.specs.declared.sizes.Geometry.{Geometry}
 use Rattle.flash_model.specs.Device.{block_of, AfterProgram, bytes_of}
@@ -6,6 +6,7 @@ use Rattle.flash_model.specs.Blocks.{block_of-at}
 use Rattle.record_format.specs.Pages.{page_bytes}
 use Rattle.commit_pair.specs.Programming.{bytes_for}
 use Rattle.commit_pair.proofs.Anchoring.{program_touches, Touches_on}
+use Rattle.commit_pair.proofs.Asking.{one_more, tries_end}
 use Rattle.commit_pair.proofs.Programmed.{pages_next, pages_end}
 use Rattle.commit_pair.proofs.programming.program_record.Goals as goal
 use Rattle.commit_pair.proofs.programming.program_record.Goals.{After-program}
@@ -58,6 +59,13 @@ returns-in_err-program-clause-programmed g c =
     (λ q apart. c.in_err-program.ensures.others q (λ same. apart (same ∙ is))) c.in_err-program.field-0.0 (c.loop-n.invariant.blank n (omega arith) c.loop-n-test.true)
     (subst (λ q. AfterProgram (mid.pages q) (bytes_for c.args.geometry c.args.sequence c.args.payload.now c.args.count n) (new.pages q) (Err c.in_err-program.field-0.0)) is (subst (λ (bytes : List ℕ). AfterProgram (mid.pages c.page_number.result) bytes (new.pages c.page_number.result) (Err c.in_err-program.field-0.0)) (page g t) c.in_err-program.ensures.page)))
 
+pub returns-in_err-program-clause-tries : goal.returns-in_err-program-clause-tries
+returns-in_err-program-clause-tries g c =
+    let p = err_from_is_err_and c.from_residual.result c.from_residual.ensures.1 in
+    let so_far = c.loop-n.invariant in
+    rw (p.1, p.2) (tries_end (g.F.Flash.device c.args.flash.now) (g.F.Flash.device c.loop-n.flash) (g.F.Flash.device c.program.new.self) c.loop-n.n c.args.count c.in_err-program.field-0.0
+    (let h = so_far.touches.failures in omega arith) so_far.operations c.loop-n-test.true c.in_err-program.ensures.operates)
+
 pub loop-n-preserved : goal.loop-n-preserved
 loop-n-preserved g c =
     let t = (goal.at.loop-n-preserved g c).After-program in
@@ -69,6 +77,7 @@ loop-n-preserved g c =
     let done = c.in_ok-program.ensures in
     record {
       touches = Touches_on old mid new c.args.anchor tt (Ok tt) c.loop-n.invariant.touches (program_touches mid new c.args.anchor c.page_number.result c.deref.result.now (Ok tt) (block g t) done);
+      operations = let one = one_more mid new (Ok tt) 0 0 done.operates refl in let h = c.loop-n.invariant.operations in omega arith;
       pages = pages_next c.args.geometry old.pages mid.pages new.pages (c.args.anchor * c.args.geometry.pages + c.args.place) c.args.sequence c.args.payload.now c.args.count n c.loop-n.invariant.pages c.loop-n-test.true
           (λ q apart. done.others q (λ same. apart (same ∙ is))) (ap new.pages (sym is) ∙ done.page ∙ ap bytes_of (page g t));
       blank = λ m from below. done.others _ (λ same. absurd (let e = is in omega arith)) ∙ c.loop-n.invariant.blank m (omega arith) below;

@@ -7,6 +7,7 @@ use Rattle.commit_pair.proofs.programming.program_record.Given as goal
 abbrev pub invariant-loop-n : goal.invariant-loop-n
 invariant-loop-n g l = record {
   touches : Touches (g.F.Flash.device l.initial.flash) l.anchor (g.F.Flash.device l.flash) (Ok tt);
+  operations : (g.F.Flash.device l.flash).operations ≡ (g.F.Flash.device l.initial.flash).operations + l.n;
   pages : HasPages l.geometry (g.F.Flash.device l.initial.flash).pages (g.F.Flash.device l.flash).pages (l.anchor * l.geometry.pages + l.place) l.sequence l.payload l.count l.n;
   blank : (m : ℕ) → l.n ≤ m → m < l.count → (g.F.Flash.device l.flash).pages (l.anchor * l.geometry.pages + l.place + m) ≡ erased;
   room : l.geometry.page ≤ vec_capacity l.page;

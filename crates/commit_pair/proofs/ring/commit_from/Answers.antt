@@ -1,4 +1,7 @@
+use Rattle.std.proofs.Common.{ℕ, ◌/◌, ap, ◌∙◌}
+use Rattle.std.proofs.lemmas.Nat.{div-mul-add}
 use Rattle.commit_pair.proofs.Anchoring.{OnlyAnchors_on}
+use Rattle.commit_pair.proofs.Asking.{begun_next, elsewhere_next}
 use Rattle.commit_pair.proofs.Following.{spared, older_on, Commits_on, refused_on}
 use Rattle.commit_pair.proofs.ring.commit_from.Goals as goal
 
@@ -29,3 +32,20 @@ returns-clause-untouched g c =
     let first = c.in_ok-tried.ensures in
     refused_on (g.F.Flash.device c.args.flash.now) (g.F.Flash.device c.commit_after.new.flash) (g.F.Flash.device c.commit_next.new.flash) c.args.bad.now c.commit_after.new.bad c.commit_next.new.bad c.commit_next.result
     first.only_anchors c.commit_next.ensures.only_anchors (rw c.in_default.is at first.untouched) c.commit_next.ensures.untouched
+
+pub returns-in-Some-clause-elsewhere : goal.returns-in-Some-clause-elsewhere
+returns-in-Some-clause-elsewhere g c = λ apart.
+    let first = c.in_ok-tried.ensures in
+    let pages = c.args.saved.now.geometry.pages in
+    absurd (apart (ap (λ (p : ℕ). p / pages) (rw c.in-Some.is at first.place) ∙ div-mul-add c.args.home pages c.args.place (rw c.in-Some.is at first.fits)))
+
+pub returns-clause-begun : goal.returns-clause-begun
+returns-clause-begun g c =
+    begun_next c.args.saved.now.geometry (g.F.Flash.device c.args.flash.now) (g.F.Flash.device c.commit_next.new.flash) c.commit_next.new.bad c.args.home c.commit_next.result
+    c.requires.lawful.some_pages c.requires.home c.commit_next.ensures.next
+
+pub returns-clause-elsewhere : goal.returns-clause-elsewhere
+returns-clause-elsewhere g c =
+    let first = c.in_ok-tried.ensures in
+    elsewhere_next c.args.saved.now.geometry (g.F.Flash.device c.args.flash.now) (g.F.Flash.device c.commit_after.new.flash) (g.F.Flash.device c.commit_next.new.flash) c.args.home c.commit_next.result
+    first.only_anchors.geometry (rw c.in_default.is at first.tried) c.commit_next.ensures.asked

@@ -1,6 +1,7 @@
 use Rattle.std.proofs.Common.{◌+◌, ◌%◌, arith}
 use Rattle.std.proofs.lemmas.Result.{err_from_is_err_and}
 use Rattle.commit_pair.proofs.Anchoring.{OnlyAnchors_on}
+use Rattle.commit_pair.proofs.Asking.{Asked_later}
 use Rattle.commit_pair.proofs.Sparing.{Keeps_on}
 use Rattle.commit_pair.proofs.Following.{Untouched_on, spared, older_on, cut_attempt, either_on, one_more_tried, next_is, all_tried}
 use Rattle.commit_pair.proofs.ring.commit_next.Goals as goal
@@ -40,6 +41,12 @@ returns-in-Some-clause-next g c = (
       (rw c.in-Some.is at c.in_ok-tried.ensures.good) c.loop-step.invariant.tried,
 )
 
+pub returns-in-Some-clause-asked : goal.returns-in-Some-clause-asked
+returns-in-Some-clause-asked g c =
+    let so_far = c.loop-step.invariant in
+    Asked_later (g.F.Flash.device c.args.flash.now) (g.F.Flash.device c.loop-step.flash) (g.F.Flash.device c.commit_anew.new.flash) (1 + c.in-Some.found.head.count) so_far.only_anchors.geometry so_far.asked
+    (rw c.in-Some.is at c.in_ok-tried.ensures.asked)
+
 pub returns-in-Some-clause-only_anchors : goal.returns-in-Some-clause-only_anchors
 returns-in-Some-clause-only_anchors g c =
     OnlyAnchors_on (g.F.Flash.device c.args.flash.now) (g.F.Flash.device c.loop-step.flash) (g.F.Flash.device c.commit_anew.new.flash) c.args.bad.now c.loop-step.bad c.commit_anew.new.bad
@@ -54,6 +61,7 @@ loop-step-preserved g c =
     let now = c.in_ok-tried.ensures in
     record {
       only_anchors = OnlyAnchors_on old mid new c.args.bad.now c.loop-step.bad c.commit_anew.new.bad so_far.only_anchors now.only_anchors;
+      asked = Asked_later old mid new 0 so_far.only_anchors.geometry so_far.asked (rw c.in_default.is at now.tried);
       keeps = Keeps_on c.args.saved.now.geometry old.pages mid.pages new.pages so_far.keeps (rw c.in_default.is at now.attempts);
       untouched = Untouched_on old mid new c.args.bad.now c.loop-step.bad c.commit_anew.new.bad so_far.only_anchors now.only_anchors so_far.untouched (rw c.in_default.is at now.untouched);
       tried = one_more_tried c.loop-step.bad c.commit_anew.new.bad c.args.home c.loop-step.step now.only_anchors.stays_bad so_far.tried (rw c.in_default.is at now.refused);

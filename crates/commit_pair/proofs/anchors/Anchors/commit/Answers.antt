@@ -1,4 +1,8 @@
-use Rattle.commit_pair.proofs.Beginning.{above_all, reads_only_anchors, reads_untouched}
+use Rattle.std.proofs.Common.{◌+◌}
+use Rattle.std.proofs.lemmas.Result.{err_from_is_err_and}
+use Rattle.commit_pair.specs.Parts.{greatest_on}
+use Rattle.commit_pair.proofs.Asking.{placed_after}
+use Rattle.commit_pair.proofs.Beginning.{above_all, reads_only_anchors, reads_untouched, reads_may_commit, reads_commit}
 use Rattle.commit_pair.proofs.Following.{refused_on}
 use Rattle.commit_pair.proofs.anchors.Anchors.commit.Goals as goal
 
@@ -13,3 +17,28 @@ returns-clause-untouched g c =
     let reads = c.in_ok-greatest.ensures.only_reads in
     refused_on old mid (g.F.Flash.device c.commit_as.new.flash) c.args.bad.now c.args.bad.now c.commit_as.new.bad c.commit_as.result
     (reads_only_anchors old mid c.args.bad.now reads) c.commit_as.ensures.only_anchors (reads_untouched old mid c.args.bad.now reads) c.commit_as.ensures.untouched
+
+pub returns-clause-placed : goal.returns-clause-placed
+returns-clause-placed g c =
+    let first = c.in_ok-greatest.ensures in
+    placed_after (g.F.Flash.device c.args.flash.now) (g.F.Flash.device c.greatest.new.flash) (g.F.Flash.device c.commit_as.new.flash) c.args.bad.now c.commit_as.new.bad c.args.self.now c.args.saved.now c.commit_as.result
+    first.only_reads first.quiet c.commit_as.ensures.placed
+
+pub returns-in_err-greatest-clause-commits : goal.returns-in_err-greatest-clause-commits
+returns-in_err-greatest-clause-commits g c =
+    let p = err_from_is_err_and c.from_residual-in_err-greatest.result c.from_residual-in_err-greatest.ensures.1 in
+    let old = g.F.Flash.device c.args.flash.now in
+    rw (p.1, p.2) (reads_commit old (g.F.Flash.device c.greatest.new.flash) c.args.saved.now (greatest_on c.args.saved.now.geometry old.pages + 1) c.args.bad.now c.in_err-greatest.field-0.0
+    c.in_err-greatest.ensures.only_reads)
+
+pub returns-in_err-greatest-clause-ready : goal.returns-in_err-greatest-clause-ready
+returns-in_err-greatest-clause-ready g c = λ on.
+    reads_may_commit (g.F.Flash.device c.args.flash.now) (g.F.Flash.device c.greatest.new.flash) c.args.bad.now c.args.self.now c.in_err-greatest.ensures.only_reads c.requires.ready
+
+pub returns-then-greatest-clause-ready : goal.returns-then-greatest-clause-ready
+returns-then-greatest-clause-ready g c = λ on.
+    reads_may_commit (g.F.Flash.device c.args.flash.now) (g.F.Flash.device c.greatest.new.flash) c.args.bad.now c.args.self.now c.in_ok-greatest.ensures.only_reads c.requires.ready
+
+pub commit_as-requires-clause-ready : goal.commit_as-requires-clause-ready
+commit_as-requires-clause-ready g c =
+    reads_may_commit (g.F.Flash.device c.args.flash.now) (g.F.Flash.device c.greatest.new.flash) c.args.bad.now c.args.self.now c.in_ok-greatest.ensures.only_reads c.requires.ready

@@ -1,0 +1,133 @@
+-- How many operations come together.
+use Rattle.std.proofs.Common.{◌≡◌, ℕ, ◌+◌, ◌*◌, ◌<◌, ◌≤◌, Bool, true, false, cond, Result, Ok, Err, refl, sym, ap, subst, ◌∙◌, arith}
+use Rattle.std.specs.Prelude.{◌/◌, ◌-◌, ◌%◌, ◌≢◌, IfOk, OnOk}
+use Rattle.std.specs.FinSet as set
+use Rattle.std.specs.Ordering.{nat_cmp}
+use Rattle.std.proofs.lemmas.Nat.{div-mul-add}
+use Rattle.fs_types.specs.declared.faults.Fault.{Fault}
+use Rattle.flash_model.specs.declared.sizes.Geometry.{Geometry}
+use Rattle.flash_model.specs.declared.device.DevFault.{DevFault}
+use Rattle.flash_model.specs.declared.device.DevFault.TheVariants.{Failed, PowerCut}
+use Rattle.flash_model.specs.Device.{Device, Operates, failed, power_after}
+use Rattle.record_format.specs.declared.records.Record.{Record}
+use Rattle.commit_pair.specs.declared.best.Found.{Found}
+use Rattle.commit_pair.specs.declared.anchors.Anchors.{Anchors}
+use Rattle.commit_pair.specs.Parts.{first_data}
+use Rattle.commit_pair.specs.Anchored.{Tries, Asked}
+use Rattle.commit_pair.specs.Committing.{IsNext}
+use Rattle.commit_pair.specs.Programming.{TriesPages}
+use Rattle.commit_pair.specs.Reading.{OnlyReads}
+use Rattle.commit_pair.specs.Remembering.{BeginsAt, ReadsNone, IsPlaced}
+
+-- one operation that was answered with the power on
+pub one_more : {T : Type 0} (old new : Device) (result : Result T DevFault) (reads fails : ℕ) → Operates old new result reads fails → power_after result ≡ true → new.operations ≡ old.operations + 1
+one_more old new result reads fails done on = done.operations ∙ ap (λ b. old.operations + cond b 1 0) (done.was_on on)
+
+-- a program that was not done, after n that were
+pub tries_end : (old mid new : Device) (n count : ℕ) (fault : DevFault) → mid.failures ≡ old.failures → mid.operations ≡ old.operations + n → n < count
+    → Operates {T = Unit {0}} mid new (Err fault) 0 (failed {T = Unit {0}} (Err fault)) → TriesPages old new count (Err fault)
+tries_end old mid new n count Failed failures operations lt done =
+    let one = one_more mid new (Err Failed) 0 1 done refl in
+    let more = done.failures in (
+      omega arith,
+      omega arith,
+      omega arith,
+    )
+tries_end old mid new n count PowerCut failures operations lt done = tt
+
+-- an erase that was done, and programs after it
+pub tries_on : (old mid new : Device) (count : ℕ) (done : Bool) → Tries old mid 1 true → Tries mid new count done → Tries old new (1 + count) done
+tries_on old mid new count true first next = (omega arith, omega arith)
+tries_on old mid new count false first next = (omega arith, omega arith, omega arith)
+
+pub Asked_itself : (d : Device) → Asked d d 0
+Asked_itself d = record {
+  failed = 0;
+  failures = omega arith;
+  least = omega arith;
+  most = omega arith;
+}
+
+pub Asked_on : (d e f : Device) (m n : ℕ) → e.geometry ≡ d.geometry → Asked d e m → Asked e f n → Asked d f (m + n)
+Asked_on d e f m n same first next = record {
+  failed = first.failed + next.failed;
+  failures = let h = first.failures in let k = next.failures in omega arith;
+  least = let h = first.least in let k = next.least in omega arith;
+  most =
+      let h = first.most in
+      let k : f.operations ≤ e.operations + n + next.failed * (d.geometry.pages + 1) = subst (λ (g : Geometry). f.operations ≤ e.operations + n + next.failed * (g.pages + 1)) same next.most in
+      omega arith;
+}
+
+-- blocks failed before
+pub Asked_later : (d e f : Device) (n : ℕ) → e.geometry ≡ d.geometry → Asked d e 0 → Asked e f n → Asked d f n
+Asked_later d e f n same first next = subst (Asked d f) (let is : 0 + n ≡ n = omega arith in is) (Asked_on d e f 0 n same first next)
+
+-- operations on one block that were all done, and those of which one failed
+pub asked_done : (old new : Device) (n : ℕ) (done : Bool) → done ≡ true → Tries old new n done → Asked old new n
+asked_done old new n true is tries = record {
+  failed = 0;
+  failures = let h = tries.0 in omega arith;
+  least = let h = tries.1 in omega arith;
+  most = let h = tries.1 in omega arith;
+}
+asked_done old new n false is tries = absurd cc
+
+pub asked_failed : (old new : Device) (n : ℕ) (done : Bool) → done ≡ false → n ≤ old.geometry.pages + 1 → Tries old new n done → Asked old new 0
+asked_failed old new n true is few tries = absurd cc
+asked_failed old new n false is few tries = record {
+  failed = 1;
+  failures = tries.0;
+  least = let h = tries.1 in omega arith;
+  most = let h = tries.2 in omega arith;
+}
+
+-- reads come before
+pub asked_after : (old mid new : Device) (reads n : ℕ) → OnlyReads old mid → mid.operations ≡ old.operations + reads → Asked mid new (0 + n) → Asked old new (reads + n)
+asked_after old mid new reads n only is asked = record {
+  failed = asked.failed;
+  failures = let h = only.failures in let k = asked.failures in omega arith;
+  least = let k = asked.least in omega arith;
+  most =
+      let k : new.operations ≤ mid.operations + (0 + n) + asked.failed * (old.geometry.pages + 1) = subst (λ (g : Geometry). new.operations ≤ mid.operations + (0 + n) + asked.failed * (g.pages + 1)) only.geometry asked.most in
+      omega arith;
+}
+
+-- the next anchor in ring order is another one
+pub begun_next : (g : Geometry) (old new : Device) (now : set.FinSet nat_cmp) (home : ℕ) (result : Result Found Fault) → 1 ≤ g.pages → home < first_data
+    → IfOk result (λ found. (anchor : ℕ) × (found.page ≡ anchor * g.pages) × IsNext now home anchor) → IfOk result (λ found. found.page / g.pages ≡ home → Asked old new found.head.count)
+begun_next g old new now home (Ok found) some lt next = λ here.
+    let anchor = next.0 in
+    let start : found.page ≡ anchor * g.pages + 0 = let e = next.1 in omega arith in
+    let block : found.page / g.pages ≡ anchor = ap (λ (p : ℕ). p / g.pages) start ∙ div-mul-add anchor g.pages 0 (omega arith) in
+    let apart = next.2 in
+    let same : anchor ≡ home = sym block ∙ here in
+    absurd (let is = apart.is in let least = apart.some in let most = apart.below in omega arith)
+begun_next g old new now home (Err fault) some lt next = tt
+
+pub elsewhere_next : (g : Geometry) (old mid new : Device) (home : ℕ) (result : Result Found Fault) → mid.geometry ≡ old.geometry → Asked old mid 0 → IfOk result (λ found. Asked mid new (1 + found.head.count))
+    → IfOk result (λ found. found.page / g.pages ≢ home → Asked old new (1 + found.head.count))
+elsewhere_next g old mid new home (Ok found) same first next = λ apart. Asked_later old mid new (1 + found.head.count) same first next
+elsewhere_next g old mid new home (Err fault) same first next = tt
+
+-- a commit after reads
+pub placed_after : (old mid new : Device) (was now : set.FinSet nat_cmp) (anchors : Anchors) (r : Record) (result : Result (Unit {0}) Fault) → OnlyReads old mid → (ReadsNone was anchors → mid.operations ≡ old.operations)
+    → OnOk result (IsPlaced mid was anchors r 0 new now) → OnOk result ((reads : ℕ) × (ReadsNone was anchors → reads ≡ 0) × IsPlaced old was anchors r reads new now)
+placed_after old mid new was now anchors r (Ok u) only quiet placed =
+    let reads = mid.operations - old.operations in
+    let is : mid.operations ≡ old.operations + reads = let h = only.operations in omega arith in
+    let pages : placed.found.page / mid.geometry.pages ≡ placed.found.page / old.geometry.pages = ap (λ (g : Geometry). placed.found.page / g.pages) only.geometry in (
+      reads,
+      λ none. let e = quiet none in omega arith,
+      record {
+        home = placed.home;
+        place = placed.place;
+        found = placed.found;
+        begins_at = subst (λ (g : Geometry). BeginsAt g was anchors placed.home placed.place) only.geometry placed.begins_at;
+        newest = placed.newest;
+        goes = placed.goes;
+        begun = λ here. asked_after old mid new reads placed.found.head.count only is (placed.begun (pages ∙ here));
+        elsewhere = λ apart. asked_after old mid new reads (1 + placed.found.head.count) only is (placed.elsewhere (λ here. apart (sym pages ∙ here)));
+      },
+    )
+placed_after old mid new was now anchors r (Err fault) only quiet placed = tt

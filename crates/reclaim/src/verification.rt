@@ -3,6 +3,7 @@ ghost use Rattle.std.specs.Prelude.{◌≡◌, ◌≢◌, ◌↔◌, ℕ, ◌+�
 ghost use Rattle.std.specs.List.{sum_by};
 ghost use Rattle.allocator.specs.Ring.{IsDataBlock};
 ghost use Rattle.node_format.specs.declared.places.Place.TheVariants.{Dir};
+ghost use Rattle.block_trees.specs.Bodies.{Blocks};
 ghost use Rattle.block_trees.specs.Trees.{items_of};
 ghost use Rattle.block_trees.specs.Laws.{IsShallow};
 ghost use Rattle.directory.specs.Depths.{HasDirectories};
@@ -124,6 +125,37 @@ fn have_trees<N: Nodes>(
     Ok(are_shallow)
 }
 
+// A pass at its start, of roots that all are directories; `Damaged` where one is none.
+fn start_pass<N: Nodes>(
+    alloc: Global,
+    blocks: u32,
+    nodes: &mut N,
+    roots: &[u32],
+) -> Result<Pass, Fault>
+    requires sound { N.is_sound nodes.old }
+    requires blocks { blocks ≡ N.blocks nodes.old }
+    ensures pass { IfOk result (λ p. (f : Blocks) → IsPass f p) }
+    ensures begun { IfOk result (λ p. (p.blocks ≡ blocks) × (p.roots ≡ roots.now) × (p.next ≡ 0)) }
+    ensures directories { IfOk result (λ _. All (IsDirectoryAt (N.node nodes.old)) roots.now) }
+    ensures asked { IfOk result (λ p. N.reads nodes.new ≤ N.reads nodes.old + length p.order) }
+    ensures damaged { IsErrOf result Fault.Damaged → AreRoots (N.limit nodes.old) (N.node nodes.old) roots.now → ⊥ }
+    ensures why { IfErr result (λ fault. fault ≢ Fault.Damaged → N.causes nodes.old nodes.new fault) }
+    ensures faults { IfErr result IsReadFault }
+    ensures looks { OnlyLooks N.node N.kept N.writes N.follows N.is_sound N.limit N.blocks nodes.old nodes.new }
+    ensures reads { HasCost (N.node nodes.old) roots.now (N.reads nodes.old) (N.reads nodes.new) }
+{
+    if !are_data_blocks(blocks, roots) {
+        return Err(Fault::Damaged);
+    }
+    let pass = Pass::start(alloc, blocks, roots)?;
+    // The marked blocks are the roots so far, each once.
+    let are_directories = are_directories(nodes, pass.marked())?;
+    if !are_directories {
+        return Err(Fault::Damaged);
+    }
+    Ok(pass)
+}
+
 /// A finished pass of roots that each have a tree with linked bodies, on a flash of `blocks` blocks.
 ///
 /// `Damaged` where a root has none, and only there: a root that is no data block has none. Nothing
@@ -145,15 +177,7 @@ pub fn verify<N: Nodes>(
     ensures looks { OnlyLooks N.node N.kept N.writes N.follows N.is_sound N.limit N.blocks nodes.old nodes.new }
     ensures reads { HasCost (N.node nodes.old) roots.now (N.reads nodes.old) (N.reads nodes.new) }
 {
-    if !are_data_blocks(blocks, roots) {
-        return Err(Fault::Damaged);
-    }
-    let mut pass = Pass::start(alloc, blocks, roots)?;
-    // The marked blocks are the roots so far, each once.
-    let are_directories = are_directories(nodes, pass.marked())?;
-    if !are_directories {
-        return Err(Fault::Damaged);
-    }
+    let mut pass = start_pass(alloc, blocks, nodes, roots)?;
     pass.read_all(nodes)?;
     let have_trees = have_trees(alloc, nodes, roots, pass.marked())?;
     if !have_trees {

@@ -1,20 +1,24 @@
 -- Directories of a trail written anew, one after the other from the deepest up.
 use Rattle.std.proofs.Common.{◌≡◌, ℕ, zero, suc, ◌+◌, ◌-◌, ◌<◌, ◌≤◌, Bool, true, false, Option, Some, None, Result, Ok, Err, List, [], ◌∷◌, length, take, drop, get_or, refl, sym, ap, subst, ◌∙◌, arith}
-use Rattle.std.specs.Prelude.{not, ◌||◌, nat_le, unwrap_or, slice_index, IsSome, IfOk}
+use Rattle.std.specs.Prelude.{not, ◌||◌, nat_le, unwrap_or, slice_index, IsSome, IfOk, IfErr, if◌then◌else◌}
 use Rattle.std.specs.Option.{is_some, option_and_then}
+use Rattle.std.proofs.lemmas.Bool.{true≢false}
 use Rattle.std.proofs.Math.Seq.{drop-cons}
-use Rattle.fs_types.specs.Names.{Name, Path}
+use Rattle.fs_types.specs.Names.{Name, Path, same_name}
 use Rattle.fs_types.specs.declared.faults.Fault.{Fault}
+use Rattle.fs_types.specs.declared.faults.Fault.TheVariants.{FlashFull, ReadOnly, ReadFailed, PowerCut, NoMemory, Damaged}
+use Rattle.node_store.specs.Faults.{IsReadFault, IsWriteFault}
+use Rattle.node_format.specs.Edits.{IsEdited}
 use Rattle.node_format.specs.Items.{Item, named}
 use Rattle.node_format.specs.declared.places.Place.{Place}
 use Rattle.node_format.specs.declared.places.Place.TheVariants.{Dir, File}
 use Rattle.block_trees.specs.Bodies.{Blocks}
-use Rattle.block_trees.specs.Trees.{entries_of, items_of, child, leads, entries_in}
+use Rattle.block_trees.specs.Trees.{entries_of, items_of, child, leads, entries_in, items_in}
 use Rattle.block_trees.specs.Reached.{IsHeld, Keeps}
 use Rattle.block_trees.specs.Rewritten.{IsDirectoryEdit, IsRewritten, AreFresh}
 use Rattle.block_trees.proofs.Reaching.{held_child, held_leads}
 use Rattle.directory.specs.Lookups.{directory_at, below_in, found_of, found_in, look_up, ◌>>=◌}
-use Rattle.directory.specs.Trails.{IsTrail, IsHeldTrail, IsTaken, has_room, takes}
+use Rattle.directory.specs.Trails.{IsTrail, IsHeldTrail, IsTaken, has_room, takes, IsChangeFault}
 use Rattle.directory.proofs.Rewrites.{child_below, rewritten_one, fresh_one}
 use Rattle.directory.proofs.NewDirectories.{held_later, same_held}
 use Rattle.directory.proofs.Ways.{leads_more, looks_on}
@@ -22,6 +26,35 @@ use Rattle.directory.proofs.Ways.{leads_more, looks_on}
 pub if_ok : {T E : Type 0} (P Q : T → Type 0) (r : Result T E) → ((x : T) → P x → Q x) → IfOk r P → IfOk r Q
 if_ok P Q (Ok x) f p = f x p
 if_ok P Q (Err e) f p = tt
+
+pub if_err : {T E : Type 0} (P Q : E → Type 0) (r : Result T E) → ((e : E) → P e → Q e) → IfErr r P → IfErr r Q
+if_err P Q (Ok x) f p = tt
+if_err P Q (Err e) f p = f e p
+
+-- ---- refusals
+
+pub write_refused : (fault : Fault) → IsWriteFault fault → IsChangeFault fault
+write_refused FlashFull is = refl
+write_refused ReadOnly is = refl
+write_refused PowerCut is = refl
+write_refused _ is = absurd (true≢false (sym is))
+
+pub read_refused : (fault : Fault) → IsReadFault fault → (fault ≡ Damaged → ⊥) → IsChangeFault fault
+read_refused ReadFailed is other = refl
+read_refused PowerCut is other = refl
+read_refused NoMemory is other = refl
+read_refused Damaged is other = absurd (other refl)
+read_refused _ is other = absurd (true≢false (sym is))
+
+-- a node that takes an edit is there
+pub taken_there : (held : Option (List ℕ)) (name : Name) (place : Option Place) → takes (entries_of held) name place ≡ true → held ≡ None → ⊥
+taken_there held name place taken none = true≢false (sym taken ∙ ap (λ (n : Option (List ℕ)). takes (entries_of n) name place) none)
+
+-- what was written is the directory with the edit
+pub edit_written : (old new : Blocks) (from to : ℕ) (bytes written : List ℕ) (name : Name) (place : Option Place) → old from ≡ Some bytes → new to ≡ Some written → IsEdited (items_of (Some bytes)) name place written → IsDirectoryEdit old new from to name place
+edit_written old new from to bytes written name place from_is to_is edit =
+    let same : items_of (Some bytes) ≡ items_in old from = ap items_of (sym from_is) in
+    (edit.items, ap entries_of to_is ∙ edit.spelled, λ m. edit.leads m ∙ ap (λ (items : List Item). if same_name name m then place else named items m) same)
 
 -- ---- names of a path
 

@@ -1,8 +1,9 @@
 -- What one look at a block shows.
-use Rattle.std.proofs.Common.{◌≡◌, ◌≢◌, ◌↔◌, ℕ, zero, suc, ◌+◌, ◌-◌, ◌*◌, ◌/◌, ◌%◌, ◌^◌, ◌<◌, ◌≤◌, Bool, true, false, ◌&&◌, Option, Some, None, List, [], ◌∷◌, length, drop, length-drop, refl, sym, ap, subst, ◌∙◌, arith}
-use Rattle.std.specs.Prelude.{Contains, not, IsTrue, All, is_some, nat_eq, nat_lt, unwrap_or, map}
+use Rattle.std.proofs.Common.{◌≡◌, ◌≢◌, ◌↔◌, ℕ, zero, suc, ◌+◌, ◌-◌, ◌*◌, ◌/◌, ◌%◌, ◌^◌, ◌<◌, ◌≤◌, Bool, true, false, ◌&&◌, Option, Some, None, Result, Ok, Err, List, [], ◌∷◌, length, drop, length-drop, refl, sym, ap, subst, ◌∙◌, arith}
+use Rattle.std.specs.Prelude.{IfOk, Contains, not, IsTrue, All, is_some, nat_eq, nat_lt, unwrap_or, map, slice_index}
 use Rattle.std.specs.Option.{option_map, option_map_or, option_eq}
 use Rattle.std.proofs.Math.Nat.{div-add-mod'}
+use Rattle.std.proofs.lemmas.Nat.{mul-le}
 use Rattle.std.proofs.lemmas.Bool.{true≢false, and_parts, and_from, ltb-true, lt-ltb, eqb-true, eq-eqb}
 use Rattle.std.proofs.lemmas.List.{length-map}
 use Rattle.std.proofs.lemmas.List.Elements.{All-nil, All-cons, All-head, All-tail, All-map, All-contains, All-contains_itself, All-weaker}
@@ -14,7 +15,7 @@ use Rattle.block_trees.specs.Trees.{entries_of, items_of}
 use Rattle.block_trees.proofs.Entries.{directory_no_index}
 use Rattle.reclaim.specs.Naming.{has_slot}
 use Rattle.reclaim.specs.Sound.{IsDirectoryAt, IsHead, IsSoundPlace, HoldsSlot, IsSoundBody, IsSoundNode}
-use Rattle.reclaim.specs.Looks.{body_of, look_reads, AreSteppedTo}
+use Rattle.reclaim.specs.Looks.{body_of, look_reads, AreSteppedTo, ArePartsOf, IsSoundAt}
 use Rattle.reclaim.proofs.NamedLaws.{has_slot-divides, divides-has_slot, divides-below}
 use Rattle.reclaim.proofs.Lengths.{divides-short}
 use Rattle.fs_types.specs.declared.limits.TheConstants.{MAX_FILE_BYTES}
@@ -213,6 +214,44 @@ node_body capacity f node places good is exact well index pointers sound has fit
   λ h. body.1 (body_same capacity f (pointer_of node) pointers index fits (λ x below. sym (same x below)) (h.pointers index has)),
 )
 
+-- parts of the same node in other words
+pub parts_again : (own : Option (List ℕ)) (bytes : List ℕ) (places : List Place) (pointers : List ℕ) (places' : List Place) (pointers' : List ℕ) (index : Option ℕ) → own ≡ Some bytes → places' ≡ places → pointers' ≡ pointers
+    → ArePartsOf (Some bytes) places pointers index → ArePartsOf own places' pointers' index
+parts_again own bytes places pointers places' pointers' index is same_places same_pointers parts =
+    subst (λ (n : Option (List ℕ)). ArePartsOf n places' pointers' index) (sym is)
+    (subst (λ (p : List Place). ArePartsOf (Some bytes) p pointers' index) (sym same_places) (subst (λ (p : List ℕ). ArePartsOf (Some bytes) places p index) (sym same_pointers) parts))
+
+-- a node by its parts: entries that are not sound, no index, and an index
+pub parts_bad : (capacity : ℕ) (f : Blocks) (places : List Place) (pointers : List ℕ) (index : Option ℕ) (good : Bool) → (IsTrue good ↔ All (IsSoundPlace capacity f) places) → good ≡ false
+    → (node : Option (List ℕ)) → ArePartsOf node places pointers index → IsTrue false ↔ IsSoundNode capacity f node
+parts_bad capacity f places pointers index good exact bad node parts = node_bad capacity f node places good parts.places_are exact bad
+
+pub parts_plain : (capacity : ℕ) (f : Blocks) (places : List Place) (pointers : List ℕ) (index : Option ℕ) (good : Bool) → (IsTrue good ↔ All (IsSoundPlace capacity f) places) → good ≡ true → index ≡ None
+    → (node : Option (List ℕ)) → ArePartsOf node places pointers index → IsTrue true ↔ IsSoundNode capacity f node
+parts_plain capacity f places pointers index good exact well none node parts = node_plain capacity f node places good parts.places_are exact well (sym parts.index_is ∙ none)
+
+short_fits : (capacity index : ℕ) → 0 < capacity → index * capacity < MAX_FILE_BYTES → index < 2 ^ 32
+short_fits capacity index least short = omega (arith, short, mul-le index 1 index capacity (omega arith) least)
+
+pub parts_body : (capacity : ℕ) (f f' : Blocks) (places : List Place) (pointers : List ℕ) (index : ℕ) (good sound : Bool) → f' ≡ f → (IsTrue good ↔ All (IsSoundPlace capacity f) places) → good ≡ true → 0 < capacity
+    → (IsTrue sound ↔ IsSoundAt capacity f' (slice_index pointers) index) → (node : Option (List ℕ)) → ArePartsOf node places pointers (Some index) → IsTrue sound ↔ IsSoundNode capacity f node
+parts_body capacity f f' places pointers index good sound same exact well least own node parts = (λ t. (whole t).0 t, λ h. here.1 (h.short index (sym parts.index_is), body_same capacity f (pointer_of node) (slice_index pointers) index (short_fits capacity index least (h.short index (sym parts.index_is))) (λ x below. sym (parts.pointers_are x below)) (h.pointers index (sym parts.index_is))))
+  where
+    here : IsTrue sound ↔ IsSoundAt capacity f (slice_index pointers) index
+    here = subst (λ (h : Blocks). IsTrue sound ↔ IsSoundAt capacity h (slice_index pointers) index) same own
+
+    whole : IsTrue sound → IsTrue sound ↔ IsSoundNode capacity f node
+    whole t =
+        let at = here.0 t in
+        node_body capacity f node places good parts.places_are exact well index (slice_index pointers) sound (sym parts.index_is) (short_fits capacity index least at.0) parts.pointers_are at.0 (λ s. (here.0 s).1, λ b. t)
+
+-- a test that is answered by another, where a file can have the index
+pub at_long : (capacity : ℕ) (f : Blocks) (p : ℕ → ℕ) (index : ℕ) (short : Bool) → short ≡ nat_lt (index * capacity) MAX_FILE_BYTES → short ≡ false → IsTrue false ↔ IsSoundAt capacity f p index
+at_long capacity f p index short is long = (λ t. absurd (never t), λ h. sym long ∙ is ∙ lt-ltb (index * capacity) MAX_FILE_BYTES h.0)
+
+pub at_short : (capacity : ℕ) (f : Blocks) (p : ℕ → ℕ) (index : ℕ) (short sound : Bool) → short ≡ nat_lt (index * capacity) MAX_FILE_BYTES → short ≡ true → (IsTrue sound ↔ IsSoundBody capacity f p index) → IsTrue sound ↔ IsSoundAt capacity f p index
+at_short capacity f p index short sound is well body = (λ t. (ltb-true (index * capacity) MAX_FILE_BYTES (sym is ∙ well), body.0 t), λ h. body.1 h.1)
+
 -- ---- reads of a look
 
 pub look_least : (node : Option (List ℕ)) → 1 ≤ look_reads node
@@ -238,3 +277,16 @@ look_body node places index is has = on (entries_of node) refl (ap length is)
     on : (o : Option (List Item)) → entries_of node ≡ o → length places ≡ length (map (λ (item : Item). item.place) (unwrap_or o [])) → 14 + length places ≤ option_map_or (λ items. 1 + length items) o 14
     on None none size = omega arith
     on (Some items) some size = absurd (true≢false (ap is_some (sym has ∙ directory_no_index node items some)))
+
+-- one look at each entry, or those of a body
+pub parts_places : (node : Option (List ℕ)) (places : List Place) (pointers : List ℕ) (index : Option ℕ) (before now : ℕ) → now ≤ before + length places → ArePartsOf node places pointers index → now + 1 ≤ before + look_reads node
+parts_places node places pointers index before now few parts = (let most = look_places node places parts.places_are in omega arith)
+
+pub parts_at : (node : Option (List ℕ)) (places : List Place) (pointers : List ℕ) (index before now now' : ℕ) → now ≤ before + length places → now' ≤ now + 13 → ArePartsOf node places pointers (Some index) → now' + 1 ≤ before + look_reads node
+parts_at node places pointers index before now now' few more parts = (let most = look_body node places index parts.places_are (sym parts.index_is) in omega arith)
+
+-- ---- what calls answered
+
+pub if_ok : {T E : Type 0} (P Q : T → Type 0) (r : Result T E) → ((x : T) → P x → Q x) → IfOk r P → IfOk r Q
+if_ok P Q (Ok x) f p = f x p
+if_ok P Q (Err e) f p = tt

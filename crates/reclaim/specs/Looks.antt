@@ -1,13 +1,16 @@
 -- What a look at a block brings.
-use Rattle.std.specs.Prelude.{◌≡◌, ℕ, suc, ◌+◌, ◌<◌, Bool, true, false, IsTrue, Option, List, length}
+use Rattle.std.specs.Prelude.{◌≡◌, ℕ, suc, ◌+◌, ◌*◌, ◌<◌, ◌≤◌, Bool, true, false, IsTrue, Option, List, length, map, slice_index}
 use Rattle.std.specs.Option.{option_map, option_map_or}
+use Rattle.fs_types.specs.declared.limits.TheConstants.{MAX_FILE_BYTES}
 use Rattle.fs_types.specs.declared.faults.Fault.{Fault}
 use Rattle.fs_types.specs.declared.faults.Fault.TheVariants.{Damaged}
 use Rattle.node_store.specs.Faults.{is_read_fault}
-use Rattle.block_trees.specs.Bodies.{Blocks, index_of, data_of}
-use Rattle.block_trees.specs.Trees.{entries_of}
+use Rattle.node_format.specs.Items.{Item}
+use Rattle.node_format.specs.declared.places.Place.{Place}
+use Rattle.block_trees.specs.Bodies.{Blocks, index_of, data_of, pointer_of}
+use Rattle.block_trees.specs.Trees.{entries_of, items_of}
 use Rattle.reclaim.specs.Naming.{has_slot}
-use Rattle.reclaim.specs.Sound.{HoldsSlot}
+use Rattle.reclaim.specs.Sound.{HoldsSlot, IsSoundBody}
 
 -- the index of a body node, and how many data bytes it has
 abbrev pub body_of : Option (List ℕ) → Option (ℕ × ℕ)
@@ -28,3 +31,14 @@ look_reads node = option_map_or (λ items. 1 + length items) (entries_of node) 1
 -- the pointers of an index are stepped at the places below n
 abbrev pub AreSteppedTo : Blocks → (ℕ → ℕ) → ℕ → ℕ → Type 0
 AreSteppedTo f pointer index n = (x : ℕ) → x < n → has_slot index (suc x) ≡ true → HoldsSlot (f (pointer x)) x (pointer (suc x))
+
+-- the places of the entries of a node, what stands in its slots, and its index
+pub record ArePartsOf (node : Option (List ℕ)) (places : List Place) (pointers : List ℕ) (index : Option ℕ) : Type 0 where
+  pub places_are : places ≡ map (λ (item : Item). item.place) (items_of node)
+  pub count : length pointers ≡ 32
+  pub pointers_are : (x : ℕ) → x < 32 → slice_index pointers x ≡ pointer_of node x
+  pub index_is : index ≡ index_of node
+
+-- a file can have a node of this index, and its pointers are sound
+abbrev pub IsSoundAt : ℕ → Blocks → (ℕ → ℕ) → ℕ → Type 0
+IsSoundAt capacity f pointer index = (index * capacity < MAX_FILE_BYTES) × IsSoundBody capacity f pointer index

@@ -8,7 +8,7 @@ use Rattle.block_trees.specs.Bodies.{Blocks, index_of, pointer_of, data_of, head
 use Rattle.block_trees.specs.Trees.{entries_of, IsRoot, entries_in}
 use Rattle.block_trees.specs.Reached.{Reached}
 use Rattle.block_trees.specs.Laws.{IsShallow}
-use Rattle.fs_types.specs.declared.limits.TheConstants.{MAX_FILE_BYTES}
+use Rattle.fs_types.specs.declared.limits.TheConstants.{MAX_FILE_BYTES, MAX_NAMES}
 
 -- the block holds a directory node
 abbrev pub IsDirectoryAt : Blocks → ℕ → Type 0
@@ -45,11 +45,11 @@ pub record IsSoundNode (capacity : ℕ) (f : Blocks) (node : Option (List ℕ)) 
   pub pointers : (index : ℕ) → index_of node ≡ Some index → IsSoundBody capacity f (pointer_of node) index
   pub short : (index : ℕ) → index_of node ≡ Some index → index * capacity < MAX_FILE_BYTES
 
--- all that the roots reach is sound, and they are directories below which no path has more than 16 names
+-- all that the roots reach is sound, and they are directories below which no path has more names than it may
 pub record AreSound (capacity : ℕ) (f : Blocks) (roots : List ℕ) : Type 0 where
   pub nodes : (b : ℕ) → Reached f roots b → IsSoundNode capacity f (f b)
   pub directories : (root : ℕ) → Contains roots root → IsDirectoryAt f root
-  pub shallow : (root : ℕ) → Contains roots root → IsShallow f (Dir root) 16
+  pub shallow : (root : ℕ) → Contains roots root → IsShallow f (Dir root) MAX_NAMES
 
 -- then each root has a tree
 abbrev pub SoundHasTrees : Type 0

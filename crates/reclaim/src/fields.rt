@@ -7,9 +7,6 @@ ghost use Rattle.reclaim.specs.Naming as spec;
 /// The first bytes of a body node.
 const MAGIC: [u8; 4] = *b"UFNB";
 
-/// The bytes of a body node before its data.
-pub const FRONT: u32 = 80;
-
 /// No power of two from this one on divides a number of four bytes, but 0.
 pub const SLOTS: usize = 32;
 

@@ -1,23 +1,19 @@
 //! One look at a block, and at the blocks that it names.
-ghost use Rattle.std.specs.Prelude.{◌≡◌, ◌≢◌, ℕ, ◌+◌, ◌*◌, ◌^◌, ◌-◌, ◌≤◌, ◌<◌, ◌↔◌, ◌++◌, ◌/◌, ◌%◌, ◌&&◌, nat_eq, nat_lt, All, true, false, IsTrue, map, length, Some, None, OnOk, IfOk, IfErr, IsErrOf, slice_index};
+ghost use Rattle.std.specs.Prelude.{◌≡◌, ◌≢◌, ℕ, ◌+◌, ◌*◌, ◌^◌, ◌-◌, ◌≤◌, ◌<◌, ◌↔◌, ◌++◌, ◌/◌, ◌%◌, ◌&&◌, nat_eq, nat_lt, All, true, false, IsTrue, map, length, List, Option, Some, None, OnOk, IfOk, IfErr, IsErrOf, slice_index};
 ghost use Rattle.fs_types.specs.declared.limits.TheConstants.{MAX_FILE_BYTES};
 ghost use Rattle.fs_types.specs.declared.faults.Fault.TheVariants.{Damaged};
 ghost use Rattle.node_format.specs.declared.places.Place.TheVariants.{Dir, File};
-
 ghost use Rattle.block_trees.specs.Bodies.{index_of, pointer_of, data_of};
 ghost use Rattle.block_trees.specs.Trees.{entries_of, items_of};
 ghost use Rattle.reclaim.specs.Sound.{IsDirectoryAt, IsHead, IsSoundPlace, HoldsSlot, IsSoundBody, IsSoundNode, AreStepped};
 ghost use Rattle.reclaim.specs.Looks as spec;
 ghost use Rattle.node_store.specs.Frames.{OnlyLooks};
 
-use crate::fields::{FRONT, SLOTS, has_pointer, index_in, pointer_in};
-use fs_types::Fault;
-use node_format::{Entries, Place};
+use crate::fields::{SLOTS, has_pointer, index_in, pointer_in};
+use fs_types::{Fault, MAX_FILE_BYTES};
+use node_format::{BODY_FRONT, Entries, Place};
 use node_store::Nodes;
 use std::alloc::{AllocError, Global};
-
-/// The most bytes of a file.
-const MOST_LENGTH: u64 = 16_777_216;
 
 /// Brings the node in a block, for `lent` to lend; whether there is one.
 fn brings<N: Nodes>(nodes: &mut N, block: u32) -> Result<bool, Fault>
@@ -70,7 +66,7 @@ fn body_at<N: Nodes>(nodes: &mut N, block: u32) -> Result<Option<(u32, usize)>, 
     let Some(index) = index_in(bytes) else {
         return Ok(None);
     };
-    Ok(Some((index, bytes.len().saturating_sub(FRONT as usize))))
+    Ok(Some((index, bytes.len().saturating_sub(BODY_FRONT as usize))))
 }
 
 /// Whether the last node of a file, whose length is not 0, has the index and bytes enough.
@@ -239,7 +235,78 @@ fn is_sound_body<N: Nodes>(
 fn is_short(capacity: u32, index: u32) -> bool
     ensures { result ≡ nat_lt (index * capacity) MAX_FILE_BYTES }
 {
-    index as u64 * (capacity as u64) < MOST_LENGTH
+    index as u64 * (capacity as u64) < MAX_FILE_BYTES as u64
+}
+
+/// Whether a file can have a node of an index, and the nodes that its pointers name are as they have to be.
+fn is_sound_at<N: Nodes>(
+    nodes: &mut N,
+    capacity: u32,
+    pointers: &[u32],
+    index: u32,
+) -> Result<bool, Fault>
+    requires sound { N.is_sound nodes.old }
+    requires capacity { 2 ^ 11 ≤ capacity }
+    requires count { length pointers.now ≡ 32 }
+    ensures exact { IfOk result (λ good. IsTrue good ↔ spec.IsSoundAt capacity (N.node nodes.old) (slice_index pointers.now) index) }
+    ensures why { IfErr result (λ fault. N.causes nodes.old nodes.new fault) }
+    ensures faults { IfErr result spec.IsLookFault }
+    ensures looks { OnlyLooks N.node N.kept N.writes N.follows N.is_sound N.limit N.blocks nodes.old nodes.new }
+    ensures reads { N.reads nodes.new ≤ N.reads nodes.old + 13 }
+{
+    if !is_short(capacity, index) {
+        return Ok(false);
+    }
+    is_sound_body(nodes, capacity, pointers, index)
+}
+
+/// What the bytes of a node say: the places of its entries, what stands in its slots, and the index of
+/// a body node.
+#[derive(Drop)]
+struct Parts {
+    places: Vec<Place>,
+    pointers: Vec<u32>,
+    index: Option<u32>,
+}
+
+fn parts_in(alloc: Global, bytes: &[u8]) -> Result<Parts, AllocError>
+    ensures { IfOk result (λ parts. spec.ArePartsOf (Some bytes.now) parts.places.items parts.pointers.items parts.index) }
+{
+    let places = places_in(alloc, bytes)?;
+    let pointers = pointers_in(alloc, bytes)?;
+    let index = index_in(bytes);
+    Ok(Parts {
+        places,
+        pointers,
+        index,
+    })
+}
+
+/// Whether the node that these are the parts of is sound.
+fn are_sound_parts<N: Nodes>(
+    nodes: &mut N,
+    capacity: u32,
+    places: &[Place],
+    pointers: &[u32],
+    index: Option<u32>,
+) -> Result<bool, Fault>
+    requires sound { N.is_sound nodes.old }
+    requires capacity { 2 ^ 11 ≤ capacity }
+    requires count { length pointers.now ≡ 32 }
+    ensures exact { IfOk result (λ good. (node : Option (List ℕ)) → spec.ArePartsOf node places.now pointers.now index → IsTrue good ↔ IsSoundNode capacity (N.node nodes.old) node) }
+    ensures why { IfErr result (λ fault. N.causes nodes.old nodes.new fault) }
+    ensures faults { IfErr result spec.IsLookFault }
+    ensures looks { OnlyLooks N.node N.kept N.writes N.follows N.is_sound N.limit N.blocks nodes.old nodes.new }
+    ensures reads { (node : Option (List ℕ)) → spec.ArePartsOf node places.now pointers.now index → N.reads nodes.new + 1 ≤ N.reads nodes.old + spec.look_reads node }
+{
+    let good = are_sound_places(nodes, capacity, places)?;
+    if !good {
+        return Ok(false);
+    }
+    match index {
+        Some(index) => is_sound_at(nodes, capacity, pointers, index),
+        None => Ok(true),
+    }
 }
 
 /// Whether a directory's entries are sound, or a body node's pointers.
@@ -261,19 +328,7 @@ pub fn look<N: Nodes>(
     if !brought {
         return Ok(true);
     }
-    let places = places_in(alloc, nodes.lent())?;
-    let pointers = pointers_in(alloc, nodes.lent())?;
-    let index = index_in(nodes.lent());
-    let good = are_sound_places(nodes, capacity, &places)?;
-    if !good {
-        return Ok(false);
-    }
-    let Some(index) = index else {
-        return Ok(true);
-    };
-    if !is_short(capacity, index) {
-        return Ok(false);
-    }
-    let sound = is_sound_body(nodes, capacity, &pointers, index)?;
-    Ok(sound)
+    let parts = parts_in(alloc, nodes.lent())?;
+    let good = are_sound_parts(nodes, capacity, &parts.places, &parts.pointers, parts.index)?;
+    Ok(good)
 }

@@ -3,6 +3,7 @@ ghost use Rattle.std.specs.Prelude.{◌≡◌, ◌≢◌, ◌↔◌, ℕ, ◌+�
 ghost use Rattle.std.specs.List.{sum_by};
 ghost use Rattle.allocator.specs.Ring.{IsDataBlock};
 ghost use Rattle.node_format.specs.declared.places.Place.TheVariants.{Dir};
+ghost use Rattle.block_trees.specs.Bodies.{Blocks};
 ghost use Rattle.block_trees.specs.Trees.{items_in};
 ghost use Rattle.block_trees.specs.Laws.{IsShallow};
 ghost use Rattle.directory.specs.Depths.{HasDirectories};
@@ -13,17 +14,15 @@ ghost use Rattle.reclaim.specs.Looks.{IsLookFault, look_reads};
 ghost use Rattle.reclaim.specs.Passes.{IsPass, IsFinished};
 ghost use Rattle.reclaim.specs.Sound.{IsDirectoryAt, IsSoundNode};
 ghost use Rattle.reclaim.specs.Verified.{AreRoots, HasCost};
+ghost use Rattle.fs_types.specs.declared.limits.TheConstants.{MAX_NAMES};
 
-use crate::fields::FRONT;
 use crate::looks::{is_directory, look};
 use crate::passes::{FIRST, Pass};
 use directory::any_is_deeper;
-use fs_types::Fault;
+use fs_types::{Fault, MAX_NAMES};
+use node_format::BODY_FRONT;
 use node_store::Nodes;
 use std::alloc::Global;
-
-/// The most names that a path has.
-const DEPTH: usize = 16;
 
 // Whether a block is a data block.
 fn is_data_block(blocks: u32, block: u32) -> bool
@@ -89,13 +88,13 @@ fn are_directories<N: Nodes>(nodes: &mut N, list: &[u32]) -> Result<bool, Fault>
 // Whether no path below any root has too many names.
 fn are_shallow<N: Nodes>(alloc: Global, nodes: &mut N, roots: &[u32]) -> Result<bool, Fault>
     requires { N.is_sound nodes.old }
-    ensures exact { IfOk result (λ good. IsTrue good ↔ All (λ root. IsShallow (N.node nodes.old) (Dir root) 16) roots.now) }
+    ensures exact { IfOk result (λ good. IsTrue good ↔ All (λ root. IsShallow (N.node nodes.old) (Dir root) MAX_NAMES) roots.now) }
     ensures why { IfErr result (λ fault. N.causes nodes.old nodes.new fault) }
     ensures faults { IfErr result IsLookFault }
     ensures looks { OnlyLooks N.node N.kept N.writes N.follows N.is_sound N.limit N.blocks nodes.old nodes.new }
     ensures reads { (all : List ℕ) → HasDirectories (N.node nodes.old) (N.blocks nodes.old) roots.now all → N.reads nodes.new ≤ N.reads nodes.old + 17 * length all }
 {
-    let deep = any_is_deeper(alloc, nodes, roots, DEPTH)?;
+    let deep = any_is_deeper(alloc, nodes, roots, MAX_NAMES)?;
     Ok(!deep)
 }
 
@@ -115,13 +114,44 @@ fn have_trees<N: Nodes>(
     ensures looks { OnlyLooks N.node N.kept N.writes N.follows N.is_sound N.limit N.blocks nodes.old nodes.new }
     ensures reads { N.reads nodes.new ≤ N.reads nodes.old + sum_by (λ b. 18 + 2 * length (items_in (N.node nodes.old) b)) marked.now }
 {
-    let capacity = nodes.block_bytes() - FRONT;
+    let capacity = nodes.block_bytes() - BODY_FRONT;
     let are_sound = are_sound(alloc, nodes, capacity, marked)?;
     if !are_sound {
         return Ok(false);
     }
     let are_shallow = are_shallow(alloc, nodes, roots)?;
     Ok(are_shallow)
+}
+
+// A pass at its start, of roots that all are directories; `Damaged` where one is none.
+fn start_pass<N: Nodes>(
+    alloc: Global,
+    blocks: u32,
+    nodes: &mut N,
+    roots: &[u32],
+) -> Result<Pass, Fault>
+    requires sound { N.is_sound nodes.old }
+    requires blocks { blocks ≡ N.blocks nodes.old }
+    ensures pass { IfOk result (λ p. (f : Blocks) → IsPass f p) }
+    ensures begun { IfOk result (λ p. (p.blocks ≡ blocks) × (p.roots ≡ roots.now) × (p.next ≡ 0)) }
+    ensures directories { IfOk result (λ _. All (IsDirectoryAt (N.node nodes.old)) roots.now) }
+    ensures asked { IfOk result (λ p. N.reads nodes.new ≤ N.reads nodes.old + length p.order) }
+    ensures damaged { IsErrOf result Fault.Damaged → AreRoots (N.limit nodes.old) (N.node nodes.old) roots.now → ⊥ }
+    ensures why { IfErr result (λ fault. fault ≢ Fault.Damaged → N.causes nodes.old nodes.new fault) }
+    ensures faults { IfErr result IsReadFault }
+    ensures looks { OnlyLooks N.node N.kept N.writes N.follows N.is_sound N.limit N.blocks nodes.old nodes.new }
+    ensures reads { HasCost (N.node nodes.old) roots.now (N.reads nodes.old) (N.reads nodes.new) }
+{
+    if !are_data_blocks(blocks, roots) {
+        return Err(Fault::Damaged);
+    }
+    let pass = Pass::start(alloc, blocks, roots)?;
+    // The marked blocks are the roots so far, each once.
+    let are_directories = are_directories(nodes, pass.marked())?;
+    if !are_directories {
+        return Err(Fault::Damaged);
+    }
+    Ok(pass)
 }
 
 /// A finished pass of roots that each have a tree with linked bodies, on a flash of `blocks` blocks.
@@ -145,15 +175,7 @@ pub fn verify<N: Nodes>(
     ensures looks { OnlyLooks N.node N.kept N.writes N.follows N.is_sound N.limit N.blocks nodes.old nodes.new }
     ensures reads { HasCost (N.node nodes.old) roots.now (N.reads nodes.old) (N.reads nodes.new) }
 {
-    if !are_data_blocks(blocks, roots) {
-        return Err(Fault::Damaged);
-    }
-    let mut pass = Pass::start(alloc, blocks, roots)?;
-    // The marked blocks are the roots so far, each once.
-    let are_directories = are_directories(nodes, pass.marked())?;
-    if !are_directories {
-        return Err(Fault::Damaged);
-    }
+    let mut pass = start_pass(alloc, blocks, nodes, roots)?;
     pass.read_all(nodes)?;
     let have_trees = have_trees(alloc, nodes, roots, pass.marked())?;
     if !have_trees {

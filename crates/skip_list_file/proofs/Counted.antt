@@ -4,15 +4,16 @@ use Rattle.std.specs.Prelude.{min}
 use Rattle.std.proofs.lemmas.Bool.{cases_lt}
 use Rattle.std.proofs.lemmas.Nat.{mul-le, le-div, div-add-mod', mod_below}
 use Rattle.std.proofs.Math.Nat.{div-mul-le_self}
+use Rattle.plain_trees.specs.Contents.{nodes_from}
 use Rattle.block_trees.specs.Bodies.{head_index}
 use Rattle.skip_list_file.specs.Reading.{nodes_between}
 use Rattle.skip_list_file.specs.Writing.{KeepsNone}
 use Rattle.skip_list_file.proofs.Parts.{count_some, count_none, div_mono}
 
--- the reads so far: the nodes after the edit are listed by one read each, and read once each
+-- the reads so far: the nodes after the edit are read once each, and the first that is written with a few more
 pub record AreFew (capacity size end first index before now : ℕ) : Type 0 where
-  pub all : (digits : ℕ) → head_index capacity size < 2 ^ digits → now ≤ before + (nodes_between capacity end size + (nodes_between capacity end size - (head_index capacity size + 1 - index)) + (1 + 5 * digits))
-  pub none : (digits : ℕ) → head_index capacity size < 2 ^ digits → index ≤ first → now ≤ before + (nodes_between capacity end size + 3 * digits)
+  pub all : (digits : ℕ) → head_index capacity size < 2 ^ digits → now ≤ before + ((nodes_between capacity end size - (head_index capacity size + 1 - index)) + (1 + 2 * digits))
+  pub none : index ≤ first → now ≤ before
 
 pub few_first : (capacity size offset first digits : ℕ) → 0 < capacity → first ≡ min offset size / capacity → head_index capacity size < 2 ^ digits → first ≤ 2 ^ digits
 few_first capacity size offset first digits least is small = on first is
@@ -24,16 +25,21 @@ few_first capacity size offset first digits least is small = on first is
         let before : k ≤ (size - 1) / capacity = le-div k (size - 1) capacity least (omega (arith, suc-mul k capacity)) in
         omega arith
 
+-- the reads of a start
 pub few_begun : (capacity size offset end first before front table now : ℕ) → 0 < capacity → first ≡ min offset size / capacity
     → ((digits : ℕ) → head_index capacity size < 2 ^ digits → front ≤ before + 2 * digits) → ((digits : ℕ) → first ≤ 2 ^ digits → table ≤ front + digits) → now ≤ table + nodes_between capacity end size
-    → AreFew capacity size end first first before now
-few_begun capacity size offset end first before front table now least is by_front by_table by_list = record {
-  all = λ digits small. (let few = all digits small in omega arith);
-  none = λ digits small at. all digits small;
+    → (digits : ℕ) → head_index capacity size < 2 ^ digits → now ≤ before + (nodes_between capacity end size + 3 * digits)
+few_begun capacity size offset end first before front table now least is by_front by_table by_list digits small =
+    let a = by_front digits small in
+    let b = by_table digits (few_first capacity size offset first digits least is small) in
+    omega arith
+
+-- none so far
+pub few_none : (capacity size end first now : ℕ) → AreFew capacity size end first first now now
+few_none capacity size end first now = record {
+  all = λ digits small. omega arith;
+  none = λ at. omega arith;
 }
-  where
-    all : (digits : ℕ) → head_index capacity size < 2 ^ digits → now ≤ before + (nodes_between capacity end size + 3 * digits)
-    all digits small = (let a = by_front digits small in let b = by_table digits (few_first capacity size offset first digits least is small) in omega arith)
 
 -- one node more
 pub few_on : (capacity size offset end first index count before now now' blocks : ℕ) → 0 < capacity → first ≡ min offset size / capacity → first ≤ index → count ≤ capacity → blocks ≡ nodes_between capacity end size
@@ -41,14 +47,14 @@ pub few_on : (capacity size offset end first index count before now now' blocks 
     → AreFew capacity size end first index before now → AreFew capacity size end first (index + 1) before now'
 few_on capacity size offset end first index count before now now' blocks least is from fits counted unread listed any few = record {
   all = λ digits small. all digits small (cases_lt (index * capacity) size) (cases_lt first index);
-  none = λ digits small at. absurd (omega arith);
+  none = λ at. absurd (omega arith);
 }
   where
-    same : (digits : ℕ) → head_index capacity size < 2 ^ digits → now' ≡ now → now' ≤ before + (nodes_between capacity end size + (nodes_between capacity end size - (head_index capacity size + 1 - (index + 1))) + (1 + 5 * digits))
+    same : (digits : ℕ) → head_index capacity size < 2 ^ digits → now' ≡ now → now' ≤ before + ((nodes_between capacity end size - (head_index capacity size + 1 - (index + 1))) + (1 + 2 * digits))
     same digits small e = (let most = few.all digits small in omega arith)
 
     one : (digits : ℕ) → head_index capacity size < 2 ^ digits → index ≤ head_index capacity size → head_index capacity size - index < nodes_between capacity end size → now' ≤ now + 1
-        → now' ≤ before + (nodes_between capacity end size + (nodes_between capacity end size - (head_index capacity size + 1 - (index + 1))) + (1 + 5 * digits))
+        → now' ≤ before + ((nodes_between capacity end size - (head_index capacity size + 1 - (index + 1))) + (1 + 2 * digits))
     one digits small le lt e = (let most = few.all digits small in omega arith)
 
     -- the edit begins before a node after the first
@@ -80,24 +86,44 @@ few_on capacity size offset end first index count before now now' blocks least i
             omega (arith, div-mul-le_self end capacity)
 
     all : (digits : ℕ) → head_index capacity size < 2 ^ digits → (index * capacity < size) ⊎ (size ≤ index * capacity) → (first < index) ⊎ (index ≤ first)
-        → now' ≤ before + (nodes_between capacity end size + (nodes_between capacity end size - (head_index capacity size + 1 - (index + 1))) + (1 + 5 * digits))
+        → now' ≤ before + ((nodes_between capacity end size - (head_index capacity size + 1 - (index + 1))) + (1 + 2 * digits))
     all digits small (inr past) other = same digits small (unread (inl past))
-    all digits small (inl within) (inr at) = (let begun = few.none digits small at in let more = any digits small in omega arith)
+    all digits small (inl within) (inr at) = (let begun = few.none at in let more = any digits small in omega arith)
     all digits small (inl within) (inl lt) =
         let le : index ≤ head_index capacity size = le-div index (size - 1) capacity least (omega arith) in
         on le (cases_lt (head_index capacity size - index) (nodes_between capacity end size))
       where
         on : index ≤ head_index capacity size → (head_index capacity size - index < nodes_between capacity end size) ⊎ (nodes_between capacity end size ≤ head_index capacity size - index)
-            → now' ≤ before + (nodes_between capacity end size + (nodes_between capacity end size - (head_index capacity size + 1 - (index + 1))) + (1 + 5 * digits))
+            → now' ≤ before + ((nodes_between capacity end size - (head_index capacity size + 1 - (index + 1))) + (1 + 2 * digits))
         on le (inl in_list) = one digits small le in_list (listed (omega arith))
         on le (inr not_in_list) = same digits small (unread (inr (begins lt within, ends not_in_list le)))
 
 -- in all
-pub few_all : (capacity size end first index before now digits : ℕ) → AreFew capacity size end first index before now → head_index capacity size < 2 ^ digits → now ≤ before + (2 * nodes_between capacity end size + (1 + 5 * digits))
-few_all capacity size end first index before now digits few small = (let most = few.all digits small in omega arith)
+pub few_all : (capacity size end first index before now : ℕ) → AreFew capacity size end first index before now → (digits : ℕ) → head_index capacity size < 2 ^ digits → now ≤ before + (nodes_between capacity end size + (1 + 2 * digits))
+few_all capacity size end first index before now few digits small = (let most = few.all digits small in omega arith)
 
 abbrev pub AreAll : ℕ → ℕ → ℕ → ℕ → ℕ → Type 0
 AreAll size end before now capacity = (digits : ℕ) → head_index capacity size < 2 ^ digits → now ≤ before + (2 * nodes_between capacity end size + (1 + 5 * digits))
+
+-- a start alone
+pub few_begun_all : (capacity size end before now : ℕ) → ((digits : ℕ) → head_index capacity size < 2 ^ digits → now ≤ before + (nodes_between capacity end size + 3 * digits)) → AreAll size end before now capacity
+few_begun_all capacity size end before now a digits small = (let few = a digits small in omega arith)
+
+-- a start, and the nodes written
+pub few_both : (capacity size end before middle now : ℕ) → ((digits : ℕ) → head_index capacity size < 2 ^ digits → middle ≤ before + (nodes_between capacity end size + 3 * digits))
+    → ((digits : ℕ) → head_index capacity size < 2 ^ digits → now ≤ middle + (nodes_between capacity end size + (1 + 2 * digits))) → AreAll size end before now capacity
+few_both capacity size end before middle now a b digits small =
+    let first = a digits small in
+    let rest = b digits small in
+    omega arith
+
+-- a node was written for each index from the first on
+pub written_count : (capacity from size first index before now : ℕ) → 0 < capacity → first ≡ from / capacity → from < size → (size - 1) / capacity + 1 ≤ index → (first ≤ (size - 1) / capacity + 1 → index ≤ (size - 1) / capacity + 1) → now ≡ before + (index - first)
+    → now ≡ before + nodes_from capacity from size
+written_count capacity from size first index before now least first_is lt ended most is =
+    let order : from / capacity ≤ (size - 1) / capacity = div_mono capacity from (size - 1) least (omega arith) in
+    let last : index ≡ (size - 1) / capacity + 1 = (let le = most (omega arith) in omega arith) in
+    omega arith
 
 -- no more nodes are listed than there are
 pub few_listed : (capacity size end count capacity' : ℕ) → capacity ≡ capacity' → count ≡ nodes_between capacity end size → count ≤ head_index capacity' size + 1

@@ -17,11 +17,11 @@ use Rattle.block_trees.proofs.Frames.{frame_law}
 use Rattle.block_trees.proofs.Reaching.{reached_own, reached_below, before_named}
 use Rattle.skip_list_file.specs.declared.bodies.Body.{Body}
 use Rattle.skip_list_file.specs.Reading.{AreBlocks}
-use Rattle.skip_list_file.specs.Writing.{slot_before, AreLinked, IsFront, IsGrown, IsWritten, OnlyReaches}
+use Rattle.skip_list_file.specs.Writing.{edited, slot_before, AreLinked, IsFront, IsGrown, IsWritten, OnlyReaches}
 use Rattle.skip_list_file.proofs.Fronts.{has_head, body_length}
 use Rattle.skip_list_file.proofs.Chains.{chain_node}
 use Rattle.skip_list_file.proofs.Parts.{data_length}
-use Rattle.skip_list_file.proofs.EditedBytes.{resized_cut}
+use Rattle.skip_list_file.proofs.EditedBytes.{resized_cut, edited_length}
 use Rattle.skip_list_file.proofs.Appended.{IsNext, IsAppended, append_node, index_at, divides_least}
 use Rattle.skip_list_file.proofs.Places.{few_slots}
 use Rattle.skip_list_file.proofs.NodeBytes.{data_fits}
@@ -217,21 +217,46 @@ ends_past capacity size least =
 pub starts_before : (capacity from size : ℕ) → 0 < capacity → from < size → from / capacity ≤ (size - 1) / capacity
 starts_before capacity from size least lt = le-div (from / capacity) (size - 1) capacity least (omega (arith, div-add-mod' from capacity))
 
+pub first_within : (start offset old size : ℕ) → start ≤ min offset old → min offset old < size → (start ≤ offset) × (start ≤ old) × (start ≤ size)
+first_within start offset old size le lt = (omega arith, omega arith, omega arith)
+
+pub first_own : (start size : ℕ) → start ≤ size → start ≡ min start size
+first_own start size le = omega arith
+
+pub own_first : (start size : ℕ) → start < size → min start size ≡ start
+own_first start size lt = omega arith
+
+-- the index after the last ends the bytes
+pub all_ends : (capacity i size : ℕ) → 0 < capacity → i ≡ (size - 1) / capacity + 1 → min (i * capacity) size ≡ size
+all_ends capacity i size least is =
+    let past = ends_past capacity size least in
+    let rows : i * capacity ≡ ((size - 1) / capacity + 1) * capacity = ap (λ (n : ℕ). n * capacity) is in
+    omega (arith, past, rows)
+
 pub part_length : (bytes : List ℕ) (start count size : ℕ) → length bytes ≡ size → start + count ≤ size → length (take count (drop start bytes)) ≡ count
 part_length bytes start count size is fits = length-take-le count (drop start bytes) (omega (arith, length-drop start bytes))
 
--- one turn: a node of these bytes more, or what is left of them
-pub turn : (capacity : ℕ) (f0 f f' f'' : Blocks) (kept0 kept kept' kept'' : ℕ → Bool) (from : Body) (bytes : List ℕ) (head i next : ℕ) (chunk : List ℕ) (count size : ℕ) → 0 < capacity → i * capacity < size → count ≡ min capacity (size - i * capacity)
-    → length bytes ≡ size → IsBegun capacity f0 kept0 from bytes f kept head (min (i * capacity) size) → f' ≡ f → kept' ≡ kept → IsGrown capacity f' f'' kept' kept'' head i next chunk → ((b : ℕ) → kept b ≡ false → kept0 b ≡ false)
-    → chunk ≡ take count (drop (i * capacity) bytes) → IsBegun capacity f0 kept0 from bytes f'' kept'' next (min ((i + 1) * capacity) size)
-turn capacity f0 f f' f'' kept0 kept kept' kept'' from bytes head i next chunk count size least within count_is long begun same_nodes same_kept more was chunk_is =
+pub part_long : (old : List ℕ) (offset : ℕ) (bytes : List ℕ) (size start count : ℕ) (chunk : List ℕ) → chunk ≡ take count (drop start (edited old offset bytes size)) → start + count ≤ size → length chunk ≡ count
+part_long old offset bytes size start count chunk is fits = ap length is ∙ part_length (edited old offset bytes size) start count size (edited_length old offset bytes size) fits
+
+-- one turn: a node of the next bytes more, or of what is left of them
+pub turn : (capacity : ℕ) (f0 f f' : Blocks) (kept0 kept kept' : ℕ → Bool) (from : Body) (bytes : List ℕ) (head i next size : ℕ) → 0 < capacity → i * capacity < size → length bytes ≡ size
+    → IsBegun capacity f0 kept0 from bytes f kept head (min (i * capacity) size) → IsGrown capacity f f' kept kept' head i next (take (min capacity (size - i * capacity)) (drop (i * capacity) bytes))
+    → ((b : ℕ) → kept b ≡ false → kept0 b ≡ false) → IsBegun capacity f0 kept0 from bytes f' kept' next (min ((i + 1) * capacity) size)
+turn capacity f0 f f' kept0 kept kept' from bytes head i next size least within long begun more was =
+    let count : ℕ = min capacity (size - i * capacity) in
     let so_far : min (i * capacity) size ≡ i * capacity = omega arith in
     let rows : (i + 1) * capacity ≡ i * capacity + capacity = omega arith in
     let here = subst (IsBegun capacity f0 kept0 from bytes f kept head) so_far begun in
-    let grown_here : IsGrown capacity f f'' kept kept'' head i next chunk =
-    subst (λ (k : ℕ → Bool). IsGrown capacity f f'' k kept'' head i next chunk) same_kept (subst (λ (g : Blocks). IsGrown capacity g f'' kept' kept'' head i next chunk) same_nodes more) in
-    let counted : length chunk ≡ count = ap length chunk_is ∙ part_length bytes (i * capacity) count size long (omega arith) in
-    begun_more capacity f0 f f'' kept0 kept kept'' from bytes head i next chunk count (min ((i + 1) * capacity) size) least here grown_here was chunk_is counted (omega arith)
+    let counted = part_length bytes (i * capacity) count size long (omega arith) in
+    begun_more capacity f0 f f' kept0 kept kept' from bytes head i next (take count (drop (i * capacity) bytes)) count (min ((i + 1) * capacity) size) least here more was refl counted (omega arith)
+
+-- what a node more gives, said of the state before a call that only reads
+pub grown_from : (capacity : ℕ) (f f' f'' : Blocks) (kept kept' kept'' : ℕ → Bool) (head i next : ℕ) (bytes bytes' : List ℕ) → f' ≡ f → kept' ≡ kept → bytes ≡ bytes'
+    → IsGrown capacity f' f'' kept' kept'' head i next bytes → IsGrown capacity f f'' kept kept'' head i next bytes'
+grown_from capacity f f' f'' kept kept' kept'' head i next bytes bytes' same_nodes same_kept same more =
+    subst (IsGrown capacity f f'' kept kept'' head i next) same
+    (subst (λ (k : ℕ → Bool). IsGrown capacity f f'' k kept'' head i next bytes) same_kept (subst (λ (h : Blocks). IsGrown capacity h f'' kept' kept'' head i next bytes) same_nodes more))
 
 -- all of the bytes
 pub written_whole : (capacity : ℕ) (f0 f : Blocks) (kept0 kept : ℕ → Bool) (from to : Body) (bytes : List ℕ) → IsBegun capacity f0 kept0 from bytes f kept to.head to.length → to.length ≡ length bytes → IsWritten capacity f kept to bytes

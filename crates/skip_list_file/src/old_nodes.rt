@@ -40,10 +40,10 @@ pub(crate) fn list_blocks<N: Nodes>(
     let count = (body.length - 1) / capacity + 1 - from / capacity;
     let mut blocks = Vec::with_capacity(alloc, count as usize)?;
     let mut block = body.head;
-    blocks.push(block)?;
+    blocks.push_reserved(block);
     for _step in 1..count {
         block = pointer_at(nodes, block, 0)?;
-        blocks.push(block)?;
+        blocks.push_reserved(block);
     }
     Ok(blocks)
 }

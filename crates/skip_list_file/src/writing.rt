@@ -1,6 +1,6 @@
 //! Bodies with other bytes, or of another length: the nodes from the first that differs on are written
 //! anew, and those before it are shared.
-ghost use Rattle.std.specs.Prelude.{◌≡◌, ℕ, ◌+◌, ◌-◌, ◌*◌, ◌^◌, ◌<◌, ◌≤◌, min, length, replicate, slice_index, OnOk, IfOk, IfErr};
+ghost use Rattle.std.specs.Prelude.{◌≡◌, ℕ, ◌+◌, ◌-◌, ◌*◌, ◌/◌, ◌^◌, ◌<◌, ◌≤◌, min, length, replicate, slice_index, OnOk, IfOk, IfErr};
 ghost use Rattle.node_format.specs.Headers.{body_front};
 ghost use Rattle.node_format.specs.declared.places.Place.TheVariants.{File};
 ghost use Rattle.plain_trees.specs.Contents.{read_from, nodes_from, pwrite_need, ftruncate_need, resized, overwritten};
@@ -160,9 +160,170 @@ fn edited_bytes<N: Nodes>(
     Ok(new)
 }
 
+/// What is to be made of a body: its bytes from `offset` on become others, and its length `size`, not
+/// less than it was. A node has so many data bytes as `capacity`.
+#[derive(Clone, Copy)]
+pub(crate) struct Change {
+    pub(crate) capacity: u32,
+    pub(crate) body: Body,
+    pub(crate) offset: u32,
+    pub(crate) size: u32,
+}
+
+/// Writes the node of an index of a body that is changed, after a body of full nodes, and answers its
+/// block. `old` are the listed blocks of the old body.
+fn write_node<N: Nodes>(
+    alloc: Global,
+    nodes: &mut N,
+    change: Change,
+    bytes: &[u8],
+    old: &[u32],
+    table: &mut Table,
+    head: u32,
+    index: u32,
+) -> Result<u32, Fault>
+    requires sound { N.is_sound nodes.old }
+    requires capacity { change.capacity ≡ N.limit nodes.old - body_front }
+    requires least { 4016 ≤ change.capacity }
+    requires small { change.capacity < 2 ^ 18 }
+    requires within { index * change.capacity < change.size }
+    requires size { change.size ≤ 16777216 }
+    requires few { (change.size - 1) / change.capacity < 2 ^ 15 }
+    requires last { index ≤ (change.size - 1) / change.capacity }
+    requires fits { change.offset + length bytes.now ≤ 16777216 }
+    requires whole { IsBody change.capacity (N.node nodes.old) change.body.head change.body.length }
+    requires old { AreBlocks (N.node nodes.old) change.body.head old.now }
+    requires front { IsBody change.capacity (N.node nodes.old) head (index * change.capacity) }
+    requires held { IsHeld (N.node nodes.old) (N.kept nodes.old) (File head (index * change.capacity)) }
+    requires table { spec.IsTable (N.node nodes.old) head index ((change.size - 1) / change.capacity) table.old.blocks }
+    ensures grown { IfOk result (λ next. spec.IsGrown change.capacity (N.node nodes.old) (N.node nodes.new) (N.kept nodes.old) (N.kept nodes.new) head index next (read_from (spec.edited (bodies.body change.capacity (N.node nodes.old) change.body.head change.body.length) change.offset bytes.now change.size) (index * change.capacity) (min change.capacity (change.size - index * change.capacity)))) }
+    ensures table { IfOk result (λ next. spec.IsTable (N.node nodes.new) next (index + 1) ((change.size - 1) / change.capacity) table.new.blocks) }
+    ensures unread { spec.KeepsNone change.body.length change.offset (change.offset + length bytes.now) (index * change.capacity) (index * change.capacity + min change.capacity (change.size - index * change.capacity)) → N.reads nodes.new ≡ N.reads nodes.old }
+    ensures listed { head_index change.capacity change.body.length - index < length old.now → N.reads nodes.new ≤ N.reads nodes.old + 1 }
+    ensures reads { (digits : ℕ) → head_index change.capacity change.body.length < 2 ^ digits → N.reads nodes.new ≤ N.reads nodes.old + (1 + 2 * digits) }
+    ensures why { IfErr result (λ fault. N.causes nodes.old nodes.new fault) }
+    ensures faults { IfErr result spec.IsWritingFault }
+    ensures one { IfOk result (λ _. N.writes nodes.new ≡ N.writes nodes.old + 1) }
+    ensures writes { N.writes nodes.new ≤ N.writes nodes.old + 1 }
+    ensures works { Works N.follows N.is_sound N.limit N.blocks nodes.old nodes.new }
+{
+    let capacity = change.capacity;
+    let count = capacity.min(change.size - index * capacity);
+    let data = edited_bytes(
+        alloc,
+        nodes,
+        capacity,
+        change.body,
+        old,
+        change.offset,
+        bytes,
+        index,
+        count,
+    )?;
+    let next = append(alloc, nodes, capacity, table, head, index, &data)?;
+    Ok(next)
+}
+
+/// What the nodes of a changed body are written after: the head of those that stay, the table for the
+/// next one, and the listed blocks of the old body.
+#[derive(Drop)]
+struct Start {
+    head: u32,
+    table: Table,
+    old: Vec<u32>,
+}
+
+/// The start of a change whose bytes end at `end`, with `first` the index of the first node to be
+/// written: by reads alone.
+fn start_at<N: Nodes>(
+    alloc: Global,
+    nodes: &mut N,
+    change: Change,
+    end: u32,
+    first: u32,
+) -> Result<Start, Fault>
+    requires sound { N.is_sound nodes.old }
+    requires capacity { change.capacity ≡ N.limit nodes.old - body_front }
+    requires least { 0 < change.capacity }
+    requires whole { IsBody change.capacity (N.node nodes.old) change.body.head change.body.length }
+    requires first { first ≡ min change.offset change.body.length / change.capacity }
+    requires some { 0 < change.size }
+    requires last { first ≤ (change.size - 1) / change.capacity }
+    requires few { (change.size - 1) / change.capacity < 2 ^ 15 }
+    ensures front { IfOk result (λ start. spec.IsFront change.capacity (N.node nodes.old) change.body.head change.body.length start.head (first * change.capacity)) }
+    ensures table { IfOk result (λ start. spec.IsTable (N.node nodes.old) start.head first ((change.size - 1) / change.capacity) start.table.blocks) }
+    ensures old { IfOk result (λ start. AreBlocks (N.node nodes.old) change.body.head start.old.items) }
+    ensures count { IfOk result (λ start. length start.old.items ≡ nodes_between change.capacity end change.body.length) }
+    ensures reads { (digits : ℕ) → head_index change.capacity change.body.length < 2 ^ digits → N.reads nodes.new ≤ N.reads nodes.old + (nodes_between change.capacity end change.body.length + 3 * digits) }
+    ensures why { IfErr result (λ fault. N.causes nodes.old nodes.new fault) }
+    ensures faults { IfErr result spec.IsWritingFault }
+    ensures looks { OnlyLooks N.node N.kept N.writes N.follows N.is_sound N.limit N.blocks nodes.old nodes.new }
+{
+    let capacity = change.capacity;
+    let last = (change.size - 1) / capacity;
+    let head = front(nodes, capacity, change.body, first * capacity)?;
+    let table = start_table(nodes, head, first, last)?;
+    let old = list_blocks(alloc, nodes, capacity, change.body, end)?;
+    Ok(Start { head, table, old })
+}
+
+/// Writes the nodes of a changed body from the index `first` on, in ascending order.
+fn write_nodes<N: Nodes>(
+    alloc: Global,
+    nodes: &mut N,
+    change: Change,
+    bytes: &[u8],
+    start: Start,
+    first: u32,
+) -> Result<Body, Fault>
+    requires sound { N.is_sound nodes.old }
+    requires capacity { change.capacity ≡ N.limit nodes.old - body_front }
+    requires least { 4016 ≤ change.capacity }
+    requires small { change.capacity < 2 ^ 18 }
+    requires whole { IsBody change.capacity (N.node nodes.old) change.body.head change.body.length }
+    requires body { IsHeld (N.node nodes.old) (N.kept nodes.old) (File change.body.head change.body.length) }
+    requires size { change.size ≤ 16777216 }
+    requires fits { change.offset + length bytes.now ≤ 16777216 }
+    requires changed { min change.offset change.body.length < change.size }
+    requires first { first ≡ min change.offset change.body.length / change.capacity }
+    requires front { spec.IsFront change.capacity (N.node nodes.old) change.body.head change.body.length start.head (first * change.capacity) }
+    requires table { spec.IsTable (N.node nodes.old) start.head first ((change.size - 1) / change.capacity) start.table.blocks }
+    requires old { AreBlocks (N.node nodes.old) change.body.head start.old.items }
+    requires count { length start.old.items ≡ nodes_between change.capacity (change.offset + length bytes.now) change.body.length }
+    ensures written { IfOk result (λ new. spec.IsWritten change.capacity (N.node nodes.new) (N.kept nodes.new) new (spec.edited (bodies.body change.capacity (N.node nodes.old) change.body.head change.body.length) change.offset bytes.now change.size)) }
+    ensures reaches { IfOk result (λ new. spec.OnlyReaches (N.node nodes.old) (N.node nodes.new) (N.kept nodes.old) change.body new) }
+    ensures reads { (digits : ℕ) → head_index change.capacity change.body.length < 2 ^ digits → N.reads nodes.new ≤ N.reads nodes.old + (nodes_between change.capacity (change.offset + length bytes.now) change.body.length + (1 + 2 * digits)) }
+    ensures why { IfErr result (λ fault. N.causes nodes.old nodes.new fault) }
+    ensures faults { IfErr result spec.IsWritingFault }
+    ensures count { IfOk result (λ _. N.writes nodes.new ≡ N.writes nodes.old + nodes_from change.capacity (min change.offset change.body.length) change.size) }
+    ensures writes { N.writes nodes.new ≤ N.writes nodes.old + nodes_from change.capacity (min change.offset change.body.length) change.size }
+    ensures works { Works N.follows N.is_sound N.limit N.blocks nodes.old nodes.new }
+{
+    let mut head = start.head;
+    let mut table = start.table;
+    let old = start.old;
+    let last = (change.size - 1) / change.capacity;
+    for index in first..last + 1 {
+        head = write_node(
+            alloc,
+            nodes,
+            change,
+            bytes,
+            old.as_slice(),
+            &mut table,
+            head,
+            index,
+        )?;
+    }
+    Ok(Body {
+        head,
+        length: change.size,
+    })
+}
+
 /// The body with these bytes from `offset` on, and zeros between its end and `size` where there are
 /// none: the nodes from the first that changes on are written, in one pass over the old ones.
-fn edited<N: Nodes>(
+fn change_body<N: Nodes>(
     alloc: Global,
     nodes: &mut N,
     body: Body,
@@ -187,27 +348,16 @@ fn edited<N: Nodes>(
     ensures works { Works N.follows N.is_sound N.limit N.blocks nodes.old nodes.new }
 {
     let capacity = nodes.block_bytes() - BODY_FRONT;
+    let change = Change {
+        capacity,
+        body,
+        offset,
+        size,
+    };
     let first = offset.min(body.length) / capacity;
-    let last = (size - 1) / capacity;
-    let mut head = front(nodes, capacity, body, first * capacity)?;
-    let mut table = start_table(nodes, head, first, last)?;
-    let old = list_blocks(alloc, nodes, capacity, body, offset + bytes.len() as u32)?;
-    for index in first..last + 1 {
-        let count = capacity.min(size - index * capacity);
-        let data = edited_bytes(
-            alloc,
-            nodes,
-            capacity,
-            body,
-            old.as_slice(),
-            offset,
-            bytes,
-            index,
-            count,
-        )?;
-        head = append(alloc, nodes, capacity, &mut table, head, index, &data)?;
-    }
-    Ok(Body { head, length: size })
+    let start = start_at(alloc, nodes, change, offset + bytes.len() as u32, first)?;
+    let new = write_nodes(alloc, nodes, change, bytes, start, first)?;
+    Ok(new)
 }
 
 /// The body with these bytes, at least one, from `offset` on; what lies between its end and there is
@@ -243,7 +393,7 @@ pub fn write_range<N: Nodes>(
     ensures works { Works N.follows N.is_sound N.limit N.blocks nodes.old nodes.new }
 {
     let end = offset + bytes.len() as u32;
-    edited(alloc, nodes, body, offset, bytes, body.length.max(end))
+    change_body(alloc, nodes, body, offset, bytes, body.length.max(end))
 }
 
 /// The body cut to a length, or with zeros up to it. A length that is not greater writes no node: the
@@ -273,7 +423,7 @@ pub fn set_length<N: Nodes>(
     ensures works { Works N.follows N.is_sound N.limit N.blocks nodes.old nodes.new }
 {
     if length > body.length {
-        return edited(alloc, nodes, body, body.length, &[], length);
+        return change_body(alloc, nodes, body, body.length, &[], length);
     }
     let capacity = nodes.block_bytes() - BODY_FRONT;
     let head = front(nodes, capacity, body, length)?;

@@ -1,4 +1,4 @@
-use Rattle.std.proofs.Common.{◌≡◌, ◌≢◌, ◌↔◌, ◌≤◌, ℕ, List, Err, None, ap, sym, subst, ◌∙◌}
+use Rattle.std.proofs.Common.{refl, ◌≡◌, ◌≢◌, ◌↔◌, ◌≤◌, ℕ, List, Err, None, ap, sym, subst, ◌∙◌}
 use Rattle.std.specs.Prelude.{IsTrue, All, Contains}
 use Rattle.std.proofs.lemmas.Result.{err_from_is_err_and}
 use Rattle.fs_types.specs.declared.faults.Fault.TheVariants.{Damaged}
@@ -12,35 +12,8 @@ use Rattle.reclaim.proofs.Looking.{never}
 use Rattle.reclaim.proofs.Verifying.{roots_are_data, roots_directories, directories_roots, none_reached, marked_exact}
 use Rattle.reclaim.proofs.verification.verify.Goals as goal
 
-pub returns-then-not-are_data_blocks-clause-damaged : goal.returns-then-not-are_data_blocks-clause-damaged
-returns-then-not-are_data_blocks-clause-damaged g c _ trees =
-    let all = roots_are_data (g.N.Nodes.limit c.args.nodes.now) c.args.blocks (g.N.Nodes.node c.args.nodes.now) c.args.roots.now
-    (λ b low. g.met.N.Nodes.none_below c.args.nodes.now b low)
-    (λ b high. g.met.N.Nodes.none_beyond c.args.nodes.now b (subst (λ (n : ℕ). n ≤ b) c.requires.blocks high))
-    trees in
-    never (sym c.if-not-are_data_blocks.true ∙ c.are_data_blocks.ensures.1 all)
-
-pub returns-in_err-are_directories-clause-reads : goal.returns-in_err-are_directories-clause-reads
-returns-in_err-are_directories-clause-reads g c =
-    let f = g.N.Nodes.node c.args.nodes.now in
-    root_reads f c.args.roots.now c.marked.result.now c.in_ok-pass.pass (g.N.Nodes.reads c.args.nodes.now) (g.N.Nodes.reads c.are_directories.new.nodes)
-    (c.in_ok-pass.ensures.pass f) c.in_ok-pass.ensures.begun.1 c.marked.ensures c.are_directories.ensures.reads
-
-pub returns-then-not-are_directories-clause-reads : goal.returns-then-not-are_directories-clause-reads
-returns-then-not-are_directories-clause-reads g c =
-    let f = g.N.Nodes.node c.args.nodes.now in
-    root_reads f c.args.roots.now c.marked.result.now c.in_ok-pass.pass (g.N.Nodes.reads c.args.nodes.now) (g.N.Nodes.reads c.are_directories.new.nodes)
-    (c.in_ok-pass.ensures.pass f) c.in_ok-pass.ensures.begun.1 c.marked.ensures c.are_directories.ensures.reads
-
-pub returns-then-not-are_directories-clause-damaged : goal.returns-then-not-are_directories-clause-damaged
-returns-then-not-are_directories-clause-damaged g c _ trees =
-    let f = g.N.Nodes.node c.args.nodes.now in
-    let same : (b : ℕ) → Contains c.marked.result.now b ↔ Contains c.args.roots.now b =
-    subst (λ (l : List ℕ). (b : ℕ) → Contains l b ↔ Contains c.args.roots.now b) (sym c.marked.ensures) c.in_ok-pass.ensures.first in
-    never (sym c.if-not-are_directories.true ∙ c.in_ok-are_directories.ensures.exact.1 (roots_directories (g.N.Nodes.limit c.args.nodes.now) f c.args.roots.now c.marked.result.now same trees))
-
 pub read_all-requires-clause-pass : goal.read_all-requires-clause-pass
-read_all-requires-clause-pass g c = c.in_ok-pass.ensures.pass (g.N.Nodes.node c.are_directories.new.nodes)
+read_all-requires-clause-pass g c = c.in_ok-pass.ensures.pass (g.N.Nodes.node c.start_pass.new.nodes)
 
 pub returns-in_err-read_all-clause-damaged : goal.returns-in_err-read_all-clause-damaged
 returns-in_err-read_all-clause-damaged g c damaged =
@@ -49,95 +22,92 @@ returns-in_err-read_all-clause-damaged g c damaged =
     let is : p.0 ≡ Damaged = cc in
     let found = c.in_err-read_all.ensures.damaged (ap (λ (e : Fault). Err e) (sym p.2 ∙ is)) in
     none_reached (g.N.Nodes.limit c.args.nodes.now) (g.N.Nodes.node c.args.nodes.now) c.in_ok-pass.pass.roots c.args.roots.now c.in_ok-pass.ensures.begun.1
-    (subst (λ (f : Blocks). (b : ℕ) × Reached f c.in_ok-pass.pass.roots b × (f b ≡ None)) c.are_directories.ensures.looks.same_nodes found)
+    (subst (λ (f : Blocks). (b : ℕ) × Reached f c.in_ok-pass.pass.roots b × (f b ≡ None)) c.start_pass.ensures.looks.same_nodes found)
 
 pub returns-in_err-read_all-clause-why : goal.returns-in_err-read_all-clause-why
 returns-in_err-read_all-clause-why g c =
     let fault = c.in_err-read_all.field-0.0 in
     let p = err_from_is_err_and c.from_residual-in_err-read_all.result c.from_residual-in_err-read_all.ensures.1 in
     let why : fault ≢ Damaged → g.N.Nodes.causes c.args.nodes.now c.read_all.new.nodes fault =
-    λ other. g.met.N.Nodes.causes_on c.args.nodes.now c.are_directories.new.nodes c.read_all.new.nodes fault c.are_directories.ensures.looks.came (c.in_err-read_all.ensures.why other) in
+    λ other. g.met.N.Nodes.causes_on c.args.nodes.now c.start_pass.new.nodes c.read_all.new.nodes fault c.start_pass.ensures.looks.came (c.in_err-read_all.ensures.why other) in
     rw (p.1, p.2) why
 
 pub returns-in_err-have_trees-clause-why : goal.returns-in_err-have_trees-clause-why
 returns-in_err-have_trees-clause-why g c =
     let fault = c.in_err-have_trees.field-0.0 in
     let p = err_from_is_err_and c.from_residual-in_err-have_trees.result c.from_residual-in_err-have_trees.ensures.1 in
-    let before = g.met.N.Nodes.follows_on c.args.nodes.now c.are_directories.new.nodes c.read_all.new.nodes c.are_directories.ensures.looks.came c.read_all.ensures.looks.came in
+    let before = g.met.N.Nodes.follows_on c.args.nodes.now c.start_pass.new.nodes c.read_all.new.nodes c.start_pass.ensures.looks.came c.read_all.ensures.looks.came in
     let why : fault ≢ Damaged → g.N.Nodes.causes c.args.nodes.now c.have_trees.new.nodes fault =
     λ other. g.met.N.Nodes.causes_on c.args.nodes.now c.read_all.new.nodes c.have_trees.new.nodes fault before c.in_err-have_trees.ensures.why in
     rw (p.1, p.2) why
 
 pub returns-in_err-read_all-clause-reads : goal.returns-in_err-read_all-clause-reads
 returns-in_err-read_all-clause-reads g c =
-    pass_reads (g.N.Nodes.node c.args.nodes.now) (g.N.Nodes.node c.are_directories.new.nodes) c.args.roots.now c.marked.result.now c.in_ok-pass.pass
-    (g.N.Nodes.reads c.args.nodes.now) (g.N.Nodes.reads c.are_directories.new.nodes) (g.N.Nodes.reads c.read_all.new.nodes)
-    c.are_directories.ensures.looks.same_nodes c.in_ok-pass.ensures.begun.1 c.marked.ensures c.in_ok-pass.ensures.begun.2 c.are_directories.ensures.reads c.in_err-read_all.ensures.seen
+    pass_reads (g.N.Nodes.node c.args.nodes.now) (g.N.Nodes.node c.start_pass.new.nodes) c.args.roots.now c.in_ok-pass.pass.order c.in_ok-pass.pass
+    (g.N.Nodes.reads c.args.nodes.now) (g.N.Nodes.reads c.start_pass.new.nodes) (g.N.Nodes.reads c.read_all.new.nodes)
+    c.start_pass.ensures.looks.same_nodes c.in_ok-pass.ensures.begun.1 refl c.in_ok-pass.ensures.begun.2 c.in_ok-pass.ensures.asked c.in_err-read_all.ensures.seen
 
 pub have_trees-requires-clause-marked : goal.have_trees-requires-clause-marked
 have_trees-requires-clause-marked g c =
-    marked_exact (g.N.Nodes.node c.read_all.new.nodes) c.read_all.new.self c.marked-2.result.now c.args.roots.now
-    c.in_ok-read_all.ensures.pass c.in_ok-read_all.ensures.finished c.marked-2.ensures
+    marked_exact (g.N.Nodes.node c.read_all.new.nodes) c.read_all.new.self c.marked.result.now c.args.roots.now
+    c.in_ok-read_all.ensures.pass c.in_ok-read_all.ensures.finished c.marked.ensures
     (c.read_all.ensures.same.1 ∙ c.in_ok-pass.ensures.begun.1)
 
 pub have_trees-requires-clause-directories : goal.have_trees-requires-clause-directories
 have_trees-requires-clause-directories g c =
-    let same : (b : ℕ) → Contains c.marked.result.now b ↔ Contains c.args.roots.now b =
-    subst (λ (l : List ℕ). (b : ℕ) → Contains l b ↔ Contains c.args.roots.now b) (sym c.marked.ensures) c.in_ok-pass.ensures.first in
-    subst (λ (f : Blocks). All (IsDirectoryAt f) c.args.roots.now) (sym (c.read_all.ensures.looks.same_nodes ∙ c.are_directories.ensures.looks.same_nodes))
-    (directories_roots (g.N.Nodes.node c.args.nodes.now) c.args.roots.now c.marked.result.now same (c.in_ok-are_directories.ensures.exact.0 c.if-not-are_directories.false))
+    subst (λ (f : Blocks). All (IsDirectoryAt f) c.args.roots.now) (sym (c.read_all.ensures.looks.same_nodes ∙ c.start_pass.ensures.looks.same_nodes)) c.in_ok-pass.ensures.directories
 
 pub returns-in_err-have_trees-clause-reads : goal.returns-in_err-have_trees-clause-reads
 returns-in_err-have_trees-clause-reads g c =
-    tree_reads (g.N.Nodes.node c.args.nodes.now) (g.N.Nodes.node c.read_all.new.nodes) c.args.roots.now c.marked.result.now c.marked-2.result.now c.in_ok-pass.pass c.read_all.new.self
-    (g.N.Nodes.reads c.args.nodes.now) (g.N.Nodes.reads c.are_directories.new.nodes) (g.N.Nodes.reads c.read_all.new.nodes) (g.N.Nodes.reads c.have_trees.new.nodes)
-    (c.read_all.ensures.looks.same_nodes ∙ c.are_directories.ensures.looks.same_nodes) c.in_ok-read_all.ensures.pass c.in_ok-read_all.ensures.finished
-    (c.read_all.ensures.same.1 ∙ c.in_ok-pass.ensures.begun.1) c.marked.ensures c.marked-2.ensures c.read_all.ensures.begins c.in_ok-pass.ensures.begun.2
-    c.are_directories.ensures.reads c.in_ok-read_all.ensures.read c.have_trees.ensures.reads
+    tree_reads (g.N.Nodes.node c.args.nodes.now) (g.N.Nodes.node c.read_all.new.nodes) c.args.roots.now c.in_ok-pass.pass.order c.marked.result.now c.in_ok-pass.pass c.read_all.new.self
+    (g.N.Nodes.reads c.args.nodes.now) (g.N.Nodes.reads c.start_pass.new.nodes) (g.N.Nodes.reads c.read_all.new.nodes) (g.N.Nodes.reads c.have_trees.new.nodes)
+    (c.read_all.ensures.looks.same_nodes ∙ c.start_pass.ensures.looks.same_nodes) c.in_ok-read_all.ensures.pass c.in_ok-read_all.ensures.finished
+    (c.read_all.ensures.same.1 ∙ c.in_ok-pass.ensures.begun.1) refl c.marked.ensures c.read_all.ensures.begins c.in_ok-pass.ensures.begun.2
+    c.in_ok-pass.ensures.asked c.in_ok-read_all.ensures.read c.have_trees.ensures.reads
 
 pub returns-then-not-have_trees-clause-reads : goal.returns-then-not-have_trees-clause-reads
 returns-then-not-have_trees-clause-reads g c =
-    tree_reads (g.N.Nodes.node c.args.nodes.now) (g.N.Nodes.node c.read_all.new.nodes) c.args.roots.now c.marked.result.now c.marked-2.result.now c.in_ok-pass.pass c.read_all.new.self
-    (g.N.Nodes.reads c.args.nodes.now) (g.N.Nodes.reads c.are_directories.new.nodes) (g.N.Nodes.reads c.read_all.new.nodes) (g.N.Nodes.reads c.have_trees.new.nodes)
-    (c.read_all.ensures.looks.same_nodes ∙ c.are_directories.ensures.looks.same_nodes) c.in_ok-read_all.ensures.pass c.in_ok-read_all.ensures.finished
-    (c.read_all.ensures.same.1 ∙ c.in_ok-pass.ensures.begun.1) c.marked.ensures c.marked-2.ensures c.read_all.ensures.begins c.in_ok-pass.ensures.begun.2
-    c.are_directories.ensures.reads c.in_ok-read_all.ensures.read c.have_trees.ensures.reads
+    tree_reads (g.N.Nodes.node c.args.nodes.now) (g.N.Nodes.node c.read_all.new.nodes) c.args.roots.now c.in_ok-pass.pass.order c.marked.result.now c.in_ok-pass.pass c.read_all.new.self
+    (g.N.Nodes.reads c.args.nodes.now) (g.N.Nodes.reads c.start_pass.new.nodes) (g.N.Nodes.reads c.read_all.new.nodes) (g.N.Nodes.reads c.have_trees.new.nodes)
+    (c.read_all.ensures.looks.same_nodes ∙ c.start_pass.ensures.looks.same_nodes) c.in_ok-read_all.ensures.pass c.in_ok-read_all.ensures.finished
+    (c.read_all.ensures.same.1 ∙ c.in_ok-pass.ensures.begun.1) refl c.marked.ensures c.read_all.ensures.begins c.in_ok-pass.ensures.begun.2
+    c.in_ok-pass.ensures.asked c.in_ok-read_all.ensures.read c.have_trees.ensures.reads
 
 pub returns-clause-reads : goal.returns-clause-reads
 returns-clause-reads g c =
-    tree_reads (g.N.Nodes.node c.args.nodes.now) (g.N.Nodes.node c.read_all.new.nodes) c.args.roots.now c.marked.result.now c.marked-2.result.now c.in_ok-pass.pass c.read_all.new.self
-    (g.N.Nodes.reads c.args.nodes.now) (g.N.Nodes.reads c.are_directories.new.nodes) (g.N.Nodes.reads c.read_all.new.nodes) (g.N.Nodes.reads c.have_trees.new.nodes)
-    (c.read_all.ensures.looks.same_nodes ∙ c.are_directories.ensures.looks.same_nodes) c.in_ok-read_all.ensures.pass c.in_ok-read_all.ensures.finished
-    (c.read_all.ensures.same.1 ∙ c.in_ok-pass.ensures.begun.1) c.marked.ensures c.marked-2.ensures c.read_all.ensures.begins c.in_ok-pass.ensures.begun.2
-    c.are_directories.ensures.reads c.in_ok-read_all.ensures.read c.have_trees.ensures.reads
+    tree_reads (g.N.Nodes.node c.args.nodes.now) (g.N.Nodes.node c.read_all.new.nodes) c.args.roots.now c.in_ok-pass.pass.order c.marked.result.now c.in_ok-pass.pass c.read_all.new.self
+    (g.N.Nodes.reads c.args.nodes.now) (g.N.Nodes.reads c.start_pass.new.nodes) (g.N.Nodes.reads c.read_all.new.nodes) (g.N.Nodes.reads c.have_trees.new.nodes)
+    (c.read_all.ensures.looks.same_nodes ∙ c.start_pass.ensures.looks.same_nodes) c.in_ok-read_all.ensures.pass c.in_ok-read_all.ensures.finished
+    (c.read_all.ensures.same.1 ∙ c.in_ok-pass.ensures.begun.1) refl c.marked.ensures c.read_all.ensures.begins c.in_ok-pass.ensures.begun.2
+    c.in_ok-pass.ensures.asked c.in_ok-read_all.ensures.read c.have_trees.ensures.reads
 
 pub returns-then-not-have_trees-clause-damaged : goal.returns-then-not-have_trees-clause-damaged
 returns-then-not-have_trees-clause-damaged g c _ trees =
     let good = c.in_ok-have_trees.have_trees in
     let exact : IsTrue good ↔ AreRoots (g.N.Nodes.limit c.args.nodes.now) (g.N.Nodes.node c.args.nodes.now) c.args.roots.now =
-    subst (λ (f : Blocks). IsTrue good ↔ AreRoots (g.N.Nodes.limit c.args.nodes.now) f c.args.roots.now) (c.read_all.ensures.looks.same_nodes ∙ c.are_directories.ensures.looks.same_nodes)
-    (subst (λ (n : ℕ). IsTrue good ↔ AreRoots n (g.N.Nodes.node c.read_all.new.nodes) c.args.roots.now) (c.read_all.ensures.looks.same_limit ∙ c.are_directories.ensures.looks.same_limit) c.in_ok-have_trees.ensures.exact) in
+    subst (λ (f : Blocks). IsTrue good ↔ AreRoots (g.N.Nodes.limit c.args.nodes.now) f c.args.roots.now) (c.read_all.ensures.looks.same_nodes ∙ c.start_pass.ensures.looks.same_nodes)
+    (subst (λ (n : ℕ). IsTrue good ↔ AreRoots n (g.N.Nodes.node c.read_all.new.nodes) c.args.roots.now) (c.read_all.ensures.looks.same_limit ∙ c.start_pass.ensures.looks.same_limit) c.in_ok-have_trees.ensures.exact) in
     never (sym c.if-not-have_trees.true ∙ exact.1 trees)
 
 pub returns-clause-trees : goal.returns-clause-trees
 returns-clause-trees g c =
     let good = c.in_ok-have_trees.have_trees in
     let exact : IsTrue good ↔ AreRoots (g.N.Nodes.limit c.args.nodes.now) (g.N.Nodes.node c.args.nodes.now) c.args.roots.now =
-    subst (λ (f : Blocks). IsTrue good ↔ AreRoots (g.N.Nodes.limit c.args.nodes.now) f c.args.roots.now) (c.read_all.ensures.looks.same_nodes ∙ c.are_directories.ensures.looks.same_nodes)
-    (subst (λ (n : ℕ). IsTrue good ↔ AreRoots n (g.N.Nodes.node c.read_all.new.nodes) c.args.roots.now) (c.read_all.ensures.looks.same_limit ∙ c.are_directories.ensures.looks.same_limit) c.in_ok-have_trees.ensures.exact) in
+    subst (λ (f : Blocks). IsTrue good ↔ AreRoots (g.N.Nodes.limit c.args.nodes.now) f c.args.roots.now) (c.read_all.ensures.looks.same_nodes ∙ c.start_pass.ensures.looks.same_nodes)
+    (subst (λ (n : ℕ). IsTrue good ↔ AreRoots n (g.N.Nodes.node c.read_all.new.nodes) c.args.roots.now) (c.read_all.ensures.looks.same_limit ∙ c.start_pass.ensures.looks.same_limit) c.in_ok-have_trees.ensures.exact) in
     exact.0 c.if-not-have_trees.false
 
 pub returns-in_err-have_trees-clause-looks : goal.returns-in_err-have_trees-clause-looks
 returns-in_err-have_trees-clause-looks g c =
     g.met.N.Nodes.looks_on c.args.nodes.now c.read_all.new.nodes c.have_trees.new.nodes
-    (g.met.N.Nodes.looks_on c.args.nodes.now c.are_directories.new.nodes c.read_all.new.nodes c.are_directories.ensures.looks c.read_all.ensures.looks) c.have_trees.ensures.looks
+    (g.met.N.Nodes.looks_on c.args.nodes.now c.start_pass.new.nodes c.read_all.new.nodes c.start_pass.ensures.looks c.read_all.ensures.looks) c.have_trees.ensures.looks
 
 pub returns-then-not-have_trees-clause-looks : goal.returns-then-not-have_trees-clause-looks
 returns-then-not-have_trees-clause-looks g c =
     g.met.N.Nodes.looks_on c.args.nodes.now c.read_all.new.nodes c.have_trees.new.nodes
-    (g.met.N.Nodes.looks_on c.args.nodes.now c.are_directories.new.nodes c.read_all.new.nodes c.are_directories.ensures.looks c.read_all.ensures.looks) c.have_trees.ensures.looks
+    (g.met.N.Nodes.looks_on c.args.nodes.now c.start_pass.new.nodes c.read_all.new.nodes c.start_pass.ensures.looks c.read_all.ensures.looks) c.have_trees.ensures.looks
 
 pub returns-clause-looks : goal.returns-clause-looks
 returns-clause-looks g c =
     g.met.N.Nodes.looks_on c.args.nodes.now c.read_all.new.nodes c.have_trees.new.nodes
-    (g.met.N.Nodes.looks_on c.args.nodes.now c.are_directories.new.nodes c.read_all.new.nodes c.are_directories.ensures.looks c.read_all.ensures.looks) c.have_trees.ensures.looks
+    (g.met.N.Nodes.looks_on c.args.nodes.now c.start_pass.new.nodes c.read_all.new.nodes c.start_pass.ensures.looks c.read_all.ensures.looks) c.have_trees.ensures.looks

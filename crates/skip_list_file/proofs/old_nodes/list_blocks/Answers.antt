@@ -26,11 +26,13 @@ loop-step-preserved g c =
     let after : step ≡ step + 1 - 1 = omega arith in
     let is : block ≡ back f head step =
     done.found ∙ ap (λ (h : Blocks). pointer_of (h c.loop-step.block) 0) now.looks.same_nodes ∙ ap (λ (b : ℕ). pointer_of (f b) 0) now.here ∙ listed_next f head (step - 1) ∙ ap (back f head) before in
-    let items : c.push-in-loop-step.new.self.items ≡ c.loop-step.blocks.items ++ block ∷ [] = c.in_ok-push-2.ensures.items in
+    let items : c.push_reserved-in-loop-step.new.self.items ≡ c.loop-step.blocks.items ++ block ∷ [] = c.push_reserved-in-loop-step.ensures.items in
     record {
       here = is ∙ ap (back f head) after;
       listed = subst (AreBlocks f head) (sym items) (more_listed f head block step c.loop-step.blocks.items now.size is now.listed);
       size = ap length items ∙ length-append c.loop-step.blocks.items (block ∷ []) ∙ ap (λ (n : ℕ). n + 1) now.size;
+      long = c.push_reserved-in-loop-step.ensures.len ∙ ap (λ (n : ℕ). n + 1) now.long;
+      held = c.push_reserved-in-loop-step.ensures.capacity ∙ now.held;
       reads = omega (arith, now.reads, done.reads);
       looks = g.met.N.Nodes.looks_on c.args.nodes.now c.loop-step.nodes c.pointer_at.new.nodes now.looks done.looks;
     }

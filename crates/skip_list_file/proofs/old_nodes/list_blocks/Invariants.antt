@@ -1,4 +1,5 @@
 use Rattle.std.proofs.Common.{◌≡◌, ◌+◌, ◌-◌, length}
+use Rattle.std.specs.Prelude.{vec_len, vec_capacity}
 use Rattle.node_store.specs.Frames.{OnlyLooks}
 use Rattle.block_trees.specs.Bodies.{back}
 use Rattle.skip_list_file.specs.Reading.{AreBlocks}
@@ -10,6 +11,8 @@ invariant-loop-step g l = record {
   here : l.block ≡ back (g.N.Nodes.node l.initial.nodes) l.fn.body.head (l._step - 1);
   listed : AreBlocks (g.N.Nodes.node l.initial.nodes) l.fn.body.head l.blocks.items;
   size : length l.blocks.items ≡ l._step;
+  long : vec_len l.blocks ≡ l._step;
+  held : vec_capacity l.blocks ≡ l.count;
   reads : g.N.Nodes.reads l.nodes + 1 ≡ g.N.Nodes.reads l.initial.nodes + l._step;
   looks : OnlyLooks g.N.Nodes.node g.N.Nodes.kept g.N.Nodes.writes g.N.Nodes.follows g.N.Nodes.is_sound g.N.Nodes.limit g.N.Nodes.blocks l.initial.nodes l.nodes;
 }

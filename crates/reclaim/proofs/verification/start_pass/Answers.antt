@@ -1,0 +1,64 @@
+use Rattle.std.proofs.Common.{◌+◌, length, ◌≡◌, ◌≢◌, ◌↔◌, ◌≤◌, ℕ, List, Err, None, ap, sym, subst, ◌∙◌}
+use Rattle.std.specs.Prelude.{IsTrue, All, Contains}
+use Rattle.std.proofs.lemmas.Result.{err_from_is_err_and}
+use Rattle.fs_types.specs.declared.faults.Fault.TheVariants.{Damaged}
+use Rattle.fs_types.specs.declared.faults.Fault.{Fault}
+use Rattle.block_trees.specs.Bodies.{Blocks}
+use Rattle.block_trees.specs.Reached.{Reached}
+use Rattle.reclaim.specs.Sound.{IsDirectoryAt}
+use Rattle.reclaim.proofs.Costs.{root_reads, pass_reads, tree_reads}
+use Rattle.reclaim.specs.Verified.{AreRoots}
+use Rattle.reclaim.proofs.Looking.{never}
+use Rattle.reclaim.proofs.Verifying.{roots_are_data, roots_directories, directories_roots, none_reached, marked_exact}
+use Rattle.reclaim.proofs.verification.start_pass.Goals as goal
+
+pub returns-then-not-are_data_blocks-clause-damaged : goal.returns-then-not-are_data_blocks-clause-damaged
+returns-then-not-are_data_blocks-clause-damaged g c _ trees =
+    let all = roots_are_data (g.N.Nodes.limit c.args.nodes.now) c.args.blocks (g.N.Nodes.node c.args.nodes.now) c.args.roots.now
+    (λ b low. g.met.N.Nodes.none_below c.args.nodes.now b low)
+    (λ b high. g.met.N.Nodes.none_beyond c.args.nodes.now b (subst (λ (n : ℕ). n ≤ b) c.requires.blocks high))
+    trees in
+    never (sym c.if-not-are_data_blocks.true ∙ c.are_data_blocks.ensures.1 all)
+
+pub returns-in_err-are_directories-clause-reads : goal.returns-in_err-are_directories-clause-reads
+returns-in_err-are_directories-clause-reads g c =
+    let f = g.N.Nodes.node c.args.nodes.now in
+    root_reads f c.args.roots.now c.marked.result.now c.in_ok-pass.pass (g.N.Nodes.reads c.args.nodes.now) (g.N.Nodes.reads c.are_directories.new.nodes)
+    (c.in_ok-pass.ensures.pass f) c.in_ok-pass.ensures.begun.1 c.marked.ensures c.are_directories.ensures.reads
+
+pub returns-then-not-are_directories-clause-reads : goal.returns-then-not-are_directories-clause-reads
+returns-then-not-are_directories-clause-reads g c =
+    let f = g.N.Nodes.node c.args.nodes.now in
+    root_reads f c.args.roots.now c.marked.result.now c.in_ok-pass.pass (g.N.Nodes.reads c.args.nodes.now) (g.N.Nodes.reads c.are_directories.new.nodes)
+    (c.in_ok-pass.ensures.pass f) c.in_ok-pass.ensures.begun.1 c.marked.ensures c.are_directories.ensures.reads
+
+pub returns-then-not-are_directories-clause-damaged : goal.returns-then-not-are_directories-clause-damaged
+returns-then-not-are_directories-clause-damaged g c _ trees =
+    let f = g.N.Nodes.node c.args.nodes.now in
+    let same : (b : ℕ) → Contains c.marked.result.now b ↔ Contains c.args.roots.now b =
+    subst (λ (l : List ℕ). (b : ℕ) → Contains l b ↔ Contains c.args.roots.now b) (sym c.marked.ensures) c.in_ok-pass.ensures.first in
+    never (sym c.if-not-are_directories.true ∙ c.in_ok-are_directories.ensures.exact.1 (roots_directories (g.N.Nodes.limit c.args.nodes.now) f c.args.roots.now c.marked.result.now same trees))
+
+pub returns-clause-reads : goal.returns-clause-reads
+returns-clause-reads g c =
+    let f = g.N.Nodes.node c.args.nodes.now in
+    root_reads f c.args.roots.now c.marked.result.now c.in_ok-pass.pass (g.N.Nodes.reads c.args.nodes.now) (g.N.Nodes.reads c.are_directories.new.nodes)
+    (c.in_ok-pass.ensures.pass f) c.in_ok-pass.ensures.begun.1 c.marked.ensures c.are_directories.ensures.reads
+
+pub returns-clause-directories : goal.returns-clause-directories
+returns-clause-directories g c =
+    let same : (b : ℕ) → Contains c.marked.result.now b ↔ Contains c.args.roots.now b =
+    subst (λ (l : List ℕ). (b : ℕ) → Contains l b ↔ Contains c.args.roots.now b) (sym c.marked.ensures) c.in_ok-pass.ensures.first in
+    directories_roots (g.N.Nodes.node c.args.nodes.now) c.args.roots.now c.marked.result.now same (c.in_ok-are_directories.ensures.exact.0 c.if-not-are_directories.false)
+
+pub returns-clause-asked : goal.returns-clause-asked
+returns-clause-asked g c = subst (λ (l : List ℕ). g.N.Nodes.reads c.are_directories.new.nodes ≤ g.N.Nodes.reads c.args.nodes.now + length l) c.marked.ensures c.are_directories.ensures.reads
+
+pub returns-clause-looks : goal.returns-clause-looks
+returns-clause-looks g c = c.are_directories.ensures.looks
+
+pub returns-then-not-are_directories-clause-looks : goal.returns-then-not-are_directories-clause-looks
+returns-then-not-are_directories-clause-looks g c = c.are_directories.ensures.looks
+
+pub returns-in_err-are_directories-clause-looks : goal.returns-in_err-are_directories-clause-looks
+returns-in_err-are_directories-clause-looks g c = c.are_directories.ensures.looks

@@ -10,6 +10,7 @@ ghost use Rattle.block_trees.specs.Reached.{IsHeld, Keeps};
 ghost use Rattle.skip_list_file.specs.Reading.{nodes_between, AreBlocks};
 ghost use Rattle.skip_list_file.specs.Writing as spec;
 ghost use Rattle.node_store.specs.Frames.{OnlyLooks, Works};
+ghost use Rattle.fs_types.specs.declared.limits.TheConstants.{MAX_FILE_BYTES};
 
 use crate::bodies::Body;
 use crate::old_nodes::{list_blocks, read_kept};
@@ -187,10 +188,10 @@ fn write_node<N: Nodes>(
     requires least { 4016 ≤ change.capacity }
     requires small { change.capacity < 2 ^ 18 }
     requires within { index * change.capacity < change.size }
-    requires size { change.size ≤ 16777216 }
+    requires size { change.size ≤ MAX_FILE_BYTES }
     requires few { (change.size - 1) / change.capacity < 2 ^ 15 }
     requires last { index ≤ (change.size - 1) / change.capacity }
-    requires fits { change.offset + length bytes.now ≤ 16777216 }
+    requires fits { change.offset + length bytes.now ≤ MAX_FILE_BYTES }
     requires whole { IsBody change.capacity (N.node nodes.old) change.body.head change.body.length }
     requires old { AreBlocks (N.node nodes.old) change.body.head old.now }
     requires front { IsBody change.capacity (N.node nodes.old) head (index * change.capacity) }
@@ -282,8 +283,8 @@ fn write_nodes<N: Nodes>(
     requires small { change.capacity < 2 ^ 18 }
     requires whole { IsBody change.capacity (N.node nodes.old) change.body.head change.body.length }
     requires body { IsHeld (N.node nodes.old) (N.kept nodes.old) (File change.body.head change.body.length) }
-    requires size { change.size ≤ 16777216 }
-    requires fits { change.offset + length bytes.now ≤ 16777216 }
+    requires size { change.size ≤ MAX_FILE_BYTES }
+    requires fits { change.offset + length bytes.now ≤ MAX_FILE_BYTES }
     requires changed { min change.offset change.body.length < change.size }
     requires first { first ≡ min change.offset change.body.length / change.capacity }
     requires front { spec.IsFront change.capacity (N.node nodes.old) change.body.head change.body.length start.head (first * change.capacity) }
@@ -334,8 +335,8 @@ fn change_body<N: Nodes>(
     requires sound { N.is_sound nodes.old }
     requires whole { IsBody (N.limit nodes.old - body_front) (N.node nodes.old) body.head body.length }
     requires held { IsHeld (N.node nodes.old) (N.kept nodes.old) (File body.head body.length) }
-    requires most { size ≤ 16777216 }
-    requires fits { offset + length bytes.now ≤ 16777216 }
+    requires most { size ≤ MAX_FILE_BYTES }
+    requires fits { offset + length bytes.now ≤ MAX_FILE_BYTES }
     requires longer { body.length ≤ size }
     requires changed { min offset body.length < size }
     ensures written { IfOk result (λ new. spec.IsWritten (N.limit nodes.old - body_front) (N.node nodes.new) (N.kept nodes.new) new (spec.edited (bodies.body (N.limit nodes.old - body_front) (N.node nodes.old) body.head body.length) offset bytes.now size)) }
@@ -380,8 +381,8 @@ pub fn write_range<N: Nodes>(
     requires whole { IsBody (N.limit nodes.old - body_front) (N.node nodes.old) body.head body.length }
     requires held { IsHeld (N.node nodes.old) (N.kept nodes.old) (File body.head body.length) }
     requires some { 0 < length bytes.now }
-    requires fits { offset + length bytes.now ≤ 16777216 }
-    requires length { body.length ≤ 16777216 }
+    requires fits { offset + length bytes.now ≤ MAX_FILE_BYTES }
+    requires length { body.length ≤ MAX_FILE_BYTES }
     ensures written { IfOk result (λ new. spec.IsWritten (N.limit nodes.old - body_front) (N.node nodes.new) (N.kept nodes.new) new (overwritten (bodies.body (N.limit nodes.old - body_front) (N.node nodes.old) body.head body.length) offset bytes.now)) }
     ensures reaches { IfOk result (λ new. spec.OnlyReaches (N.node nodes.old) (N.node nodes.new) (N.kept nodes.old) body new) }
     ensures keeps { Keeps (N.kept nodes.old) (N.node nodes.old) (N.kept nodes.new) (N.node nodes.new) }
@@ -411,7 +412,7 @@ pub fn set_length<N: Nodes>(
     requires sound { N.is_sound nodes.old }
     requires whole { IsBody (N.limit nodes.old - body_front) (N.node nodes.old) body.head body.length }
     requires held { IsHeld (N.node nodes.old) (N.kept nodes.old) (File body.head body.length) }
-    requires most { length ≤ 16777216 }
+    requires most { length ≤ MAX_FILE_BYTES }
     ensures written { IfOk result (λ new. spec.IsWritten (N.limit nodes.old - body_front) (N.node nodes.new) (N.kept nodes.new) new (resized (bodies.body (N.limit nodes.old - body_front) (N.node nodes.old) body.head body.length) length)) }
     ensures reaches { IfOk result (λ new. spec.OnlyReaches (N.node nodes.old) (N.node nodes.new) (N.kept nodes.old) body new) }
     ensures keeps { Keeps (N.kept nodes.old) (N.node nodes.old) (N.kept nodes.new) (N.node nodes.new) }

@@ -41,11 +41,11 @@ begins g bad end (Some found) home place = (home ≡ found.page / g.pages) × (p
 abbrev pub BeginsAt : Geometry → set.FinSet nat_cmp → Anchors → ℕ → ℕ → Type 0
 BeginsAt g bad anchors home place = begins g bad anchors.end anchors.newest home place
 
--- no anchor is read: the newest record's place is known, or all anchors are erased
+-- a commit reads no anchor: the place of the newest record is known, or no anchor is bad
 abbrev pub ReadsNone : set.FinSet nat_cmp → Anchors → Type 0
 ReadsNone bad anchors = (remembered anchors ≢ None) ⊎ ((b : ℕ) → b < first_data → set.contains bad b ≡ false)
 
--- the newest record is where a commit from there puts it. After so many reads a program of each of its pages was asked for, and an erase first exactly where it is not on the anchor on which the commit began
+-- the newest record is where a commit from there puts it. After so many reads a program of each of its pages was asked for, and an erase only where it is not on the anchor on which the commit began
 pub record IsPlaced (old : Device) (was : set.FinSet nat_cmp) (anchors : Anchors) (r : Record) (reads : ℕ) (new : Device) (now : set.FinSet nat_cmp) : Type 0 where
   pub home : ℕ
   pub place : ℕ

@@ -1,5 +1,5 @@
 -- What reads cost: sums over the blocks that were read.
-use Rattle.std.proofs.Common.{◌≡◌, ℕ, zero, suc, inl, ◌+◌, ◌*◌, ◌<◌, ◌≤◌, Bool, true, false, cond, Option, Some, None, List, [], ◌∷◌, length, take, refl, sym, ap, subst, ◌∙◌, arith}
+use Rattle.std.proofs.Common.{◌≡◌, ℕ, zero, suc, inl, ◌+◌, ◌*◌, ◌<◌, ◌≤◌, Bool, true, false, cond, Option, Some, None, List, [], ◌∷◌, length, take, refl, sym, ap, subst, ◌∙◌, arith, rules}
 use Rattle.std.specs.Prelude.{Contains, slice_index, is_some, All, unwrap_or}
 use Rattle.std.specs.Option.{option_map_or}
 use Rattle.std.specs.List.{sum_by, filter}
@@ -156,6 +156,10 @@ few_reads f roots blocks before after are most = record {
   are = are;
   most = omega (arith, sum_two (λ b. 2 * length (items_in f b)) blocks, most);
 }
+
+-- no reads
+pub none_read : (f : Blocks) (roots : List ℕ) (before : ℕ) → HasCost f roots before before
+none_read f roots before = few_reads f roots [] before before (search rules) (omega arith)
 
 -- and those of looks and levels
 pub all_reads : (f : Blocks) (roots blocks : List ℕ) (before after : ℕ) → AreReached f roots blocks

@@ -7,6 +7,9 @@ use Rattle.std.proofs.lemmas.Nat.{mul-le}
 use Rattle.std.proofs.lemmas.Bool.{true≢false, and_parts, and_from, ltb-true, lt-ltb, eqb-true, eq-eqb}
 use Rattle.std.proofs.lemmas.List.{length-map}
 use Rattle.std.proofs.lemmas.List.Elements.{All-nil, All-cons, All-head, All-tail, All-map, All-contains, All-contains_itself, All-weaker}
+use Rattle.fs_types.specs.declared.faults.Fault.{Fault}
+use Rattle.fs_types.specs.declared.faults.Fault.TheVariants.{ReadFailed, PowerCut, NoMemory, Damaged}
+use Rattle.node_store.specs.Faults.{IsReadFault}
 use Rattle.node_format.specs.Items.{Item}
 use Rattle.node_format.specs.Directories.{directory_at}
 use Rattle.node_format.specs.declared.places.Place.{Place}
@@ -15,13 +18,25 @@ use Rattle.block_trees.specs.Trees.{entries_of, items_of}
 use Rattle.block_trees.proofs.Entries.{directory_no_index}
 use Rattle.reclaim.specs.Naming.{has_slot}
 use Rattle.reclaim.specs.Sound.{IsDirectoryAt, IsHead, IsSoundPlace, HoldsSlot, IsSoundBody, IsSoundNode}
-use Rattle.reclaim.specs.Looks.{body_of, look_reads, AreSteppedTo, ArePartsOf, IsSoundAt}
+use Rattle.reclaim.specs.Looks.{IsLookFault, body_of, look_reads, AreSteppedTo, ArePartsOf, IsSoundAt}
 use Rattle.reclaim.proofs.NamedLaws.{has_slot-divides, divides-has_slot, divides-below}
 use Rattle.reclaim.proofs.Lengths.{divides-short}
 use Rattle.fs_types.specs.declared.limits.TheConstants.{MAX_FILE_BYTES}
 
 pub never : IsTrue false → ⊥
 never is = true≢false (sym is)
+
+-- ---- refusals
+
+pub look_read : (fault : Fault) → IsLookFault fault → IsReadFault fault
+look_read ReadFailed is = refl
+look_read PowerCut is = refl
+look_read NoMemory is = refl
+look_read Damaged is = absurd (never is)
+look_read _ is = absurd (never is)
+
+pub look_other : (fault : Fault) → IsLookFault fault → fault ≡ Damaged → ⊥
+look_other fault is damaged = never (subst IsLookFault damaged is)
 
 -- ---- bodies
 

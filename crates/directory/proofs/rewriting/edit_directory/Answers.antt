@@ -60,9 +60,6 @@ returns-clause-why g c =
 pub returns-clause-faults : goal.returns-clause-faults
 returns-clause-faults g c = if_err IsWriteFault IsChangeFault c.write.result write_refused c.write.ensures.faults
 
-pub returns-clause-reads : goal.returns-clause-reads
-returns-clause-reads g c = c.write.ensures.reads ∙ c.read.ensures.reads
-
 pub returns-clause-works : goal.returns-clause-works
 returns-clause-works g c =
     g.met.N.Nodes.works_on c.args.nodes.now c.read.new.self c.write.new.self (g.met.N.Nodes.looks_works c.args.nodes.now c.read.new.self c.read.ensures.looks) c.write.ensures.works

@@ -6,9 +6,9 @@ use Rattle.fs_types.specs.declared.faults.Fault.{Fault}
 use Rattle.block_trees.specs.Bodies.{Blocks}
 use Rattle.block_trees.specs.Reached.{Reached}
 use Rattle.reclaim.specs.Sound.{IsDirectoryAt}
-use Rattle.reclaim.proofs.Costs.{root_reads, pass_reads, tree_reads}
+use Rattle.reclaim.proofs.Costs.{root_reads, none_read}
 use Rattle.reclaim.specs.Verified.{AreRoots}
-use Rattle.reclaim.proofs.Looking.{never}
+use Rattle.reclaim.proofs.Looking.{never, look_read, look_other}
 use Rattle.reclaim.proofs.Verifying.{roots_are_data, roots_directories, directories_roots, none_reached, marked_exact}
 use Rattle.reclaim.proofs.verification.start_pass.Goals as goal
 
@@ -62,3 +62,21 @@ returns-then-not-are_directories-clause-looks g c = c.are_directories.ensures.lo
 
 pub returns-in_err-are_directories-clause-looks : goal.returns-in_err-are_directories-clause-looks
 returns-in_err-are_directories-clause-looks g c = c.are_directories.ensures.looks
+
+pub returns-then-not-are_data_blocks-clause-reads : goal.returns-then-not-are_data_blocks-clause-reads
+returns-then-not-are_data_blocks-clause-reads g c = none_read (g.N.Nodes.node c.args.nodes.now) c.args.roots.now (g.N.Nodes.reads c.args.nodes.now)
+
+pub returns-in_err-pass-clause-reads : goal.returns-in_err-pass-clause-reads
+returns-in_err-pass-clause-reads g c = none_read (g.N.Nodes.node c.args.nodes.now) c.args.roots.now (g.N.Nodes.reads c.args.nodes.now)
+
+pub returns-in_err-are_directories-clause-damaged : goal.returns-in_err-are_directories-clause-damaged
+returns-in_err-are_directories-clause-damaged g c damaged trees =
+    let p = err_from_is_err_and c.from_residual-in_err-are_directories.result c.from_residual-in_err-are_directories.ensures.1 in
+    let is : p.0 ≡ Damaged = cc in
+    look_other c.in_err-are_directories.field-0.0 c.in_err-are_directories.ensures.faults (sym p.2 ∙ is)
+
+pub returns-in_err-are_directories-clause-faults : goal.returns-in_err-are_directories-clause-faults
+returns-in_err-are_directories-clause-faults g c =
+    let p = err_from_is_err_and c.from_residual-in_err-are_directories.result c.from_residual-in_err-are_directories.ensures.1 in
+    let is = look_read c.in_err-are_directories.field-0.0 c.in_err-are_directories.ensures.faults in
+    rw (p.1, p.2) is

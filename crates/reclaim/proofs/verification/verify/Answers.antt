@@ -6,9 +6,9 @@ use Rattle.fs_types.specs.declared.faults.Fault.{Fault}
 use Rattle.block_trees.specs.Bodies.{Blocks}
 use Rattle.block_trees.specs.Reached.{Reached}
 use Rattle.reclaim.specs.Sound.{IsDirectoryAt}
-use Rattle.reclaim.proofs.Costs.{root_reads, pass_reads, tree_reads}
+use Rattle.reclaim.proofs.Costs.{pass_reads, tree_reads}
 use Rattle.reclaim.specs.Verified.{AreRoots}
-use Rattle.reclaim.proofs.Looking.{never}
+use Rattle.reclaim.proofs.Looking.{never, look_read, look_other}
 use Rattle.reclaim.proofs.Verifying.{roots_are_data, roots_directories, directories_roots, none_reached, marked_exact}
 use Rattle.reclaim.proofs.verification.verify.Goals as goal
 
@@ -111,3 +111,27 @@ pub returns-clause-looks : goal.returns-clause-looks
 returns-clause-looks g c =
     g.met.N.Nodes.looks_on c.args.nodes.now c.read_all.new.nodes c.have_trees.new.nodes
     (g.met.N.Nodes.looks_on c.args.nodes.now c.start_pass.new.nodes c.read_all.new.nodes c.start_pass.ensures.looks c.read_all.ensures.looks) c.have_trees.ensures.looks
+
+pub returns-in_err-pass-clause-damaged : goal.returns-in_err-pass-clause-damaged
+returns-in_err-pass-clause-damaged g c damaged trees =
+    let p = err_from_is_err_and c.from_residual.result c.from_residual.ensures.1 in
+    let is : p.0 ≡ Damaged = cc in
+    c.in_err-pass.ensures.damaged (ap (λ (e : Fault). Err e) (sym p.2 ∙ is)) trees
+
+pub returns-in_err-pass-clause-reads : goal.returns-in_err-pass-clause-reads
+returns-in_err-pass-clause-reads g c = c.start_pass.ensures.reads
+
+pub returns-in_err-have_trees-clause-damaged : goal.returns-in_err-have_trees-clause-damaged
+returns-in_err-have_trees-clause-damaged g c damaged trees =
+    let p = err_from_is_err_and c.from_residual-in_err-have_trees.result c.from_residual-in_err-have_trees.ensures.1 in
+    let is : p.0 ≡ Damaged = cc in
+    look_other c.in_err-have_trees.field-0.0 c.in_err-have_trees.ensures.faults (sym p.2 ∙ is)
+
+pub returns-in_err-have_trees-clause-faults : goal.returns-in_err-have_trees-clause-faults
+returns-in_err-have_trees-clause-faults g c =
+    let p = err_from_is_err_and c.from_residual-in_err-have_trees.result c.from_residual-in_err-have_trees.ensures.1 in
+    let is = look_read c.in_err-have_trees.field-0.0 c.in_err-have_trees.ensures.faults in
+    rw (p.1, p.2) is
+
+pub returns-then-not-have_trees-clause-why : goal.returns-then-not-have_trees-clause-why
+returns-then-not-have_trees-clause-why g c other = absurd (other refl)

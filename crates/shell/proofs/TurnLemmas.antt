@@ -1,7 +1,6 @@
 -- Turns of a script, one after the other.
-use Rattle.std.proofs.Common.{◌≡◌, ◌≢◌, ℕ, zero, suc, true, false, List, [], ◌∷◌, ◌++◌, take, Option, Some, None, Result, Ok, Err, inl, inr, refl, sym, ap, ◌∙◌, subst, append-nil, append_assoc, arith}
+use Rattle.std.proofs.Common.{◌≡◌, ◌≢◌, ℕ, zero, suc, List, [], ◌∷◌, ◌++◌, take, Option, Some, None, Result, Ok, Err, inl, inr, refl, sym, ap, ◌∙◌, subst, append-nil, append_assoc, arith}
 use Rattle.std.proofs.KnownBytes.{Appends-nil, Appends-trans, Consumes-nil}
-use Rattle.std.proofs.lemmas.Bool.{true≢false}
 use Rattle.std.specs.Io.KnownBytes.{Appends}
 use Rattle.history_machine.specs.History.{Past}
 use Rattle.plain_trees.specs.Trees.{Tree}
@@ -18,7 +17,6 @@ use Rattle.working_state.specs.Moments.{Moment, machine_at, IsMountedAt}
 use Rattle.undofs.specs.Runs.{world_at, found_after}
 use Rattle.undofs.specs.declared.events.Event.{Event}
 use Rattle.undofs.specs.declared.events.Answer.{Answer as EventAnswer}
-use Rattle.working_state.proofs.CutCalls.{stays_off}
 use Rattle.shell.specs.Scripts.{Scene, event_of, Plans, RepliesBy, Replies, CarriesOut, scene_at, kept_versions, answer_text, answer_texts, HasTaken, EndsBy, Session, Ends}
 use Rattle.shell.specs.Turns.{Gets, DoesBy, Does, Writes, Carried, LinesEnd}
 use Rattle.shell.specs.declared.scripts.ScriptFault.{ScriptFault}
@@ -29,31 +27,18 @@ pub plans : (k : ℕ) (kind : FaultKind) (m : Moment) (plan : Schedule) (answer 
 plans zero kind m plan answer n plan' some same told = absurd (some refl)
 plans (suc k) kind m plan answer n plan' some same told = (same, told)
 
--- where a call has answered that the power is off, the device is off
-abbrev pub KnowsOff : Moment → Type 0
-KnowsOff m = m.state.is_off ≡ true → m.device.powered ≡ false
-
-does_off : (e : Option Event) (line : Line) (m : Moment) (plan : Schedule) (answer : Answer) (n : Moment) (plan' : Schedule) → DoesBy e line m plan answer n plan' → KnowsOff m → KnowsOff n
-does_off None line m plan answer n plan' h off = subst KnowsOff (sym h.0) off
-does_off (Some (Event.Call call)) line m plan (Answer.Done reply) n plan' h off = stays_off m.device m.state call (Ok reply) n.device n.state h off
-does_off (Some (Event.Call call)) line m plan (Answer.Refused fault) n plan' h off = stays_off m.device m.state call (Err fault) n.device n.state h off
-does_off (Some (Event.Call call)) line m plan Answer.Mounted n plan' h off = absurd h
-does_off (Some (Event.Call call)) line m plan Answer.Unmounted n plan' h off = absurd h
-does_off (Some (Event.Call call)) line m plan Answer.Syntax n plan' h off = absurd h
-does_off (Some Event.Restart) line m plan answer n plan' h off = absurd h
-
 -- what a line does to a mounted system is what it does to each world with that system
-replies_by : (e : Option Event) (line : Line) (m : Moment) (plan : Schedule) (answer : Answer) (n : Moment) (plan' : Schedule) → DoesBy e line m plan answer n plan' → IsMountedAt n → KnowsOff n
+replies_by : (e : Option Event) (line : Line) (m : Moment) (plan : Schedule) (answer : Answer) (n : Moment) (plan' : Schedule) → DoesBy e line m plan answer n plan' → IsMountedAt n
     → (found : List (Past Tree)) → (more : List (Past Tree)) × RepliesBy e line (scene_at m found plan) answer (scene_at n more plan')
-replies_by None line m plan answer n plan' h mounted off found = (found, (ap (λ (x : Moment). world_at x found) h.0, h.1))
-replies_by (Some (Event.Call call)) line m plan (Answer.Done reply) n plan' h mounted off found =
-    (found_after call (Ok reply) found (machine_at n).history, (EventAnswer.Done reply, record { before = m.state; after = n.state; was = refl; is = refl; step = h; mounted = mounted; off = off; found = refl }, refl))
-replies_by (Some (Event.Call call)) line m plan (Answer.Refused fault) n plan' h mounted off found =
-    (found, (EventAnswer.Refused fault, record { before = m.state; after = n.state; was = refl; is = refl; step = h; mounted = mounted; off = off; found = refl }, refl))
-replies_by (Some (Event.Call call)) line m plan Answer.Mounted n plan' h mounted off found = absurd h
-replies_by (Some (Event.Call call)) line m plan Answer.Unmounted n plan' h mounted off found = absurd h
-replies_by (Some (Event.Call call)) line m plan Answer.Syntax n plan' h mounted off found = absurd h
-replies_by (Some Event.Restart) line m plan answer n plan' h mounted off found = absurd h
+replies_by None line m plan answer n plan' h mounted found = (found, (ap (λ (x : Moment). world_at x found) h.0, h.1))
+replies_by (Some (Event.Call call)) line m plan (Answer.Done reply) n plan' h mounted found =
+    (found_after call (Ok reply) found (machine_at n).history, (EventAnswer.Done reply, record { before = m.state; after = n.state; was = refl; is = refl; step = h; mounted = mounted; found = refl }, refl))
+replies_by (Some (Event.Call call)) line m plan (Answer.Refused fault) n plan' h mounted found =
+    (found, (EventAnswer.Refused fault, record { before = m.state; after = n.state; was = refl; is = refl; step = h; mounted = mounted; found = refl }, refl))
+replies_by (Some (Event.Call call)) line m plan Answer.Mounted n plan' h mounted found = absurd h
+replies_by (Some (Event.Call call)) line m plan Answer.Unmounted n plan' h mounted found = absurd h
+replies_by (Some (Event.Call call)) line m plan Answer.Syntax n plan' h mounted found = absurd h
+replies_by (Some Event.Restart) line m plan answer n plan' h mounted found = absurd h
 
 carries_more : (s : Scene) (lines : List (List ℕ)) (answers : List Answer) (t : Scene) (line : List ℕ) (answer : Answer) (u : Scene)
     → CarriesOut s lines answers t → Replies (line_of line) t answer u → CarriesOut s (lines ++ line ∷ []) (answers ++ answer ∷ []) u
@@ -64,9 +49,9 @@ carries_more s (one ∷ lines) (other ∷ answers) t line answer u h more = (h.0
 
 -- one more line was carried out
 carried_more : (m : Moment) (plan : Schedule) (n : Moment) (plan' : Schedule) (lines : List (List ℕ)) (answers : List Answer) (line : List ℕ) (answer : Answer) (o : Moment) (plan'' : Schedule)
-    → Carried m plan n plan' lines answers → Does (line_of line) n plan' answer o plan'' → IsMountedAt o → KnowsOff o → Carried m plan o plan'' (lines ++ line ∷ []) (answers ++ answer ∷ [])
-carried_more m plan n plan' lines answers line answer o plan'' (found, carried) more mounted off =
-    let reply = replies_by (event_of (line_of line)) (line_of line) n plan' answer o plan'' more mounted off found in
+    → Carried m plan n plan' lines answers → Does (line_of line) n plan' answer o plan'' → IsMountedAt o → Carried m plan o plan'' (lines ++ line ∷ []) (answers ++ answer ∷ [])
+carried_more m plan n plan' lines answers line answer o plan'' (found, carried) more mounted =
+    let reply = replies_by (event_of (line_of line)) (line_of line) n plan' answer o plan'' more mounted found in
     (reply.0, carries_more (scene_at m ((machine_at m).history ∷ []) plan) lines answers (scene_at n found plan') line answer (scene_at o reply.0 plan'') carried reply.1)
 
 texts_more : (answers : List Answer) (answer : Answer) → answer_texts (answers ++ answer ∷ []) ≡ answer_texts answers ++ answer_text answer
@@ -80,16 +65,14 @@ pub record IsRunning (m : Moment) (plan : Schedule) (input left old new : Option
   pub carried : Carried m plan n plan' lines answers
   pub taken : HasTaken input lines left
   pub written : Appends old new (answer_texts answers)
-  pub off : KnowsOff n
 
-pub starts : (m : Moment) (plan : Schedule) (input old : Option (List ℕ)) → m.state.is_off ≡ false → IsRunning m plan input input old old m plan
-starts m plan input old on = record {
+pub starts : (m : Moment) (plan : Schedule) (input old : Option (List ℕ)) → IsRunning m plan input input old old m plan
+starts m plan input old = record {
   lines = [];
   answers = [];
   carried = ((machine_at m).history ∷ [], refl);
   taken = refl;
   written = Appends-nil old;
-  off = λ off. absurd (true≢false (sym off ∙ on));
 }
 
 pub turns : (m : Moment) (plan : Schedule) (input left old new : Option (List ℕ)) (n : Moment) (plan' : Schedule) (line : Line) (rest written : Option (List ℕ)) (answer : Answer) (o : Moment) (plan'' : Schedule)
@@ -97,15 +80,13 @@ pub turns : (m : Moment) (plan : Schedule) (input left old new : Option (List �
     → IsRunning m plan input rest old written o plan''
 turns m plan input left old new n plan' line rest written answer o plan'' running (bytes, takes, is) does mounted writes =
     let step : Does (line_of bytes) n plan' answer o plan'' = subst (λ (x : Line). Does x n plan' answer o plan'') is does in
-    let off : KnowsOff o = does_off (event_of (line_of bytes)) (line_of bytes) n plan' answer o plan'' step running.off in
     let texts : Appends old written (answer_texts running.answers ++ answer_text answer) = Appends-trans old new written (answer_texts running.answers) (answer_text answer) running.written writes in
     record {
       lines = running.lines ++ bytes ∷ [];
       answers = running.answers ++ answer ∷ [];
-      carried = carried_more m plan n plan' running.lines running.answers bytes answer o plan'' running.carried step mounted off;
+      carried = carried_more m plan n plan' running.lines running.answers bytes answer o plan'' running.carried step mounted;
       taken = taken_more input running.lines left bytes rest running.taken takes;
       written = subst (Appends old written) (sym (texts_more running.answers answer)) texts;
-      off = off;
     }
 
 pub ends_at_end : (m : Moment) (plan : Schedule) (input left old new : Option (List ℕ)) (n : Moment) (plan' : Schedule) (rest : Option (List ℕ))
@@ -136,24 +117,22 @@ pub ends_unwritten : (m : Moment) (plan : Schedule) (input left old new : Option
 ends_unwritten m plan input left old new n plan' line rest written answer o plan'' (ScriptFault.Mount fault) running gets does mounted writes = absurd writes
 ends_unwritten m plan input left old new n plan' line rest written answer o plan'' ScriptFault.Read running gets does mounted writes = absurd writes
 ends_unwritten m plan input left old new n plan' line rest written answer o plan'' ScriptFault.Write running gets does mounted writes =
-    let step : Does (line_of gets.0) n plan' answer o plan'' = subst (λ (x : Line). Does x n plan' answer o plan'') gets.2 does in
-    let off : KnowsOff o = does_off (event_of (line_of gets.0)) (line_of gets.0) n plan' answer o plan'' step running.off in (
+    let step : Does (line_of gets.0) n plan' answer o plan'' = subst (λ (x : Line). Does x n plan' answer o plan'') gets.2 does in (
       running.lines ++ gets.0 ∷ [],
       running.answers,
       answer,
       writes.0,
-      carried_more m plan n plan' running.lines running.answers gets.0 answer o plan'' running.carried step mounted off,
+      carried_more m plan n plan' running.lines running.answers gets.0 answer o plan'' running.carried step mounted,
       taken_more input running.lines left gets.0 rest running.taken gets.1,
       Appends-trans old new written (answer_texts running.answers) (take writes.0 (answer_text answer)) running.written writes.1,
     )
 ends_unwritten m plan input left old new n plan' line rest written answer o plan'' ScriptFault.Memory running gets does mounted writes =
     let step : Does (line_of gets.0) n plan' answer o plan'' = subst (λ (x : Line). Does x n plan' answer o plan'') gets.2 does in
-    let off : KnowsOff o = does_off (event_of (line_of gets.0)) (line_of gets.0) n plan' answer o plan'' step running.off in
     inr (
       running.lines ++ gets.0 ∷ [],
       running.answers,
       answer,
-      carried_more m plan n plan' running.lines running.answers gets.0 answer o plan'' running.carried step mounted off,
+      carried_more m plan n plan' running.lines running.answers gets.0 answer o plan'' running.carried step mounted,
       taken_more input running.lines left gets.0 rest running.taken gets.1,
       subst (λ (x : Option (List ℕ)). Appends old x (answer_texts running.answers)) (sym writes) running.written,
     )

@@ -1,5 +1,5 @@
 //! A script run on a flash in memory.
-ghost use Rattle.std.specs.Prelude.{◌≡◌, false};
+ghost use Rattle.std.specs.Prelude.{◌≡◌};
 ghost use Rattle.flash_model.specs.Simulation.{plan_of};
 ghost use Rattle.undofs.specs.Systems.{moment_of, flash_name};
 ghost use Rattle.shell.specs.Scripts.{Ends};
@@ -64,7 +64,6 @@ fn run_lines<R: Read, W: Write>(
     writer: &mut W,
     system: &mut Fs<'_, SimFlash>,
 ) -> Result<(), ScriptFault>
-    requires { (moment_of system.old).state.is_off ≡ false }
     ensures ends { LinesEnd (moment_of system.old) (plan_of system.old.flash.now) (R.remaining reader.old) (R.remaining reader.new) result (W.contents writer.old) (W.contents writer.new) (moment_of system.new) (plan_of system.new.flash.now) }
     ensures same_flash { flash_name system.new ≡ flash_name system.old }
 {

@@ -1,1 +1,2 @@
+mod HealthyRuns
 pub mod RunLaws

@@ -44,7 +44,7 @@ shown w m s is there = let same : s ≡ is.0 = (let first = is.1 in cc) in ap (m
 not_both : (w : World) (s : State) → w.state ≡ Some s → w.state ≡ None → ⊥
 not_both w s some none = cc
 
-refused_keeps : (s : Seen) (m : Machine) (off : Bool) (call : Call) (fault : Fault) (t : Seen) (n : Machine) (off' : Bool) → Answers s m off call (Err fault) t n off' → n ≡ m
+pub refused_keeps : (s : Seen) (m : Machine) (off : Bool) (call : Call) (fault : Fault) (t : Seen) (n : Machine) (off' : Bool) → Answers s m off call (Err fault) t n off' → n ≡ m
 refused_keeps s m true call fault t n off' h = h.2
 refused_keeps s m false call fault t n off' h = h.1
 
@@ -74,14 +74,14 @@ grows w m [] [] v is run none = ap (λ (x : World). x.found) run ∙ sym (append
 grows w m [] (answer ∷ answers) v is run none = absurd run
 grows w m (event ∷ events) [] v is run none = absurd run
 grows w m (Event.Call call ∷ events) (Answer.Done reply ∷ answers) v is (between, here, rest) none =
-    let leaves : machine_on between.device here.after ≡ next m call = here.step.answers.1.leaves ∙ ap (λ (x : Machine). next x call) (shown w m here.before is here.was) in
+    let leaves : machine_on between.device here.after ≡ next m call = here.step.step.answers.1.leaves ∙ ap (λ (x : Machine). next x call) (shown w m here.before is here.was) in
     let on = grows between (next m call) events answers v (here.after, here.is, leaves) rest none.1 in
     let added : between.found ≡ w.found ++ (next m call).history ∷ [] =
     here.found ∙ call_adds call reply w.found (machine_on between.device here.after).history none.0 ∙ ap (λ (x : Machine). w.found ++ x.history ∷ []) leaves in
     on ∙ ap (λ (x : List (Past Tree)). x ++ later (next m call) (accepted events answers)) added
     ∙ append_assoc w.found ((next m call).history ∷ []) (later (next m call) (accepted events answers))
 grows w m (Event.Call call ∷ events) (Answer.Refused fault ∷ answers) v is (between, here, rest) none =
-    let stays : machine_on between.device here.after ≡ m = refused_keeps _ _ here.before.is_off call fault _ _ here.after.is_off here.step.answers ∙ shown w m here.before is here.was in
+    let stays : machine_on between.device here.after ≡ m = refused_keeps _ _ here.before.is_off call fault _ _ here.after.is_off here.step.step.answers ∙ shown w m here.before is here.was in
     grows between m events answers v (here.after, here.is, stays) rest none.1
     ∙ ap (λ (x : List (Past Tree)). x ++ later m (accepted events answers)) here.found
 grows w m (Event.Call call ∷ events) (Answer.Mounted ∷ answers) v is (between, here, rest) none = absurd here

@@ -1,15 +1,15 @@
 -- Runs of calls and restarts: what each event answers, and the world that it leaves.
-use Rattle.std.specs.Prelude.{◌≡◌, ℕ, ◌<◌, ◌≤◌, Bool, true, false, Option, Some, None, Result, Ok, Err, List, [], ◌∷◌, ◌++◌, length, take, Contains, ⊤, if◌then◌else◌}
+use Rattle.std.specs.Prelude.{◌≡◌, ◌≢◌, ℕ, ◌+◌, ◌<◌, ◌≤◌, Bool, true, false, Option, Some, None, Result, Ok, Err, List, [], ◌∷◌, ◌++◌, length, take, Contains, ⊤, if◌then◌else◌}
 use Rattle.history_machine.specs.History.{Past}
 use Rattle.plain_trees.specs.Trees.{Tree}
-use Rattle.history_machine.specs.Machine.{Machine, mounted, after}
+use Rattle.history_machine.specs.Machine.{Machine, mounted, after, next, need}
 use Rattle.fs_types.specs.declared.calls.Call.{Call}
 use Rattle.fs_types.specs.declared.calls.Reply.{Reply}
 use Rattle.fs_types.specs.declared.faults.Fault.{Fault}
-use Rattle.fs_types.specs.declared.faults.Fault.TheVariants.{ReadFailed, PowerCut, NoMemory}
+use Rattle.fs_types.specs.declared.faults.Fault.TheVariants.{FlashFull, ReadOnly, ReadFailed, PowerCut, NoMemory}
 use Rattle.flash_model.specs.Device.{Device}
 use Rattle.flash_model.specs.Reading.{OnlyReads}
-use Rattle.working_state.specs.Seen.{machine_on}
+use Rattle.working_state.specs.Seen.{capacity_of, seen_on, machine_on}
 use Rattle.working_state.specs.Mounted.{IsMounted, StateStep}
 use Rattle.working_state.specs.Moments.{Moment}
 use Rattle.working_state.specs.declared.state.State.{State}
@@ -44,7 +44,7 @@ found_after call (Ok reply) found h = if is_sync call then h ∷ [] else found +
 found_after call (Err fault) found h = found
 
 -- a call on a mounted system takes its step from the flash and the state to the next ones, on which the system is mounted.
--- Once a call has answered that the power is off, it is
+-- The step says what is left of both, so that nothing changes between events that no event did
 pub record Calls (w : World) (call : Call) (result : Result Reply Fault) (v : World) : Type 0 where
   pub before : State
   pub after : State
@@ -52,7 +52,6 @@ pub record Calls (w : World) (call : Call) (result : Result Reply Fault) (v : Wo
   pub is : v.state ≡ Some after
   pub step : StateStep w.device before call result v.device after
   pub mounted : IsMounted v.device after
-  pub off : after.is_off ≡ true → v.device.powered ≡ false
   pub found : v.found ≡ found_after call result w.found (machine_on v.device after).history
 
 -- the same flash with the power on
@@ -127,3 +126,29 @@ PrefixLaw = (w v u : World) (m : Machine) (events : List Event) (answers : List 
     → Shows w m → w.found ≡ m.history ∷ []
     → Run w events answers v → NoneCommits events answers → Happens v Event.Restart Answer.Mounted u
     → (n : ℕ) × (n ≤ length (accepted events answers)) × Shows u (mounted (after m (take n (accepted events answers))).history)
+
+-- events that are calls
+abbrev pub AreCalls : List Event → Type 0
+AreCalls [] = ⊤
+AreCalls (Event.Call call ∷ events) = AreCalls events
+AreCalls (Event.Restart ∷ events) = ⊥
+
+-- how many nodes calls need at most that were answered so, each on the machine that those before it left
+abbrev pub nodes_needed : ℕ → Machine → List Event → List Answer → ℕ
+nodes_needed capacity m (Event.Call call ∷ events) (Answer.Done reply ∷ answers) = need capacity m call + nodes_needed capacity (next m call) events answers
+nodes_needed capacity m (Event.Call call ∷ events) (answer ∷ answers) = need capacity m call + nodes_needed capacity m events answers
+nodes_needed capacity m _ _ = 0
+
+-- none of the answers is this refusal
+abbrev pub NoneRefused : Fault → List Answer → Type 0
+NoneRefused fault [] = ⊤
+NoneRefused fault (answer ∷ answers) = (answer ≢ Answer.Refused fault) × NoneRefused fault answers
+
+-- where no program or erase fails in a run of calls, and read-only mode is off before it, no call is refused for that mode;
+-- and none for want of a block where as many are free before it as all of them need
+abbrev pub HealthyLaw : Type 0
+HealthyLaw = (w v : World) (s : State) (events : List Event) (answers : List Answer)
+    → w.state ≡ Some s → AreCalls events → Run w events answers v
+    → v.device.failures ≡ w.device.failures → (seen_on w.device s).read_only ≡ false
+    → NoneRefused ReadOnly answers
+    × (nodes_needed (capacity_of w.device) (machine_on w.device s) events answers ≤ (seen_on w.device s).space.free → NoneRefused FlashFull answers)

@@ -298,7 +298,9 @@ impl<'f, F: Flash> Fs<'f, F> {
         self.state.log(alloc)
     }
 
-    /// Carries out a call that is built, and answers its reply.
+    /// Carries out a call that is built, and answers its reply. Its step says what that of each call
+    /// says: a call that makes no version changes no page, and those on the history, `close` and `log`
+    /// do no device operation.
     pub fn call(&mut self, alloc: Global, call: &Call) -> Result<Reply, Fault>
         requires { is_built call.now ≡ true }
         ensures step { Steps self.old call.now result self.new }

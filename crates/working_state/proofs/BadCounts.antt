@@ -1,11 +1,11 @@
 -- A set of bad blocks that has all of another is read-only where that one is.
 use Rattle.std.proofs.Common.{◌≡◌, ℕ, zero, suc, ◌-◌, ◌≤◌, ◌≢◌, Bool, true, false, cond, ◌||◌, List, [], ◌∷◌, refl, sym, ap, ◌∙◌, inl, inr, arith}
-use Rattle.std.proofs.lemmas.Bool.{both_ways, and_from, and_parts, or_cases, or_left, or_right, le-leb, leb-true}
+use Rattle.std.proofs.lemmas.Bool.{cases_Bool, both_ways, and_from, and_parts, or_cases, or_left, or_right, eqb-true, le-leb, leb-true}
 use Rattle.std.proofs.lemmas.Cmp.{nat_cmp_total}
 use Rattle.std.proofs.lemmas.List.Sums.{sum_by-cons}
 use Rattle.std.specs.Prelude.{nat_le, not, count_by}
 use Rattle.std.specs.List.{list_any, range_with_len}
-use Rattle.std.specs.Cmp.{tied_itself}
+use Rattle.std.specs.Cmp.{tied_itself, unsigned_tied}
 use Rattle.std.specs.FinMap.{nat_cmp-IsAntisymmetric}
 use Rattle.std.specs.FinSet as set
 use Rattle.std.specs.Ordering.{nat_cmp, is_eq, eq_by_cmp}
@@ -90,3 +90,32 @@ stays_read_only s t within on =
       | inl many ↦ or_left (nat_le 256 (set.len t)) (nat_le 7 (bad_anchors t)) (let m : 256 ≤ set.len s = leb-true 256 (set.len s) many in le-leb 256 (set.len t) (omega arith))
       | inr many ↦ or_right (nat_le 256 (set.len t)) (nat_le 7 (bad_anchors t)) (let m : 7 ≤ bad_anchors s = leb-true 7 (bad_anchors s) many in le-leb 7 (bad_anchors t) (omega arith))
     ]
+
+-- a set that has no more blocks than one within it has no others
+within-back : (s t : Blocks) → IsWithin s t → set.len t ≤ set.len s → IsWithin t s
+within-back s t within few b has = elim (cases_Bool (set.contains s b)) [
+  | inl there ↦ there
+  | inr gone ↦ absurd (no_more gone)
+]
+  where
+    no_more : set.contains s b ≡ false → ⊥
+    no_more gone =
+        let rest : IsWithin s (set.remove t b) =
+        λ c there. set.contains-remove nat_cmp_total t b c ∙ and_from (not (eq_by_cmp nat_cmp c b)) (set.contains t c) (apart c there) (within c there) in
+        let more = len-within s (set.remove t b) rest in
+        let less = fewer t b has in
+        let some : set.len t ≢ 0 = not-empty t b has in
+        absurd (omega arith)
+      where
+        apart : (c : ℕ) → set.contains s c ≡ true → not (eq_by_cmp nat_cmp c b) ≡ true
+        apart c there = elim (cases_Bool (eq_by_cmp nat_cmp c b)) [
+          | inl same ↦ absurd (both_ways (set.contains s c) (ap (set.contains s) (eqb-true c b (sym (unsigned_tied c b) ∙ same)) ∙ gone) there)
+          | inr other ↦ ap not other
+        ]
+
+-- where no block comes, read-only mode stays off
+pub stays_writable : (s t : Blocks) → IsWithin s t → set.len t ≤ set.len s → is_read_only s ≡ false → is_read_only t ≡ false
+stays_writable s t within few writable = elim (cases_Bool (is_read_only t)) [
+  | inl on ↦ absurd (both_ways (is_read_only s) writable (stays_read_only t s (within-back s t within few) on))
+  | inr off ↦ off
+]

@@ -1,5 +1,5 @@
 -- The step of a change that writes a path of the present tree anew and makes the new root the present one.
-use Rattle.std.proofs.Common.{◌≡◌, ℕ, ◌<◌, ◌≤◌, true, false, Some, None, Result, Ok, length, refl, sym, ap, subst, ◌∙◌, inr}
+use Rattle.std.proofs.Common.{◌≡◌, ℕ, ◌<◌, ◌≤◌, true, false, Some, None, Result, Ok, length, refl, sym, ap, subst, ◌∙◌, inr, arith}
 use Rattle.std.proofs.lemmas.Bool.{and_parts, and_from, leb-true}
 use Rattle.std.specs.Prelude.{nat_le, is_some, is_none, if◌then◌else◌}
 use Rattle.std.specs.List.{list_all}
@@ -17,11 +17,15 @@ use Rattle.fs_types.specs.declared.faults.Fault.{Fault}
 use Rattle.flash_model.specs.Device.{Device}
 use Rattle.node_store.specs.NodePages.{node_of}
 use Rattle.block_trees.specs.Reached.{Keeps}
-use Rattle.directory.specs.Trails.{IsChangeFault}
+use Rattle.node_store.specs.declared.storage.Storage.{Storage}
+use Rattle.allocator.specs.Ring.{Ring}
+use Rattle.tree_edits.specs.Edits as edits
+use Rattle.tree_edits.specs.declared.edits.Edit.{Edit}
+use Rattle.working_state.specs.Changes.{IsUnwritten}
 use Rattle.working_state.specs.Seen.{capacity_of, tree_on, seen_on, machine_on, is_read_only}
 use Rattle.working_state.specs.Steps.{is_light, last_serial, Refuses, CallStep}
 use Rattle.working_state.specs.Mounted.{IsStanding, IsMounted}
-use Rattle.working_state.specs.Worked.{storage_on, IsWorked, IsLooked, WorkCause}
+use Rattle.working_state.specs.Worked.{storage_on, IsWorked, IsLooked}
 use Rattle.working_state.specs.declared.state.State.{State}
 use Rattle.working_state.proofs.Roots.{all_changed, kept_changed}
 use Rattle.working_state.proofs.Standing.{keeps, AllStand, all_stand, worked_trees, worked_machine, worked_later, worked_mounted, looked_worked, worked_on}
@@ -40,13 +44,32 @@ makes m call fine tree = and_from (is_none (refusal m call)) (is_some (tree_afte
 pub needs : (capacity : ℕ) (m : Machine) (call : Call) → makes_version m call ≡ true → 0 < change_need capacity m call → 0 < need capacity m call
 needs capacity m call version more = subst (λ b. 0 < (if b then change_need capacity m call else 0)) (sym version) more
 
-pub writing_refuses : (d : Device) (s : State) (e : Device) (t : State) (f : Device) (u : State) (call : Call) (fault : Fault) → IsLooked d s e t → is_light call ≡ false → makes_version (machine_on d s) call ≡ true
-    → 0 < change_need (capacity_of d) (machine_on d s) call → IsChangeFault fault → WorkCause (seen_on e t) fault (seen_on f u)
-    → Refuses (seen_on d s) (machine_on d s) call fault (seen_on f u)
-writing_refuses d s e t f u call fault l heavy version more is why =
+-- a version writes all that its change needs
+pub needs_all : (capacity : ℕ) (m : Machine) (call : Call) → makes_version m call ≡ true → need capacity m call ≡ change_need capacity m call
+needs_all capacity m call version = ap (λ b. if b then change_need capacity m call else 0) version
+
+-- read-only mode before reads is that after them
+pub later_writable : (d : Device) (s : State) (e : Device) (t : State) → IsLooked d s e t → is_read_only t.storage.bad ≡ is_read_only s.storage.bad
+later_writable d s e t l = ap is_read_only l.untouched.bad
+
+pub later_serial : (d : Device) (s : State) (e : Device) (t : State) → IsLooked d s e t → t.history.next < last_serial → s.history.next < last_serial
+later_serial d s e t l left = subst (λ (x : Past ℕ). x.next < last_serial) l.rest.history left
+
+-- the nodes of a version are not written
+pub writing_refuses : (d : Device) (s : State) (e : Device) (t : State) (f : Device) (st : Storage) (edit : Edit) (call : Call) (fault : Fault) → IsLooked d s e t → is_light call ≡ false → makes_version (machine_on d s) call ≡ true
+    → 0 < change_need (capacity_of d) (machine_on d s) call → edits.need (capacity_of e) edit ≤ change_need (capacity_of d) (machine_on d s) call → IsUnwritten e t.history t.storage edit fault f st
+    → Refuses (seen_on d s) (machine_on d s) call fault (seen_on f (record t { storage = st }))
+writing_refuses d s e t f st edit call fault l heavy version more few work =
     let m = machine_on d s in
-    inr (write_refuses (seen_on d s) (seen_on f u) m call fault heavy (needs (capacity_of d) m call version more) (writes-version m call version) is
-    (cause_later (seen_on d s) (seen_on e t) (seen_on f u) fault (worked_later d s e t (looked_worked d s e t l)) why))
+    let u : State = record t { storage = st } in
+    let later = worked_later d s e t (looked_worked d s e t l) in
+    let all = needs_all (capacity_of d) m call version in
+    let same = later.taken in
+    let free = ap (λ (r : Ring). r.takes) l.untouched.ring in
+    let bad = ap set.len l.untouched.bad in
+    inr (write_refuses (seen_on d s) (seen_on f u) m call fault heavy (needs (capacity_of d) m call version more) (writes-version m call version) (sym (later_writable d s e t l) ∙ work.writable) (later_serial d s e t l work.serial_left) work.why.kind
+    (λ full. let short = work.why.few_free full in omega arith)
+    (cause_later (seen_on d s) (seen_on e t) (seen_on f u) fault later work.why.why))
 
 -- The present root after reads.
 
@@ -100,9 +123,9 @@ changed_state u h files = record u { history = h; files = files }
 -- a change that was looked at from `d` to `e` and written from `e` to `f`
 pub changed_step : (d : Device) (s : State) (e : Device) (t : State) (f : Device) (u : State) (to : ℕ) (call : Call) (tree : Tree) (reply : Reply) (h : Past ℕ) (files : Descriptors) → h ≡ changed u.history to → files ≡ descriptors_after (machine_on d s) call
     → IsMounted d s → IsLooked d s e t → refusal (machine_on d s) call ≡ None → tree_after (machine_on d s) call ≡ Some tree → reply_of (seen_on f u).space (machine_on d s) call ≡ reply
-    → is_read_only t.storage.bad ≡ false → t.history.next < last_serial → IsWorked e t f u → HasNewTree f u to tree
+    → is_read_only t.storage.bad ≡ false → is_read_only u.storage.bad ≡ false → t.history.next < last_serial → IsWorked e t f u → HasNewTree f u to tree
     → CallStep (seen_on d s) (machine_on d s) false call (Ok reply) (seen_on f (changed_state u h files)) (machine_on f (changed_state u h files)) false
-changed_step d s e t f u to call tree reply h files pushes opens m l fine after replies writable serial w new =
+changed_step d s e t f u to call tree reply h files pushes opens m l fine after replies writable stays serial w new =
     let all = worked_on d s e t f u (looked_worked d s e t l) w in
     subst (λ k. CallStep (seen_on d s) (machine_on d s) false call (Ok reply) (seen_on f (changed_state u k files)) (machine_on f (changed_state u k files)) false) (sym pushes)
     (record {
@@ -112,8 +135,8 @@ changed_step d s e t f u to call tree reply h files pushes opens m l fine after 
         record {
           answered = ap (answer_of (seen_on f u).space (machine_on d s) call) fine ∙ ap Ok replies;
           leaves = changed_machine (machine_on d s) call tree (machine_on f (changed_state u (changed u.history to) files)) fine after (pushed_trees d s f u to tree m all new) opens;
-          writable = λ writes. ap is_read_only (sym l.untouched.bad) ∙ writable;
-          serial_left = λ makes. subst (λ (x : Past ℕ). x.next < last_serial) l.rest.history serial;
+          writable = λ writes. (sym (later_writable d s e t l) ∙ writable, stays);
+          serial_left = λ makes. later_serial d s e t l serial;
         },
         refl,
       );
@@ -133,4 +156,5 @@ changed_mounted d s f u to call tree result h files pushes m w new paths step =
       versions = all.versions;
       checkpoints = all.checkpoints;
       machine = still_machine (seen_on d s) (seen_on f (changed_state u h files)) (machine_on d s) (machine_on f (changed_state u h files)) false false call result m.machine paths step;
+      off = mounted.off;
     }

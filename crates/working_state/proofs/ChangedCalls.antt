@@ -5,7 +5,7 @@ use Rattle.std.specs.FinSet as set
 use Rattle.history_machine.specs.History.{Past, present_root}
 use Rattle.plain_trees.specs.Trees.{Tree}
 use Rattle.history_machine.specs.Descriptors.{Descriptors}
-use Rattle.history_machine.specs.Machine.{Space, refusal, change_need, reply_of, tree_after, descriptors_after, has_paths}
+use Rattle.history_machine.specs.Machine.{Space, refusal, change_need, makes_version, reply_of, tree_after, descriptors_after, has_paths}
 use Rattle.fs_types.specs.declared.calls.Call.{Call}
 use Rattle.fs_types.specs.declared.calls.Reply.{Reply}
 use Rattle.fs_types.specs.declared.faults.Fault.{Fault}
@@ -14,24 +14,25 @@ use Rattle.flash_model.specs.Device.{Device}
 use Rattle.node_store.specs.declared.storage.Storage.{Storage}
 use Rattle.node_store.specs.NodePages.{node_of}
 use Rattle.node_store.specs.Storage as parts
+use Rattle.allocator.specs.Ring.{free_count}
 use Rattle.node_store.specs.declared.stores.Store.{Store}
 use Rattle.node_store.specs.Stores.{Follows, Causes}
-use Rattle.node_store.specs.StorageLaws.{Evolved_itself}
 use Rattle.block_trees.specs.Trees.{IsRoot, root_tree}
 use Rattle.tree_edits.specs.declared.edits.Edit.{Edit}
 use Rattle.tree_edits.specs.Edits.{need, source}
 use Rattle.tree_edits.specs.Roots.{IsNewRoot}
 use Rattle.directory.specs.Trails.{IsChangeFault}
-use Rattle.working_state.specs.Changes.{IsReady, HasWritten, edited_tree, WorkRefuses, IsPushed, ChangeCause, IsChanged}
+use Rattle.working_state.specs.Changes.{IsReady, edited_tree, WorkRefuses, IsPushed, ChangeCause, IsChanged}
+use Rattle.working_state.specs.Leaves.{HasWritten, is_still, Leaves}
 use Rattle.working_state.specs.Mounted.{IsStanding, IsMounted}
 use Rattle.working_state.specs.Opening.{IsAnswered}
 use Rattle.working_state.specs.Seen.{capacity_of, tree_on, seen_of, seen_on, machine_on, bad_anchors}
 use Rattle.working_state.specs.Steps.{empty, replied, is_light, is_cut, is_cut_answer, MayRefuse, Refuses}
 use Rattle.working_state.specs.Worked.{IsWorked, IsLooked, WorkCause}
 use Rattle.working_state.specs.declared.state.State.{State}
-use Rattle.working_state.proofs.ChangeSteps.{makes, later_stands, writing_refuses, HasNewTree, changed_step, changed_mounted}
-use Rattle.working_state.proofs.OpenCalls.{refused_answer}
-use Rattle.working_state.proofs.Standing.{same_capacity, looked_worked, worked_on, worked_later, worked_mounted, worked_pages}
+use Rattle.working_state.proofs.ChangeSteps.{makes, needs_all, later_stands, later_writable, later_serial, writing_refuses, HasNewTree, changed_step, changed_mounted}
+use Rattle.working_state.proofs.OpenCalls.{refused_work}
+use Rattle.working_state.proofs.Standing.{same_capacity, looked_worked, written_leaves, worked_on, worked_mounted, worked_pages}
 use Rattle.working_state.proofs.Steps.{writes-version}
 
 -- ---- the state as it was
@@ -61,9 +62,6 @@ pub at_present : (P : ℕ → Type 0) (d : Device) (s : State) (e : Device) (t :
 at_present P d s e t root is l here other there = subst P (same_root root other s.history t.history l.rest.history is there) here
 
 -- ---- a change
-
-pub none_written : (d : Device) (s : Storage) (most : ℕ) → HasWritten d s most d s
-none_written d s most = record { evolved = Evolved_itself (parts.storage d s.bad s.ring); paid = omega arith; page_len = refl; node_room = omega arith }
 
 -- ---- the tree of the new root, at the room that the flash has by now
 
@@ -112,10 +110,20 @@ module _ {F : Type 0} (device : F → Device) where
   abbrev NeedsNone : Store F → Store F → Edit → ℕ → Result ℕ Fault → Type 0
   NeedsNone s t edit root result = need (capacity_of (device s.flash.now)) edit ≡ 0 → (t ≡ s) × (result ≡ Ok (source root edit))
 
-  pub refused_result : (s t : Store F) (edit : Edit) (root : ℕ) (result : Result ℕ Fault) → NeedsNone s t edit root result → IfErr result IsChangeFault → IfErr result (λ fault. Causes device s t fault)
+  few_left : (s t : Store F) (most : ℕ) (fault : Fault) → t.writes.n ≤ s.writes.n + most → Causes device s t fault → fault ≡ FlashFull → free_count s.storage.now.ring s.storage.now.bad + set.len s.storage.now.bad < set.len t.storage.now.bad + most
+  few_left s t most FlashFull few c is = let free = c.reason.few_free in omega arith
+  few_left s t most _ few c is = absurd cc
+
+  pub refused_result : (s t : Store F) (edit : Edit) (root : ℕ) (result : Result ℕ Fault) → t.writes.n ≤ s.writes.n + need (capacity_of (device s.flash.now)) edit
+      → NeedsNone s t edit root result → IfErr result IsChangeFault → IfErr result (λ fault. Causes device s t fault)
       → IfErr result (λ fault. WorkRefuses (device s.flash.now) s.storage.now edit fault (device t.flash.now) t.storage.now)
-  refused_result s t edit root (Ok to) none faults why = tt
-  refused_result s t edit root (Err fault) none faults why = record { needs = some (need (capacity_of (device s.flash.now)) edit) none; kind = faults; why = cause_work s t fault why }
+  refused_result s t edit root (Ok to) few none faults why = tt
+  refused_result s t edit root (Err fault) few none faults why = record {
+    needs = some (need (capacity_of (device s.flash.now)) edit) none;
+    kind = faults;
+    why = cause_work s t fault why;
+    few_free = few_left s t (need (capacity_of (device s.flash.now)) edit) fault few why;
+  }
     where
       some : (n : ℕ) → (n ≡ 0 → (t ≡ s) × (Err fault ≡ Ok (source root edit))) → 0 < n
       some zero none = let wrong = (none refl).1 in absurd cc
@@ -132,6 +140,7 @@ pub record IsChangeBy (d : Device) (s : State) (call : Call) (made : ℕ → Tre
   pub fine : refusal (machine_on d s) call ≡ None
   pub after : (root : ℕ) → present_root s.history ≡ Some root → tree_after (machine_on d s) call ≡ Some (made root)
   pub heavy : is_light call ≡ false
+  pub moves : is_still call ≡ false
   pub paths : has_paths call ≡ true
   pub more : (capacity : ℕ) → 0 < change_need capacity (machine_on d s) call
   pub replies : (space : Space) → reply_of space (machine_on d s) call ≡ reply
@@ -140,61 +149,73 @@ pub record IsChangeBy (d : Device) (s : State) (call : Call) (made : ℕ → Tre
 written_worked : (e : Device) (t : State) (f : Device) (st : Storage) (most : ℕ) → HasWritten e t.storage most f st → IsWorked e t f (record t { storage = st })
 written_worked e t f st most w = record { evolved = w.evolved; rest = record { page_len = w.page_len; node_room = w.node_room; history = refl; files = refl; is_off = refl } }
 
-pub pushed_answer : (d : Device) (s : State) (e : Device) (t : State) (f : Device) (st : Storage) (h : Past ℕ) (files : Descriptors) (call : Call) (edit : Edit) (reply : Reply) (most : ℕ) → IsMounted d s → IsLooked d s e t
-    → IsChangeBy d s call (edited_tree e edit) reply → HasWritten e t.storage most f st → IsPushed e t.history t.storage edit f h st → files ≡ descriptors_after (machine_on d s) call
+-- the nodes of the edit are no more than those of the call
+abbrev NeedsFew : Device → Edit → Device → State → Call → Type 0
+NeedsFew e edit d s call = need (capacity_of e) edit ≤ change_need (capacity_of d) (machine_on d s) call
+
+change_leaves : (d : Device) (s : State) (e : Device) (t : State) (f : Device) (st : Storage) (call : Call) (edit : Edit) → IsLooked d s e t → HasWritten e t.storage (need (capacity_of e) edit) f st
+    → is_still call ≡ false → makes_version (machine_on d s) call ≡ true → NeedsFew e edit d s call → Leaves (machine_on d s) call d s.storage f st
+change_leaves d s e t f st call edit l w moves version few =
+    let all = needs_all (capacity_of d) (machine_on d s) call version in
+    written_leaves d s e t f st call (need (capacity_of e) edit) l w moves version (omega arith)
+
+pub pushed_answer : (d : Device) (s : State) (e : Device) (t : State) (f : Device) (st : Storage) (h : Past ℕ) (files : Descriptors) (call : Call) (edit : Edit) (reply : Reply) → IsMounted d s → IsLooked d s e t
+    → IsChangeBy d s call (edited_tree e edit) reply → NeedsFew e edit d s call → HasWritten e t.storage (need (capacity_of e) edit) f st → IsPushed e t.history t.storage edit f h st → files ≡ descriptors_after (machine_on d s) call
     → IsAnswered d s call (Ok reply) f (record t { storage = st; history = h; files = files }) false
-pushed_answer d s e t f st h files call edit reply most m l by written pushed opens =
+pushed_answer d s e t f st h files call edit reply m l by few written pushed opens =
     let u : State = record t { storage = st } in
-    let w = written_worked e t f st most written in
+    let w = written_worked e t f st (need (capacity_of e) edit) written in
     let all = worked_on d s e t f u (looked_worked d s e t l) w in
     let present : present_root s.history ≡ Some pushed.root = ap (λ (x : Past ℕ). present_root x) (sym l.rest.history) ∙ pushed.present in
     let tree = edited_tree e edit pushed.root in
     let new : HasNewTree f u pushed.to tree = record { stands = pushed.stands; is = pushed.shows } in
-    let step = changed_step d s e t f u pushed.to call tree reply h files pushed.pushed opens m l by.fine (by.after pushed.root present) (by.replies (seen_on f u).space) pushed.writable pushed.serial_left w new in
+    let step = changed_step d s e t f u pushed.to call tree reply h files pushed.pushed opens m l by.fine (by.after pushed.root present) (by.replies (seen_on f u).space) pushed.writable pushed.stays_writable pushed.serial_left w new in
     record {
       mounted = changed_mounted d s f u pushed.to call tree (Ok reply) h files pushed.pushed m all new by.paths step;
       step = step;
+      leaves = change_leaves d s e t f st call edit l written by.moves (makes (machine_on d s) call by.fine (ap is_some (by.after pushed.root present))) few;
       is_off = all.rest.is_off;
       pages = worked_pages d s f u m all;
     }
 
-cause_refuses : (d : Device) (s : State) (e : Device) (t : State) (f : Device) (st : Storage) (root : ℕ) (call : Call) {edit : Edit} (made : ℕ → Tree) (reply : Reply) (most : ℕ) (fault : Fault) → present_root s.history ≡ Some root → IsLooked d s e t
-    → IsChangeBy d s call made reply → HasWritten e t.storage most f st → ChangeCause e t.history t.storage edit fault f st → Refuses (seen_on d s) (machine_on d s) call fault (seen_on f (record t { storage = st }))
-cause_refuses d s e t f st root call made reply most fault is l by written (inl (inl only)) =
+cause_refuses : (d : Device) (s : State) (e : Device) (t : State) (f : Device) (st : Storage) (root : ℕ) (call : Call) {edit : Edit} (made : ℕ → Tree) (reply : Reply) (fault : Fault) → present_root s.history ≡ Some root → IsLooked d s e t
+    → IsChangeBy d s call made reply → NeedsFew e edit d s call → ChangeCause e t.history t.storage edit fault f st → Refuses (seen_on d s) (machine_on d s) call fault (seen_on f (record t { storage = st }))
+cause_refuses d s e t f st root call made reply fault is l by few (inl (inl only)) =
     inr (subst (λ x. MayRefuse (seen_on d s) (machine_on d s) call x (seen_on f (record t { storage = st }))) (sym only.0)
-    (writes-version (machine_on d s) call (makes (machine_on d s) call by.fine (ap is_some (by.after root is))), (worked_later e t f (record t { storage = st }) (written_worked e t f st most written)).stays_read_only only.1))
-cause_refuses d s e t f st root call made reply most fault is l by written (inl (inr over)) =
+    (writes-version (machine_on d s) call (makes (machine_on d s) call by.fine (ap is_some (by.after root is))), only.1.on, λ off _. later_serial d s e t l (only.1.serial_left (later_writable d s e t l ∙ off))))
+cause_refuses d s e t f st root call made reply fault is l by few (inl (inr over)) =
     inr (subst (λ x. MayRefuse (seen_on d s) (machine_on d s) call x (seen_on f (record t { storage = st }))) (sym over.0)
-    (makes (machine_on d s) call by.fine (ap is_some (by.after root is)), ap (λ (h : Past ℕ). h.next) (sym l.rest.history) ∙ over.1))
-cause_refuses d s e t f st root call made reply most fault is l by written (inr work) =
-    writing_refuses d s e t f (record t { storage = st }) call fault l by.heavy (makes (machine_on d s) call by.fine (ap is_some (by.after root is))) (by.more (capacity_of d)) work.kind work.why
+    (makes (machine_on d s) call by.fine (ap is_some (by.after root is)), sym (later_writable d s e t l) ∙ over.1.writable, ap (λ (h : Past ℕ). h.next) (sym l.rest.history) ∙ over.1.last))
+cause_refuses d s e t f st root call {edit} made reply fault is l by few (inr work) =
+    writing_refuses d s e t f st edit call fault l by.heavy (makes (machine_on d s) call by.fine (ap is_some (by.after root is))) (by.more (capacity_of d)) few work
 
-pub refused_change : (d : Device) (s : State) (e : Device) (t : State) (f : Device) (st : Storage) (h : Past ℕ) (root : ℕ) (call : Call) {edit : Edit} (made : ℕ → Tree) (reply : Reply) (most : ℕ) (fault : Fault) → IsMounted d s → present_root s.history ≡ Some root
-    → IsLooked d s e t → IsChangeBy d s call made reply → HasWritten e t.storage most f st → (h ≡ t.history) × ChangeCause e t.history t.storage edit fault f st
+pub refused_change : (d : Device) (s : State) (e : Device) (t : State) (f : Device) (st : Storage) (h : Past ℕ) (root : ℕ) (call : Call) {edit : Edit} (made : ℕ → Tree) (reply : Reply) (fault : Fault) → IsMounted d s → present_root s.history ≡ Some root
+    → IsLooked d s e t → IsChangeBy d s call made reply → NeedsFew e edit d s call → HasWritten e t.storage (need (capacity_of e) edit) f st → (h ≡ t.history) × ChangeCause e t.history t.storage edit fault f st
     → IsAnswered d s call (Err fault) f (record t { storage = st; history = h }) (is_cut fault)
-refused_change d s e t f st h root call {edit} made reply most fault m is l by written ends =
+refused_change d s e t f st h root call {edit} made reply fault m is l by few written ends =
     let u : State = record t { storage = st } in
-    let all = worked_on d s e t f u (looked_worked d s e t l) (written_worked e t f st most written) in
+    let all = worked_on d s e t f u (looked_worked d s e t l) (written_worked e t f st (need (capacity_of e) edit) written) in
     subst (λ (i : Past ℕ). IsAnswered d s call (Err fault) f (record t { storage = st; history = i }) (is_cut fault)) (sym ends.0)
-    (refused_answer d s f u call fault m all (cause_refuses d s e t f st root call {edit = edit} made reply most fault is l by written ends.1))
+    (refused_work d s f u call fault m all (change_leaves d s e t f st call edit l written by.moves (makes (machine_on d s) call by.fine (ap is_some (by.after root is))) few)
+    (cause_refuses d s e t f st root call {edit = edit} made reply fault is l by few ends.1))
 
 -- a change that answers nothing, and leaves the open files
 pub change_answer : (d : Device) (s : State) (e : Device) (t : State) (f : Device) (st : Storage) (h : Past ℕ) (root : ℕ) (call : Call) (edit : Edit) (result : Result (Unit {0}) Fault) → IsMounted d s → present_root s.history ≡ Some root
-    → IsLooked d s e t → IsChangeBy d s call (edited_tree e edit) Reply.Empty → descriptors_after (machine_on d s) call ≡ s.files → IsChanged e t.history t.storage edit result f h st
+    → IsLooked d s e t → IsChangeBy d s call (edited_tree e edit) Reply.Empty → NeedsFew e edit d s call → descriptors_after (machine_on d s) call ≡ s.files → IsChanged e t.history t.storage edit result f h st
     → IsAnswered d s call (replied empty result) f (record t { storage = st; history = h }) (is_cut_answer result)
-change_answer d s e t f st h root call edit (Ok x) m is l by files changes =
-    pushed_answer d s e t f st h t.files call edit Reply.Empty _ m l by changes.written changes.ends (l.rest.files ∙ sym files)
-change_answer d s e t f st h root call edit (Err fault) m is l by files changes =
-    refused_change d s e t f st h root call (edited_tree e edit) Reply.Empty _ fault m is l by changes.written changes.ends
+change_answer d s e t f st h root call edit (Ok x) m is l by few files changes =
+    pushed_answer d s e t f st h t.files call edit Reply.Empty m l by few changes.written changes.ends (l.rest.files ∙ sym files)
+change_answer d s e t f st h root call edit (Err fault) m is l by few files changes =
+    refused_change d s e t f st h root call (edited_tree e edit) Reply.Empty fault m is l by few changes.written changes.ends
 
 -- the same, where the edit is that of the change
 
-pub pushed_by : (d : Device) (s : State) (e : Device) (t : State) (f : Device) (st : Storage) (h : Past ℕ) (files : Descriptors) (call : Call) {edit : Edit} (reply : Reply) (most : ℕ) → IsPushed e t.history t.storage edit f h st
-    → IsChangeBy d s call (edited_tree e edit) reply → HasWritten e t.storage most f st → IsMounted d s → IsLooked d s e t → files ≡ descriptors_after (machine_on d s) call
+pub pushed_by : (d : Device) (s : State) (e : Device) (t : State) (f : Device) (st : Storage) (h : Past ℕ) (files : Descriptors) (call : Call) {edit : Edit} (reply : Reply) → IsPushed e t.history t.storage edit f h st
+    → IsChangeBy d s call (edited_tree e edit) reply → NeedsFew e edit d s call → HasWritten e t.storage (need (capacity_of e) edit) f st → IsMounted d s → IsLooked d s e t → files ≡ descriptors_after (machine_on d s) call
     → IsAnswered d s call (Ok reply) f (record t { storage = st; history = h; files = files }) false
-pushed_by d s e t f st h files call {edit} reply most pushed by written m l opens = pushed_answer d s e t f st h files call edit reply most m l by written pushed opens
+pushed_by d s e t f st h files call {edit} reply pushed by few written m l opens = pushed_answer d s e t f st h files call edit reply m l by few written pushed opens
 
 pub change_by : (d : Device) (s : State) (e : Device) (t : State) (f : Device) (st : Storage) (h : Past ℕ) (root : ℕ) (call : Call) {edit : Edit} (result : Result (Unit {0}) Fault) → IsChanged e t.history t.storage edit result f h st
-    → IsChangeBy d s call (edited_tree e edit) Reply.Empty → IsMounted d s → present_root s.history ≡ Some root → IsLooked d s e t → descriptors_after (machine_on d s) call ≡ s.files
+    → IsChangeBy d s call (edited_tree e edit) Reply.Empty → NeedsFew e edit d s call → IsMounted d s → present_root s.history ≡ Some root → IsLooked d s e t → descriptors_after (machine_on d s) call ≡ s.files
     → IsAnswered d s call (replied empty result) f (record t { storage = st; history = h }) (is_cut_answer result)
-change_by d s e t f st h root call {edit} result changes by m is l files = change_answer d s e t f st h root call edit result m is l by files changes
+change_by d s e t f st h root call {edit} result changes by few m is l files = change_answer d s e t f st h root call edit result m is l by few files changes

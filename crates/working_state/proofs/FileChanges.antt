@@ -33,6 +33,7 @@ use Rattle.directory.specs.declared.lookups.Found.TheVariants as found
 use Rattle.directory.specs.Lookups.{◌>>=◌, look_up, found_in, found_of, below_in, directory_at, is_path_fault, IsLookupFault}
 use Rattle.directory.proofs.LookupLaws.{found_is, found_leads_file}
 use Rattle.working_state.specs.Changing.{IsPathOf}
+use Rattle.working_state.specs.Leaves.{is_still}
 use Rattle.working_state.specs.Seen.{Seen, capacity_of, tree_on, seen_on, machine_on}
 use Rattle.working_state.specs.Steps.{is_light}
 use Rattle.working_state.specs.Mounted.{IsMounted}
@@ -44,7 +45,7 @@ use Rattle.working_state.proofs.ChangeSteps.{makes, later_tree}
 use Rattle.working_state.proofs.MovedEntries.{read_cause}
 use Rattle.working_state.proofs.OpenCalls.{present_is}
 use Rattle.working_state.proofs.PathCalls.{OnlyReads, present_stands, read_done}
-use Rattle.working_state.proofs.Standing.{worked_machine, worked_mounted, worked_pages, looked_worked}
+use Rattle.working_state.proofs.Standing.{same_capacity, worked_machine, worked_mounted, worked_pages, looked_worked, looked_leaves}
 
 -- What a path leads to, looked up.
 
@@ -133,6 +134,7 @@ pub record IsFileChange (m : Machine) (call : Call) (path : Path) (bytes : List 
   pub after : tree_after m call ≡ Some (file_put (present_tree m) path bytes)
   pub files : descriptors_after m call ≡ m.descriptors
   pub heavy : is_light call ≡ false
+  pub moves : is_still call ≡ false
   pub paths : has_paths call ≡ true
   pub more : (capacity : ℕ) → 0 < change_need capacity m call
 
@@ -149,12 +151,13 @@ later_body d s f u root path head size m is w led = present_body f u root path h
 
 -- a call that changes nothing
 pub same_answer : (d : Device) (s : State) (e : Device) (t : State) (call : Call) (reply : Reply) → IsMounted d s → IsLooked d s e t → OnlyReads (machine_on d s) call → refusal (machine_on d s) call ≡ None
-    → reply_of (seen_on e t).space (machine_on d s) call ≡ reply → IsAnswered d s call (Ok reply) e t false
-same_answer d s e t call reply m l reads fine replies =
+    → reply_of (seen_on e t).space (machine_on d s) call ≡ reply → is_still call ≡ false → IsAnswered d s call (Ok reply) e t false
+same_answer d s e t call reply m l reads fine replies moves =
     let w = looked_worked d s e t l in
     record {
       mounted = worked_mounted d s e t m w;
       step = read_done d s e t call reply m l reads fine replies;
+      leaves = looked_leaves d s e t call l moves;
       is_off = w.rest.is_off;
       pages = worked_pages d s e t m w;
     }
@@ -183,6 +186,7 @@ pwrite_change m descriptor offset bytes path has fine some below = record {
       ∙ ap (λ b. if b then None else Some (file_put (present_tree m) path (overwritten (bytes_at (present_tree m) path) offset bytes))) some;
   files = refl;
   heavy = refl;
+  moves = refl;
   paths = refl;
   more = λ capacity.
       subst (λ (o : Option Descriptor). 0 < option_map_or (λ d. pwrite_need capacity (length (bytes_at (present_tree m) d.path)) offset (length bytes) + length d.path) o 0) (sym has.1)
@@ -218,6 +222,7 @@ ftruncate_change m descriptor n path has fine other below = record {
       ∙ ap (λ b. if b then None else Some (file_put (present_tree m) path (resized (bytes_at (present_tree m) path) n))) other;
   files = refl;
   heavy = refl;
+  moves = refl;
   paths = refl;
   more = λ capacity.
       subst (λ (o : Option Descriptor). 0 < option_map_or (λ d. ftruncate_need capacity (length (bytes_at (present_tree m) d.path)) n + length d.path) o 0) (sym has.1)
@@ -258,6 +263,7 @@ file_change d s e t call path f reply m l change replies = record {
   fine = change.fine;
   after = λ root is. change.after ∙ ap (λ (x : Tree). Some (put x path (Entry.File (f (bytes_at x path))))) (later_tree d s e t root m is l);
   heavy = change.heavy;
+  moves = change.moves;
   paths = change.paths;
   more = change.more;
   replies = replies;
@@ -265,3 +271,30 @@ file_change d s e t call path f reply m l change replies = record {
 
 pub file_lawful : (d : Device) (s : State) (path : Path) → IsMounted d s → IsFile (present_tree (machine_on d s)) path → is_path path ≡ true
 file_lawful d s path m file = (present-file_tree (machine_on d s) m.machine).paths path (ap is_some file.1)
+
+-- How many nodes a change of a file's bytes needs, by the body that was found.
+
+capacity_at : (d : Device) (s : State) (e : Device) (t : State) → IsWorked d s e t → capacity_of d ≡ capacity_of e
+capacity_at d s e t w = sym (same_capacity (storage_on d s) (storage_on e t) w.evolved)
+
+pub pwrite_few : (d : Device) (s : State) (e : Device) (t : State) (descriptor offset : ℕ) (bytes : List ℕ) (path : Path) (head size : ℕ) → IsMounted d s → IsLooked d s e t → IsPathOf s.files descriptor path → IsPresentBody e t path head size
+    → pwrite_need (capacity_of e) size offset (length bytes) + length path ≤ change_need (capacity_of d) (machine_on d s) (Call.Pwrite descriptor offset bytes)
+pwrite_few d s e t descriptor offset bytes path head size m l has there =
+    let w = looked_worked d s e t l in
+    let long = present_length d s e t path head size m w there in
+    let same = capacity_at d s e t w in
+    let all : change_need (capacity_of d) (machine_on d s) (Call.Pwrite descriptor offset bytes) ≡ pwrite_need (capacity_of e) size offset (length bytes) + length path =
+    ap (λ (o : Option Descriptor). option_map_or (λ x. pwrite_need (capacity_of d) (length (bytes_at (present_tree (machine_on d s)) x.path)) offset (length bytes) + length x.path) o 0) has.1
+    ∙ (λ i. pwrite_need (same i) (long i) offset (length bytes) + length path) in
+    omega arith
+
+pub ftruncate_few : (d : Device) (s : State) (e : Device) (t : State) (descriptor n : ℕ) (path : Path) (head size : ℕ) → IsMounted d s → IsLooked d s e t → IsPathOf s.files descriptor path → IsPresentBody e t path head size
+    → ftruncate_need (capacity_of e) size n + length path ≤ change_need (capacity_of d) (machine_on d s) (Call.Ftruncate descriptor n)
+ftruncate_few d s e t descriptor n path head size m l has there =
+    let w = looked_worked d s e t l in
+    let long = present_length d s e t path head size m w there in
+    let same = capacity_at d s e t w in
+    let all : change_need (capacity_of d) (machine_on d s) (Call.Ftruncate descriptor n) ≡ ftruncate_need (capacity_of e) size n + length path =
+    ap (λ (o : Option Descriptor). option_map_or (λ x. ftruncate_need (capacity_of d) (length (bytes_at (present_tree (machine_on d s)) x.path)) n + length x.path) o 0) has.1
+    ∙ (λ i. ftruncate_need (same i) (long i) n + length path) in
+    omega arith

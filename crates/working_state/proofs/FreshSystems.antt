@@ -28,8 +28,8 @@ use Rattle.node_store.specs.Storage.{Evolved}
 use Rattle.node_store.specs.Stores.{Causes}
 use Rattle.block_trees.specs.Trees.{entries_of}
 use Rattle.block_trees.proofs.RootMaps.{empty_root}
-use Rattle.working_state.specs.Changes.{HasWritten}
 use Rattle.working_state.specs.Fresh.{unused_ring, unused, IsFresh, FreshCause, RootCause}
+use Rattle.working_state.specs.Leaves.{HasWritten}
 use Rattle.working_state.specs.Moments.{moment}
 use Rattle.working_state.specs.Seen.{capacity_of, tree_on, machine_on}
 use Rattle.working_state.specs.Mounted.{IsStanding, IsMounted}
@@ -59,9 +59,9 @@ fresh_machine d h files limit root is none empty =
     ∙ ap (λ (t : Tree). fresh limit t) (empty_root (capacity_of d) (node_of d) root empty).1 in
     (λ i. record { history = history i; descriptors = none i })
 
-pub fresh_mounted : (d : Device) (s : State) (limit root : ℕ) → IsGeometry d.geometry → s.storage.ring.blocks ≡ d.geometry.blocks → vec_len s.storage.page ≡ d.geometry.page → block_bytes d.geometry ≤ vec_capacity s.storage.node
+pub fresh_mounted : (d : Device) (s : State) (limit root : ℕ) → s.is_off ≡ false → IsGeometry d.geometry → s.storage.ring.blocks ≡ d.geometry.blocks → vec_len s.storage.page ≡ d.geometry.page → block_bytes d.geometry ≤ vec_capacity s.storage.node
     → 2 ≤ limit → s.history ≡ fresh limit root → s.files ≡ none_open → entries_of (node_of d root) ≡ Some [] → set.contains s.storage.ring.used root ≡ true → IsMounted d s
-fresh_mounted d s limit root lawful blocks len capacity some is none empty kept =
+fresh_mounted d s limit root on lawful blocks len capacity some is none empty kept =
     let all = subst (AllStand d s.storage.ring) (sym is) (fresh_stand d s limit root (empty_stands d s root empty kept)) in
     record {
       lawful = lawful;
@@ -71,6 +71,7 @@ fresh_mounted d s limit root lawful blocks len capacity some is none empty kept 
       versions = all.versions;
       checkpoints = all.checkpoints;
       machine = subst IsMachine (sym (fresh_machine d s.history s.files limit root is none empty)) (machine_law.first limit some);
+      off = λ off. absurd (true≢false (sym off ∙ on));
     }
 
 -- What it begins with, and why it is refused.
@@ -149,6 +150,6 @@ written_fresh d limit s e t h files root lawful bad ring len capacity written ke
     let same = sym written.evolved.geometry in
     let more = written.node_room in
     let fits : block_bytes d.geometry ≤ vec_capacity t.node = omega arith in
-    let stands = fresh_mounted e state limit root (subst IsGeometry same lawful) (written.evolved.blocks ∙ ap (λ (r : Ring). r.blocks) ring ∙ ap (λ (g : Geometry). g.blocks) same) (written.page_len ∙ len ∙ ap (λ (g : Geometry). g.page) same)
+    let stands = fresh_mounted e state limit root refl (subst IsGeometry same lawful) (written.evolved.blocks ∙ ap (λ (r : Ring). r.blocks) ring ∙ ap (λ (g : Geometry). g.blocks) same) (written.page_len ∙ len ∙ ap (λ (g : Geometry). g.page) same)
     (subst (λ (g : Geometry). block_bytes g ≤ vec_capacity t.node) same fits) some is none empty kept in
     fresh_at d limit s e state stands (fresh_machine e h files limit root is none empty) refl bad ring written

@@ -128,6 +128,7 @@ mkdir_change d s e t path m l fine lawful = record {
   fine = fine;
   after = λ root is. ap (λ (x : Tree). Some (put x path Entry.Dir)) (later_tree d s e t root m is l);
   heavy = refl;
+  moves = refl;
   paths = lawful;
   more = λ capacity. omega arith;
   replies = λ space. refl;

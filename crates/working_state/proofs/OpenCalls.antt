@@ -26,6 +26,7 @@ use Rattle.directory.specs.declared.lookups.Found.{Found}
 use Rattle.directory.specs.declared.lookups.Found.TheVariants as found
 use Rattle.directory.specs.Lookups.{look_up, entry_of, is_path_fault, IsLookupFault}
 use Rattle.directory.proofs.LookupLaws.{found_is, found_leads_file, missing_parent, refused_is}
+use Rattle.working_state.specs.Leaves.{is_still, Leaves}
 use Rattle.working_state.specs.Seen.{capacity_of, seen_on, machine_on}
 use Rattle.working_state.specs.Steps.{replied, is_cut, is_cut_answer, Refuses, CallStep}
 use Rattle.working_state.specs.Mounted.{IsMounted}
@@ -34,7 +35,7 @@ use Rattle.working_state.specs.Worked.{IsWorked, IsLooked, WorkCause}
 use Rattle.working_state.specs.declared.state.State.{State}
 use Rattle.working_state.proofs.PathCalls.{present_tree_is, present_stands}
 use Rattle.working_state.proofs.Refusals.{read_refuses, refused_step, never}
-use Rattle.working_state.proofs.Standing.{all_stand, AllStand, worked_machine, worked_later, worked_mounted, worked_pages, looked_worked}
+use Rattle.working_state.proofs.Standing.{all_stand, AllStand, worked_machine, worked_later, worked_mounted, worked_pages, looked_worked, looked_leaves}
 use Rattle.working_state.proofs.Steps.{still_machine}
 
 -- ---- refusals
@@ -163,14 +164,20 @@ changes_is d s path flags root x m is led fits =
 -- ---- steps of what is opened
 
 -- a refused call
-pub refused_answer : (d : Device) (s : State) (e : Device) (t : State) (call : Call) (fault : Fault) → IsMounted d s → IsWorked d s e t → Refuses (seen_on d s) (machine_on d s) call fault (seen_on e t)
+pub refused_work : (d : Device) (s : State) (e : Device) (t : State) (call : Call) (fault : Fault) → IsMounted d s → IsWorked d s e t → Leaves (machine_on d s) call d s.storage e t.storage → Refuses (seen_on d s) (machine_on d s) call fault (seen_on e t)
     → IsAnswered d s call (Err fault) e t (is_cut fault)
-refused_answer d s e t call fault m w refuses = record {
+refused_work d s e t call fault m w leaves refuses = record {
   mounted = worked_mounted d s e t m w;
   step = refused_step d s e t call fault m w refuses;
+  leaves = leaves;
   is_off = w.rest.is_off;
   pages = worked_pages d s e t m w;
 }
+
+-- one that was refused before anything was written
+pub refused_answer : (d : Device) (s : State) (e : Device) (t : State) (call : Call) (fault : Fault) → IsMounted d s → IsLooked d s e t → is_still call ≡ false → Refuses (seen_on d s) (machine_on d s) call fault (seen_on e t)
+    → IsAnswered d s call (Err fault) e t (is_cut fault)
+refused_answer d s e t call fault m l moves refuses = refused_work d s e t call fault m (looked_worked d s e t l) (looked_leaves d s e t call l moves) refuses
 
 -- where what was answered is a fault
 pub at_answer : {T : Type 0} (f : T → Reply) (d : Device) (s : State) (e : Device) (t : State) (call : Call) (fault : Fault) (result : Result T Fault) → result ≡ Err fault
@@ -187,6 +194,7 @@ mounted_at e t h files m all machine = record {
   versions = all.versions;
   checkpoints = all.checkpoints;
   machine = machine;
+  off = m.off;
 }
 
 -- the open files with one more
@@ -215,7 +223,7 @@ pub opened_answer : (d : Device) (s : State) (e : Device) (t : State) (path : Pa
     → files ≡ opened t.files descriptor (record { path = path; flags = flags })
     → IsAnswered d s (Call.Open path flags) (Ok (Reply.Fd descriptor)) e (record t { files = files }) false
 opened_answer d s e t path flags descriptor files m l lawful fine same free is =
-    record { mounted = mounted_at e t t.history files mid (all_stand e t mid) machine; step = step; is_off = l.rest.is_off; pages = worked_pages d s e t m w }
+    record { mounted = mounted_at e t t.history files mid (all_stand e t mid) machine; step = step; leaves = looked_leaves d s e t call l refl; is_off = l.rest.is_off; pages = worked_pages d s e t m w }
   where
     call : Call
     call = Call.Open path flags

@@ -45,6 +45,7 @@ open_change d s e t path flags descriptor m l fine lawful changes free below = r
   fine = fine;
   after = λ root is. made_by (machine_on d s) path flags true changes ∙ ap (λ (x : Tree). Some (file_put x path [])) (later_tree d s e t root m is l);
   heavy = refl;
+  moves = refl;
   paths = lawful;
   more = λ capacity. below;
   replies = λ space. ap (λ o. Reply.Fd (unwrap_or o 0)) free;

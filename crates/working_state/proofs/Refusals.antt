@@ -1,6 +1,6 @@
 -- Steps of refused calls, and what is remembered of an answer that the power is off.
-use Rattle.std.proofs.Common.{◌≡◌, ◌<◌, Bool, true, false, ◌&&◌, ◌||◌, Result, Err, refl, sym, subst, ◌∙◌, arith}
-use Rattle.std.proofs.lemmas.Bool.{true≢false, and_parts}
+use Rattle.std.proofs.Common.{◌≡◌, ◌+◌, ◌<◌, Bool, true, false, ◌&&◌, ◌||◌, Result, Err, inl, inr, refl, sym, subst, ◌∙◌, arith}
+use Rattle.std.proofs.lemmas.Bool.{true≢false, both_ways, and_parts, or_cases}
 use Rattle.std.specs.Prelude.{IsTrue, IfErr}
 use Rattle.history_machine.specs.Machine.{Machine, need}
 use Rattle.fs_types.specs.declared.calls.Call.{Call}
@@ -10,11 +10,13 @@ use Rattle.fs_types.specs.declared.faults.Fault.TheVariants.{NoEntry, NotDirecto
 use Rattle.flash_model.specs.Device.{Device}
 use Rattle.directory.specs.Lookups.{is_path_fault, IsLookupFault}
 use Rattle.directory.specs.Trails.{IsChangeFault}
+use Rattle.working_state.specs.Leaves.{Leaves}
 use Rattle.working_state.specs.Seen.{Seen, seen_on, machine_on}
-use Rattle.working_state.specs.Steps.{replied, is_light, is_writing, is_cut, is_cut_answer, MayRefuse, Refuses, IsLater, CallStep}
+use Rattle.working_state.specs.Steps.{last_serial, replied, is_light, is_writing, is_cut, is_cut_answer, MayRefuse, Refuses, IsLater, CallStep}
 use Rattle.working_state.specs.Mounted.{IsMounted, StateStep}
 use Rattle.working_state.specs.Worked.{IsWorked, WorkCause}
 use Rattle.working_state.specs.declared.state.State.{State}
+use Rattle.working_state.proofs.CutCalls.{answered_off}
 use Rattle.working_state.proofs.Standing.{worked_machine, worked_later}
 
 -- Causes.
@@ -32,14 +34,15 @@ read_refuses old new m call NotDirectory heavy other is why = absurd (true≢fal
 read_refuses old new m call Damaged heavy other is why = absurd (true≢false other)
 read_refuses old new m call _ heavy other is why = absurd (not_so is)
 
--- a refusal of a new directory's nodes
-pub write_refuses : (old new : Seen) (m : Machine) (call : Call) (fault : Fault) → is_light call ≡ false → 0 < need old.capacity m call → is_writing m call ≡ true → IsChangeFault fault → WorkCause old fault new → MayRefuse old m call fault new
-write_refuses old new m call FlashFull heavy needs writes is why = (needs, why)
-write_refuses old new m call ReadOnly heavy needs writes is why = (writes, why)
-write_refuses old new m call ReadFailed heavy needs writes is why = (heavy, why)
-write_refuses old new m call PowerCut heavy needs writes is why = (heavy, why)
-write_refuses old new m call NoMemory heavy needs writes is why = heavy
-write_refuses old new m call _ heavy needs writes is why = absurd (not_so is)
+-- a refusal of the nodes of a version, where read-only mode was off and a serial was left
+pub write_refuses : (old new : Seen) (m : Machine) (call : Call) (fault : Fault) → is_light call ≡ false → 0 < need old.capacity m call → is_writing m call ≡ true → old.read_only ≡ false → m.history.next < last_serial → IsChangeFault fault
+    → (fault ≡ FlashFull → old.space.free + old.listed < new.listed + need old.capacity m call) → WorkCause old fault new → MayRefuse old m call fault new
+write_refuses old new m call FlashFull heavy needs writes off left is few why = (needs, off, left, record { none_free = why; few_free = few refl })
+write_refuses old new m call ReadOnly heavy needs writes off left is few why = (writes, why, λ _ _. left)
+write_refuses old new m call ReadFailed heavy needs writes off left is few why = (heavy, why)
+write_refuses old new m call PowerCut heavy needs writes off left is few why = (heavy, why)
+write_refuses old new m call NoMemory heavy needs writes off left is few why = heavy
+write_refuses old new m call _ heavy needs writes off left is few why = absurd (not_so is)
 
 -- a cause between later states
 pub cause_later : (old mid new : Seen) (fault : Fault) → IsLater old mid → WorkCause mid fault new → WorkCause old fault new
@@ -76,15 +79,20 @@ Step d s call result e t off off' = CallStep (seen_on d s) (machine_on d s) off 
 pub remembered_step : {T : Type 0} (f : T → Reply) (d : Device) (s : State) (e : Device) (t u : State) (call : Call) (result again : Result T Fault)
     → again ≡ result → s.is_off ≡ false → t.is_off ≡ s.is_off → u ≡ remembering t result
     → CallStep (seen_on d s) (machine_on d s) false call (replied f result) (seen_on e t) (machine_on e t) (is_cut_answer result)
-    → StateStep d s call (replied f again) e u
-remembered_step f d s e t u call result again told on same is step =
+    → Leaves (machine_on d s) call d s.storage e t.storage → StateStep d s call (replied f again) e u
+remembered_step f d s e t u call result again told on same is step leaves =
     subst (λ r. StateStep d s call (replied f r) e u) (sym told)
-    (subst (λ v. StateStep d s call (replied f result) e v) (sym is)
-    (subst (λ o. Step d s call (replied f result) e t o (t.is_off || is_cut_answer result)) (sym on)
-    (subst (λ o. Step d s call (replied f result) e t false (o || is_cut_answer result)) (sym (same ∙ on)) step)))
+    (subst (λ v. StateStep d s call (replied f result) e v) (sym is) (record {
+      step = subst (λ o. Step d s call (replied f result) e t o (t.is_off || is_cut_answer result)) (sym on)
+          (subst (λ o. Step d s call (replied f result) e t false (o || is_cut_answer result)) (sym (same ∙ on)) step);
+      leaves = leaves;
+      stopped = λ off. absurd (both_ways s.is_off on off);
+    }))
 
-pub remembered_mounted : {T : Type 0} (e : Device) (t u : State) (result : Result T Fault) → u ≡ remembering t result → IsMounted e t → IsMounted e u
-remembered_mounted e t u result is m = subst (IsMounted e) (sym is) (record {
+-- the system stays mounted: where the answer is that the power is off, it is
+pub remembered_mounted : {T : Type 0} (f : T → Reply) (d : Device) (s : State) (e : Device) (t u : State) (call : Call) (result : Result T Fault) → u ≡ remembering t result → IsMounted e t
+    → CallStep (seen_on d s) (machine_on d s) false call (replied f result) (seen_on e t) (machine_on e t) (is_cut_answer result) → IsMounted e u
+remembered_mounted f d s e t u call result is m step = subst (IsMounted e) (sym is) (record {
   lawful = m.lawful;
   ring_blocks = m.ring_blocks;
   page_len = m.page_len;
@@ -92,6 +100,10 @@ remembered_mounted e t u result is m = subst (IsMounted e) (sym is) (record {
   versions = m.versions;
   checkpoints = m.checkpoints;
   machine = m.machine;
+  off = λ off. elim (or_cases t.is_off (is_cut_answer result) off) [
+    | inl was ↦ m.off was
+    | inr cut ↦ answered_off (seen_on d s) (machine_on d s) false call (replied f result) (seen_on e t) (machine_on e t) (is_cut_answer result) step.answers (λ wrong. absurd (true≢false (sym wrong))) cut
+  ];
 })
 
 -- a call that makes no version and is none for the record

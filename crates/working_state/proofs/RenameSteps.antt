@@ -26,7 +26,7 @@ use Rattle.working_state.proofs.ChangeSteps.{later_tree}
 use Rattle.working_state.proofs.ChangedCalls.{IsChangeBy}
 use Rattle.working_state.proofs.MovedEntries.{PlaceRefused, PlaceFound, MoveRefused, read_later, read_may}
 use Rattle.working_state.proofs.PathCalls.{OnlyReads, read_done}
-use Rattle.working_state.proofs.Standing.{looked_worked, worked_later, worked_machine, worked_mounted, worked_pages}
+use Rattle.working_state.proofs.Standing.{looked_worked, looked_leaves, worked_later, worked_machine, worked_mounted, worked_pages}
 
 -- Refusals.
 
@@ -90,6 +90,7 @@ rename_change d s e t old new m l fine differ lawful = record {
   fine = fine;
   after = λ root is. ap (λ b. if b then None else Some (move (present_tree (machine_on d s)) old new)) differ ∙ ap (λ (x : Tree). Some (move x old new)) (later_tree d s e t root m is l);
   heavy = refl;
+  moves = refl;
   paths = lawful;
   more = λ capacity. rename_more capacity (machine_on d s) old new differ;
   replies = λ space. refl;
@@ -100,4 +101,4 @@ pub same_answer : (d : Device) (s : State) (e : Device) (t : State) (old new : P
     → IsAnswered d s (Call.Rename old new) (Ok Reply.Empty) e t false
 same_answer d s e t old new m l fine same =
     let w = looked_worked d s e t l in
-    record { mounted = worked_mounted d s e t m w; step = same_step d s e t old new m l fine same; is_off = w.rest.is_off; pages = worked_pages d s e t m w }
+    record { mounted = worked_mounted d s e t m w; step = same_step d s e t old new m l fine same; leaves = looked_leaves d s e t (Call.Rename old new) l refl; is_off = w.rest.is_off; pages = worked_pages d s e t m w }

@@ -11,7 +11,7 @@ use Rattle.history_machine.specs.HistoryMaps.{changed-map}
 use Rattle.flash_model.specs.Device.{Device}
 use Rattle.node_store.specs.declared.storage.Storage.{Storage}
 use Rattle.tree_edits.specs.declared.edits.Edit.TheVariants.{Restore}
-use Rattle.working_state.specs.Changes.{ChangeEnds, ChangeCause, IsChanged}
+use Rattle.working_state.specs.Changes.{IsReadOnly, ChangeEnds, ChangeCause, IsChanged}
 use Rattle.working_state.specs.Mounted.{IsStanding, IsMounted, StateStep}
 use Rattle.working_state.specs.Seen.{tree_on, machine_on}
 use Rattle.working_state.specs.Steps.{replied, empty}
@@ -30,17 +30,18 @@ module _ (d : Device) (s : State) (f : Device) (st : Storage) (h : Past ℕ) (na
       ap (λ (x : Past Tree). record { history = x; descriptors = s.files })
       (sym (changed-map (tree_on d) s.history root) ∙ ap (changed (map_roots (tree_on d) s.history)) (sym same) ∙ changed-map (tree_on d) s.history to)
 
-  rolled_step : (result : Result (Unit {0}) Fault) → s.is_off ≡ false → any_open s.files ≡ false → checkpoint_root s.history name ≡ Some root → f ≡ d → ChangeEnds d s.history s.storage (Restore root) result f h st
+  rolled_step : (result : Result (Unit {0}) Fault) → s.is_off ≡ false → any_open s.files ≡ false → checkpoint_root s.history name ≡ Some root → f ≡ d → st ≡ s.storage → ChangeEnds d s.history s.storage (Restore root) result f h st
       → StateStep d s call (replied empty result) d (with_history s h)
-  rolled_step (Ok x) on none there same pushed =
+  rolled_step (Ok x) on none there same kept pushed =
       let shows : tree_on d pushed.to ≡ tree_on d root = subst (λ (e : Device). tree_on e pushed.to ≡ tree_on d root) same pushed.shows in
       subst (λ (p : Past ℕ). StateStep d s call (Ok Reply.Empty) d (with_history s p)) (sym pushed.pushed)
       (done d s call (changed s.history pushed.to) Reply.Empty on (rollback-accepted d s name root none there) refl (rollback-leaves d s name root none there ∙ same_machine pushed.to shows) (λ _. pushed.writable) (λ _. pushed.serial_left))
-  rolled_step (Err fault) on none there same ends = subst (λ (p : Past ℕ). StateStep d s call (Err fault) d (with_history s p)) (sym ends.0) (by ends.1)
+  rolled_step (Err fault) on none there same kept ends = subst (λ (p : Past ℕ). StateStep d s call (Err fault) d (with_history s p)) (sym ends.0) (by ends.1)
     where
       by : ChangeCause d s.history s.storage (Restore root) fault f st → StateStep d s call (Err fault) d s
-      by (inl why) = refused_change d s call fault on (rollback-makes d s name root none there) why
-      by (inr work) = absurd (let some : 0 < 0 = work.needs in omega arith)
+      by (inl (inl why)) = refused_change d s call fault on (rollback-makes d s name root none there) (inl (why.0, subst (λ (t : Storage). IsReadOnly s.history s.storage t) kept why.1))
+      by (inl (inr why)) = refused_change d s call fault on (rollback-makes d s name root none there) (inr why)
+      by (inr work) = absurd (let some : 0 < 0 = work.why.needs in omega arith)
 
   rolled_stand : (result : Result (Unit {0}) Fault) → IsMounted d s → f ≡ d → st ≡ s.storage → ChangeEnds d s.history s.storage (Restore root) result f h st → AllStand d s.storage.ring h
   rolled_stand (Ok x) m same kept pushed =
@@ -61,11 +62,11 @@ module _ (d : Device) (s : State) (f : Device) (st : Storage) (h : Past ℕ) (na
       → StateStep d s call (replied empty result) f (record s { storage = st; history = h })
   rollback_step result on none there changes =
       let same = changes.still refl in
-      at_same (StateStep d s call (replied empty result)) same.0 same.1 (rolled_step result on none there same.0 changes.ends)
+      at_same (StateStep d s call (replied empty result)) same.0 same.1 (rolled_step result on none there same.0 same.1 changes.ends)
 
   pub rollback_mounted : (result : Result (Unit {0}) Fault) → IsMounted d s → s.is_off ≡ false → any_open s.files ≡ false → checkpoint_root s.history name ≡ Some root → IsChanged d s.history s.storage (Restore root) result f h st
       → IsMounted f (record s { storage = st; history = h })
   rollback_mounted result m on none there changes =
       let same = changes.still refl in
       at_same IsMounted same.0 same.1
-      (mounted_by d s call (replied empty result) h m refl (rolled_step result on none there same.0 changes.ends) (rolled_stand result m same.0 same.1 changes.ends))
+      (mounted_by d s call (replied empty result) h m refl (rolled_step result on none there same.0 same.1 changes.ends) (rolled_stand result m same.0 same.1 changes.ends))

@@ -1,11 +1,14 @@
 -- What stands still stands after reads and writes of nodes, and the machine is the same.
-use Rattle.std.proofs.Common.{◌≡◌, ℕ, ◌-◌, ◌≤◌, refl, sym, ap, subst, ◌∙◌, inl, inr, arith}
+use Rattle.std.proofs.Common.{◌≡◌, ℕ, ◌-◌, ◌≤◌, true, false, refl, sym, ap, subst, ◌∙◌, inl, inr, arith}
+use Rattle.std.proofs.lemmas.Bool.{both_ways}
 use Rattle.std.proofs.lemmas.List.Elements.{All-weaker, All-contains, All-map}
 use Rattle.std.specs.Prelude.{All, map, vec_capacity}
+use Rattle.std.specs.FinSet as set
 use Rattle.history_machine.specs.History.{Past, map_roots}
 use Rattle.history_machine.specs.HistoryMaps.{same-map_roots}
-use Rattle.history_machine.specs.Machine.{IsMachine}
+use Rattle.history_machine.specs.Machine.{Machine, IsMachine, makes_version, need}
 use Rattle.fs_types.specs.Names.{Name}
+use Rattle.fs_types.specs.declared.calls.Call.{Call}
 use Rattle.fs_types.specs.declared.calls.Version.{Version}
 use Rattle.flash_model.specs.declared.sizes.Geometry.{Geometry}
 use Rattle.flash_model.specs.Device.{Device, block_of}
@@ -15,20 +18,20 @@ use Rattle.node_format.specs.Headers.{body_front}
 use Rattle.node_format.specs.declared.places.Place.TheVariants.{Dir}
 use Rattle.node_store.specs.NodePages.{node_of}
 use Rattle.node_store.specs.declared.storage.Storage as parts
-use Rattle.node_store.specs.Storage.{Storage, is_kept, Evolved}
-use Rattle.node_store.specs.StorageLaws.{Evolved_itself, Evolved_on, Untouched_evolved, Untouched_on}
+use Rattle.node_store.specs.Storage.{Storage, storage, is_kept, Evolved}
+use Rattle.node_store.specs.StorageLaws.{Evolved_itself, Evolved_on, Untouched_itself, Untouched_evolved, Untouched_on}
 use Rattle.node_store.specs.StoreLaws.{Evolved_node}
 use Rattle.block_trees.specs.Laws.{FrameLaw}
 use Rattle.block_trees.specs.Reached.{Keeps}
 use Rattle.block_trees.specs.Trees.{IsRoot, root_tree}
 use Rattle.block_trees.proofs.Frames.{frame_law}
-use Rattle.working_state.specs.Changes.{HasLooked}
+use Rattle.working_state.specs.Leaves.{HasLooked, HasWritten, is_still, Leaves}
 use Rattle.working_state.specs.Seen.{capacity_of, tree_on, seen_on, machine_on}
 use Rattle.working_state.specs.Steps.{IsLater}
 use Rattle.working_state.specs.Mounted.{IsStanding, IsMounted, HasRoot, KeepsPages}
 use Rattle.working_state.specs.Worked.{storage_on, IsSameBut, IsWorked, IsLooked}
 use Rattle.working_state.specs.declared.state.State.{State}
-use Rattle.working_state.proofs.BadCounts.{stays_read_only}
+use Rattle.working_state.proofs.BadCounts.{len-within, stays_read_only}
 
 -- Blocks and roots.
 
@@ -101,6 +104,53 @@ worked_on d s e t f u a b = record { evolved = Evolved_on (storage_on d s) (stor
 pub looked_on : (d : Device) (s : State) (e : Device) (t : State) (f : Device) (u : State) → IsLooked d s e t → IsLooked e t f u → IsLooked d s f u
 looked_on d s e t f u a b = record { untouched = Untouched_on (storage_on d s) (storage_on e t) (storage_on f u) a.untouched b.untouched; rest = same_but_on s t u a.rest b.rest }
 
+-- What is left of what nodes are kept with.
+
+pub none_written : (d : Device) (s : parts.Storage) (most : ℕ) → HasWritten d s most d s
+none_written d s most = record { evolved = Evolved_itself (storage d s.bad s.ring); paid = omega arith; page_len = refl; node_room = omega arith }
+
+none_looked : (d : Device) (s : parts.Storage) → HasLooked d s d s
+none_looked d s = record { untouched = Untouched_itself (storage d s.bad s.ring); page_len = refl; node_room = omega arith }
+
+-- a look, and then writes of no more nodes
+pub looked_written : (d : Device) (s : parts.Storage) (e : Device) (t : parts.Storage) (f : Device) (u : parts.Storage) (nodes most : ℕ) → HasLooked d s e t → HasWritten e t nodes f u → nodes ≤ most → HasWritten d s most f u
+looked_written d s e t f u nodes most l w few =
+    let paid = w.paid in
+    let room = l.node_room in
+    let more = w.node_room in
+    let takes = ap (λ (r : Ring). r.takes) l.untouched.ring in
+    let bad = ap set.len l.untouched.bad in
+    record {
+      evolved = Evolved_on (storage d s.bad s.ring) (storage e t.bad t.ring) (storage f u.bad u.ring) (Untouched_evolved (storage d s.bad s.ring) (storage e t.bad t.ring) l.untouched) w.evolved;
+      paid = omega arith;
+      page_len = w.page_len ∙ l.page_len;
+      node_room = omega arith;
+    }
+
+looks : (d : Device) (s : State) (e : Device) (t : State) → IsLooked d s e t → HasLooked d s.storage e t.storage
+looks d s e t l = record { untouched = l.untouched; page_len = l.rest.page_len; node_room = l.rest.node_room }
+
+-- a call that only read
+pub looked_leaves : (d : Device) (s : State) (e : Device) (t : State) (call : Call) → IsLooked d s e t → is_still call ≡ false → Leaves (machine_on d s) call d s.storage e t.storage
+looked_leaves d s e t call l moves = record {
+  written = looked_written d s.storage e t.storage e t.storage 0 (need (capacity_of d) (machine_on d s) call) (looks d s e t l) (none_written e t.storage 0) (omega arith);
+  looked = λ _. looks d s e t l;
+  still = λ still. absurd (both_ways (is_still call) moves still);
+}
+
+-- a call that did no device operation
+pub still_leaves : (m : Machine) (d : Device) (s : parts.Storage) (call : Call) → Leaves m call d s d s
+still_leaves m d s call = record { written = none_written d s (need (capacity_of d) m call); looked = λ _. none_looked d s; still = λ _. (refl, refl) }
+
+-- a call that wrote as many nodes as it may
+pub written_leaves : (d : Device) (s : State) (e : Device) (t : State) (f : Device) (u : parts.Storage) (call : Call) (nodes : ℕ) → IsLooked d s e t → HasWritten e t.storage nodes f u
+    → is_still call ≡ false → makes_version (machine_on d s) call ≡ true → nodes ≤ need (capacity_of d) (machine_on d s) call → Leaves (machine_on d s) call d s.storage f u
+written_leaves d s e t f u call nodes l w moves makes few = record {
+  written = looked_written d s.storage e t.storage f u nodes (need (capacity_of d) (machine_on d s) call) (looks d s e t l) w few;
+  looked = λ none. absurd (both_ways (makes_version (machine_on d s) call) none makes);
+  still = λ still. absurd (both_ways (is_still call) moves still);
+}
+
 -- all roots stand on
 pub worked_stand : (d : Device) (s : State) (e : Device) (t : State) → IsMounted d s → IsWorked d s e t → AllStand e t.storage.ring s.history
 worked_stand d s e t m w = all_still_stand (storage_on d s) (storage_on e t) s.history m.lawful w.evolved (all_stand d s m)
@@ -126,6 +176,7 @@ mounted_with d s e t h m w all machine =
       versions = all.versions;
       checkpoints = all.checkpoints;
       machine = machine;
+      off = λ off. let was = m.off (sym w.rest.is_off ∙ off) in ap (λ (x : Device). x.powered) (w.evolved.stays_off was) ∙ was;
     }
 
 pub worked_mounted : (d : Device) (s : State) (e : Device) (t : State) → IsMounted d s → IsWorked d s e t → IsMounted e t
@@ -136,6 +187,10 @@ pub worked_later : (d : Device) (s : State) (e : Device) (t : State) → IsWorke
 worked_later d s e t w = record {
   capacity = same_capacity (storage_on d s) (storage_on e t) w.evolved;
   failed_reads = w.evolved.failed_reads;
+  failures = w.evolved.failures;
+  listed = len-within s.storage.bad t.storage.bad w.evolved.stays_bad;
+  taken = w.evolved.taken;
+  cuts = w.evolved.cuts;
   was_on = w.evolved.was_on;
   stays_read_only = stays_read_only s.storage.bad t.storage.bad w.evolved.stays_bad;
 }

@@ -1,6 +1,6 @@
 -- What a call that does no device operation has to show for its step, and what stays of the invariant.
 use Rattle.std.proofs.Common.{◌≡◌, ◌⊎◌, inl, inr, ℕ, ◌+◌, ◌<◌, ◌≤◌, Bool, true, false, cond, ◌&&◌, Option, Some, None, List, [], ◌∷◌, map, Result, Ok, Err, OnOk, OnErr, IfErr, length, sym, ap, refl, ◌∙◌, subst, arith}
-use Rattle.std.proofs.lemmas.Bool.{true≢false, and_parts, and_from, le-leb, lt-leb}
+use Rattle.std.proofs.lemmas.Bool.{true≢false, both_ways, and_parts, and_from, le-leb, lt-leb}
 use Rattle.std.specs.Prelude.{◌==◌, ◌||◌, nat_lt, nat_le, unwrap_or}
 use Rattle.std.specs.Option.{option_map, option_map_or, is_some, is_none}
 use Rattle.fs_types.specs.Names.{Name}
@@ -14,48 +14,70 @@ use Rattle.fs_types.specs.declared.calls.Call.{Call}
 use Rattle.fs_types.specs.declared.calls.Reply.{Reply}
 use Rattle.fs_types.specs.declared.calls.Version.{Version}
 use Rattle.fs_types.specs.declared.faults.Fault.{Fault}
+use Rattle.fs_types.specs.declared.faults.Fault.TheVariants.{PowerCut}
 use Rattle.flash_model.specs.Device.{Device}
+use Rattle.node_store.specs.declared.storage.Storage.{Storage}
 use Rattle.history.specs.Answers.{answer}
+use Rattle.working_state.specs.Changes.{IsReadOnly, IsOverflow}
+use Rattle.working_state.specs.Leaves.{Leaves}
 use Rattle.working_state.specs.Seen.{Seen, seen_on, machine_on, tree_on, is_read_only}
 use Rattle.working_state.specs.Steps.{last_serial, replied, empty, is_cut, is_writing, is_for_record, MayRefuse, Answers, IsLater, CallStep}
 use Rattle.working_state.specs.Mounted.{IsMounted, StateStep}
 use Rattle.working_state.specs.declared.state.State.{State}
-use Rattle.working_state.proofs.Standing.{AllStand}
+use Rattle.working_state.proofs.Standing.{AllStand, still_leaves}
 
 -- the state with another history
 abbrev pub with_history : State → Past ℕ → State
 with_history s p = record s { history = p }
 
 same-later : (old : Seen) → IsLater old old
-same-later old = record { capacity = refl; failed_reads = omega arith; was_on = λ e. e; stays_read_only = λ e. e }
+same-later old = record { capacity = refl; failed_reads = omega arith; failures = refl; listed = omega arith; taken = refl; cuts = omega arith; was_on = λ e. e; stays_read_only = λ e. e }
 
 module _ (d : Device) (s : State) (call : Call) where
   abbrev before : Machine
   before = machine_on d s
 
+  -- a call that does no device operation, and is answered so
+  pub still_step : (t : State) (result : Result Reply Fault) → t.storage ≡ s.storage → (s.is_off ≡ true → t ≡ s) → CallStep (seen_on d s) before s.is_off call result (seen_on d t) (machine_on d t) t.is_off → StateStep d s call result d t
+  still_step t result same stopped step = record {
+    step = step;
+    leaves = subst (λ (x : Storage). Leaves before call d s.storage d x) (sym same) (still_leaves before d s.storage call);
+    stopped = λ off. (refl, stopped off);
+  }
+
   -- a call that was carried out
   pub done : (p : Past ℕ) (reply : Reply) → s.is_off ≡ false → refusal before call ≡ None → reply_of (seen_on d s).space before call ≡ reply → machine_of before call None ≡ machine_on d (with_history s p)
       → (is_writing before call ≡ true → is_read_only s.storage.bad ≡ false) → (makes_version before call ≡ true → s.history.next < last_serial) → StateStep d s call (Ok reply) d (with_history s p)
-  done p reply on ok tells leaves writable serial = record {
+  done p reply on ok tells leaves writable serial = still_step (with_history s p) (Ok reply) refl (λ off. absurd (both_ways s.is_off on off)) (record {
     later = same-later (seen_on d s);
     answers = (
       on,
       record {
         answered = ap (answer_of (seen_on d s).space before call) ok ∙ ap Ok tells;
         leaves = sym (ap (machine_of before call) ok ∙ leaves);
-        writable = writable;
+        writable = λ writes. (writable writes, writable writes);
         serial_left = serial;
       },
       on,
     );
-  }
+  })
 
   -- a call that was refused
   pub refused : (fault : Fault) → s.is_off ≡ false → is_cut fault ≡ false → (refusal before call ≡ Some fault) ⊎ MayRefuse (seen_on d s) before call fault (seen_on d s) → StateStep d s call (Err fault) d s
-  refused fault on no_cut why = record {
+  refused fault on no_cut why = still_step s (Err fault) refl (λ _. refl) (record {
     later = same-later (seen_on d s);
     answers = subst (λ off. Answers (seen_on d s) before off call (Err fault) (seen_on d s) before off) (sym on) (why, refl, sym no_cut);
-  }
+  })
+
+  -- a call where an earlier one answered that the power is off
+  pub off_step : (fault : Fault) → (fault ≡ PowerCut) × (s.is_off ≡ true) → StateStep d s call (Err fault) d s
+  off_step fault why = still_step s (Err fault) refl (λ _. refl) (record {
+    later = same-later (seen_on d s);
+    answers = subst (λ off. Answers (seen_on d s) before off call (Err fault) (seen_on d s) before off) (sym why.1) (why.0, refl, refl, refl);
+  })
+
+  pub refused_off : {T : Type 0} (f : T → Reply) (fault : Fault) (result : Result T Fault) → result ≡ Err fault → (fault ≡ PowerCut) × (s.is_off ≡ true) → StateStep d s call (replied f result) d s
+  refused_off f fault result is why = subst (λ r. StateStep d s call (replied f r) d s) (sym is) (off_step fault why)
 
   -- a call that the history answers
   pub answered : (r : Option Fault) (result : Result (Unit {0}) Fault) (after p : Past ℕ) → result ≡ answer r → OnOk result (p ≡ after) → OnErr result (p ≡ s.history)
@@ -89,16 +111,16 @@ writes-record m call ok e = and_from (is_accepted m call) _ (ap is_none ok) (ap 
     go true = refl
     go false = refl
 
--- what refuses a change that the machine accepts
+-- what refuses a change that the machine accepts, and that needs no node
 pub refused_change : (d : Device) (s : State) (call : Call) (fault : Fault) → s.is_off ≡ false → makes_version (machine_on d s) call ≡ true
-    → ((fault ≡ Fault.ReadOnly) × (is_read_only s.storage.bad ≡ true)) ⊎ ((fault ≡ Fault.Overflow) × (s.history.next ≡ last_serial)) → StateStep d s call (Err fault) d s
-refused_change d s call fault on makes (inl why) = subst (λ f. StateStep d s call (Err f) d s) (sym why.0) (refused d s call Fault.ReadOnly on refl (inr (writes-version (machine_on d s) call makes, why.1)))
-refused_change d s call fault on makes (inr why) = subst (λ f. StateStep d s call (Err f) d s) (sym why.0) (refused d s call Fault.Overflow on refl (inr (makes, why.1)))
+    → ((fault ≡ Fault.ReadOnly) × IsReadOnly s.history s.storage s.storage) ⊎ ((fault ≡ Fault.Overflow) × IsOverflow s.history s.storage) → StateStep d s call (Err fault) d s
+refused_change d s call fault on makes (inl why) = subst (λ f. StateStep d s call (Err f) d s) (sym why.0) (refused d s call Fault.ReadOnly on refl (inr (writes-version (machine_on d s) call makes, why.1.on, λ off made. why.1.serial_left off)))
+refused_change d s call fault on makes (inr why) = subst (λ f. StateStep d s call (Err f) d s) (sym why.0) (refused d s call Fault.Overflow on refl (inr (makes, why.1.writable, why.1.last)))
 
 -- what refuses another call that the record has to take
 pub refused_record : (d : Device) (s : State) (call : Call) (fault : Fault) → s.is_off ≡ false → refusal (machine_on d s) call ≡ None → is_for_record call ≡ true
     → (fault ≡ Fault.ReadOnly) × (is_read_only s.storage.bad ≡ true) → StateStep d s call (Err fault) d s
-refused_record d s call fault on ok record_call why = subst (λ f. StateStep d s call (Err f) d s) (sym why.0) (refused d s call Fault.ReadOnly on refl (inr (writes-record (machine_on d s) call ok record_call, why.1)))
+refused_record d s call fault on ok record_call why = subst (λ f. StateStep d s call (Err f) d s) (sym why.0) (refused d s call Fault.ReadOnly on refl (inr (writes-record (machine_on d s) call ok record_call, why.1, λ off. absurd (both_ways (is_read_only s.storage.bad) off why.1))))
 
 -- no file is open, so that the present version may move
 pub may_travel : (m : Machine) (refused : Option Fault) → any_open m.descriptors ≡ false → travel_refusal m refused ≡ refused
@@ -187,7 +209,8 @@ mounted_by d s call result p is paths step all = record {
   node_room = is.node_room;
   versions = all.versions;
   checkpoints = all.checkpoints;
-  machine = still_machine (seen_on d s) (seen_on d s) (machine_on d s) (machine_on d (with_history s p)) s.is_off s.is_off call result is.machine paths step;
+  machine = still_machine (seen_on d s) (seen_on d s) (machine_on d s) (machine_on d (with_history s p)) s.is_off s.is_off call result is.machine paths step.step;
+  off = is.off;
 }
 
 -- a call that the history answers

@@ -4,15 +4,16 @@ use Rattle.std.specs.FinSet as set
 use Rattle.history_machine.specs.History.{Past, present_root, changed}
 use Rattle.plain_trees.specs.Trees.{Tree}
 use Rattle.fs_types.specs.declared.faults.Fault.{Fault}
-use Rattle.fs_types.specs.declared.faults.Fault.TheVariants.{ReadOnly, Overflow}
+use Rattle.fs_types.specs.declared.faults.Fault.TheVariants.{FlashFull, ReadOnly, Overflow}
 use Rattle.flash_model.specs.Device.{Device}
 use Rattle.flash_model.specs.Geometry.{IsGeometry, block_bytes}
+use Rattle.allocator.specs.Ring.{free_count}
 use Rattle.node_store.specs.declared.storage.Storage.{Storage}
-use Rattle.node_store.specs.Storage as parts
 use Rattle.node_store.specs.NodePages.{node_of}
 use Rattle.directory.specs.Trails.{IsChangeFault}
 use Rattle.tree_edits.specs.declared.edits.Edit.{Edit}
 use Rattle.tree_edits.specs.Edits.{IsEditable, effect, need}
+use Rattle.working_state.specs.Leaves.{HasWritten}
 use Rattle.working_state.specs.Mounted.{IsStanding}
 use Rattle.working_state.specs.Seen.{capacity_of, tree_on, seen_of, is_read_only}
 use Rattle.working_state.specs.Steps.{last_serial}
@@ -25,20 +26,6 @@ pub record IsReady (device : Device) (storage : Storage) : Type 0 where
   pub page_len : vec_len storage.page ≡ device.geometry.page
   pub node_room : block_bytes device.geometry ≤ vec_capacity storage.node
 
--- nodes were read: all that is kept is as it was
-pub record HasLooked (old : Device) (s : Storage) (new : Device) (t : Storage) : Type 0 where
-  pub untouched : parts.IsUntouched (parts.storage old s.bad s.ring) (parts.storage new t.bad t.ring)
-  pub page_len : vec_len t.page ≡ vec_len s.page
-  pub node_room : vec_capacity s.node ≤ vec_capacity t.node
-
--- so many nodes were written at most: kept blocks stay, anchors and kept blocks keep their pages, and a block was taken
--- for each node at most, and one for each that went bad
-pub record HasWritten (old : Device) (s : Storage) (most : ℕ) (new : Device) (t : Storage) : Type 0 where
-  pub evolved : parts.Evolved (parts.storage old s.bad s.ring) (parts.storage new t.bad t.ring)
-  pub paid : t.ring.takes + set.len s.bad ≤ s.ring.takes + set.len t.bad + most
-  pub page_len : vec_len t.page ≡ vec_len s.page
-  pub node_room : vec_capacity s.node ≤ vec_capacity t.node
-
 -- the edit of a root can be applied
 abbrev pub CanApply : Device → Storage → ℕ → Edit → Type 0
 CanApply device storage root edit = IsEditable (capacity_of device) (node_of device) (set.contains storage.ring.used) root edit
@@ -47,11 +34,13 @@ CanApply device storage root edit = IsEditable (capacity_of device) (node_of dev
 abbrev pub edited_tree : Device → Edit → ℕ → Tree
 edited_tree device edit root = effect (tree_on device) edit (tree_on device root)
 
--- why the nodes of an edit are not written, of which there is one at least: for what reads and writes are refused
+-- why the nodes of an edit are not written, of which there is one at least: for what reads and writes are refused; and
+-- where no block is free, those that were free were too few
 pub record WorkRefuses (old : Device) (s : Storage) (edit : Edit) (fault : Fault) (new : Device) (t : Storage) : Type 0 where
   pub needs : 0 < need (capacity_of old) edit
   pub kind : IsChangeFault fault
   pub why : WorkCause (seen_of old s) fault (seen_of new t)
+  pub few_free : fault ≡ FlashFull → free_count s.ring s.bad + set.len s.bad < set.len t.bad + need (capacity_of old) edit
 
 -- an edit of the tree of a root was written, so many nodes at most: the new root stands and has the edited tree, or a
 -- read or write was refused for its cause; where no node is needed, flash and storage are as they were
@@ -62,8 +51,8 @@ pub record IsTried (old : Device) (s : Storage) (edit : Edit) (root : ℕ) (resu
   pub refused : IfErr result (λ fault. WorkRefuses old s edit fault new t)
   pub still : need (capacity_of old) edit ≡ 0 → (new ≡ old) × (t ≡ s)
 
--- a root stands that has the edited tree of the present root, and is the present root now; where read-only mode was on,
--- or no serial was left, it is not
+-- a root stands that has the edited tree of the present root, and is the present root now; read-only mode was off and is,
+-- and a serial was left
 pub record IsPushed (old : Device) (h : Past ℕ) (s : Storage) (edit : Edit) (new : Device) (i : Past ℕ) (t : Storage) : Type 0 where
   pub root : ℕ
   pub to : ℕ
@@ -72,12 +61,29 @@ pub record IsPushed (old : Device) (h : Past ℕ) (s : Storage) (edit : Edit) (n
   pub stands : IsStanding new t.ring to
   pub shows : tree_on new to ≡ edited_tree old edit root
   pub writable : is_read_only s.bad ≡ false
+  pub stays_writable : is_read_only t.bad ≡ false
   pub serial_left : h.next < last_serial
 
--- why a change is refused: read-only mode is on, no serial is left, or its nodes are not written
+-- read-only mode is on: it was, or it came on in the work, for which a serial was left
+pub record IsReadOnly (h : Past ℕ) (s : Storage) (t : Storage) : Type 0 where
+  pub on : is_read_only t.bad ≡ true
+  pub serial_left : is_read_only s.bad ≡ false → h.next < last_serial
+
+-- no serial is left, and read-only mode was off
+pub record IsOverflow (h : Past ℕ) (s : Storage) : Type 0 where
+  pub writable : is_read_only s.bad ≡ false
+  pub last : h.next ≡ last_serial
+
+-- the nodes are not written, though read-only mode was off and a serial was left
+pub record IsUnwritten (old : Device) (h : Past ℕ) (s : Storage) (edit : Edit) (fault : Fault) (new : Device) (t : Storage) : Type 0 where
+  pub writable : is_read_only s.bad ≡ false
+  pub serial_left : h.next < last_serial
+  pub why : WorkRefuses old s edit fault new t
+
+-- why a change is refused, in the order in which it is checked
 abbrev pub ChangeCause : Device → Past ℕ → Storage → Edit → Fault → Device → Storage → Type 0
 ChangeCause old h s edit fault new t =
-    (((fault ≡ ReadOnly) × (is_read_only s.bad ≡ true)) ⊎ ((fault ≡ Overflow) × (h.next ≡ last_serial))) ⊎ WorkRefuses old s edit fault new t
+    (((fault ≡ ReadOnly) × IsReadOnly h s t) ⊎ ((fault ≡ Overflow) × IsOverflow h s)) ⊎ IsUnwritten old h s edit fault new t
 
 -- how a change ends: one version more, or the same history
 abbrev pub ChangeEnds : Device → Past ℕ → Storage → Edit → Result (Unit {0}) Fault → Device → Past ℕ → Storage → Type 0

@@ -1,6 +1,7 @@
 pub mod Changes
 pub mod Changing
 pub mod Fresh
+pub mod Leaves
 pub mod Moments
 pub mod Mounted
 pub mod Opening

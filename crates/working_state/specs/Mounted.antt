@@ -1,5 +1,5 @@
 -- What holds of a flash and the working state on it between calls.
-use Rattle.std.specs.Prelude.{◌≡◌, ◌⊎◌, ◌≤◌, ℕ, Result, vec_len, vec_capacity, All, Contains, map, [], ◌∷◌}
+use Rattle.std.specs.Prelude.{◌≡◌, ◌⊎◌, ◌≤◌, ℕ, true, false, Result, vec_len, vec_capacity, All, Contains, map, [], ◌∷◌}
 use Rattle.std.specs.FinSet as set
 use Rattle.history_machine.specs.History.{Past}
 use Rattle.history_machine.specs.Machine.{IsMachine}
@@ -13,6 +13,7 @@ use Rattle.node_format.specs.declared.places.Place.TheVariants.{Dir}
 use Rattle.node_store.specs.NodePages.{node_of}
 use Rattle.block_trees.specs.Trees.{IsRoot}
 use Rattle.block_trees.specs.Reached.{Reached, IsHeld}
+use Rattle.working_state.specs.Leaves.{Leaves}
 use Rattle.working_state.specs.Seen.{capacity_of, seen_on, machine_on}
 use Rattle.working_state.specs.Steps.{CallStep}
 use Rattle.working_state.specs.declared.state.State.{State}
@@ -23,7 +24,8 @@ pub record IsStanding (device : Device) (ring : Ring) (root : ℕ) : Type 0 wher
   pub rooted : IsRoot (capacity_of device) (node_of device) root
 
 -- the sizes are lawful, the ring is of this flash, there is room for a page and for a node, the roots of all versions
--- and checkpoints stand, and what it shows is a machine: so each open file is a file of the present tree
+-- and checkpoints stand, and what it shows is a machine: so each open file is a file of the present tree. Where a call
+-- answered that the power is off, it is
 pub record IsMounted (device : Device) (state : State) : Type 0 where
   pub lawful : IsGeometry device.geometry
   pub ring_blocks : state.storage.ring.blocks ≡ device.geometry.blocks
@@ -32,10 +34,14 @@ pub record IsMounted (device : Device) (state : State) : Type 0 where
   pub versions : All (λ v. IsStanding device state.storage.ring v.root) state.history.versions
   pub checkpoints : All (λ e. IsStanding device state.storage.ring e.1) state.history.checkpoints
   pub machine : IsMachine (machine_on device state)
+  pub off : state.is_off ≡ true → device.powered ≡ false
 
--- a call's step, as it is seen of the flash and the state before and after
-abbrev pub StateStep : Device → State → Call → Result Reply Fault → Device → State → Type 0
-StateStep old s call result new t = CallStep (seen_on old s) (machine_on old s) s.is_off call result (seen_on new t) (machine_on new t) t.is_off
+-- a call's step, as it is seen of the flash and the state before and after, and what it leaves of them. Once a call has
+-- answered that the power is off, nothing changes
+pub record StateStep (old : Device) (s : State) (call : Call) (result : Result Reply Fault) (new : Device) (t : State) : Type 0 where
+  pub step : CallStep (seen_on old s) (machine_on old s) s.is_off call result (seen_on new t) (machine_on new t) t.is_off
+  pub leaves : Leaves (machine_on old s) call old s.storage new t.storage
+  pub stopped : s.is_off ≡ true → (new ≡ old) × (t ≡ s)
 
 -- a version or a checkpoint has this root
 abbrev pub HasRoot : Past ℕ → ℕ → Type 0

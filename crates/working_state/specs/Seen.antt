@@ -43,16 +43,31 @@ is_read_only bad = nat_le 256 (set.len bad) || nat_le 7 (bad_anchors bad)
 abbrev pub space_of : Device → Storage → Space
 space_of d storage = record { blocks = d.geometry.blocks - first_data; bad = bad_data d.geometry.blocks storage.bad; free = free_count storage.ring storage.bad; anchors = first_data - bad_anchors storage.bad }
 
--- what the refusals of a call depend on
+-- what the refusals of a call depend on: the power, and how often it went; how many reads and how many other operations
+-- failed; how many blocks the bad list has, and how many were taken
 pub record Seen : Type 0 where
   pub powered : Bool
+  pub cuts : ℕ
   pub failed_reads : ℕ
+  pub failures : ℕ
+  pub listed : ℕ
+  pub takes : ℕ
   pub read_only : Bool
   pub capacity : ℕ
   pub space : Space
 
 abbrev pub seen_of : Device → Storage → Seen
-seen_of d storage = record { powered = d.powered; failed_reads = d.failed_reads; read_only = is_read_only storage.bad; capacity = capacity_of d; space = space_of d storage }
+seen_of d storage = record {
+  powered = d.powered;
+  cuts = d.cuts;
+  failed_reads = d.failed_reads;
+  failures = d.failures;
+  listed = set.len storage.bad;
+  takes = storage.ring.takes;
+  read_only = is_read_only storage.bad;
+  capacity = capacity_of d;
+  space = space_of d storage;
+}
 
 abbrev pub seen_on : Device → State → Seen
 seen_on d state = seen_of d state.storage

@@ -1,5 +1,5 @@
 -- What a call on a mounted system answers and leaves: the step of the machine, or a further refusal with its cause.
-use Rattle.std.specs.Prelude.{◌≡◌, ◌⊎◌, ℕ, ◌-◌, ◌^◌, ◌<◌, ◌≤◌, Bool, true, false, ◌&&◌, ◌||◌, is_some, Some, Result, Ok, Err}
+use Rattle.std.specs.Prelude.{◌≡◌, ◌⊎◌, ℕ, ◌+◌, ◌-◌, ◌^◌, ◌<◌, ◌≤◌, Bool, true, false, ◌&&◌, ◌||◌, is_some, Some, Result, Ok, Err}
 use Rattle.history_machine.specs.Machine.{Machine, refusal, answer, next, is_accepted, makes_version, need, tree_after}
 use Rattle.fs_types.specs.declared.calls.Call.{Call}
 use Rattle.fs_types.specs.declared.calls.Reply.{Reply}
@@ -40,12 +40,18 @@ is_for_record _ = false
 abbrev pub is_writing : Machine → Call → Bool
 is_writing m call = is_accepted m call && (is_some (tree_after m call) || is_for_record call)
 
--- a refusal that the machine does not give, with its cause: no block is left for a call that writes nodes; read-only
--- mode is on; the serials have run out; a read failed; the device is off; memory was wanted
+-- no block is free, and those that were free were fewer than the nodes to be written and the blocks that went bad since
+pub record IsFull (old : Seen) (nodes : ℕ) (new : Seen) : Type 0 where
+  pub none_free : new.space.free ≡ 0
+  pub few_free : old.space.free + old.listed < new.listed + nodes
+
+-- a refusal that the machine does not give, with its cause. The checks before the work are in order: read-only mode (16),
+-- and for a version the serials (22). So where no block is left for the nodes of a version, neither had refused it; and
+-- where read-only mode came on in the work, a serial was left. A read failed; the device is off; memory was wanted
 abbrev pub MayRefuse : Seen → Machine → Call → Fault → Seen → Type 0
-MayRefuse old m call FlashFull new = (0 < need old.capacity m call) × (new.space.free ≡ 0)
-MayRefuse old m call ReadOnly new = (is_writing m call ≡ true) × (new.read_only ≡ true)
-MayRefuse old m call Overflow new = (makes_version m call ≡ true) × (m.history.next ≡ last_serial)
+MayRefuse old m call FlashFull new = (0 < need old.capacity m call) × (old.read_only ≡ false) × (m.history.next < last_serial) × IsFull old (need old.capacity m call) new
+MayRefuse old m call ReadOnly new = (is_writing m call ≡ true) × (new.read_only ≡ true) × (old.read_only ≡ false → makes_version m call ≡ true → m.history.next < last_serial)
+MayRefuse old m call Overflow new = (makes_version m call ≡ true) × (old.read_only ≡ false) × (m.history.next ≡ last_serial)
 MayRefuse old m call ReadFailed new = (is_light call ≡ false) × (old.failed_reads < new.failed_reads)
 MayRefuse old m call PowerCut new = (is_light call ≡ false) × (new.powered ≡ false)
 MayRefuse old m call NoMemory new = is_light call ≡ false
@@ -55,6 +61,16 @@ MayRefuse old m call _ new = ⊥
 abbrev pub Refuses : Seen → Machine → Call → Fault → Seen → Type 0
 Refuses old m call fault new = (refusal m call ≡ Some fault) ⊎ MayRefuse old m call fault new
 
+-- the refusals that the machine does not give
+abbrev pub is_further : Fault → Bool
+is_further FlashFull = true
+is_further ReadOnly = true
+is_further Overflow = true
+is_further ReadFailed = true
+is_further PowerCut = true
+is_further NoMemory = true
+is_further _ = false
+
 abbrev pub is_cut : Fault → Bool
 is_cut PowerCut = true
 is_cut _ = false
@@ -63,11 +79,12 @@ abbrev pub is_cut_answer : {T : Type 0} → Result T Fault → Bool
 is_cut_answer (Ok x) = false
 is_cut_answer (Err fault) = is_cut fault
 
--- a call that was carried out: it is the machine's, no read-only mode was on where that refuses it, and a serial was left
+-- a call that was carried out: it is the machine's; where read-only mode refuses it, that was off and is; and for a version
+-- a serial was left
 pub record IsDone (old : Seen) (m : Machine) (call : Call) (reply : Reply) (new : Seen) (n : Machine) : Type 0 where
   pub answered : answer new.space m call ≡ Ok reply
   pub leaves : n ≡ next m call
-  pub writable : is_writing m call ≡ true → old.read_only ≡ false
+  pub writable : is_writing m call ≡ true → (old.read_only ≡ false) × (new.read_only ≡ false)
   pub serial_left : makes_version m call ≡ true → m.history.next < last_serial
 
 -- by whether a call answered before that the power is off, and now: then each call answers so and does nothing
@@ -76,10 +93,15 @@ Answers old m off call (Ok reply) new n off' = (off ≡ false) × IsDone old m c
 Answers old m true call (Err fault) new n off' = (fault ≡ PowerCut) × (new ≡ old) × (n ≡ m) × (off' ≡ true)
 Answers old m false call (Err fault) new n off' = Refuses old m call fault new × (n ≡ m) × (off' ≡ is_cut fault)
 
--- what calls lead to, whatever they answer
+-- what calls lead to, whatever they answer: the bad list grows by exactly the failures, and each take leaves one free
+-- block less
 pub record IsLater (old new : Seen) : Type 0 where
   pub capacity : new.capacity ≡ old.capacity
   pub failed_reads : old.failed_reads ≤ new.failed_reads
+  pub failures : new.failures + old.listed ≡ old.failures + new.listed
+  pub listed : old.listed ≤ new.listed
+  pub taken : new.space.free + new.takes ≡ old.space.free + old.takes
+  pub cuts : old.cuts ≤ new.cuts
   pub was_on : new.powered ≡ true → old.powered ≡ true
   pub stays_read_only : old.read_only ≡ true → new.read_only ≡ true
 

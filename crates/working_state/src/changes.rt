@@ -1,12 +1,13 @@
 //! Changes: the one way to a new version. Checked in order: read-only mode, and the greatest serial;
-//! then the nodes of the edit are written, and their root becomes the present version.
+//! then the nodes of the edit are written, and where read-only mode did not come on in this, their root
+//! becomes the present version.
 ghost use Rattle.std.specs.Prelude.{◌≡◌, ℕ, Some};
 ghost use Rattle.history_machine.specs.History.{present_root};
 ghost use Rattle.node_store.specs.Stores.{IsSound, Follows};
 ghost use Rattle.working_state.specs.Changes.{IsReady, CanApply, IsTried, IsChanged};
 ghost use Rattle.working_state.specs.Mounted.{IsStanding};
 
-use crate::checks::check_change;
+use crate::checks::{check_change, check_writable};
 use flash_model::Flash;
 use fs_types::Fault;
 use history::History;
@@ -30,6 +31,7 @@ pub(crate) fn change<F: Flash>(
     check_change(history, storage)?;
     let root = history.root();
     let root = try_change(alloc, flash, storage, root, edit)?;
+    check_writable(storage)?;
     history.push(root);
     Ok(())
 }

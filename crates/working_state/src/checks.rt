@@ -2,6 +2,7 @@
 ghost use Rattle.std.specs.Prelude.{◌≡◌, ◌<◌, ◌⊎◌, ◌||◌, true, false, IfErr, OnOk};
 ghost use Rattle.history_machine.specs.Descriptors.{any_open};
 ghost use Rattle.fs_types.specs.declared.faults.Fault.{Fault};
+ghost use Rattle.working_state.specs.Changes.{IsReadOnly, IsOverflow};
 ghost use Rattle.working_state.specs.Seen.{is_read_only, bad_anchors};
 ghost use Rattle.working_state.specs.Steps.{last_serial, is_cut_answer};
 
@@ -79,7 +80,7 @@ pub(crate) fn check_writable(storage: &Storage) -> Result<(), Fault>
 pub(crate) fn check_change(history: &History<u32>, storage: &Storage) -> Result<(), Fault>
     ensures writable { OnOk result (is_read_only storage.now.bad ≡ false) }
     ensures serial { OnOk result (history.now.next < last_serial) }
-    ensures err { IfErr result (λ fault. ((fault ≡ Fault.ReadOnly) × (is_read_only storage.now.bad ≡ true)) ⊎ ((fault ≡ Fault.Overflow) × (history.now.next ≡ last_serial))) }
+    ensures err { IfErr result (λ fault. ((fault ≡ Fault.ReadOnly) × IsReadOnly history.now storage.now storage.now) ⊎ ((fault ≡ Fault.Overflow) × IsOverflow history.now storage.now)) }
 {
     check_writable(storage)?;
     if history.is_exhausted() {

@@ -3,7 +3,8 @@ ghost use Rattle.std.specs.Prelude.{◌≡◌, true, false, Ok, Err, IfOk, IfErr
 ghost use Rattle.node_store.specs.NodePages.{node_of};
 ghost use Rattle.directory.specs.Lookups.{look_up, is_path_fault, IsLookupFault};
 ghost use Rattle.directory.specs.Trails.{IsTrail};
-ghost use Rattle.working_state.specs.Changes.{IsReady, HasLooked};
+ghost use Rattle.working_state.specs.Changes.{IsReady};
+ghost use Rattle.working_state.specs.Leaves.{HasLooked};
 ghost use Rattle.working_state.specs.Seen.{seen_of};
 ghost use Rattle.working_state.specs.Worked.{WorkCause};
 

@@ -7,7 +7,7 @@ ghost use Rattle.node_store.specs.NodePages.{node_of};
 ghost use Rattle.node_store.specs.Storage as parts;
 ghost use Rattle.node_store.specs.Stores.{IsSound, Follows};
 ghost use Rattle.block_trees.specs.Trees.{entries_of};
-ghost use Rattle.working_state.specs.Changes.{HasWritten};
+ghost use Rattle.working_state.specs.Leaves.{HasWritten};
 ghost use Rattle.working_state.specs.Fresh.{unused_ring, IsFresh, FreshCause, RootCause};
 ghost use Rattle.working_state.specs.Moments.{moment};
 ghost use Rattle.working_state.specs.Seen.{IsLaterFlash};

@@ -9,7 +9,7 @@ returns-in-Err-clause-ends g c =
     ends_at_once (moment_of c.args.system.now) (plan_of c.args.system.now.flash.now) (g.R.Read.remaining c.args.reader.now) (g.W.Write.contents c.args.writer.now)
 
 pub loop-init : goal.loop-init
-loop-init g c = (starts _ _ _ _ c.requires, refl)
+loop-init g c = (starts _ _ _ _, refl)
 
 pub returns-in-Ok-None-clause-ends : goal.returns-in-Ok-None-clause-ends
 returns-in-Ok-None-clause-ends g c =

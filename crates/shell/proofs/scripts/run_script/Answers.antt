@@ -2,14 +2,10 @@ use Rattle.std.proofs.Common.{refl, sym, ap, subst, ◌∙◌}
 use Rattle.flash_model.specs.Simulation.{device_of, plan_of}
 use Rattle.flash_model.specs.declared.simulation.SimFlash.{SimFlash}
 use Rattle.working_state.specs.Fresh.{IsFresh}
-use Rattle.working_state.specs.Moments.{Moment}
 use Rattle.undofs.specs.Systems.{moment_of}
 use Rattle.shell.specs.Scripts.{Ends, kept_versions}
 use Rattle.shell.proofs.TurnLemmas.{script_ends}
 use Rattle.shell.proofs.scripts.run_script.Goals as goal
-
-pub run_lines-ended-requires : goal.run_lines-ended-requires
-run_lines-ended-requires g c = ap (λ (m : Moment). m.state.is_off) c.on-system.ensures.moment ∙ c.in-Ok.ensures.fresh.is_on
 
 pub returns-in-Ok : goal.returns-in-Ok
 returns-in-Ok g c =

@@ -6,7 +6,7 @@ put_entry-requires-clause-below g c =
     let there = c.requires.fits in
     file_below (g.N.Nodes.node c.args.nodes.now) c.args.root c.args.path.now there.0 there.1 there.2
 
-pub put_entry-requires-clause-capacity : goal.put_entry-requires-clause-capacity
-put_entry-requires-clause-capacity g c =
+pub put_entry-requires-clause-room : goal.put_entry-requires-clause-room
+put_entry-requires-clause-room g c =
     let there = c.requires.fits in
     file_room (g.N.Nodes.node c.args.nodes.now) c.args.root c.args.path.now there.0 there.1 there.2

@@ -13,6 +13,6 @@ returns-clause-tried g c =
       written = written;
       stands = stands_result _ _ _ _ _ _ tree c.apply.result written c.apply.ensures.root;
       shows = shows_result _ _ _ _ _ _ tree c.apply.result written c.apply.ensures.root;
-      refused = refused_result device s t c.args.edit c.args.root c.apply.result c.apply.ensures.still c.apply.ensures.faults c.apply.ensures.why;
+      refused = refused_result device s t c.args.edit c.args.root c.apply.result c.apply.ensures.writes c.apply.ensures.still c.apply.ensures.faults c.apply.ensures.why;
       still = still_result device s t c.args.edit c.args.root c.apply.result c.apply.ensures.still;
     }

@@ -1,4 +1,4 @@
-use Rattle.std.proofs.Common.{◌≡◌, true, false, Ok, Err, refl, ap, ◌∙◌}
+use Rattle.std.proofs.Common.{◌≡◌, true, false, Ok, Err, refl, ap, ◌∙◌, arith}
 use Rattle.std.proofs.lemmas.Result.{err_from_is_err_and}
 use Rattle.fs_types.specs.Names.{is_path}
 use Rattle.fs_types.specs.declared.calls.Call.{Call}
@@ -10,7 +10,6 @@ use Rattle.working_state.specs.Steps.{empty}
 use Rattle.working_state.proofs.ChangedCalls.{looked_ready, looked_stands, at_present, change_by}
 use Rattle.working_state.proofs.NewDirectories.{mkdir_change}
 use Rattle.working_state.proofs.OpenCalls.{at_answer, refused_answer}
-use Rattle.working_state.proofs.Standing.{looked_worked}
 use Rattle.working_state.proofs.state.State.add_directory.Goals as goal
 
 pub returns-in_err-trail : goal.returns-in_err-trail
@@ -20,7 +19,7 @@ returns-in_err-trail g c =
     let e = g.F.Flash.device c.check_missing.new.flash in
     let call = Call.Mkdir c.args.path.now in
     at_answer empty d c.args.self.now e c.check_missing.new.self call c.in_err-trail.field-0.0 c.from_residual.result (p.1 ∙ ap Err p.2)
-    (refused_answer d c.args.self.now e c.check_missing.new.self call c.in_err-trail.field-0.0 c.requires (looked_worked _ _ _ _ c.check_missing.ensures.looked) c.in_err-trail.ensures.refused)
+    (refused_answer d c.args.self.now e c.check_missing.new.self call c.in_err-trail.field-0.0 c.requires c.check_missing.ensures.looked refl c.in_err-trail.ensures.refused)
 
 pub change-requires-clause-ready : goal.change-requires-clause-ready
 change-requires-clause-ready g c = looked_ready _ _ _ _ c.requires c.check_missing.ensures.looked
@@ -44,4 +43,4 @@ returns g c =
     let t = c.check_missing.new.self in
     let looked = c.check_missing.ensures.looked in
     change_by d s e t (g.F.Flash.device c.change.new.flash) c.change.new.storage c.change.new.history c.root-root.result (Call.Mkdir c.args.path.now) c.change.result c.change.ensures
-    (mkdir_change d s e t c.args.path.now c.requires looked c.in_ok-trail.ensures.accepted c.in_ok-trail.ensures.lawful) c.requires c.root-root.ensures looked refl
+    (mkdir_change d s e t c.args.path.now c.requires looked c.in_ok-trail.ensures.accepted c.in_ok-trail.ensures.lawful) (omega arith) c.requires c.root-root.ensures looked refl

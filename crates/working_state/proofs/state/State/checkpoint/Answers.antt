@@ -1,5 +1,5 @@
 -- A name that is there and a seventeenth name are refused as the machine refuses them; else the present root is kept.
-use Rattle.std.proofs.Common.{◌≡◌, ◌<◌, ◌≤◌, Bool, true, false, List, length, OnOk, IfErr, sym, ap, ◌∙◌, subst, refl, inl}
+use Rattle.std.proofs.Common.{◌≡◌, ◌<◌, ◌≤◌, Bool, true, false, List, length, OnOk, IfErr, sym, ap, ◌∙◌, subst, refl, inl, Err}
 use Rattle.std.proofs.lemmas.Result.{err_from_is_err_and}
 use Rattle.std.specs.Prelude.{ℕ, unwrap_or}
 use Rattle.std.specs.Option.{is_some}
@@ -13,12 +13,18 @@ use Rattle.fs_types.specs.declared.faults.Fault.{Fault}
 use Rattle.working_state.specs.Mounted.{IsStanding}
 use Rattle.working_state.specs.Seen.{tree_on}
 use Rattle.working_state.proofs.Roots.{all_with_checkpoint, kept_with_checkpoint}
-use Rattle.working_state.proofs.Steps.{mounted_after, refused, refused_record, checkpointed, checkpoint-exists, checkpoint-full, checkpoint-free}
+use Rattle.working_state.specs.Steps.{empty}
+use Rattle.working_state.proofs.Steps.{refused_off, mounted_after, refused, refused_record, checkpointed, checkpoint-exists, checkpoint-full, checkpoint-free}
 use Rattle.working_state.proofs.state.State.checkpoint.Goals as goal
 use Rattle.working_state.proofs.state.State.checkpoint.Goals.{After-checkpoint}
 
 abbrev is_there : Name → List (Name × ℕ) → Bool
 is_there name es = is_some (lookup (is_at (name_cmp name)) es)
+
+pub returns-in_err-check_power-clause-step : goal.returns-in_err-check_power-clause-step
+returns-in_err-check_power-clause-step c = λ device.
+    let p = err_from_is_err_and c.from_residual.result c.from_residual.ensures.1 in
+    refused_off device c.args.self.now (Call.Checkpoint c.args.name.now) empty _ c.from_residual.result (p.1 ∙ ap Err p.2) c.in_err-check_power.ensures.off
 
 pub returns-then-contains_key-clause-step : goal.returns-then-contains_key-clause-step
 returns-then-contains_key-clause-step c = λ device.

@@ -1,15 +1,22 @@
 -- Versions are dropped, and the machine answers as the history does.
-use Rattle.std.proofs.Common.{ap, refl, inl}
+use Rattle.std.proofs.Common.{ap, refl, inl, Err, ◌∙◌}
 use Rattle.history_machine.specs.History.{Past, forget_refusal, forgotten}
 use Rattle.history_machine.specs.HistoryMaps.{forgotten-map}
 use Rattle.plain_trees.specs.Trees.{Tree}
+use Rattle.std.proofs.lemmas.Result.{err_from_is_err_and}
 use Rattle.fs_types.specs.declared.calls.Call.{Call}
 use Rattle.fs_types.specs.declared.calls.Reply.{Reply}
 use Rattle.working_state.specs.Mounted.{IsStanding}
 use Rattle.working_state.specs.Seen.{tree_on}
 use Rattle.working_state.proofs.Roots.{all_forgotten}
-use Rattle.working_state.proofs.Steps.{mounted_after, answered, done, refused, never, no_cut, forget-no_cut}
+use Rattle.working_state.specs.Steps.{empty}
+use Rattle.working_state.proofs.Steps.{refused_off, mounted_after, answered, done, refused, never, no_cut, forget-no_cut}
 use Rattle.working_state.proofs.state.State.forget.Goals as goal
+
+pub returns-in_err-check_power-clause-step : goal.returns-in_err-check_power-clause-step
+returns-in_err-check_power-clause-step c = λ device.
+    let p = err_from_is_err_and c.from_residual.result c.from_residual.ensures.1 in
+    refused_off device c.args.self.now (Call.Forget c.args.count) empty _ c.from_residual.result (p.1 ∙ ap Err p.2) c.in_err-check_power.ensures.off
 
 pub returns-clause-step : goal.returns-clause-step
 returns-clause-step c = λ device.

@@ -1,4 +1,4 @@
-use Rattle.std.proofs.Common.{Err, refl, ap, subst, ◌∙◌}
+use Rattle.std.proofs.Common.{Err, refl, ap, subst, ◌∙◌, arith}
 use Rattle.std.proofs.lemmas.Result.{err_from_is_err_and}
 use Rattle.fs_types.specs.declared.calls.Call.{Call}
 use Rattle.plain_trees.specs.Contents.{Apart}
@@ -6,7 +6,6 @@ use Rattle.tree_edits.specs.Edits.{IsMovable}
 use Rattle.working_state.specs.Steps.{empty}
 use Rattle.working_state.proofs.ChangedCalls.{looked_ready, looked_stands, at_present, change_by}
 use Rattle.working_state.proofs.OpenCalls.{at_answer, refused_answer}
-use Rattle.working_state.proofs.Standing.{looked_worked}
 use Rattle.working_state.proofs.RenameSteps.{rename_apart, rename_change, same_answer}
 use Rattle.working_state.specs.Renames.{IsToMove}
 use Rattle.node_store.specs.NodePages.{node_of}
@@ -19,7 +18,7 @@ returns-in_err-moves g c =
     let e = g.F.Flash.device c.check_rename.new.flash in
     let call = Call.Rename c.args.old.now c.args.new.now in
     at_answer empty d c.args.self.now e c.check_rename.new.self call c.in_err-moves.field-0.0 c.from_residual.result (p.1 ∙ ap Err p.2)
-    (refused_answer d c.args.self.now e c.check_rename.new.self call c.in_err-moves.field-0.0 c.requires (looked_worked _ _ _ _ c.check_rename.ensures.looked) c.in_err-moves.ensures.refused)
+    (refused_answer d c.args.self.now e c.check_rename.new.self call c.in_err-moves.field-0.0 c.requires c.check_rename.ensures.looked refl c.in_err-moves.ensures.refused)
 
 pub change-requires-clause-ready : goal.change-requires-clause-ready
 change-requires-clause-ready g c = looked_ready _ _ _ _ c.requires c.check_rename.ensures.looked
@@ -45,7 +44,7 @@ returns g c =
     let looked = c.check_rename.ensures.looked in
     let movable = (subst (IsToMove (node_of (g.F.Flash.device c.check_rename.new.flash)) c.root-root.result c.args.old.now c.args.new.now) c.in-Some.is c.in_ok-moves.ensures.movable) in
     change_by d s e t (g.F.Flash.device c.change.new.flash) c.change.new.storage c.change.new.history c.root-root.result (Call.Rename c.args.old.now c.args.new.now) c.change.result c.change.ensures
-    (rename_change d s e t c.args.old.now c.args.new.now c.requires looked c.in_ok-moves.ensures.accepted movable.0 movable.1.lawful) c.requires c.root-root.ensures looked refl
+    (rename_change d s e t c.args.old.now c.args.new.now c.requires looked c.in_ok-moves.ensures.accepted movable.0 movable.1.lawful) (omega arith) c.requires c.root-root.ensures looked refl
 
 pub returns-in_default : goal.returns-in_default
 returns-in_default g c =

@@ -1,4 +1,4 @@
-use Rattle.std.proofs.Common.{◌≡◌, false, true, Ok, Err, refl, inr, sym, ap, subst, ◌∙◌}
+use Rattle.std.proofs.Common.{◌≡◌, false, true, Ok, Err, refl, inr, sym, ap, subst, ◌∙◌, arith}
 use Rattle.std.proofs.lemmas.Result.{err_from_is_err_and}
 use Rattle.history_machine.specs.Descriptors.{Descriptor, opened}
 use Rattle.history_machine.specs.Machine.{present_tree, open_changes}
@@ -16,7 +16,6 @@ use Rattle.working_state.specs.Seen.{machine_on}
 use Rattle.working_state.proofs.ChangedCalls.{looked_ready, looked_stands, at_present, pushed_by, refused_change}
 use Rattle.working_state.proofs.OpenCalls.{changes_is, found_below, at_answer, refused_answer, opened_answer}
 use Rattle.working_state.proofs.OpenChanges.{found_takes, open_change, open_descriptors}
-use Rattle.working_state.proofs.Standing.{looked_worked}
 use Rattle.working_state.proofs.state.State.open_file.Goals as goal
 
 pub returns-in_err-found : goal.returns-in_err-found
@@ -26,7 +25,7 @@ returns-in_err-found g c =
     let e = g.F.Flash.device c.check_open.new.flash in
     let call = Call.Open c.args.path.now c.args.flags in
     at_answer Reply.Fd d c.args.self.now e c.check_open.new.self call c.in_err-found.field-0.0 c.from_residual.result (p.1 ∙ ap Err p.2)
-    (refused_answer d c.args.self.now e c.check_open.new.self call c.in_err-found.field-0.0 c.requires (looked_worked d c.args.self.now e c.check_open.new.self c.check_open.ensures.looked) c.in_err-found.ensures.refused)
+    (refused_answer d c.args.self.now e c.check_open.new.self call c.in_err-found.field-0.0 c.requires c.check_open.ensures.looked refl c.in_err-found.ensures.refused)
 
 pub returns-in_err-clone : goal.returns-in_err-clone
 returns-in_err-clone g c =
@@ -35,7 +34,7 @@ returns-in_err-clone g c =
     let e = g.F.Flash.device c.check_open.new.flash in
     let call = Call.Open c.args.path.now c.args.flags in
     at_answer Reply.Fd d c.args.self.now e c.check_open.new.self call NoMemory c.from_residual-in_err-clone.result (p.1 ∙ ap Err p.2)
-    (refused_answer d c.args.self.now e c.check_open.new.self call NoMemory c.requires (looked_worked d c.args.self.now e c.check_open.new.self c.check_open.ensures.looked) (inr refl))
+    (refused_answer d c.args.self.now e c.check_open.new.self call NoMemory c.requires c.check_open.ensures.looked refl (inr refl))
 
 pub returns-then-not-is_changed : goal.returns-then-not-is_changed
 returns-then-not-is_changed g c =
@@ -87,7 +86,7 @@ returns-in_err-change g c =
     let by = open_change d s e t path flags descriptor c.requires looked ok.accepted ok.lawful changes ok.descriptor (found_below _ c.root-root.result path flags c.in_ok-found.found ok.found ok.fits) in
     let fault = c.in_err-change.field-0.0 in
     at_answer Reply.Fd d s f (record t { storage = c.change.new.storage; history = c.change.new.history }) call fault c.from_residual-in_err-change.result (p.1 ∙ ap Err p.2)
-    (refused_change d s e t f c.change.new.storage c.change.new.history c.root-root.result call _ (Reply.Fd descriptor) _ fault c.requires c.root-root.ensures looked by c.in_err-change.ensures.written c.in_err-change.ensures.ends)
+    (refused_change d s e t f c.change.new.storage c.change.new.history c.root-root.result call _ (Reply.Fd descriptor) fault c.requires c.root-root.ensures looked by (omega arith) c.in_err-change.ensures.written c.in_err-change.ensures.ends)
 
 pub returns : goal.returns
 returns g c =
@@ -107,5 +106,5 @@ returns g c =
     let by = open_change d s e t path flags descriptor c.requires looked ok.accepted ok.lawful changes ok.descriptor (found_below _ c.root-root.result path flags c.in_ok-found.found ok.found ok.fits) in
     let opens : c.open-2.new.self ≡ opened t.files descriptor (record { path = path; flags = flags }) =
     c.open-2.ensures ∙ ap (λ (f : Descriptor). opened t.files descriptor f) (c.new-file.ensures ∙ ap (λ p. record { path = p; flags = flags }) c.in_ok-clone.ensures) in
-    pushed_by d s e t f c.change.new.storage c.change.new.history c.open-2.new.self call (Reply.Fd descriptor) _ c.in_ok-change.ensures.ends by c.in_ok-change.ensures.written c.requires looked
+    pushed_by d s e t f c.change.new.storage c.change.new.history c.open-2.new.self call (Reply.Fd descriptor) c.in_ok-change.ensures.ends by (omega arith) c.in_ok-change.ensures.written c.requires looked
     (open_descriptors d s e t path flags descriptor c.open-2.new.self looked ok.descriptor opens)

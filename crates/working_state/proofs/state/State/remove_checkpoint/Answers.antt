@@ -1,5 +1,5 @@
 -- A name that is not there is refused as the machine refuses it; else its checkpoint is left out.
-use Rattle.std.proofs.Common.{ℕ, Some, None, Option, cond, ap, ◌∙◌, refl, inl}
+use Rattle.std.proofs.Common.{ℕ, Some, None, Option, cond, ap, ◌∙◌, refl, inl, Err}
 use Rattle.std.proofs.lemmas.Result.{err_from_is_err_and}
 use Rattle.std.specs.Option.{is_none}
 use Rattle.history_machine.specs.History.{Past, name_refusal, without_checkpoint}
@@ -11,8 +11,14 @@ use Rattle.fs_types.specs.declared.faults.Fault.{Fault}
 use Rattle.working_state.specs.Mounted.{IsStanding}
 use Rattle.working_state.specs.Seen.{tree_on}
 use Rattle.working_state.proofs.Roots.{kept_without_checkpoint}
-use Rattle.working_state.proofs.Steps.{mounted_after, answered, done, refused, refused_record, never, no_cut, name-no_cut}
+use Rattle.working_state.specs.Steps.{empty}
+use Rattle.working_state.proofs.Steps.{refused_off, mounted_after, answered, done, refused, refused_record, never, no_cut, name-no_cut}
 use Rattle.working_state.proofs.state.State.remove_checkpoint.Goals as goal
+
+pub returns-in_err-check_power-clause-step : goal.returns-in_err-check_power-clause-step
+returns-in_err-check_power-clause-step c = λ device.
+    let p = err_from_is_err_and c.from_residual.result c.from_residual.ensures.1 in
+    refused_off device c.args.self.now (Call.RemoveCheckpoint c.args.name.now) empty _ c.from_residual.result (p.1 ∙ ap Err p.2) c.in_err-check_power.ensures.off
 
 pub returns-in_err-checkpoint_root-clause-step : goal.returns-in_err-checkpoint_root-clause-step
 returns-in_err-checkpoint_root-clause-step c = λ device.

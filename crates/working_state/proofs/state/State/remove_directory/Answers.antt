@@ -1,4 +1,4 @@
-use Rattle.std.proofs.Common.{◌≡◌, ◌<◌, true, Ok, Err, length, refl, ap, ◌∙◌}
+use Rattle.std.proofs.Common.{◌≡◌, ◌<◌, true, Ok, Err, length, refl, ap, ◌∙◌, arith}
 use Rattle.std.proofs.lemmas.Result.{err_from_is_err_and}
 use Rattle.fs_types.specs.Names.{is_path}
 use Rattle.fs_types.specs.declared.calls.Call.{Call}
@@ -10,7 +10,6 @@ use Rattle.tree_edits.specs.Edits.{IsRemovable}
 use Rattle.working_state.specs.Steps.{empty}
 use Rattle.working_state.proofs.ChangedCalls.{looked_ready, looked_stands, at_present, change_by}
 use Rattle.working_state.proofs.OpenCalls.{at_answer, refused_answer}
-use Rattle.working_state.proofs.Standing.{looked_worked}
 use Rattle.working_state.proofs.TakenOut.{rmdir_change}
 use Rattle.directory.specs.declared.lookups.Found.TheVariants as found
 use Rattle.working_state.proofs.state.State.remove_directory.Goals as goal
@@ -22,7 +21,7 @@ returns-in_err-trail g c =
     let e = g.F.Flash.device c.check_empty.new.flash in
     let call = Call.Rmdir c.args.path.now in
     at_answer empty d c.args.self.now e c.check_empty.new.self call c.in_err-trail.field-0.0 c.from_residual.result (p.1 ∙ ap Err p.2)
-    (refused_answer d c.args.self.now e c.check_empty.new.self call c.in_err-trail.field-0.0 c.requires (looked_worked _ _ _ _ c.check_empty.ensures.looked) c.in_err-trail.ensures.refused)
+    (refused_answer d c.args.self.now e c.check_empty.new.self call c.in_err-trail.field-0.0 c.requires c.check_empty.ensures.looked refl c.in_err-trail.ensures.refused)
 
 pub change-requires-clause-ready : goal.change-requires-clause-ready
 change-requires-clause-ready g c = looked_ready _ _ _ _ c.requires c.check_empty.ensures.looked
@@ -47,4 +46,4 @@ returns g c =
     let t = c.check_empty.new.self in
     let looked = c.check_empty.ensures.looked in
     change_by d s e t (g.F.Flash.device c.change.new.flash) c.change.new.storage c.change.new.history c.root-root.result (Call.Rmdir c.args.path.now) c.change.result c.change.ensures
-    (rmdir_change d s e t c.args.path.now c.requires looked c.in_ok-trail.ensures.accepted c.in_ok-trail.ensures.lawful c.in_ok-trail.ensures.below) c.requires c.root-root.ensures looked refl
+    (rmdir_change d s e t c.args.path.now c.requires looked c.in_ok-trail.ensures.accepted c.in_ok-trail.ensures.lawful c.in_ok-trail.ensures.below) (omega arith) c.requires c.root-root.ensures looked refl

@@ -1,4 +1,4 @@
-use Rattle.std.proofs.Common.{◌≡◌, ◌<◌, true, Ok, Err, length, refl, ap, ◌∙◌}
+use Rattle.std.proofs.Common.{◌≡◌, ◌<◌, true, Ok, Err, length, refl, ap, ◌∙◌, arith}
 use Rattle.std.proofs.lemmas.Result.{err_from_is_err_and}
 use Rattle.fs_types.specs.Names.{is_path}
 use Rattle.fs_types.specs.declared.calls.Call.{Call}
@@ -9,7 +9,6 @@ use Rattle.tree_edits.specs.Edits.{IsRemovable}
 use Rattle.working_state.specs.Steps.{empty}
 use Rattle.working_state.proofs.ChangedCalls.{looked_ready, looked_stands, at_present, change_by}
 use Rattle.working_state.proofs.OpenCalls.{at_answer, refused_answer}
-use Rattle.working_state.proofs.Standing.{looked_worked}
 use Rattle.working_state.proofs.TakenOut.{file_below, unlink_change}
 use Rattle.node_store.specs.NodePages.{node_of}
 use Rattle.directory.specs.declared.lookups.Found.TheVariants as found
@@ -22,7 +21,7 @@ returns-in_err-trail g c =
     let e = g.F.Flash.device c.check_file.new.flash in
     let call = Call.Unlink c.args.path.now in
     at_answer empty d c.args.self.now e c.check_file.new.self call c.in_err-trail.field-0.0 c.from_residual.result (p.1 ∙ ap Err p.2)
-    (refused_answer d c.args.self.now e c.check_file.new.self call c.in_err-trail.field-0.0 c.requires (looked_worked _ _ _ _ c.check_file.ensures.looked) c.in_err-trail.ensures.refused)
+    (refused_answer d c.args.self.now e c.check_file.new.self call c.in_err-trail.field-0.0 c.requires c.check_file.ensures.looked refl c.in_err-trail.ensures.refused)
 
 pub change-requires-clause-ready : goal.change-requires-clause-ready
 change-requires-clause-ready g c = looked_ready _ _ _ _ c.requires c.check_file.ensures.looked
@@ -48,4 +47,4 @@ returns g c =
     let looked = c.check_file.ensures.looked in
     change_by d s e t (g.F.Flash.device c.change.new.flash) c.change.new.storage c.change.new.history c.root-root.result (Call.Unlink c.args.path.now) c.change.result c.change.ensures
     (unlink_change d s e t c.args.path.now c.requires looked c.in_ok-trail.ensures.accepted c.in_ok-trail.ensures.lawful
-    (file_below (node_of (g.F.Flash.device c.check_file.new.flash)) c.root-root.result c.args.path.now c.in_ok-trail.ensures.found.0 c.in_ok-trail.ensures.found.1 c.in_ok-trail.ensures.found.2)) c.requires c.root-root.ensures looked refl
+    (file_below (node_of (g.F.Flash.device c.check_file.new.flash)) c.root-root.result c.args.path.now c.in_ok-trail.ensures.found.0 c.in_ok-trail.ensures.found.1 c.in_ok-trail.ensures.found.2)) (omega arith) c.requires c.root-root.ensures looked refl

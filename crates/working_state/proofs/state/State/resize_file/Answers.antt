@@ -1,4 +1,4 @@
-use Rattle.std.proofs.Common.{◌≡◌, ℕ, Ok, Err, inr, refl, ap, subst, ◌∙◌}
+use Rattle.std.proofs.Common.{◌≡◌, ℕ, Ok, Err, inl, inr, refl, ap, subst, ◌∙◌}
 use Rattle.std.proofs.lemmas.Result.{err_from_is_err_and}
 use Rattle.plain_trees.specs.Contents.{resized}
 use Rattle.fs_types.specs.declared.calls.Call.{Call}
@@ -17,6 +17,15 @@ use Rattle.working_state.proofs.OpenCalls.{at_answer, refused_answer}
 use Rattle.working_state.proofs.Standing.{looked_at, looked_worked}
 use Rattle.working_state.proofs.state.State.resize_file.Goals as goal
 
+pub returns-in_err-path : goal.returns-in_err-path
+returns-in_err-path g c =
+    let p = err_from_is_err_and c.from_residual.result c.from_residual.ensures.1 in
+    let d = g.F.Flash.device c.args.flash.now in
+    let s = c.args.self.now in
+    let call = Call.Ftruncate c.args.descriptor c.args.size in
+    at_answer empty d s d s call c.in_err-path.field-0.0 c.from_residual.result (p.1 ∙ ap Err p.2)
+    (refused_answer d s d s call c.in_err-path.field-0.0 c.requires (changes.looked_itself d s) refl (inl c.in_err-path.ensures.err))
+
 pub returns-in_err-body : goal.returns-in_err-body
 returns-in_err-body g c =
     let p = err_from_is_err_and c.from_residual-in_err-body.result c.from_residual-in_err-body.ensures.1 in
@@ -26,9 +35,9 @@ returns-in_err-body g c =
     let t : State = record s { storage = c.find_body.new.storage } in
     let call = Call.Ftruncate c.args.descriptor c.args.size in
     let path = c.in_ok-path.path.now in
-    let seen = looked_worked d s e t (looked_at d s e c.find_body.new.storage c.find_body.ensures.looked) in
+    let looked = looked_at d s e c.find_body.new.storage c.find_body.ensures.looked in
     at_answer empty d s e t call c.in_err-body.field-0.0 c.from_residual-in_err-body.result (p.1 ∙ ap Err p.2)
-    (refused_answer d s e t call c.in_err-body.field-0.0 c.requires seen (inr (read_may (seen_on d s) (seen_on e t) (machine_on d s) call c.in_err-body.field-0.0 refl c.in_err-body.ensures.why)))
+    (refused_answer d s e t call c.in_err-body.field-0.0 c.requires looked refl (inr (read_may (seen_on d s) (seen_on e t) (machine_on d s) call c.in_err-body.field-0.0 refl c.in_err-body.ensures.why)))
 
 pub returns-then-from-size : goal.returns-then-from-size
 returns-then-from-size g c =
@@ -42,7 +51,7 @@ returns-then-from-size g c =
     changes.same_answer d s e t (Call.Ftruncate c.args.descriptor c.args.size) Reply.Empty c.requires (looked_at d s e c.find_body.new.storage c.find_body.ensures.looked)
     (changes.ftruncate_nothing (machine_on d s) c.args.descriptor c.args.size path c.in_ok-path.ensures.path
     (changes.same_length d s e t path c.in_ok-body.body.head c.in_ok-body.body.length c.from.result c.args.size c.requires seen there c.from.ensures c.if-from-size.true))
-    c.in_ok-path.ensures.ok refl
+    c.in_ok-path.ensures.ok refl refl
 
 pub find_body-requires-clause-file : goal.find_body-requires-clause-file
 find_body-requires-clause-file g c =
@@ -97,4 +106,5 @@ returns g c =
     let call = Call.Ftruncate c.args.descriptor c.args.size in
     let f = g.F.Flash.device c.change.new.flash in
     let by = changes.file_change d s e t call path (λ old. resized old c.args.size) Reply.Empty c.requires looked change (λ space. refl) in
-    change_by d s e t f c.change.new.storage c.change.new.history c.root-root.result call c.change.result c.change.ensures by c.requires c.root-root.ensures looked refl
+    change_by d s e t f c.change.new.storage c.change.new.history c.root-root.result call c.change.result c.change.ensures by
+    (changes.ftruncate_few d s e t c.args.descriptor c.args.size path c.in_ok-body.body.head c.in_ok-body.body.length c.requires looked c.in_ok-path.ensures.path there) c.requires c.root-root.ensures looked refl

@@ -1,5 +1,5 @@
 -- A name that is not there is refused as the machine refuses it; a change to its root is the machine's change to its tree.
-use Rattle.std.proofs.Common.{◌∙◌, refl, inl}
+use Rattle.std.proofs.Common.{◌∙◌, refl, inl, Err, ap}
 use Rattle.std.proofs.lemmas.Result.{err_from_is_err_and}
 use Rattle.history_machine.specs.History.{name_refusal}
 use Rattle.history_machine.specs.HistoryMaps.{name_refusal-map}
@@ -10,8 +10,14 @@ use Rattle.working_state.proofs.ChangedCalls.{mounted_ready}
 use Rattle.working_state.proofs.PathCalls.{present_stands}
 use Rattle.working_state.proofs.Rollbacks.{rollback_step, rollback_mounted}
 use Rattle.working_state.proofs.Roots.{of_checkpoint}
-use Rattle.working_state.proofs.Steps.{refused_open, refused, may_travel, no_cut, name-no_cut}
+use Rattle.working_state.specs.Steps.{empty}
+use Rattle.working_state.proofs.Steps.{refused_off, refused_open, refused, may_travel, no_cut, name-no_cut}
 use Rattle.working_state.proofs.state.State.rollback.Goals as goal
+
+pub returns-in_err-check_power-clause-step : goal.returns-in_err-check_power-clause-step
+returns-in_err-check_power-clause-step g c =
+    let p = err_from_is_err_and c.from_residual.result c.from_residual.ensures.1 in
+    refused_off (g.F.Flash.device c.args.flash.now) c.args.self.now (Call.Rollback c.args.name.now) empty _ c.from_residual.result (p.1 ∙ ap Err p.2) c.in_err-check_power.ensures.off
 
 pub returns-in_err-check_none_open-clause-step : goal.returns-in_err-check_none_open-clause-step
 returns-in_err-check_none_open-clause-step g c =

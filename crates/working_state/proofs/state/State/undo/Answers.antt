@@ -1,5 +1,5 @@
 -- The versions and the checkpoints stay, and the machine answers as the history does.
-use Rattle.std.proofs.Common.{ap, ◌∙◌, refl, inl}
+use Rattle.std.proofs.Common.{ap, ◌∙◌, refl, inl, Err}
 use Rattle.std.proofs.lemmas.Result.{err_from_is_err_and}
 use Rattle.history_machine.specs.History.{Past, undo_refusal, undone}
 use Rattle.history_machine.specs.HistoryMaps.{undo_refusal-map, undone-map}
@@ -7,8 +7,14 @@ use Rattle.plain_trees.specs.Trees.{Tree}
 use Rattle.fs_types.specs.declared.calls.Call.{Call}
 use Rattle.fs_types.specs.declared.calls.Reply.{Reply}
 use Rattle.working_state.specs.Seen.{tree_on, machine_on}
-use Rattle.working_state.proofs.Steps.{mounted_after, answered, done, refused_open, refused, may_travel, no_cut, undo-no_cut, never}
+use Rattle.working_state.specs.Steps.{empty}
+use Rattle.working_state.proofs.Steps.{refused_off, mounted_after, answered, done, refused_open, refused, may_travel, no_cut, undo-no_cut, never}
 use Rattle.working_state.proofs.state.State.undo.Goals as goal
+
+pub returns-in_err-check_power-clause-step : goal.returns-in_err-check_power-clause-step
+returns-in_err-check_power-clause-step c = λ device.
+    let p = err_from_is_err_and c.from_residual.result c.from_residual.ensures.1 in
+    refused_off device c.args.self.now Call.Undo empty _ c.from_residual.result (p.1 ∙ ap Err p.2) c.in_err-check_power.ensures.off
 
 pub returns-in_err-check_none_open-clause-step : goal.returns-in_err-check_none_open-clause-step
 returns-in_err-check_none_open-clause-step c = λ device.

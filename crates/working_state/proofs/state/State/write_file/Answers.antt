@@ -1,4 +1,5 @@
-use Rattle.std.proofs.Common.{◌≡◌, ℕ, Ok, Err, length, inr, refl, sym, ap, subst, ◌∙◌}
+use Rattle.std.proofs.Common.{◌≡◌, ℕ, Ok, Err, length, inl, inr, refl, sym, ap, subst, ◌∙◌}
+use Rattle.std.proofs.lemmas.Bool.{eqb-true}
 use Rattle.std.proofs.lemmas.Result.{err_from_is_err_and}
 use Rattle.plain_trees.specs.Contents.{overwritten}
 use Rattle.fs_types.specs.declared.calls.Call.{Call}
@@ -16,6 +17,23 @@ use Rattle.working_state.proofs.OpenCalls.{at_answer, refused_answer}
 use Rattle.working_state.proofs.Standing.{looked_at, looked_worked}
 use Rattle.working_state.proofs.state.State.write_file.Goals as goal
 
+pub returns-in_err-path : goal.returns-in_err-path
+returns-in_err-path g c =
+    let p = err_from_is_err_and c.from_residual.result c.from_residual.ensures.1 in
+    let d = g.F.Flash.device c.args.flash.now in
+    let s = c.args.self.now in
+    let call = Call.Pwrite c.args.descriptor c.args.offset c.args.bytes.now in
+    at_answer Reply.Count d s d s call c.in_err-path.field-0.0 c.from_residual.result (p.1 ∙ ap Err p.2)
+    (refused_answer d s d s call c.in_err-path.field-0.0 c.requires (changes.looked_itself d s) refl (inl c.in_err-path.ensures.err))
+
+pub returns-then-is_empty : goal.returns-then-is_empty
+returns-then-is_empty g c =
+    let d = g.F.Flash.device c.args.flash.now in
+    let s = c.args.self.now in
+    let none : length c.args.bytes.now ≡ 0 = eqb-true (length c.args.bytes.now) 0 (sym c.is_empty.ensures ∙ c.if-is_empty.true) in
+    changes.same_answer d s d s (Call.Pwrite c.args.descriptor c.args.offset c.args.bytes.now) (Reply.Count 0) c.requires (changes.looked_itself d s)
+    (changes.pwrite_nothing (machine_on d s) c.args.descriptor c.args.offset c.args.bytes.now none) c.in_ok-path.ensures.ok (ap Reply.Count none) refl
+
 pub returns-in_err-body : goal.returns-in_err-body
 returns-in_err-body g c =
     let p = err_from_is_err_and c.from_residual-in_err-body.result c.from_residual-in_err-body.ensures.1 in
@@ -25,9 +43,9 @@ returns-in_err-body g c =
     let t : State = record s { storage = c.find_body.new.storage } in
     let call = Call.Pwrite c.args.descriptor c.args.offset c.args.bytes.now in
     let path = c.in_ok-path.path.now in
-    let seen = looked_worked d s e t (looked_at d s e c.find_body.new.storage c.find_body.ensures.looked) in
+    let looked = looked_at d s e c.find_body.new.storage c.find_body.ensures.looked in
     at_answer Reply.Count d s e t call c.in_err-body.field-0.0 c.from_residual-in_err-body.result (p.1 ∙ ap Err p.2)
-    (refused_answer d s e t call c.in_err-body.field-0.0 c.requires seen (inr (read_may (seen_on d s) (seen_on e t) (machine_on d s) call c.in_err-body.field-0.0 refl c.in_err-body.ensures.why)))
+    (refused_answer d s e t call c.in_err-body.field-0.0 c.requires looked refl (inr (read_may (seen_on d s) (seen_on e t) (machine_on d s) call c.in_err-body.field-0.0 refl c.in_err-body.ensures.why)))
 
 pub find_body-requires-clause-file : goal.find_body-requires-clause-file
 find_body-requires-clause-file g c =
@@ -81,8 +99,11 @@ returns-in_err-change g c =
     let call = Call.Pwrite c.args.descriptor c.args.offset c.args.bytes.now in
     let f = g.F.Flash.device c.change.new.flash in
     let by = changes.file_change d s e t call path (λ old. overwritten old c.args.offset c.args.bytes.now) (Reply.Count (length c.args.bytes.now)) c.requires looked change (λ space. refl) in
+    let body = c.in_ok-body.body in
+    let there = changes.later_body d s e t c.root-root.result path body.head body.length c.requires c.root-root.ensures (looked_worked d s e t looked) c.in_ok-body.ensures.found in
+    let few = changes.pwrite_few d s e t c.args.descriptor c.args.offset c.args.bytes.now path body.head body.length c.requires looked c.in_ok-path.ensures.path there in
     at_answer Reply.Count d s f (record t { storage = c.change.new.storage; history = c.change.new.history }) call c.in_err-change.field-0.0 c.from_residual-in_err-change.result (p.1 ∙ ap Err p.2)
-    (refused_change d s e t f c.change.new.storage c.change.new.history c.root-root.result call _ (Reply.Count (length c.args.bytes.now)) _ c.in_err-change.field-0.0 c.requires c.root-root.ensures looked by c.in_err-change.ensures.written c.in_err-change.ensures.ends)
+    (refused_change d s e t f c.change.new.storage c.change.new.history c.root-root.result call _ (Reply.Count (length c.args.bytes.now)) c.in_err-change.field-0.0 c.requires c.root-root.ensures looked by few c.in_err-change.ensures.written c.in_err-change.ensures.ends)
 
 pub returns : goal.returns
 returns g c =
@@ -97,4 +118,7 @@ returns g c =
     let call = Call.Pwrite c.args.descriptor c.args.offset c.args.bytes.now in
     let f = g.F.Flash.device c.change.new.flash in
     let by = changes.file_change d s e t call path (λ old. overwritten old c.args.offset c.args.bytes.now) (Reply.Count (length c.args.bytes.now)) c.requires looked change (λ space. refl) in
-    pushed_by d s e t f c.change.new.storage c.change.new.history t.files call (Reply.Count (length c.args.bytes.now)) _ c.in_ok-change.ensures.ends by c.in_ok-change.ensures.written c.requires looked looked.rest.files
+    let body = c.in_ok-body.body in
+    let there = changes.later_body d s e t c.root-root.result path body.head body.length c.requires c.root-root.ensures (looked_worked d s e t looked) c.in_ok-body.ensures.found in
+    let few = changes.pwrite_few d s e t c.args.descriptor c.args.offset c.args.bytes.now path body.head body.length c.requires looked c.in_ok-path.ensures.path there in
+    pushed_by d s e t f c.change.new.storage c.change.new.history t.files call (Reply.Count (length c.args.bytes.now)) c.in_ok-change.ensures.ends by few c.in_ok-change.ensures.written c.requires looked looked.rest.files

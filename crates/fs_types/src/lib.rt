@@ -3,6 +3,7 @@
 
 mod calls;
 mod checkpoint_names;
+mod events;
 mod faults;
 mod flags;
 mod limits;
@@ -12,6 +13,7 @@ mod sequences;
 
 pub use calls::{Call, Reply, Stat, Version, View};
 pub use checkpoint_names::CpName;
+pub use events::{Answer, Event};
 pub use faults::Fault;
 pub use flags::OpenFlags;
 pub use limits::{

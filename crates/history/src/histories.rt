@@ -95,9 +95,9 @@ impl<R: Drop> History<R> {
         Ok(())
     }
 
-    /// The present root, of which the caller has a copy, is kept under a name. [`Fault::Exists`] where
-    /// the name is there, [`Fault::CheckpointsFull`] where there are sixteen, [`Fault::NoMemory`] where
-    /// memory is not to be had.
+    /// The present root, of which this is a copy, is kept under a name. [`Fault::Exists`] where the name
+    /// is there, [`Fault::CheckpointsFull`] where there are sixteen, [`Fault::NoMemory`] where memory is
+    /// not to be had.
     pub fn checkpoint(&mut self, name: CpName, root: R) -> Result<(), Fault>
         requires { present_root self.old ≡ Some root }
         ensures lawful { OnOk result (checkpoint_refusal self.old name ≡ None) }

@@ -2,9 +2,9 @@
 use crate::error::RowError;
 use crate::row::{Row, Step};
 use flash_model::SimFlash;
-use fs_types::Reply;
+use fs_types::{Answer, Fault, Reply};
 use plain_machine::{PlainMachine, Space};
-use script::{Answer, Line, print_answer, read_line};
+use script::{Line, LineAnswer, print_answer, read_line};
 use shell::run_script;
 use std::alloc::Global;
 use undofs::{Fs, is_built};
@@ -49,16 +49,21 @@ fn answer_plain(
     alloc: Global,
     machine: &mut PlainMachine,
     step: &Step<'_>,
-) -> Result<Answer, RowError> {
+) -> Result<LineAnswer, RowError> {
     let answer = match read_line(alloc, step.line.as_bytes())? {
-        Line::Call(call) => match machine.step(alloc, NO_SPACE, &call) {
-            Ok(reply) => Answer::Done(reply),
-            Err(fault) => Answer::Refused(fault),
-        },
-        Line::Refused(fault) => Answer::Refused(fault),
-        _ => Answer::Syntax,
+        Line::Call(call) => told(machine.step(alloc, NO_SPACE, &call)),
+        Line::Refused(fault) => told(Err(fault)),
+        _ => LineAnswer::Syntax,
     };
     Ok(answer)
+}
+
+/// What is told of a call or a step.
+fn told(outcome: Result<Reply, Fault>) -> LineAnswer {
+    match outcome {
+        Ok(reply) => LineAnswer::Told(Answer::Done(reply)),
+        Err(fault) => LineAnswer::Told(Answer::Refused(fault)),
+    }
 }
 
 /// Runs a row on a fresh flash in memory, and answers the first difference.
@@ -81,18 +86,14 @@ fn answer_call(
     alloc: Global,
     system: &mut Fs<'_, SimFlash>,
     step: &Step<'_>,
-) -> Result<Answer, RowError> {
+) -> Result<LineAnswer, RowError> {
     let answer = match read_line(alloc, step.line.as_bytes())? {
-        Line::Call(call) if is_built(&call) => match system.call(alloc, &call) {
-            Ok(reply) => Answer::Done(reply),
-            Err(fault) => Answer::Refused(fault),
-        },
-        Line::PlanFault { k, kind } if 0 < k => match system.plan_fault(k, kind) {
-            Ok(()) => Answer::Done(Reply::Empty),
-            Err(fault) => Answer::Refused(fault),
-        },
-        Line::Refused(fault) => Answer::Refused(fault),
-        _ => Answer::Syntax,
+        Line::Call(call) if is_built(&call) => told(system.call(alloc, &call)),
+        Line::PlanFault { k, kind } if 0 < k => {
+            told(system.plan_fault(k, kind).map(|_| Reply::Empty))
+        }
+        Line::Refused(fault) => told(Err(fault)),
+        _ => LineAnswer::Syntax,
     };
     Ok(answer)
 }
@@ -101,7 +102,7 @@ fn answer_call(
 fn compare_answer(
     alloc: Global,
     step: &Step<'_>,
-    answer: &Answer,
+    answer: &LineAnswer,
 ) -> Result<Option<Difference>, RowError> {
     let mut text = Vec::new(alloc);
     print_answer(&mut text, answer)?;

@@ -9,8 +9,10 @@ use Rattle.fs_types.specs.declared.calls.Reply.TheVariants.{Empty, Fd, Bytes, Co
 use Rattle.fs_types.specs.declared.calls.Stat.{Stat}
 use Rattle.fs_types.specs.declared.calls.Stat.TheVariants.{Dir, File}
 use Rattle.script.specs.Words.{is_plain}
-use Rattle.script.specs.declared.answers.Answer.{Answer}
-use Rattle.script.specs.declared.answers.Answer.TheVariants.{Done, Refused, Mounted, Unmounted, Syntax}
+use Rattle.fs_types.specs.declared.events.Answer.{Answer}
+use Rattle.fs_types.specs.declared.events.Answer.TheVariants.{Done, Refused, Mounted, Unmounted}
+use Rattle.script.specs.declared.answers.LineAnswer.{LineAnswer}
+use Rattle.script.specs.declared.answers.LineAnswer.TheVariants.{Told, Syntax}
 
 -- the two hexadecimal digits of a byte
 abbrev pub hex_pair : Bool → ℕ → List ℕ
@@ -73,10 +75,14 @@ reply_text (Step done) = if done then codes "done" else codes "more"
 abbrev pub refusal_text : Fault → List ℕ
 refusal_text fault = codes "err " ++ word_of fault ++ codes " " ++ decimal (number_of fault)
 
--- what is printed for an answer, without its LF
-abbrev pub text_of : Answer → List ℕ
-text_of (Done reply) = reply_text reply
-text_of (Refused fault) = refusal_text fault
-text_of Mounted = codes "mounted"
-text_of Unmounted = codes "unmounted"
+-- what is printed for the answer to an event
+abbrev pub told_text : Answer → List ℕ
+told_text (Done reply) = reply_text reply
+told_text (Refused fault) = refusal_text fault
+told_text Mounted = codes "mounted"
+told_text Unmounted = codes "unmounted"
+
+-- what is printed for the answer to a line, without its LF
+abbrev pub text_of : LineAnswer → List ℕ
+text_of (Told answer) = told_text answer
 text_of Syntax = codes "err SYNTAX"

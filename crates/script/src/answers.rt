@@ -1,17 +1,11 @@
 //! Answers to lines.
-use fs_types::{Fault, Reply};
+use fs_types::Answer;
 
 /// The answer to a line.
 #[derive(Debug, Drop)]
-pub enum Answer {
-    /// The call or step was carried out.
-    Done(Reply),
-    /// It was refused.
-    Refused(Fault),
-    /// The system is mounted.
-    Mounted,
-    /// No system is mounted.
-    Unmounted,
+pub enum LineAnswer {
+    /// The line was understood, and this is answered.
+    Told(Answer),
     /// The line has no form of a line.
     Syntax,
 }

@@ -16,7 +16,7 @@ mod verbs;
 mod views;
 mod words;
 
-pub use answers::Answer;
+pub use answers::LineAnswer;
 pub use kinds::kind_of;
 pub use lines::{LINE_LIMIT, Line, read_line};
 pub use replies::print_answer;

@@ -1,11 +1,11 @@
 //! What is printed for an answer.
 ghost use Rattle.std.specs.Prelude.{◌≡◌, ◌++◌, [], ◌∷◌, length, decimal, codes, OnOk, if◌then◌else◌};
 ghost use Rattle.std.specs.List.{flat_map, enumerate_from};
-ghost use Rattle.script.specs.Replies.{data_text, entry_text, marked_serial, serial_text, name_text, log_text, df_text, stat_text, reply_text, refusal_text, text_of};
+ghost use Rattle.script.specs.Replies.{data_text, entry_text, marked_serial, serial_text, name_text, log_text, df_text, stat_text, reply_text, refusal_text, told_text, text_of};
 
-use crate::answers::Answer;
+use crate::answers::LineAnswer;
 use crate::digits::{print_hex, print_name, print_number};
-use fs_types::{CpName, Fault, Name, Reply, Stat};
+use fs_types::{Answer, CpName, Fault, Name, Reply, Stat};
 use std::alloc::AllocError;
 
 /// Appends a word and a number.
@@ -175,20 +175,28 @@ fn print_refusal(out: &mut Vec<u8>, fault: Fault) -> Result<(), AllocError>
     print_number(out, u64::from(fault.number()))
 }
 
-fn print_text(out: &mut Vec<u8>, answer: &Answer) -> Result<(), AllocError>
-    ensures { OnOk result (out.new.items ≡ out.old.items ++ text_of answer.now) }
+fn print_told(out: &mut Vec<u8>, answer: &Answer) -> Result<(), AllocError>
+    ensures { OnOk result (out.new.items ≡ out.old.items ++ told_text answer.now) }
 {
     match answer {
         Answer::Done(reply) => print_reply(out, reply),
         Answer::Refused(fault) => print_refusal(out, *fault),
         Answer::Mounted => out.extend_from_slice(b"mounted"),
         Answer::Unmounted => out.extend_from_slice(b"unmounted"),
-        Answer::Syntax => out.extend_from_slice(b"err SYNTAX"),
+    }
+}
+
+fn print_text(out: &mut Vec<u8>, answer: &LineAnswer) -> Result<(), AllocError>
+    ensures { OnOk result (out.new.items ≡ out.old.items ++ text_of answer.now) }
+{
+    match answer {
+        LineAnswer::Told(answer) => print_told(out, answer),
+        LineAnswer::Syntax => out.extend_from_slice(b"err SYNTAX"),
     }
 }
 
 /// Appends the text of an answer, and LF.
-pub fn print_answer(out: &mut Vec<u8>, answer: &Answer) -> Result<(), AllocError>
+pub fn print_answer(out: &mut Vec<u8>, answer: &LineAnswer) -> Result<(), AllocError>
     ensures { OnOk result (out.new.items ≡ out.old.items ++ text_of answer.now ++ 10 ∷ []) }
 {
     print_text(out, answer)?;

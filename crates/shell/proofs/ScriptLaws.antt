@@ -1,28 +1,23 @@
 -- Lines that were carried out are a run of the events that they ask for.
-use Rattle.std.proofs.Common.{◌≡◌, List, [], ◌∷◌, Option, Some, None, map, refl, ap, ◌∙◌, subst}
-use Rattle.std.specs.Prelude.{is_some, if◌then◌else◌}
+use Rattle.std.proofs.Common.{List, [], ◌∷◌, Option, Some, None, ap, subst}
+use Rattle.fs_types.specs.declared.events.Event.{Event}
+use Rattle.fs_types.specs.declared.events.Answer.{Answer}
 use Rattle.script.specs.Lines.{line_of}
 use Rattle.script.specs.declared.lines.Line.{Line}
-use Rattle.script.specs.declared.answers.Answer.{Answer}
+use Rattle.script.specs.declared.answers.LineAnswer.{LineAnswer}
 use Rattle.undofs.specs.Runs.{World, Run}
-use Rattle.undofs.specs.declared.events.Event.{Event}
-use Rattle.undofs.specs.declared.events.Answer.{Answer as EventAnswer}
-use Rattle.shell.specs.Scripts.{Scene, event_of, said, RepliesBy, with_first, events_of, event_replies, ScriptLaw}
+use Rattle.shell.specs.Scripts.{Scene, event_of, RepliesBy, with_first, events_of, with_told, event_answers, ScriptLaw}
 
--- the rest of the lines is such a run
-abbrev IsRun : World → List Event → List Answer → World → Type 0
-IsRun w events replies v = (here : List EventAnswer) × Run w events here v × (replies ≡ map said here)
-
-line_more : (e : Option Event) (line : Line) (s : Scene) (answer : Answer) (between : Scene) (events : List Event) (replies : List Answer) (v : World)
-    → RepliesBy e line s answer between → IsRun between.world events replies v
-    → IsRun s.world (with_first e events) (if is_some e then answer ∷ replies else replies) v
-line_more None line s answer between events replies v h rest = subst (λ (x : World). IsRun x events replies v) h.0 rest
-line_more (Some event) line s answer between events replies v h rest =
-    (h.0 ∷ rest.0, (between.world, h.1, rest.1), ap (λ (x : Answer). x ∷ replies) h.2 ∙ ap (λ (x : List Answer). said h.0 ∷ x) rest.2)
+line_more : (e : Option Event) (line : Line) (s : Scene) (answer : LineAnswer) (between : Scene) (events : List Event) (answers : List Answer) (v : World)
+    → RepliesBy e line s answer between → Run between.world events answers v
+    → Run s.world (with_first e events) (with_told e answer answers) v
+line_more None line s answer between events answers v h rest = subst (λ (x : World). Run x events answers v) h.0 rest
+line_more (Some event) line s (LineAnswer.Told answer) between events answers v h rest = (between.world, h, rest)
+line_more (Some event) line s LineAnswer.Syntax between events answers v h rest = absurd h
 
 pub script_law : ScriptLaw
-script_law s t [] [] h = ([], ap (λ (x : Scene). x.world) h, refl)
+script_law s t [] [] h = ap (λ (x : Scene). x.world) h
 script_law s t [] (answer ∷ answers) h = absurd h
 script_law s t (line ∷ lines) [] h = absurd h
 script_law s t (line ∷ lines) (answer ∷ answers) (between, here, rest) =
-    line_more (event_of (line_of line)) (line_of line) s answer between (events_of lines) (event_replies lines answers) t.world here (script_law between t lines answers rest)
+    line_more (event_of (line_of line)) (line_of line) s answer between (events_of lines) (event_answers lines answers) t.world here (script_law between t lines answers rest)

@@ -1,10 +1,12 @@
 -- Scripts: what each line does and is answered, and what was read, carried out and written where a script ends.
-use Rattle.std.specs.Prelude.{◌≡◌, ℕ, suc, Option, Some, None, is_some, Result, Ok, Err, IfSome, List, [], ◌∷◌, ◌++◌, take, map, ◌⊎◌, if◌then◌else◌}
+use Rattle.std.specs.Prelude.{◌≡◌, ℕ, suc, Option, Some, None, Result, Ok, Err, IfSome, List, [], ◌∷◌, ◌++◌, take, ◌⊎◌, if◌then◌else◌}
 use Rattle.std.specs.List.{flat_map}
 use Rattle.std.specs.Io.KnownBytes.{Consumes, IsAtEnd, Appends}
 use Rattle.history_machine.specs.History.{Past}
 use Rattle.plain_trees.specs.Trees.{Tree}
 use Rattle.fs_types.specs.declared.calls.Reply.{Reply}
+use Rattle.fs_types.specs.declared.events.Event.{Event}
+use Rattle.fs_types.specs.declared.events.Answer.{Answer}
 use Rattle.fs_types.specs.declared.faults.Fault.{Fault}
 use Rattle.flash_model.specs.Plan.{Schedule, planned, IsFull}
 use Rattle.flash_model.specs.Simulation.{device_of, plan_of}
@@ -14,13 +16,11 @@ use Rattle.script.specs.Lines.{line_of}
 use Rattle.script.specs.Replies.{text_of}
 use Rattle.script.specs.Streams.{TakesLine, TakesPart, lines_of}
 use Rattle.script.specs.declared.lines.Line.{Line}
-use Rattle.script.specs.declared.answers.Answer.{Answer}
+use Rattle.script.specs.declared.answers.LineAnswer.{LineAnswer}
 use Rattle.undofs.specs.Built.{is_built}
 use Rattle.working_state.specs.Fresh.{IsFresh, FreshCause}
 use Rattle.working_state.specs.Moments.{Moment, machine_at, IsMountedAt}
 use Rattle.undofs.specs.Runs.{World, world_at, Happens, Run}
-use Rattle.undofs.specs.declared.events.Event.{Event}
-use Rattle.undofs.specs.declared.events.Answer.{Answer as EventAnswer}
 use Rattle.shell.specs.declared.scripts.ScriptFault.{ScriptFault}
 
 -- the event that a line asks for; calls that are built are the only ones
@@ -28,52 +28,46 @@ abbrev pub event_of : Line → Option Event
 event_of (Line.Call call) = if is_built call then Some (Event.Call call) else None
 event_of _ = None
 
--- the answer to an event, as the answer to its line
-abbrev pub said : EventAnswer → Answer
-said (EventAnswer.Done reply) = Answer.Done reply
-said (EventAnswer.Refused fault) = Answer.Refused fault
-said EventAnswer.Mounted = Answer.Mounted
-said EventAnswer.Unmounted = Answer.Unmounted
-
 -- a world, and the faults that are planned for its flash
 pub record Scene : Type 0 where
   pub world : World
   pub plan : Schedule
 
 -- a fault is planned, or no room is left for it
-abbrev pub Plans : Schedule → ℕ → FaultKind → Answer → Schedule → Type 0
+abbrev pub Plans : Schedule → ℕ → FaultKind → LineAnswer → Schedule → Type 0
 Plans old k kind answer new =
-    ((answer ≡ Answer.Done Reply.Empty) × (IsFull old k kind → ⊥) × (new ≡ planned old k kind))
-    ⊎ ((answer ≡ Answer.Refused Fault.Invalid) × IsFull old k kind × (new ≡ old))
+    ((answer ≡ LineAnswer.Told (Answer.Done Reply.Empty)) × (IsFull old k kind → ⊥) × (new ≡ planned old k kind))
+    ⊎ ((answer ≡ LineAnswer.Told (Answer.Refused Fault.Invalid)) × IsFull old k kind × (new ≡ old))
 
 -- the answer to a line that asks for no event: a refused path or name is refused; a fault is planned as the line says; and
 -- what has no form of a line, or is not built, is told so
-abbrev pub IsStillAnswer : Line → Schedule → Answer → Schedule → Type 0
-IsStillAnswer (Line.Refused fault) old answer new = (answer ≡ Answer.Refused fault) × (new ≡ old)
+abbrev pub IsStillAnswer : Line → Schedule → LineAnswer → Schedule → Type 0
+IsStillAnswer (Line.Refused fault) old answer new = (answer ≡ LineAnswer.Told (Answer.Refused fault)) × (new ≡ old)
 IsStillAnswer (Line.PlanFault (suc k) kind) old answer new = Plans old (suc k) kind answer new
-IsStillAnswer _ old answer new = (answer ≡ Answer.Syntax) × (new ≡ old)
+IsStillAnswer _ old answer new = (answer ≡ LineAnswer.Syntax) × (new ≡ old)
 
--- by the event that a line asks for, if any: without one the world stays. Of the plan nothing is said where an event is
--- carried out: its operations take from it what has come due
-abbrev pub RepliesBy : Option Event → Line → Scene → Answer → Scene → Type 0
-RepliesBy (Some event) line s answer t = (here : EventAnswer) × Happens s.world event here t.world × (answer ≡ said here)
+-- by the event that a line asks for, if any: the line is told the answer to the event, and without one the world stays. Of
+-- the plan nothing is said where an event is carried out: its operations take from it what has come due
+abbrev pub RepliesBy : Option Event → Line → Scene → LineAnswer → Scene → Type 0
+RepliesBy (Some event) line s (LineAnswer.Told answer) t = Happens s.world event answer t.world
+RepliesBy (Some event) line s LineAnswer.Syntax t = ⊥
 RepliesBy None line s answer t = (t.world ≡ s.world) × IsStillAnswer line s.plan answer t.plan
 
 -- a line is carried out, and so answered
-abbrev pub Replies : Line → Scene → Answer → Scene → Type 0
+abbrev pub Replies : Line → Scene → LineAnswer → Scene → Type 0
 Replies line = RepliesBy (event_of line) line
 
 -- lines are carried out in order, each from its bytes, and each is answered: from the first scene to the last
-abbrev pub CarriesOut : Scene → List (List ℕ) → List Answer → Scene → Type 0
+abbrev pub CarriesOut : Scene → List (List ℕ) → List LineAnswer → Scene → Type 0
 CarriesOut s [] [] t = t ≡ s
 CarriesOut s (line ∷ lines) (answer ∷ answers) t = (between : Scene) × Replies (line_of line) s answer between × CarriesOut between lines answers t
 CarriesOut s _ _ t = ⊥
 
 -- what is written for an answer, and for answers in order
-abbrev pub answer_text : Answer → List ℕ
+abbrev pub answer_text : LineAnswer → List ℕ
 answer_text answer = text_of answer ++ 10 ∷ []
 
-abbrev pub answer_texts : List Answer → List ℕ
+abbrev pub answer_texts : List LineAnswer → List ℕ
 answer_texts answers = flat_map answer_text answers
 
 -- the reader lost these lines, one after the other
@@ -97,13 +91,13 @@ HasTakenMore old lines new = HasTaken old lines new ⊎ ((line : List ℕ) × Ha
 -- all of the input was read and answered; or the reader failed after these lines; or the writer failed in the last answer;
 -- or memory was wanted, before a line was carried out or before its answer was written; or there was no system for its
 -- cause, and nothing was read or written
-abbrev pub EndsBy : (List (List ℕ) → List Answer → Type 0) → (Fault → Type 0) → Option (List ℕ) → Option (List ℕ) → Result (Unit {0}) ScriptFault → Option (List ℕ) → Option (List ℕ) → Type 0
-EndsBy Session Cause input left (Ok done) old new = (lines : List (List ℕ)) × (answers : List Answer) × Session lines answers × HasTakenAll input lines left × Appends old new (answer_texts answers)
-EndsBy Session Cause input left (Err ScriptFault.Read) old new = (lines : List (List ℕ)) × (answers : List Answer) × Session lines answers × HasTakenPart input lines left × Appends old new (answer_texts answers)
-EndsBy Session Cause input left (Err ScriptFault.Write) old new = (lines : List (List ℕ)) × (earlier : List Answer) × (last : Answer) × (n : ℕ) × Session lines (earlier ++ last ∷ []) × HasTaken input lines left × Appends old new (answer_texts earlier ++ take n (answer_text last))
+abbrev pub EndsBy : (List (List ℕ) → List LineAnswer → Type 0) → (Fault → Type 0) → Option (List ℕ) → Option (List ℕ) → Result (Unit {0}) ScriptFault → Option (List ℕ) → Option (List ℕ) → Type 0
+EndsBy Session Cause input left (Ok done) old new = (lines : List (List ℕ)) × (answers : List LineAnswer) × Session lines answers × HasTakenAll input lines left × Appends old new (answer_texts answers)
+EndsBy Session Cause input left (Err ScriptFault.Read) old new = (lines : List (List ℕ)) × (answers : List LineAnswer) × Session lines answers × HasTakenPart input lines left × Appends old new (answer_texts answers)
+EndsBy Session Cause input left (Err ScriptFault.Write) old new = (lines : List (List ℕ)) × (earlier : List LineAnswer) × (last : LineAnswer) × (n : ℕ) × Session lines (earlier ++ last ∷ []) × HasTaken input lines left × Appends old new (answer_texts earlier ++ take n (answer_text last))
 EndsBy Session Cause input left (Err ScriptFault.Memory) old new =
-    ((lines : List (List ℕ)) × (answers : List Answer) × Session lines answers × HasTakenMore input lines left × Appends old new (answer_texts answers))
-    ⊎ ((lines : List (List ℕ)) × (earlier : List Answer) × (last : Answer) × Session lines (earlier ++ last ∷ []) × HasTaken input lines left × Appends old new (answer_texts earlier))
+    ((lines : List (List ℕ)) × (answers : List LineAnswer) × Session lines answers × HasTakenMore input lines left × Appends old new (answer_texts answers))
+    ⊎ ((lines : List (List ℕ)) × (earlier : List LineAnswer) × (last : LineAnswer) × Session lines (earlier ++ last ∷ []) × HasTaken input lines left × Appends old new (answer_texts earlier))
 EndsBy Session Cause input left (Err (ScriptFault.Mount fault)) old new = Cause fault × (left ≡ input) × (new ≡ old)
 
 -- how many versions the system of a script keeps
@@ -116,7 +110,7 @@ scene_at m found plan = record { world = world_at m found; plan = plan }
 
 -- lines that were carried out on a fresh system on a flash: the first moment is that of the fresh system, and the last one
 -- stands on the flash at the end, with a tree at each root of its history
-pub record Session (start end : SimFlash) (lines : List (List ℕ)) (answers : List Answer) : Type 0 where
+pub record Session (start end : SimFlash) (lines : List (List ℕ)) (answers : List LineAnswer) : Type 0 where
   pub first : Moment
   pub last : Moment
   pub plan : Schedule
@@ -139,12 +133,15 @@ abbrev pub events_of : List (List ℕ) → List Event
 events_of [] = []
 events_of (line ∷ lines) = with_first (event_of (line_of line)) (events_of lines)
 
--- the answers to those lines
-abbrev pub event_replies : List (List ℕ) → List Answer → List Answer
-event_replies (line ∷ lines) (answer ∷ answers) = if is_some (event_of (line_of line)) then answer ∷ event_replies lines answers else event_replies lines answers
-event_replies _ _ = []
+-- the answers to those events
+abbrev pub with_told : Option Event → LineAnswer → List Answer → List Answer
+with_told (Some event) (LineAnswer.Told answer) answers = answer ∷ answers
+with_told _ _ answers = answers
 
--- lines that were carried out are a run of the events that they ask for, and are answered as it is
+abbrev pub event_answers : List (List ℕ) → List LineAnswer → List Answer
+event_answers (line ∷ lines) (answer ∷ answers) = with_told (event_of (line_of line)) answer (event_answers lines answers)
+event_answers _ _ = []
+
+-- lines that were carried out are a run of the events that they ask for, with the answers to these
 abbrev pub ScriptLaw : Type 0
-ScriptLaw = (s t : Scene) (lines : List (List ℕ)) (answers : List Answer) → CarriesOut s lines answers t
-    → (here : List EventAnswer) × Run s.world (events_of lines) here t.world × (event_replies lines answers ≡ map said here)
+ScriptLaw = (s t : Scene) (lines : List (List ℕ)) (answers : List LineAnswer) → CarriesOut s lines answers t → Run s.world (events_of lines) (event_answers lines answers) t.world

@@ -8,7 +8,7 @@ use Rattle.flash_model.specs.declared.simulation.SimFlash.{SimFlash}
 use Rattle.flash_model.specs.declared.sizes.Geometry.{Geometry}
 use Rattle.working_state.specs.Fresh.{FreshCause}
 use Rattle.shell.specs.Scripts.{EndsBy, kept_versions, Session}
-use Rattle.script.specs.declared.answers.Answer.{Answer}
+use Rattle.script.specs.declared.answers.LineAnswer.{LineAnswer}
 use Rattle.shell.specs.declared.scripts.ScriptFault.{ScriptFault}
 
 -- `memory` alone
@@ -32,7 +32,7 @@ pub record IsNewFlash (sizes : Geometry) (flash : SimFlash) : Type 0 where
   pub plan : plan_of flash ≡ plan_of_entries []
 
 -- lines that were carried out on a new flash
-abbrev pub NewSession : Geometry → List (List ℕ) → List Answer → Type 0
+abbrev pub NewSession : Geometry → List (List ℕ) → List LineAnswer → Type 0
 NewSession sizes lines answers = (start : SimFlash) × (end : SimFlash) × IsNewFlash sizes start × Session start end lines answers
 
 -- why no system was made: for want of memory for the flash, or for a fresh system's cause

@@ -6,6 +6,6 @@ mod scripts;
 mod words;
 
 pub use laws::script_laws;
-pub use script::{Answer, Line, print_answer, read_line};
+pub use script::{Line, LineAnswer, print_answer, read_line};
 pub use scripts::{ScriptFault, run_script};
 pub use words::tool;

@@ -6,8 +6,8 @@ ghost use Rattle.shell.specs.Scripts.{Ends};
 ghost use Rattle.shell.specs.Turns.{Gets, Does, Writes, LinesEnd};
 
 use flash_model::SimFlash;
-use fs_types::{Fault, Reply};
-use script::{Answer, Line, LineReader, Taken, print_answer, read_line, write_out};
+use fs_types::{Answer, Fault, Reply};
+use script::{Line, LineAnswer, LineReader, Taken, print_answer, read_line, write_out};
 use std::alloc::Global;
 use std::io::{Read, Write};
 use thiserror::Error;
@@ -107,31 +107,31 @@ fn next<R: Read>(
 }
 
 /// Carries out what a line asks. What is not built yet has no form of a line.
-fn carry_out(alloc: Global, system: &mut Fs<'_, SimFlash>, line: Line) -> Answer
+fn carry_out(alloc: Global, system: &mut Fs<'_, SimFlash>, line: Line) -> LineAnswer
     ensures does { Does line (moment_of system.old) (plan_of system.old.flash.now) result (moment_of system.new) (plan_of system.new.flash.now) }
     ensures same_flash { flash_name system.new ≡ flash_name system.old }
 {
     match line {
         Line::Call(call) => {
             if !is_built(&call) {
-                return Answer::Syntax;
+                return LineAnswer::Syntax;
             }
             match system.call(alloc, &call) {
-                Ok(reply) => Answer::Done(reply),
-                Err(fault) => Answer::Refused(fault),
+                Ok(reply) => LineAnswer::Told(Answer::Done(reply)),
+                Err(fault) => LineAnswer::Told(Answer::Refused(fault)),
             }
         }
-        Line::Refused(fault) => Answer::Refused(fault),
+        Line::Refused(fault) => LineAnswer::Told(Answer::Refused(fault)),
         Line::PlanFault { k, kind } => {
             if k == 0 {
-                return Answer::Syntax;
+                return LineAnswer::Syntax;
             }
             match system.plan_fault(k, kind) {
-                Ok(()) => Answer::Done(Reply::Empty),
-                Err(fault) => Answer::Refused(fault),
+                Ok(()) => LineAnswer::Told(Answer::Done(Reply::Empty)),
+                Err(fault) => LineAnswer::Told(Answer::Refused(fault)),
             }
         }
-        Line::ReclaimStep(_) | Line::Restart | Line::Syntax => Answer::Syntax,
+        Line::ReclaimStep(_) | Line::Restart | Line::Syntax => LineAnswer::Syntax,
     }
 }
 
@@ -139,7 +139,7 @@ fn carry_out(alloc: Global, system: &mut Fs<'_, SimFlash>, line: Line) -> Answer
 fn write_answer<W: Write>(
     writer: &mut W,
     text: &mut Vec<u8>,
-    answer: &Answer,
+    answer: &LineAnswer,
 ) -> Result<(), ScriptFault>
     ensures { Writes (W.contents writer.old) (W.contents writer.new) answer.now result }
 {

@@ -12,8 +12,8 @@ use Rattle.working_state.specs.Seen.{Seen, machine_on}
 use Rattle.working_state.specs.Steps.{Answers}
 use Rattle.undofs.specs.Runs.{World, Shows, is_sync, found_after, Run, accepted, NoneCommits, CommitLaw, PrefixLaw}
 use Rattle.working_state.specs.declared.state.State.{State}
-use Rattle.undofs.specs.declared.events.Event.{Event}
-use Rattle.undofs.specs.declared.events.Answer.{Answer}
+use Rattle.fs_types.specs.declared.events.Event.{Event}
+use Rattle.fs_types.specs.declared.events.Answer.{Answer}
 
 -- the histories after each of the calls
 abbrev later : Machine → List Call → List (Past Tree)

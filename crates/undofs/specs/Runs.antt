@@ -13,8 +13,8 @@ use Rattle.working_state.specs.Seen.{capacity_of, seen_on, machine_on}
 use Rattle.working_state.specs.Mounted.{IsMounted, StateStep}
 use Rattle.working_state.specs.Moments.{Moment}
 use Rattle.working_state.specs.declared.state.State.{State}
-use Rattle.undofs.specs.declared.events.Event.{Event}
-use Rattle.undofs.specs.declared.events.Answer.{Answer}
+use Rattle.fs_types.specs.declared.events.Event.{Event}
+use Rattle.fs_types.specs.declared.events.Answer.{Answer}
 
 -- a flash; the working state of the system on it, where one is mounted; and the histories that a restart may find, oldest
 -- first: the one that was mounted or synced last, and those after each call that was accepted since

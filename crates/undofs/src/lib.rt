@@ -1,11 +1,10 @@
 //! The file system: calls on a flash, with undo, redo and checkpoints.
 #![tactic(auto)]
 
-mod events;
 mod promises;
 mod system;
 
-pub use events::{Answer, Event};
+pub use fs_types::{Answer, Event};
 pub use promises::laws;
 pub use system::{Fs, is_built};
 pub use working_state::State;

@@ -29,7 +29,7 @@ pub(crate) fn change<F: Flash>(
     ensures { IsChanged (F.device flash.old) history.old storage.old edit.entry result (F.device flash.new) history.new storage.new }
 {
     check_change(history, storage)?;
-    let root = history.root();
+    let root = *history.root();
     let root = try_change(alloc, flash, storage, root, edit)?;
     check_writable(storage)?;
     history.push(root);

@@ -73,7 +73,7 @@ impl State {
         requires { IsMounted (F.device flash.old) self.old }
         ensures { IsAnswered (F.device flash.old) self.old (Call.Open path.now flags) (replied Reply.Fd result) (F.device flash.new) self.new (is_cut_answer result) }
     {
-        let root = self.history.root();
+        let root = self.root();
         let (found, trail, descriptor) = self.check_open(flash, root, path, flags)?;
         let file = OpenFile::new(path.clone()?, flags);
         if !is_changed(found, flags) {

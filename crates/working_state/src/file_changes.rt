@@ -69,11 +69,11 @@ impl State {
         requires { IsMounted (F.device flash.old) self.old }
         ensures { IsAnswered (F.device flash.old) self.old (Call.Pwrite descriptor offset bytes.now) (replied Reply.Count result) (F.device flash.new) self.new (is_cut_answer result) }
     {
+        let root = self.root();
         let path = check_write(&self.files, descriptor, offset, bytes)?;
         if bytes.is_empty() {
             return Ok(0);
         }
-        let root = self.history.root();
         let (body, trail) = find_body(flash, &mut self.storage, root, path)?;
         let edit = Edit::Overwrite {
             path,
@@ -115,8 +115,8 @@ impl State {
         requires { IsMounted (F.device flash.old) self.old }
         ensures { IsAnswered (F.device flash.old) self.old (Call.Ftruncate descriptor size) (replied empty result) (F.device flash.new) self.new (is_cut_answer result) }
     {
+        let root = self.root();
         let path = check_resize(&self.files, descriptor, size)?;
-        let root = self.history.root();
         let (body, trail) = find_body(flash, &mut self.storage, root, path)?;
         if u64::from(body.length) == size {
             return Ok(());

@@ -12,7 +12,7 @@ use crate::changes::change;
 use crate::checks::check_writable;
 use crate::state::State;
 use flash_model::Flash;
-use fs_types::{MAX_CHECKPOINTS, CpName, Fault, Reply, Sequence, Version};
+use fs_types::{CpName, Fault, MAX_CHECKPOINTS, Reply, Sequence, Version};
 use std::alloc::{AllocError, Global};
 use std::collections::BTreeMap;
 use tree_edits::Edit;
@@ -63,7 +63,7 @@ impl State {
     {
         self.check_power()?;
         self.check_none_open()?;
-        let root = self.history.checkpoint_root(name)?;
+        let root = *self.history.checkpoint_root(name)?;
         let edit = Edit::Restore { root };
         change(alloc, flash, &mut self.history, &mut self.storage, edit)
     }
@@ -94,7 +94,8 @@ impl State {
             return Err(Fault::CheckpointsFull);
         }
         check_writable(&self.storage)?;
-        self.history.checkpoint(name.clone()?)
+        let root = self.root();
+        self.history.checkpoint(name.clone()?, root)
     }
 
     /// The checkpoint of this name is given up.

@@ -63,7 +63,7 @@ impl State {
         ensures looked { IsLooked (F.device flash.old) self.old (F.device flash.new) self.new }
         ensures step { CallStep (seen_on (F.device flash.old) self.old) (machine_on (F.device flash.old) self.old) false (Call.ReadAt view.now path.now offset count) (replied Reply.Bytes result) (seen_on (F.device flash.new) self.new) (machine_on (F.device flash.new) self.new) (is_cut_answer result) }
     {
-        let root = self.history.find(view)?;
+        let root = *self.history.find(view)?;
         read_below(alloc, flash, &mut self.storage, root, path, offset, count)
     }
 
@@ -99,8 +99,8 @@ impl State {
         ensures looked { IsLooked (F.device flash.old) self.old (F.device flash.new) self.new }
         ensures step { CallStep (seen_on (F.device flash.old) self.old) (machine_on (F.device flash.old) self.old) false (Call.Pread descriptor offset count) (replied Reply.Bytes result) (seen_on (F.device flash.new) self.new) (machine_on (F.device flash.new) self.new) (is_cut_answer result) }
     {
+        let root = self.root();
         let path = readable(&self.files, descriptor)?;
-        let root = self.history.root();
         read_below(alloc, flash, &mut self.storage, root, path, offset, count)
     }
 }

@@ -54,7 +54,7 @@ impl State {
         requires { IsMounted (F.device flash.old) self.old }
         ensures { IsAnswered (F.device flash.old) self.old (Call.Rmdir path.now) (replied empty result) (F.device flash.new) self.new (is_cut_answer result) }
     {
-        let root = self.history.root();
+        let root = self.root();
         let trail = self.check_empty(flash, root, path)?;
         let edit = Edit::Remove {
             path,
@@ -124,7 +124,7 @@ impl State {
         requires { IsMounted (F.device flash.old) self.old }
         ensures { IsAnswered (F.device flash.old) self.old (Call.Unlink path.now) (replied empty result) (F.device flash.new) self.new (is_cut_answer result) }
     {
-        let root = self.history.root();
+        let root = self.root();
         let trail = self.check_file(flash, root, path)?;
         let edit = Edit::Remove {
             path,

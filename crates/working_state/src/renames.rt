@@ -75,7 +75,7 @@ impl State {
         requires { IsMounted (F.device flash.old) self.old }
         ensures { IsAnswered (F.device flash.old) self.old (Call.Rename old.now new.now) (replied empty result) (F.device flash.new) self.new (is_cut_answer result) }
     {
-        let root = self.history.root();
+        let root = self.root();
         let Some(moves) = self.check_rename(alloc, flash, root, old, new)? else {
             return Ok(());
         };

@@ -45,7 +45,7 @@ impl State {
         ensures looked { IsLooked (F.device flash.old) self.old (F.device flash.new) self.new }
         ensures step { CallStep (seen_on (F.device flash.old) self.old) (machine_on (F.device flash.old) self.old) false (Call.Stat view.now path.now) (replied Reply.Stat result) (seen_on (F.device flash.new) self.new) (machine_on (F.device flash.new) self.new) (is_cut_answer result) }
     {
-        let root = self.history.find(view)?;
+        let root = *self.history.find(view)?;
         let (found, _trail) = find_path(flash, &mut self.storage, root, path)?;
         match found {
             Found::Missing { .. } => Err(Fault::NoEntry),

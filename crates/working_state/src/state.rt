@@ -1,6 +1,7 @@
 //! The working state: all that a mounted system keeps in memory, apart from the flash.
 ghost use Rattle.std.specs.Prelude.{◌≡◌, ◌<◌, ◌≤◌, ◌↔◌, ◌⊎◌, true, Some, Err, [], IfOk, IfErr, vec_len, vec_capacity};
 ghost use Rattle.std.specs.FinSet as set;
+ghost use Rattle.history_machine.specs.History.{present_root};
 ghost use Rattle.fs_types.specs.declared.faults.Fault.{Fault};
 ghost use Rattle.flash_model.specs.Geometry.{IsGeometry, block_bytes};
 ghost use Rattle.node_store.specs.NodePages.{node_of};
@@ -36,6 +37,13 @@ pub struct State {
 }
 
 impl State {
+    /// The root of the present version.
+    pub(crate) fn root(&self) -> u32
+        ensures { present_root self.now.history ≡ Some result }
+    {
+        *self.history.root()
+    }
+
     /// The working state of a fresh system of at most `limit` kept versions: an empty root is written,
     /// and is its version of serial 1.
     ///

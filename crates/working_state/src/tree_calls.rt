@@ -62,7 +62,7 @@ impl State {
         ensures looked { IsLooked (F.device flash.old) self.old (F.device flash.new) self.new }
         ensures step { CallStep (seen_on (F.device flash.old) self.old) (machine_on (F.device flash.old) self.old) false (Call.List view.now path.now) (replied Reply.Names result) (seen_on (F.device flash.new) self.new) (machine_on (F.device flash.new) self.new) (is_cut_answer result) }
     {
-        let root = self.history.find(view)?;
+        let root = *self.history.find(view)?;
         let (found, _trail) = find_path(flash, &mut self.storage, root, path)?;
         match found {
             Found::Missing { .. } => Err(Fault::NoEntry),
@@ -98,7 +98,7 @@ impl State {
         requires { IsMounted (F.device flash.old) self.old }
         ensures { IsAnswered (F.device flash.old) self.old (Call.Mkdir path.now) (replied empty result) (F.device flash.new) self.new (is_cut_answer result) }
     {
-        let root = self.history.root();
+        let root = self.root();
         let trail = self.check_missing(flash, root, path)?;
         let edit = Edit::MakeDirectory {
             path,

@@ -7,16 +7,16 @@ use std::test::Fail;
 fn keeps_checkpoints(rt: HostRuntime) -> Result<(), Fail> {
     let mut history: History<u32> = History::new(rt.alloc(), 2, 8)?;
     history.push(9);
-    history.checkpoint(CpName::parse(b"v1")?)?;
+    history.checkpoint(CpName::parse(b"v1")?, 9)?;
     assert_eq!(rt;
-        history.checkpoint(CpName::parse(b"v1")?),
+        history.checkpoint(CpName::parse(b"v1")?, 9),
         Err(Fault::Exists)
     );
     history.undo()?;
-    assert_eq!(rt; history.root(), 8);
+    assert_eq!(rt; *history.root(), 8);
     assert_eq!(rt;
         history.find(&View::Checkpoint(CpName::parse(b"v1")?)),
-        Ok(9)
+        Ok(&9)
     );
     Ok(())
 }

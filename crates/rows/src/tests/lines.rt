@@ -1,6 +1,6 @@
 //! Lines of scripts and printed answers, and streams that fail.
-use fs_types::{Bytes, CpName, Fault, Name, Reply, Sequence, Stat};
-use script::{Answer, LINE_LIMIT, LineReader, Taken, print_answer, read_line, write_out};
+use fs_types::{Answer, Bytes, CpName, Fault, Name, Reply, Sequence, Stat};
+use script::{LINE_LIMIT, LineAnswer, LineReader, Taken, print_answer, read_line, write_out};
 use std::alloc::{AllocError, Global};
 use std::io;
 use std::io::{ErrorKind, Read, Write};
@@ -157,6 +157,11 @@ fn lines(rt: HostRuntime) -> Result<(), Fail> {
 
 /// Whether this is what is printed for an answer.
 fn prints(alloc: Global, answer: Answer, text: &[u8]) -> Result<bool, Fail> {
+    prints_line(alloc, LineAnswer::Told(answer), text)
+}
+
+/// Whether this is what is printed for the answer to a line.
+fn prints_line(alloc: Global, answer: LineAnswer, text: &[u8]) -> Result<bool, Fail> {
     let mut out = Vec::new(alloc);
     print_answer(&mut out, &answer)?;
     Ok(out.as_slice() == text)
@@ -242,7 +247,7 @@ fn words(rt: HostRuntime) -> Result<(), Fail> {
     );
     assert!(rt; prints(alloc, Answer::Mounted, b"mounted\n")?);
     assert!(rt; prints(alloc, Answer::Unmounted, b"unmounted\n")?);
-    assert!(rt; prints(alloc, Answer::Syntax, b"err SYNTAX\n")?);
+    assert!(rt; prints_line(alloc, LineAnswer::Syntax, b"err SYNTAX\n")?);
     Ok(())
 }
 

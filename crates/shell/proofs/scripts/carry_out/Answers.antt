@@ -1,6 +1,7 @@
 use Rattle.std.proofs.Common.{◌≡◌, Ok, Err, inl, inr, refl, ap}
+use Rattle.fs_types.specs.declared.events.Answer.{Answer}
 use Rattle.fs_types.specs.declared.faults.Fault.{Fault}
-use Rattle.script.specs.declared.answers.Answer.{Answer}
+use Rattle.script.specs.declared.answers.LineAnswer.{LineAnswer}
 use Rattle.working_state.specs.Moments.{moment}
 use Rattle.shell.proofs.TurnLemmas.{plans}
 use Rattle.shell.proofs.scripts.carry_out.Goals as goal
@@ -19,4 +20,4 @@ pub returns-in-PlanFault-clause-does : goal.returns-in-PlanFault-clause-does
 returns-in-PlanFault-clause-does c =
     let same = c.plan_fault.ensures in
     let told = c.in-Err-plan_fault.ensures in
-    rw c.in-PlanFault.is (plans c.in-PlanFault.k c.in-PlanFault.kind _ _ _ _ _ c.if-k-eq0.false (λ i. moment (same.still i) (same.state i)) (inr (ap Answer.Refused told.only, told.full.0 (ap Err told.only), told.err)))
+    rw c.in-PlanFault.is (plans c.in-PlanFault.k c.in-PlanFault.kind _ _ _ _ _ c.if-k-eq0.false (λ i. moment (same.still i) (same.state i)) (inr (ap (λ (x : Fault). LineAnswer.Told (Answer.Refused x)) told.only, told.full.0 (ap Err told.only), told.err)))

@@ -23,7 +23,7 @@ read_below-requires-clause-ready g c = mounted_ready (g.F.Flash.device c.args.fl
 pub read_below-requires-clause-rooted : goal.read_below-requires-clause-rooted
 read_below-requires-clause-rooted g c =
     let shown = c.in_ok-root.ensures in
-    (view_stands (g.F.Flash.device c.args.flash.now) c.args.self.now c.args.view.now c.in_ok-root.root c.requires (record { fine = shown.0; shown = shown.1 })).rooted
+    (view_stands (g.F.Flash.device c.args.flash.now) c.args.self.now c.args.view.now c.in_ok-root.field-0.now c.requires (record { fine = shown.0; shown = shown.1 })).rooted
 
 pub returns-clause-looked : goal.returns-clause-looked
 returns-clause-looked g c = looked_at _ c.args.self.now _ _ c.read_below.ensures.looked
@@ -33,5 +33,5 @@ returns-clause-step g c =
     let shown = c.in_ok-root.ensures in
     let read = c.read_below.ensures in
     read_step _ _ _ _ _ _ _ _ _ c.read_below.result c.requires (looked_at _ c.args.self.now _ _ read.looked)
-    (view_reads (g.F.Flash.device c.args.flash.now) c.args.self.now c.args.view.now c.args.path.now c.args.offset c.args.count c.in_ok-root.root c.requires (record { fine = shown.0; shown = shown.1 }))
+    (view_reads (g.F.Flash.device c.args.flash.now) c.args.self.now c.args.view.now c.args.path.now c.args.offset c.args.count c.in_ok-root.field-0.now c.requires (record { fine = shown.0; shown = shown.1 }))
     read.read read.refused read.why

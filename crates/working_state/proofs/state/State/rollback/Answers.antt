@@ -46,17 +46,17 @@ pub change-requires-clause-editable : goal.change-requires-clause-editable
 change-requires-clause-editable g c = λ root present.
     let device = g.F.Flash.device c.args.flash.now in
     let s = c.args.self.now in
-    let stands = of_checkpoint (IsStanding device s.storage.ring) s.history c.args.name.now c.in_ok-root.root c.requires.checkpoints c.in_ok-root.ensures in
+    let stands = of_checkpoint (IsStanding device s.storage.ring) s.history c.args.name.now c.in_ok-root.field-0.now c.requires.checkpoints c.in_ok-root.ensures in
     (stands.held, stands.rooted)
 
 pub returns-clause-step : goal.returns-clause-step
 returns-clause-step g c =
-    rollback_step (g.F.Flash.device c.args.flash.now) c.args.self.now (g.F.Flash.device c.change.new.flash) c.change.new.storage c.change.new.history c.args.name.now c.in_ok-root.root c.change.result
+    rollback_step (g.F.Flash.device c.args.flash.now) c.args.self.now (g.F.Flash.device c.change.new.flash) c.change.new.storage c.change.new.history c.args.name.now c.in_ok-root.field-0.now c.change.result
     c.in_ok-check_power.ensures.ok c.in_ok-check_none_open.ensures.ok c.in_ok-root.ensures c.change.ensures
 
 pub returns-clause-mounted : goal.returns-clause-mounted
 returns-clause-mounted g c =
-    rollback_mounted (g.F.Flash.device c.args.flash.now) c.args.self.now (g.F.Flash.device c.change.new.flash) c.change.new.storage c.change.new.history c.args.name.now c.in_ok-root.root c.change.result
+    rollback_mounted (g.F.Flash.device c.args.flash.now) c.args.self.now (g.F.Flash.device c.change.new.flash) c.change.new.storage c.change.new.history c.args.name.now c.in_ok-root.field-0.now c.change.result
     c.requires c.in_ok-check_power.ensures.ok c.in_ok-check_none_open.ensures.ok c.in_ok-root.ensures c.change.ensures
 
 pub returns-clause-still : goal.returns-clause-still

@@ -1,5 +1,6 @@
 //! What befalls a flash with a system on it, and what is answered.
-use fs_types::{Call, Fault, Reply};
+use crate::calls::{Call, Reply};
+use crate::faults::Fault;
 
 /// An event of a run.
 #[derive(Debug, Drop)]

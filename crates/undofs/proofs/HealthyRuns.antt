@@ -7,15 +7,16 @@ use Rattle.fs_types.specs.declared.calls.Reply.{Reply}
 use Rattle.fs_types.specs.declared.faults.Fault.{Fault}
 use Rattle.fs_types.specs.declared.faults.Fault.TheVariants.{FlashFull, ReadOnly}
 use Rattle.flash_model.specs.Device.{Device}
-use Rattle.working_state.specs.Seen.{Seen, capacity_of, seen_on, machine_on, is_read_only}
+use Rattle.working_state.specs.Seen.{Seen, capacity_of, seen_on, machine_on}
+use Rattle.read_only.specs.Modes.{is_read_only}
 use Rattle.working_state.specs.Steps.{Answers}
 use Rattle.working_state.specs.Mounted.{StateStep}
 use Rattle.working_state.specs.declared.state.State.{State}
 use Rattle.working_state.proofs.BadCounts.{len-within, stays_writable}
 use Rattle.working_state.proofs.CutCalls.{own_says}
 use Rattle.undofs.specs.Runs.{World, Run, AreCalls, nodes_needed, NoneRefused, HealthyLaw}
-use Rattle.undofs.specs.declared.events.Event.{Event}
-use Rattle.undofs.specs.declared.events.Answer.{Answer}
+use Rattle.fs_types.specs.declared.events.Event.{Event}
+use Rattle.fs_types.specs.declared.events.Answer.{Answer}
 use Rattle.undofs.proofs.RunLaws.{refused_keeps}
 
 -- One step.

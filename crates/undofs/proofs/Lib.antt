@@ -1,2 +1,3 @@
+mod CourseLaws
 mod HealthyRuns
 pub mod RunLaws

@@ -41,7 +41,7 @@ shown : (w : World) (m : Machine) (s : State) → Shows w m → w.state ≡ Some
 shown w m s is there = let same : s ≡ is.0 = (let first = is.1 in cc) in ap (machine_on w.device) same ∙ is.2
 
 -- a system is mounted, or none is
-not_both : (w : World) (s : State) → w.state ≡ Some s → w.state ≡ None → ⊥
+pub not_both : (w : World) (s : State) → w.state ≡ Some s → w.state ≡ None → ⊥
 not_both w s some none = cc
 
 pub refused_keeps : (s : Seen) (m : Machine) (off : Bool) (call : Call) (fault : Fault) (t : Seen) (n : Machine) (off' : Bool) → Answers s m off call (Err fault) t n off' → n ≡ m

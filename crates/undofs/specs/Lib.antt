@@ -1,3 +1,4 @@
 pub mod Built
+pub mod Courses
 pub mod Runs
 pub mod Systems

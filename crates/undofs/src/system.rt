@@ -4,6 +4,7 @@ ghost use Rattle.undofs.specs.Built.{is_built};
 ghost use Rattle.working_state.specs.Steps.{replied, empty};
 ghost use Rattle.working_state.specs.Mounted.{IsMounted};
 ghost use Rattle.working_state.specs.Props.{mounted-prop};
+ghost use Rattle.fs_types.specs.declared.limits.TheConstants.{MIN_VERSIONS, MAX_VERSIONS};
 
 use flash_model::{FaultKind, Flash, Planned};
 use fs_types::{Bytes, Call, CpName, Fault, Name, OpenFlags, Path, Reply, Sequence, Stat, View};
@@ -68,7 +69,7 @@ impl<'f, F: Flash> Fs<'f, F> {
         ensures fresh { IfOk result (λ fs. IsFresh (F.device flash.old) limit (moment_of fs)) }
         ensures same_flash { IfOk result (λ fs. flash_name fs ≡ flash.entry.ghost_name) }
         ensures sizes { (result ≡ Err Fault.BadGeometry) ↔ ¬ IsGeometry (F.device flash.old).geometry }
-        ensures limits { (result ≡ Err Fault.Invalid) ↔ (IsGeometry (F.device flash.old).geometry × ((limit < 2) ⊎ (64 < limit))) }
+        ensures limits { (result ≡ Err Fault.Invalid) ↔ (IsGeometry (F.device flash.old).geometry × ((limit < MIN_VERSIONS) ⊎ (MAX_VERSIONS < limit))) }
         ensures faults { IfErr result IsFreshFault }
     {
         let state = State::fresh(alloc, flash, limit)?;

@@ -10,7 +10,7 @@ use Rattle.std.specs.FinMap.{nat_cmp-IsAntisymmetric}
 use Rattle.std.specs.FinSet as set
 use Rattle.std.specs.Ordering.{nat_cmp, is_eq, eq_by_cmp}
 use Rattle.node_store.specs.NodePages.{first_data}
-use Rattle.working_state.specs.Seen.{is_read_only, bad_anchors}
+use Rattle.read_only.specs.Modes.{is_read_only, bad_anchors}
 
 abbrev Blocks : Type 0
 Blocks = set.FinSet nat_cmp

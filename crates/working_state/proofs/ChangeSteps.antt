@@ -10,7 +10,7 @@ use Rattle.plain_trees.specs.Trees.{Tree}
 use Rattle.history_machine.specs.History.{Past, present_root, changed, map_roots}
 use Rattle.history_machine.specs.HistoryMaps.{changed-map}
 use Rattle.history_machine.specs.Descriptors.{Descriptors}
-use Rattle.history_machine.specs.Machine.{Machine, has_paths, present_tree, refusal, need, change_need, answer_of, machine_of, reply_of, tree_after, history_after, history_moved, descriptors_after, makes_version}
+use Rattle.history_machine.specs.Machine.{Machine, has_paths, present_tree, refusal, need, change_need, answer_of, machine_of, reply_of, tree_after, history_after, history_moved, descriptors_after, makes_version, machine_with}
 use Rattle.fs_types.specs.declared.calls.Call.{Call}
 use Rattle.fs_types.specs.declared.calls.Reply.{Reply}
 use Rattle.fs_types.specs.declared.faults.Fault.{Fault}
@@ -22,7 +22,8 @@ use Rattle.allocator.specs.Ring.{Ring}
 use Rattle.tree_edits.specs.Edits as edits
 use Rattle.tree_edits.specs.declared.edits.Edit.{Edit}
 use Rattle.working_state.specs.Changes.{IsUnwritten}
-use Rattle.working_state.specs.Seen.{capacity_of, tree_on, seen_on, machine_on, is_read_only}
+use Rattle.working_state.specs.Seen.{capacity_of, tree_on, seen_on, machine_on}
+use Rattle.read_only.specs.Modes.{is_read_only}
 use Rattle.working_state.specs.Steps.{is_light, last_serial, Refuses, CallStep}
 use Rattle.working_state.specs.Mounted.{IsStanding, IsMounted}
 use Rattle.working_state.specs.Worked.{storage_on, IsWorked, IsLooked}
@@ -114,7 +115,7 @@ changed_machine : (m : Machine) (call : Call) (tree : Tree) (n : Machine) → re
     → n ≡ machine_of m call (refusal m call)
 changed_machine m call tree n fine after history descriptors =
     let same : n.history ≡ history_after m call = history ∙ sym (ap (λ o. option_map_or (changed m.history) o (history_moved m.history call)) after) in
-    (λ i. record { history = same i; descriptors = descriptors i }) ∙ sym (ap (machine_of m call) fine)
+    (λ i. machine_with (same i) (descriptors i)) ∙ sym (ap (machine_of m call) fine)
 
 -- the state with the new root, and with the open files that a change leaves
 abbrev pub changed_state : State → Past ℕ → Descriptors → State

@@ -26,7 +26,8 @@ use Rattle.working_state.specs.Changes.{IsReady, edited_tree, WorkRefuses, IsPus
 use Rattle.working_state.specs.Leaves.{HasWritten, is_still, Leaves}
 use Rattle.working_state.specs.Mounted.{IsStanding, IsMounted}
 use Rattle.working_state.specs.Opening.{IsAnswered}
-use Rattle.working_state.specs.Seen.{capacity_of, tree_on, seen_of, seen_on, machine_on, bad_anchors}
+use Rattle.working_state.specs.Seen.{capacity_of, tree_on, seen_of, seen_on, machine_on}
+use Rattle.read_only.specs.Modes.{bad_anchors}
 use Rattle.working_state.specs.Steps.{empty, replied, is_light, is_cut, is_cut_answer, MayRefuse, Refuses}
 use Rattle.working_state.specs.Worked.{IsWorked, IsLooked, WorkCause}
 use Rattle.working_state.specs.declared.state.State.{State}

@@ -11,7 +11,7 @@ use Rattle.plain_trees.specs.Contents.{Contents, Entry, overwritten, resized, pw
 use Rattle.plain_trees.specs.Trees.{Tree, put, IsFile, bytes_of, bytes_at}
 use Rattle.history_machine.specs.History.{Past, present_root, changed}
 use Rattle.history_machine.specs.Descriptors.{Descriptor, descriptor_at}
-use Rattle.history_machine.specs.Machine.{Machine, Space, has_paths, present_tree, file_put, refusal, change_need, reply_of, tree_after, descriptors_after, makes_version, machine_of}
+use Rattle.history_machine.specs.Machine.{Machine, Space, has_paths, present_tree, file_put, refusal, change_need, reply_of, tree_after, descriptors_after, makes_version, machine_of, machine_with}
 use Rattle.fs_types.specs.declared.calls.Call.{Call}
 use Rattle.fs_types.specs.declared.calls.Reply.{Reply}
 use Rattle.fs_types.specs.declared.faults.Fault.{Fault}
@@ -25,7 +25,7 @@ use Rattle.node_store.specs.NodePages.{node_of}
 use Rattle.node_store.specs.StorageLaws.{Untouched_itself}
 use Rattle.block_trees.specs.Bodies.{Blocks, body, head_index, data_to, IsBody}
 use Rattle.block_trees.specs.Reached.{IsHeld}
-use Rattle.block_trees.specs.Trees.{entries_of, leads, entry_at}
+use Rattle.block_trees.specs.Trees.{entries_in, leads, entry_at}
 use Rattle.block_trees.proofs.Entries.{some_place, place_is}
 use Rattle.block_trees.proofs.Reaching.{held_leads}
 use Rattle.directory.specs.declared.lookups.Found.{Found}
@@ -52,7 +52,7 @@ use Rattle.working_state.proofs.Standing.{same_capacity, worked_machine, worked_
 -- a path that leads to a file is looked up as that
 leads_looked : (f : Blocks) (root : ℕ) (path : Path) (head size : ℕ) → leads f (place.Dir root) path ≡ Some (place.File head size) → look_up f root path ≡ Ok (found.File head size)
 leads_looked f root [] head size e = absurd cc
-leads_looked f root (n ∷ []) head size e = last (entries_of (f root)) e
+leads_looked f root (n ∷ []) head size e = last (entries_in f root) e
   where
     at : (r : Option Place) (full : Bool) → option_and_then some_place r ≡ Some (place.File head size) → (let x : Result Found Fault = Ok (found_of r full) in x) ≡ Ok (found.File head size)
     at None full e = absurd cc
@@ -62,7 +62,7 @@ leads_looked f root (n ∷ []) head size e = last (entries_of (f root)) e
     last : (o : Option (List Item)) → option_and_then some_place (named (unwrap_or o []) n) ≡ Some (place.File head size) → found_in o n ≡ Ok (found.File head size)
     last None e = absurd cc
     last (Some items) e = at (named items n) _ e
-leads_looked f root (n ∷ m ∷ path) head size e = way (λ below. leads_looked f below (m ∷ path) head size) (entries_of (f root)) e
+leads_looked f root (n ∷ m ∷ path) head size e = way (λ below. leads_looked f below (m ∷ path) head size) (entries_in f root) e
   where
     on : ((below : ℕ) → leads f (place.Dir below) (m ∷ path) ≡ Some (place.File head size) → look_up f below (m ∷ path) ≡ Ok (found.File head size)) → (r : Option Place) → option_and_then (λ next. leads f next (m ∷ path)) r ≡ Some (place.File head size) → (directory_at r >>= λ below. look_up f below (m ∷ path)) ≡ Ok (found.File head size)
     on again None e = absurd cc
@@ -210,7 +210,7 @@ pwrite_nothing m descriptor offset [] none = record { stays = stays; no_version 
     no_tree = go (descriptor_at m.descriptors descriptor)
 
     stays : machine_of m (Call.Pwrite descriptor offset []) None ≡ m
-    stays i = record { history = option_map_or (changed m.history) (no_tree i) m.history; descriptors = m.descriptors }
+    stays i = machine_with (option_map_or (changed m.history) (no_tree i) m.history) m.descriptors
 
 -- Resizing.
 
@@ -239,7 +239,7 @@ ftruncate_nothing m descriptor n path has same = record { stays = stays; no_vers
         ∙ ap (λ b. if b then None else Some (file_put (present_tree m) path (resized (bytes_at (present_tree m) path) n))) same
 
     stays : machine_of m (Call.Ftruncate descriptor n) None ≡ m
-    stays i = record { history = option_map_or (changed m.history) (no_tree i) m.history; descriptors = m.descriptors }
+    stays i = machine_with (option_map_or (changed m.history) (no_tree i) m.history) m.descriptors
 
 -- the length of the file whose body was found
 pub present_length : (d : Device) (s : State) (e : Device) (t : State) (path : Path) (head size : ℕ) → IsMounted d s → IsWorked d s e t → IsPresentBody e t path head size → length (bytes_at (present_tree (machine_on d s)) path) ≡ size

@@ -9,7 +9,7 @@ use Rattle.std.specs.List.{range_with_len}
 use Rattle.std.specs.Ordering.{nat_cmp}
 use Rattle.history_machine.specs.History.{Past, fresh, map_roots}
 use Rattle.history_machine.specs.Descriptors.{Descriptors, none_open}
-use Rattle.history_machine.specs.Machine.{IsMachine, mounted}
+use Rattle.history_machine.specs.Machine.{IsMachine, mounted, machine_with}
 use Rattle.plain_trees.specs.Trees.{Tree, bare}
 use Rattle.fs_types.specs.declared.calls.Version.{Version}
 use Rattle.fs_types.specs.declared.faults.Fault.{Fault}
@@ -26,7 +26,7 @@ use Rattle.node_store.specs.NodePages.{node_of}
 use Rattle.node_store.specs.Storage as parts
 use Rattle.node_store.specs.Storage.{Evolved}
 use Rattle.node_store.specs.Stores.{Causes}
-use Rattle.block_trees.specs.Trees.{entries_of}
+use Rattle.block_trees.specs.Trees.{entries_in}
 use Rattle.block_trees.proofs.RootMaps.{empty_root}
 use Rattle.working_state.specs.Fresh.{unused_ring, unused, IsFresh, FreshCause, RootCause}
 use Rattle.working_state.specs.Leaves.{HasWritten}
@@ -39,7 +39,7 @@ use Rattle.block_trees.proofs.EmptyDirectories.{empty_held}
 use Rattle.working_state.proofs.Standing.{AllStand}
 
 -- an empty root stands
-empty_stands : (d : Device) (s : State) (root : ℕ) → entries_of (node_of d root) ≡ Some [] → set.contains s.storage.ring.used root ≡ true → IsStanding d s.storage.ring root
+empty_stands : (d : Device) (s : State) (root : ℕ) → entries_in (node_of d) root ≡ Some [] → set.contains s.storage.ring.used root ≡ true → IsStanding d s.storage.ring root
 empty_stands d s root empty kept = record {
   held = empty_held (node_of d) root empty (set.contains s.storage.ring.used) kept;
   rooted = (empty_root (capacity_of d) (node_of d) root empty).0;
@@ -51,16 +51,16 @@ fresh_stand d s limit root stands = record {
   checkpoints = λ k e below. absurd (omega arith);
 }
 
-pub fresh_machine : (d : Device) (h : Past ℕ) (files : Descriptors) (limit root : ℕ) → h ≡ fresh limit root → files ≡ none_open → entries_of (node_of d root) ≡ Some []
-    → record { history = map_roots (tree_on d) h; descriptors = files } ≡ mounted (fresh limit bare)
+pub fresh_machine : (d : Device) (h : Past ℕ) (files : Descriptors) (limit root : ℕ) → h ≡ fresh limit root → files ≡ none_open → entries_in (node_of d) root ≡ Some []
+    → machine_with (map_roots (tree_on d) h) files ≡ mounted (fresh limit bare)
 fresh_machine d h files limit root is none empty =
     let history =
     ap (λ (p : Past ℕ). map_roots (tree_on d) p) is
     ∙ ap (λ (t : Tree). fresh limit t) (empty_root (capacity_of d) (node_of d) root empty).1 in
-    (λ i. record { history = history i; descriptors = none i })
+    (λ i. machine_with (history i) (none i))
 
 pub fresh_mounted : (d : Device) (s : State) (limit root : ℕ) → s.is_off ≡ false → IsGeometry d.geometry → s.storage.ring.blocks ≡ d.geometry.blocks → vec_len s.storage.page ≡ d.geometry.page → block_bytes d.geometry ≤ vec_capacity s.storage.node
-    → 2 ≤ limit → s.history ≡ fresh limit root → s.files ≡ none_open → entries_of (node_of d root) ≡ Some [] → set.contains s.storage.ring.used root ≡ true → IsMounted d s
+    → 2 ≤ limit → s.history ≡ fresh limit root → s.files ≡ none_open → entries_in (node_of d) root ≡ Some [] → set.contains s.storage.ring.used root ≡ true → IsMounted d s
 fresh_mounted d s limit root on lawful blocks len capacity some is none empty kept =
     let all = subst (AllStand d s.storage.ring) (sym is) (fresh_stand d s limit root (empty_stands d s root empty kept)) in
     record {
@@ -143,7 +143,7 @@ root_why device s t (Err fault) one is why = root_cause device s t fault one is 
 
 -- the first moment, once the root is written
 pub written_fresh : (d : Device) (limit : ℕ) (s : Storage) (e : Device) (t : Storage) (h : Past ℕ) (files : Descriptors) (root : ℕ) → IsGeometry d.geometry → s.bad ≡ set.empty → s.ring ≡ unused_ring d.geometry.blocks
-    → vec_len s.page ≡ d.geometry.page → block_bytes d.geometry ≤ vec_capacity s.node → HasWritten d s 1 e t → set.contains t.ring.used root ≡ true → entries_of (node_of e root) ≡ Some [] → 2 ≤ limit → h ≡ fresh limit root → files ≡ none_open
+    → vec_len s.page ≡ d.geometry.page → block_bytes d.geometry ≤ vec_capacity s.node → HasWritten d s 1 e t → set.contains t.ring.used root ≡ true → entries_in (node_of e) root ≡ Some [] → 2 ≤ limit → h ≡ fresh limit root → files ≡ none_open
     → IsFresh d limit (moment e (record { history = h; storage = t; files = files; is_off = false }))
 written_fresh d limit s e t h files root lawful bad ring len capacity written kept empty some is none =
     let state : State = record { history = h; storage = t; files = files; is_off = false } in

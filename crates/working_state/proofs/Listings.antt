@@ -15,7 +15,7 @@ use Rattle.node_format.specs.Items.{Item}
 use Rattle.node_store.specs.Faults.{IsReadFault}
 use Rattle.node_store.specs.NodePages.{node_of}
 use Rattle.block_trees.specs.Bodies.{Blocks}
-use Rattle.block_trees.specs.Trees.{entries_of, names_of}
+use Rattle.block_trees.specs.Trees.{entries_in, names_of}
 use Rattle.block_trees.proofs.RootMaps.{map_law}
 use Rattle.directory.specs.declared.lookups.Found.{Found}
 use Rattle.directory.specs.declared.lookups.Found.TheVariants as found
@@ -43,7 +43,7 @@ list_reads d s view path = record { stays = refl; no_version = refl; no_record =
 -- A listing that is answered.
 
 list_reply : (d : Device) (s : State) (view : View) (path : Path) (root block : ℕ) (items : List Item) (space : Space) → IsMounted d s → Shows s.history view root
-    → look_up (node_of d) root path ≡ Ok (found.Dir block) → entries_of (node_of d block) ≡ Some items
+    → look_up (node_of d) root path ≡ Ok (found.Dir block) → entries_in (node_of d) block ≡ Some items
     → reply_of space (machine_on d s) (Call.List view path) ≡ Reply.Names (names_of items)
 list_reply d s view path root block items space m shows led spelled =
     let law = map_law (capacity_of d) (node_of d) root (view_stands d s view root m shows).rooted in
@@ -52,7 +52,7 @@ list_reply d s view path root block items space m shows led spelled =
     ∙ ap (λ (o : Option (List Item)). names_of (unwrap_or o [])) spelled)
 
 list_done : (d : Device) (s : State) (e : Device) (t : State) (view : View) (path : Path) (root block : ℕ) (items : List Item) (names : List (Name × Bool)) → IsMounted d s → IsLooked d s e t → Shows s.history view root
-    → look_up (node_of d) root path ≡ Ok (found.Dir block) → entries_of (node_of d block) ≡ Some items → names ≡ names_of items
+    → look_up (node_of d) root path ≡ Ok (found.Dir block) → entries_in (node_of d) block ≡ Some items → names ≡ names_of items
     → CallStep (seen_on d s) (machine_on d s) false (Call.List view path) (Ok (Reply.Names names)) (seen_on e t) (machine_on e t) false
 list_done d s e t view path root block items names m l shows led spelled is =
     read_done d s e t (Call.List view path) (Reply.Names names) m l (list_reads d s view path)
@@ -62,13 +62,13 @@ list_done d s e t view path root block items names m l shows led spelled is =
 -- what the names of a directory answer
 pub names_step : (d : Device) (s : State) (e : Device) (t : State) (f : Device) (u : State) (view : View) (path : Path) (root block : ℕ) (x : Found) (result : Result (List (Name × Bool)) Fault)
     → IsMounted d s → Shows s.history view root → IsLooked d s e t → node_of e ≡ node_of d → IsLooked e t f u → look_up (node_of d) root path ≡ Ok x → x ≡ found.Dir block
-    → IfOk result (λ names. (items : List Item) × (entries_of (node_of e block) ≡ Some items) × (names ≡ names_of items))
-    → (result ≡ Err Damaged → entries_of (node_of e block) ≡ None)
+    → IfOk result (λ names. (items : List Item) × (entries_in (node_of e) block ≡ Some items) × (names ≡ names_of items))
+    → (result ≡ Err Damaged → entries_in (node_of e) block ≡ None)
     → IfErr result (λ fault. is_path_fault fault ≡ false → WorkCause (seen_on e t) fault (seen_on f u)) → IfErr result IsReadFault
     → CallStep (seen_on d s) (machine_on d s) false (Call.List view path) (replied Reply.Names result) (seen_on f u) (machine_on f u) (is_cut_answer result)
 names_step d s e t f u view path root block x (Ok names) m shows l same k e' called is damaged why faults =
     let led = subst (λ z. look_up (node_of d) root path ≡ Ok z) called e' in
-    list_done d s f u view path root block is.0 names m (looked_on d s e t f u l k) shows led (ap (λ (g : Blocks). entries_of (g block)) (sym same) ∙ is.1) is.2
+    list_done d s f u view path root block is.0 names m (looked_on d s e t f u l k) shows led (ap (λ (g : Blocks). entries_in g block) (sym same) ∙ is.1) is.2
 names_step d s e t f u view path root block x (Err fault) m shows l same k e' called is damaged why faults =
     refused_step d s f u (Call.List view path) fault m (looked_worked d s f u (looked_on d s e t f u l k))
     (read_refused d s (Call.List view path) root path refuse_list (list_looks d s view path root m shows) e t f u block x fault l same e' called (damaged_says fault damaged) why faults)

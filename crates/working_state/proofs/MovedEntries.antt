@@ -23,7 +23,7 @@ use Rattle.node_store.specs.Faults.{IsReadFault}
 use Rattle.node_store.specs.NodePages.{node_of}
 use Rattle.block_trees.specs.Bodies.{Blocks, body}
 use Rattle.block_trees.specs.Laws.{IsShallow}
-use Rattle.block_trees.specs.Trees.{entries_of, leads, tree, root_tree, is_dir_place, IsRoot}
+use Rattle.block_trees.specs.Trees.{entries_in, leads, tree, root_tree, is_dir_place, IsRoot}
 use Rattle.block_trees.proofs.RootMaps.{map_law, full_directory}
 use Rattle.block_trees.proofs.TooDeep.{depth_law}
 use Rattle.directory.specs.declared.lookups.Found.{Found}
@@ -197,11 +197,11 @@ module _ (d : Device) (s : State) (root : ℕ) (path : Path) (m : IsMounted d s)
   ]
 
   pub target_read : (e : Device) (t : State) (f : Device) (u : State) (block : ℕ) (x : Found) (moves : Bool) (fault : Fault) → IsLooked d s e t → node_of e ≡ node_of d → look_up (node_of d) root path ≡ Ok x → x ≡ found.Dir block
-      → (fault ≡ Damaged → entries_of (node_of e block) ≡ None) → (is_path_fault fault ≡ false → WorkCause (seen_on e t) fault (seen_on f u)) → IsReadFault fault → TargetRefused d s f u path moves fault
+      → (fault ≡ Damaged → entries_in (node_of e) block ≡ None) → (is_path_fault fault ≡ false → WorkCause (seen_on e t) fault (seen_on f u)) → IsReadFault fault → TargetRefused d s f u path moves fault
   target_read e t f u block x moves fault l nodes led called damaged why reads =
       let dir : look_up (node_of d) root path ≡ Ok (found.Dir block) = subst (λ z. look_up (node_of d) root path ≡ Ok z) called led in
       let whole = (rooted path (Dir block) (found_leads (node_of d) root path block dir)).0 in
-      let other = not_path fault reads (λ is. None≢Some (sym (damaged is) ∙ ap (λ (g : Blocks). entries_of (g block)) nodes ∙ whole.1)) in
+      let other = not_path fault reads (λ is. None≢Some (sym (damaged is) ∙ ap (λ (g : Blocks). entries_in g block) nodes ∙ whole.1)) in
       inr (read_later (seen_on d s) (seen_on e t) (seen_on f u) fault (worked_later d s e t (looked_worked d s e t l)) (read_cause (seen_on e t) (seen_on f u) fault other (read_lookup fault reads) (why other)))
 
   pub target_missing : (x : Found) (full : Bool) → look_up (node_of d) root path ≡ Ok x → x ≡ found.Missing full → (entry : Entry) → target_refusal (present_tree (machine_on d s)) path entry ≡ None
@@ -216,11 +216,11 @@ module _ (d : Device) (s : State) (root : ℕ) (path : Path) (m : IsMounted d s)
   pub target_directory : (x : Found) (block : ℕ) → look_up (node_of d) root path ≡ Ok x → x ≡ found.Dir block → (entry : Entry) → is_dir entry ≡ false → target_refusal (present_tree (machine_on d s)) path entry ≡ Some IsDirectory
   target_directory x block led called entry kind = target_by x (found.Dir block) led called entry ∙ dir_refuses (tree_on d root) path entry kind
 
-  pub target_counted : (e : Device) (x : Found) (block : ℕ) (items : List Item) → node_of e ≡ node_of d → look_up (node_of d) root path ≡ Ok x → x ≡ found.Dir block → entries_of (node_of e block) ≡ Some items → (entry : Entry) → is_dir entry ≡ true
+  pub target_counted : (e : Device) (x : Found) (block : ℕ) (items : List Item) → node_of e ≡ node_of d → look_up (node_of d) root path ≡ Ok x → x ≡ found.Dir block → entries_in (node_of e) block ≡ Some items → (entry : Entry) → is_dir entry ≡ true
       → target_refusal (present_tree (machine_on d s)) path entry ≡ (if nat_lt 0 (length items) then Some NotEmpty else None)
   target_counted e x block items nodes led called spelled entry kind =
       let dir : look_up (node_of d) root path ≡ Ok (found.Dir block) = subst (λ z. look_up (node_of d) root path ≡ Ok z) called led in
-      let here : entries_of (node_of d block) ≡ Some items = ap (λ (g : Blocks). entries_of (g block)) (sym nodes) ∙ spelled in
+      let here : entries_in (node_of d) block ≡ Some items = ap (λ (g : Blocks). entries_in g block) (sym nodes) ∙ spelled in
       target_by x (found.Dir block) led called entry
       ∙ dir_counted (tree_on d root) path entry kind
       ∙ ap (λ n. if nat_lt 0 n then Some NotEmpty else None) (rmdir_count d s path root block items m is dir here)

@@ -10,7 +10,7 @@ use Rattle.plain_trees.specs.Contents.{Contents, Entry, parent_of, lookup_refusa
 use Rattle.plain_trees.specs.Trees.{Tree, is_full, bytes_of}
 use Rattle.history_machine.specs.Descriptors.{Descriptors, least_free, opened, creates, is_exclusive, truncates, are_lawful}
 use Rattle.history_machine.specs.History.{Past, present_root, changed}
-use Rattle.history_machine.specs.Machine.{Machine, IsMachine, Space, present_tree, full_table_refusal, open_refusal, open_changes, file_put, refusal, tree_after, answer_of, machine_of}
+use Rattle.history_machine.specs.Machine.{Machine, IsMachine, Space, present_tree, full_table_refusal, open_refusal, open_changes, file_put, refusal, tree_after, answer_of, machine_of, machine_with}
 use Rattle.fs_types.specs.declared.calls.Call.{Call}
 use Rattle.fs_types.specs.declared.calls.Reply.{Reply}
 use Rattle.fs_types.specs.declared.faults.Fault.{Fault}
@@ -205,10 +205,10 @@ files_after m path flags descriptor free = ap (λ o. option_map_or (λ n. opened
 -- what an open leaves, by the tree that it makes
 next_is : (m : Machine) (path : Path) (flags : OpenFlags) (descriptor : ℕ) (made : Option Tree) → refusal m (Call.Open path flags) ≡ None → tree_after m (Call.Open path flags) ≡ made → least_free m.descriptors ≡ Some descriptor
     → machine_of m (Call.Open path flags) (refusal m (Call.Open path flags))
-    ≡ record { history = option_map_or (changed m.history) made m.history; descriptors = opened m.descriptors descriptor (record { path = path; flags = flags }) }
+    ≡ machine_with (option_map_or (changed m.history) made m.history) (opened m.descriptors descriptor (record { path = path; flags = flags }))
 next_is m path flags descriptor made fine makes free =
     ap (machine_of m (Call.Open path flags)) fine
-    ∙ (λ i. record { history = option_map_or (changed m.history) (makes i) m.history; descriptors = files_after m path flags descriptor free i })
+    ∙ (λ i. machine_with (option_map_or (changed m.history) (makes i) m.history) (files_after m path flags descriptor free i))
 
 pub made_by : (m : Machine) (path : Path) (flags : OpenFlags) (b : Bool) → open_changes (present_tree m) path flags ≡ b → tree_after m (Call.Open path flags) ≡ cond b (Some (file_put (present_tree m) path [])) None
 made_by m path flags b is = ap (λ c. cond c (Some (file_put (present_tree m) path [])) None) is
@@ -244,7 +244,7 @@ opened_answer d s e t path flags descriptor files m l lawful fine same free is =
     leaves =
         let history = ap (λ (x : Machine). x.history) (worked_machine d s e t m w) in
         let descriptors = is ∙ ap (λ (fs : Descriptors). opened fs descriptor (record { path = path; flags = flags })) l.rest.files in
-        (λ i. record { history = history i; descriptors = descriptors i }) ∙ sym (next_is n path flags descriptor None fine none free)
+        (λ i. machine_with (history i) (descriptors i)) ∙ sym (next_is n path flags descriptor None fine none free)
 
     step : CallStep (seen_on d s) n false call (Ok (Reply.Fd descriptor)) (seen_on e t) (machine_on e (record t { files = files })) false
     step = record {

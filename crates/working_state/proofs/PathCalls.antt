@@ -21,7 +21,7 @@ use Rattle.node_format.specs.declared.places.Place.TheVariants.{Dir}
 use Rattle.node_store.specs.Faults.{IsReadFault}
 use Rattle.node_store.specs.NodePages.{node_of}
 use Rattle.block_trees.specs.Bodies.{Blocks}
-use Rattle.block_trees.specs.Trees.{entries_of, tree, root_tree, IsRoot}
+use Rattle.block_trees.specs.Trees.{entries_in, tree, root_tree, IsRoot}
 use Rattle.block_trees.proofs.RootMaps.{map_law}
 use Rattle.directory.specs.declared.lookups.Found.{Found}
 use Rattle.directory.specs.declared.lookups.Found.TheVariants as found
@@ -111,7 +111,7 @@ module _ (d : Device) (s : State) (call : Call) (root : ℕ) (path : Path) (refu
   ]
 
   -- a directory that was found is one
-  is_directory : (block : ℕ) → look_up (node_of d) root path ≡ Ok (found.Dir block) → entries_of (node_of d block) ≡ None → ⊥
+  is_directory : (block : ℕ) → look_up (node_of d) root path ≡ Ok (found.Dir block) → entries_in (node_of d) block ≡ None → ⊥
   is_directory block led none =
       let whole = (looks.rooted path (Dir block) (found_leads (node_of d) root path block led)).0 in
       None≢Some (sym none ∙ whole.1)
@@ -119,7 +119,7 @@ module _ (d : Device) (s : State) (call : Call) (root : ℕ) (path : Path) (refu
   -- a read of the directory that was found
   pub read_refused : (e : Device) (t : State) (f : Device) (u : State) (block : ℕ) (x : Found) (fault : Fault) → IsLooked d s e t → node_of e ≡ node_of d
       → look_up (node_of d) root path ≡ Ok x → x ≡ found.Dir block
-      → (fault ≡ Damaged → entries_of (node_of e block) ≡ None) → (is_path_fault fault ≡ false → WorkCause (seen_on e t) fault (seen_on f u)) → IsReadFault fault
+      → (fault ≡ Damaged → entries_in (node_of e) block ≡ None) → (is_path_fault fault ≡ false → WorkCause (seen_on e t) fault (seen_on f u)) → IsReadFault fault
       → Refuses (seen_on d s) (machine_on d s) call fault (seen_on f u)
   read_refused e t f u block x fault l same called is damaged why reads =
       look_refused f u fault (tells fault damaged reads)
@@ -133,8 +133,8 @@ module _ (d : Device) (s : State) (call : Call) (root : ℕ) (path : Path) (refu
       is_lookup NotDirectory reads = refl
       is_lookup _ reads = reads
 
-      tells : (fault : Fault) → (fault ≡ Damaged → entries_of (node_of e block) ≡ None) → IsReadFault fault → is_path_fault fault ≡ true → look_up (node_of d) root path ≡ Err fault
-      tells Damaged damaged reads path_fault = absurd (is_directory block led (ap (λ (g : Blocks). entries_of (g block)) (sym same) ∙ damaged refl))
+      tells : (fault : Fault) → (fault ≡ Damaged → entries_in (node_of e) block ≡ None) → IsReadFault fault → is_path_fault fault ≡ true → look_up (node_of d) root path ≡ Err fault
+      tells Damaged damaged reads path_fault = absurd (is_directory block led (ap (λ (g : Blocks). entries_in g block) (sym same) ∙ damaged refl))
       tells NoEntry damaged reads path_fault = absurd (true≢false (sym reads))
       tells NotDirectory damaged reads path_fault = absurd (true≢false (sym reads))
       tells _ damaged reads path_fault = absurd (true≢false (sym path_fault))

@@ -7,7 +7,7 @@ use Rattle.fs_types.specs.Names.{Path, same_path, is_path}
 use Rattle.plain_trees.specs.Contents.{Entry, Apart, is_dir}
 use Rattle.plain_trees.specs.Trees.{Tree, move}
 use Rattle.history_machine.specs.History.{changed}
-use Rattle.history_machine.specs.Machine.{Machine, present_tree, refusal, rename_refusal, change_need, tree_after}
+use Rattle.history_machine.specs.Machine.{Machine, present_tree, refusal, rename_refusal, change_need, tree_after, machine_with}
 use Rattle.fs_types.specs.declared.calls.Call.{Call}
 use Rattle.fs_types.specs.declared.calls.Reply.{Reply}
 use Rattle.fs_types.specs.declared.faults.Fault.{Fault}
@@ -62,7 +62,7 @@ no_version m old new same = ap (λ b. if b then None else Some (move (present_tr
 
 same_reads : (m : Machine) (old new : Path) → same_path old new ≡ true → OnlyReads m (Call.Rename old new)
 same_reads m old new same = record {
-  stays = λ i. record { history = option_map_or (changed m.history) (no_version m old new same i) m.history; descriptors = m.descriptors };
+  stays = λ i. machine_with (option_map_or (changed m.history) (no_version m old new same i) m.history) m.descriptors;
   no_version = no_version m old new same;
   no_record = refl;
 }

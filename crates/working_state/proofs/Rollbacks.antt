@@ -19,6 +19,7 @@ use Rattle.working_state.specs.declared.state.State.{State}
 use Rattle.working_state.proofs.Roots.{all_changed, kept_changed}
 use Rattle.working_state.proofs.Standing.{AllStand, all_stand}
 use Rattle.working_state.proofs.Steps.{with_history, mounted_by, done, refused_change, rollback-accepted, rollback-makes, rollback-leaves}
+use Rattle.history_machine.specs.Machine.{machine_with}
 
 module _ (d : Device) (s : State) (f : Device) (st : Storage) (h : Past ℕ) (name : Name) (root : ℕ) where
   abbrev call : Call
@@ -27,7 +28,7 @@ module _ (d : Device) (s : State) (f : Device) (st : Storage) (h : Past ℕ) (na
   -- a root with the tree of the checkpoint's
   same_machine : (to : ℕ) → tree_on d to ≡ tree_on d root → machine_on d (with_history s (changed s.history root)) ≡ machine_on d (with_history s (changed s.history to))
   same_machine to same =
-      ap (λ (x : Past Tree). record { history = x; descriptors = s.files })
+      ap (λ (x : Past Tree). machine_with x s.files)
       (sym (changed-map (tree_on d) s.history root) ∙ ap (changed (map_roots (tree_on d) s.history)) (sym same) ∙ changed-map (tree_on d) s.history to)
 
   rolled_step : (result : Result (Unit {0}) Fault) → s.is_off ≡ false → any_open s.files ≡ false → checkpoint_root s.history name ≡ Some root → f ≡ d → st ≡ s.storage → ChangeEnds d s.history s.storage (Restore root) result f h st

@@ -6,7 +6,7 @@ use Rattle.std.specs.Prelude.{All, map, vec_capacity}
 use Rattle.std.specs.FinSet as set
 use Rattle.history_machine.specs.History.{Past, map_roots}
 use Rattle.history_machine.specs.HistoryMaps.{same-map_roots}
-use Rattle.history_machine.specs.Machine.{Machine, IsMachine, makes_version, need}
+use Rattle.history_machine.specs.Machine.{Machine, IsMachine, makes_version, need, machine_with}
 use Rattle.fs_types.specs.Names.{Name}
 use Rattle.fs_types.specs.declared.calls.Call.{Call}
 use Rattle.fs_types.specs.declared.calls.Version.{Version}
@@ -161,7 +161,7 @@ worked_trees d s e t m w = same_trees (storage_on d s) (storage_on e t) s.histor
 pub worked_machine : (d : Device) (s : State) (e : Device) (t : State) → IsMounted d s → IsWorked d s e t → machine_on e t ≡ machine_on d s
 worked_machine d s e t m w =
     let history = ap (λ (h : Past ℕ). map_roots (tree_on e) h) w.rest.history ∙ worked_trees d s e t m w in
-    (λ i. record { history = history i; descriptors = w.rest.files i })
+    (λ i. machine_with (history i) (w.rest.files i))
 
 -- a mounted system, with any history of roots that stand
 pub mounted_with : (d : Device) (s : State) (e : Device) (t : State) (h : Past ℕ) → IsMounted d s → IsWorked d s e t → AllStand e t.storage.ring h → IsMachine (machine_on e (record t { history = h }))

@@ -17,7 +17,7 @@ use Rattle.node_format.specs.Items.{Item}
 use Rattle.node_format.specs.declared.places.Place.TheVariants.{File}
 use Rattle.node_store.specs.NodePages.{node_of}
 use Rattle.block_trees.specs.Bodies.{Blocks, data_to, head_index, body, IsBody}
-use Rattle.block_trees.specs.Trees.{entries_of, is_dir_place}
+use Rattle.block_trees.specs.Trees.{entries_in, is_dir_place}
 use Rattle.block_trees.proofs.RootMaps.{map_law}
 use Rattle.directory.specs.declared.lookups.Found.{Found}
 use Rattle.directory.specs.declared.lookups.Found.TheVariants as found
@@ -70,16 +70,16 @@ stat_file d s e t view path root head size x m l shows led is =
 
 -- a directory, of which the number of entries was read
 pub stat_directory : (d : Device) (s : State) (e : Device) (t : State) (f : Device) (u : State) (view : View) (path : Path) (root block count : ℕ) (items : List Item) (x : Found) → IsMounted d s → IsLooked d s e t → node_of e ≡ node_of d
-    → IsLooked e t f u → Shows s.history view root → look_up (node_of d) root path ≡ Ok x → x ≡ found.Dir block → entries_of (node_of e block) ≡ Some items → count ≡ length items
+    → IsLooked e t f u → Shows s.history view root → look_up (node_of d) root path ≡ Ok x → x ≡ found.Dir block → entries_in (node_of e) block ≡ Some items → count ≡ length items
     → CallStep (seen_on d s) (machine_on d s) false (Call.Stat view path) (Ok (Reply.Stat (Stat.Dir count))) (seen_on f u) (machine_on f u) false
 stat_directory d s e t f u view path root block count items x m l same k shows led is spelled counts =
     let looks = stat_looks d s view path root m shows in
     let dir : look_up (node_of d) root path ≡ Ok (found.Dir block) = subst (λ z. look_up (node_of d) root path ≡ Ok z) is led in
     let law = map_law (capacity_of d) (node_of d) root looks.rooted in
-    let here : entries_of (node_of d block) ≡ Some items = ap (λ (g : Blocks). entries_of (g block)) (sym same) ∙ spelled in
+    let here : entries_in (node_of d) block ≡ Some items = ap (λ (g : Blocks). entries_in g block) (sym same) ∙ spelled in
     read_done d s f u (Call.Stat view path) (Reply.Stat (Stat.Dir count)) m (looked_on d s e t f u l k) (stat_reads d s view path)
     (found_by d s (Call.Stat view path) root path refuse_nothing looks x (found.Dir block) led is)
     (stat_found d s view path root (found.Dir block) (seen_on f u).space m shows dir
     ∙ ap (λ names. Reply.Stat (Stat.Dir (length names))) (law.lists path block (found_leads (node_of d) root path block dir))
     ∙ ap (λ n. Reply.Stat (Stat.Dir n))
-    (length-map (unwrap_or (entries_of (node_of d block)) []) (λ (item : Item). (item.name, is_dir_place item.place)) ∙ ap (λ (o : Option (List Item)). length (unwrap_or o [])) here ∙ sym counts))
+    (length-map (unwrap_or (entries_in (node_of d) block) []) (λ (item : Item). (item.name, is_dir_place item.place)) ∙ ap (λ (o : Option (List Item)). length (unwrap_or o [])) here ∙ sym counts))

@@ -8,7 +8,7 @@ use Rattle.plain_trees.specs.Trees.{Tree}
 use Rattle.history_machine.specs.History.{Past, map_roots, changed, checkpoint_root, first_serial, place_of, undo_refusal, redo_refusal, serial_refusal, forget_refusal, name_refusal, checkpoint_refusal, with_checkpoint}
 use Rattle.history_machine.specs.HistoryMaps.{checkpoint_root-map, changed-map, checkpoint_refusal-map, with_checkpoint-map}
 use Rattle.history_machine.specs.Descriptors.{any_open}
-use Rattle.history_machine.specs.Machine.{Machine, IsMachine, has_paths, travel_refusal, log_of, refusal, answer_of, machine_of, reply_of, is_accepted, makes_version, tree_after}
+use Rattle.history_machine.specs.Machine.{Machine, IsMachine, has_paths, travel_refusal, log_of, refusal, answer_of, machine_of, reply_of, is_accepted, makes_version, tree_after, machine_with}
 use Rattle.history_machine.proofs.Kept.{machine_law}
 use Rattle.fs_types.specs.declared.calls.Call.{Call}
 use Rattle.fs_types.specs.declared.calls.Reply.{Reply}
@@ -20,7 +20,8 @@ use Rattle.node_store.specs.declared.storage.Storage.{Storage}
 use Rattle.history.specs.Answers.{answer}
 use Rattle.working_state.specs.Changes.{IsReadOnly, IsOverflow}
 use Rattle.working_state.specs.Leaves.{Leaves}
-use Rattle.working_state.specs.Seen.{Seen, seen_on, machine_on, tree_on, is_read_only}
+use Rattle.working_state.specs.Seen.{Seen, seen_on, machine_on, tree_on}
+use Rattle.read_only.specs.Modes.{is_read_only}
 use Rattle.working_state.specs.Steps.{last_serial, replied, empty, is_cut, is_writing, is_for_record, MayRefuse, Answers, IsLater, CallStep}
 use Rattle.working_state.specs.Mounted.{IsMounted, StateStep}
 use Rattle.working_state.specs.declared.state.State.{State}
@@ -150,7 +151,7 @@ module _ (d : Device) (s : State) (name : Name) (root : ℕ) (none : any_open s.
   pub rollback-leaves : machine_of (machine_on d s) (Call.Rollback name) None ≡ machine_on d (with_history s (changed s.history root))
   rollback-leaves =
       let h = map_roots (tree_on d) s.history in
-      ap (λ (x : Past Tree). record { history = x; descriptors = s.files }) (ap (λ o. option_map_or (changed h) o h) seen_there ∙ changed-map (tree_on d) s.history root)
+      ap (λ (x : Past Tree). machine_with x s.files) (ap (λ o. option_map_or (changed h) o h) seen_there ∙ changed-map (tree_on d) s.history root)
 
 -- A checkpoint.
 
@@ -170,7 +171,7 @@ pub checkpointed : (d : Device) (s : State) (name : Name) (result : Result (Unit
     → StateStep d s (Call.Checkpoint name) (replied empty result) d (with_history s p)
 checkpointed d s name (Ok x) p on writable free ok why err =
     subst (λ q. StateStep d s (Call.Checkpoint name) (Ok Reply.Empty) d (with_history s q)) (sym ok)
-    (done d s (Call.Checkpoint name) (with_checkpoint s.history name) Reply.Empty on (checkpoint_refusal-map (tree_on d) s.history name ∙ free) refl (ap (λ (h : Past Tree). record { history = h; descriptors = s.files }) (with_checkpoint-map (tree_on d) s.history name)) (λ _. writable) (λ e. absurd (never _ e)))
+    (done d s (Call.Checkpoint name) (with_checkpoint s.history name) Reply.Empty on (checkpoint_refusal-map (tree_on d) s.history name ∙ free) refl (ap (λ (h : Past Tree). machine_with h s.files) (with_checkpoint-map (tree_on d) s.history name)) (λ _. writable) (λ e. absurd (never _ e)))
 checkpointed d s name (Err fault) p on writable free ok why err =
     let want : fault ≡ Fault.NoMemory = why ∙ ap (λ o. unwrap_or o Fault.NoMemory) free in
     subst (λ q. StateStep d s (Call.Checkpoint name) (Err fault) d (with_history s q)) (sym err)

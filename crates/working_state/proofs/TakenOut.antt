@@ -15,7 +15,7 @@ use Rattle.flash_model.specs.Device.{Device}
 use Rattle.node_format.specs.Items.{Item}
 use Rattle.node_store.specs.NodePages.{node_of}
 use Rattle.block_trees.specs.Bodies.{Blocks}
-use Rattle.block_trees.specs.Trees.{entries_of, is_dir_place}
+use Rattle.block_trees.specs.Trees.{entries_in, is_dir_place}
 use Rattle.block_trees.proofs.RootMaps.{map_law}
 use Rattle.directory.specs.declared.lookups.Found.{Found}
 use Rattle.directory.specs.declared.lookups.Found.TheVariants as found
@@ -41,26 +41,26 @@ rmdir_looks d s path root m is below = record {
 }
 
 -- the number of entries that was read
-pub rmdir_count : (d : Device) (s : State) (path : Path) (root block : ℕ) (items : List Item) → IsMounted d s → present_root s.history ≡ Some root → look_up (node_of d) root path ≡ Ok (found.Dir block) → entries_of (node_of d block) ≡ Some items
+pub rmdir_count : (d : Device) (s : State) (path : Path) (root block : ℕ) (items : List Item) → IsMounted d s → present_root s.history ≡ Some root → look_up (node_of d) root path ≡ Ok (found.Dir block) → entries_in (node_of d) block ≡ Some items
     → entry_count (tree_on d root) path ≡ length items
 rmdir_count d s path root block items m is led spelled =
     ap length ((map_law (capacity_of d) (node_of d) root (present_stands d s root m is).rooted).lists path block (found_leads (node_of d) root path block led))
-    ∙ length-map (unwrap_or (entries_of (node_of d block)) []) (λ (item : Item). (item.name, is_dir_place item.place))
+    ∙ length-map (unwrap_or (entries_in (node_of d) block) []) (λ (item : Item). (item.name, is_dir_place item.place))
     ∙ ap (λ (o : Option (List Item)). length (unwrap_or o [])) spelled
 
 -- what is refused for a directory of so many entries
 pub rmdir_counted : (d : Device) (s : State) (e : Device) (path : Path) (root block : ℕ) (items : List Item) (x : Found) → IsMounted d s → present_root s.history ≡ Some root → (length path == 0) ≡ false → node_of e ≡ node_of d
-    → look_up (node_of d) root path ≡ Ok x → x ≡ found.Dir block → entries_of (node_of e block) ≡ Some items
+    → look_up (node_of d) root path ≡ Ok x → x ≡ found.Dir block → entries_in (node_of e) block ≡ Some items
     → refusal (machine_on d s) (Call.Rmdir path) ≡ (if nat_lt 0 (length items) then Some NotEmpty else None)
 rmdir_counted d s e path root block items x m is below same led called spelled =
     let dir : look_up (node_of d) root path ≡ Ok (found.Dir block) = subst (λ z. look_up (node_of d) root path ≡ Ok z) called led in
-    let here : entries_of (node_of d block) ≡ Some items = ap (λ (g : Blocks). entries_of (g block)) (sym same) ∙ spelled in
+    let here : entries_in (node_of d) block ≡ Some items = ap (λ (g : Blocks). entries_in g block) (sym same) ∙ spelled in
     found_by d s (Call.Rmdir path) root path (rmdir_refusal (tree_on d root) path) (rmdir_looks d s path root m is below) x (found.Dir block) led called
     ∙ ap (λ n. if nat_lt 0 n then Some NotEmpty else None) (rmdir_count d s path root block items m is dir here)
 
 -- a directory with entries
 pub rmdir_refuses : (d : Device) (s : State) (e : Device) (f : Device) (u : State) (path : Path) (root block count : ℕ) (items : List Item) (x : Found) → IsMounted d s → present_root s.history ≡ Some root → (length path == 0) ≡ false → node_of e ≡ node_of d
-    → look_up (node_of d) root path ≡ Ok x → x ≡ found.Dir block → entries_of (node_of e block) ≡ Some items → count ≡ length items → 0 < count
+    → look_up (node_of d) root path ≡ Ok x → x ≡ found.Dir block → entries_in (node_of e) block ≡ Some items → count ≡ length items → 0 < count
     → Refuses (seen_on d s) (machine_on d s) (Call.Rmdir path) NotEmpty (seen_on f u)
 rmdir_refuses d s e f u path root block count items x m is below same led called spelled counts some =
     inl (rmdir_counted d s e path root block items x m is below same led called spelled
@@ -72,16 +72,16 @@ none_counted count [] counts few = refl
 none_counted count (item ∷ items) counts few = absurd (omega arith)
 
 -- the directory that a path led to has no entries
-pub emptied : (f g h : Blocks) (path : Path) (root block count : ℕ) (items : List Item) (x : Found) → g ≡ f → h ≡ g → look_up f root path ≡ Ok x → x ≡ found.Dir block → entries_of (g block) ≡ Some items → count ≡ length items → count ≤ 0
-    → (b : ℕ) × (look_up h root path ≡ Ok (found.Dir b)) × (entries_of (h b) ≡ Some [])
+pub emptied : (f g h : Blocks) (path : Path) (root block count : ℕ) (items : List Item) (x : Found) → g ≡ f → h ≡ g → look_up f root path ≡ Ok x → x ≡ found.Dir block → entries_in g block ≡ Some items → count ≡ length items → count ≤ 0
+    → (b : ℕ) × (look_up h root path ≡ Ok (found.Dir b)) × (entries_in h b ≡ Some [])
 emptied f g h path root block count items x same again led called spelled counts few = (
   block,
   subst (λ k. look_up k root path ≡ Ok (found.Dir block)) (sym (again ∙ same)) (subst (λ z. look_up f root path ≡ Ok z) called led),
-  ap (λ (k : Blocks). entries_of (k block)) again ∙ spelled ∙ ap Some (none_counted count items counts few),
+  ap (λ (k : Blocks). entries_in k block) again ∙ spelled ∙ ap Some (none_counted count items counts few),
 )
 
 pub rmdir_accepts : (d : Device) (s : State) (e : Device) (path : Path) (root block count : ℕ) (items : List Item) (x : Found) → IsMounted d s → present_root s.history ≡ Some root → (length path == 0) ≡ false → node_of e ≡ node_of d
-    → look_up (node_of d) root path ≡ Ok x → x ≡ found.Dir block → entries_of (node_of e block) ≡ Some items → count ≡ length items → count ≤ 0
+    → look_up (node_of d) root path ≡ Ok x → x ≡ found.Dir block → entries_in (node_of e) block ≡ Some items → count ≡ length items → count ≤ 0
     → refusal (machine_on d s) (Call.Rmdir path) ≡ None
 rmdir_accepts d s e path root block count items x m is below same led called spelled counts few =
     rmdir_counted d s e path root block items x m is below same led called spelled

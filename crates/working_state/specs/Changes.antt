@@ -15,7 +15,8 @@ use Rattle.tree_edits.specs.declared.edits.Edit.{Edit}
 use Rattle.tree_edits.specs.Edits.{IsEditable, effect, need}
 use Rattle.working_state.specs.Leaves.{HasWritten}
 use Rattle.working_state.specs.Mounted.{IsStanding}
-use Rattle.working_state.specs.Seen.{capacity_of, tree_on, seen_of, is_read_only}
+use Rattle.working_state.specs.Seen.{capacity_of, tree_on, seen_of}
+use Rattle.read_only.specs.Modes.{is_read_only}
 use Rattle.working_state.specs.Steps.{last_serial}
 use Rattle.working_state.specs.Worked.{WorkCause}
 

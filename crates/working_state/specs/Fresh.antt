@@ -4,7 +4,7 @@ use Rattle.std.specs.FinSet as set
 use Rattle.history_machine.specs.History.{fresh}
 use Rattle.plain_trees.specs.Trees.{bare}
 use Rattle.history_machine.specs.Machine.{mounted}
-use Rattle.fs_types.specs.declared.limits.TheConstants.{MAX_BAD_BLOCKS}
+use Rattle.fs_types.specs.declared.limits.TheConstants.{MAX_BAD_BLOCKS, MIN_VERSIONS, MAX_VERSIONS}
 use Rattle.fs_types.specs.declared.faults.Fault.{Fault}
 use Rattle.fs_types.specs.declared.faults.Fault.TheVariants.{BadGeometry, Invalid, FlashFull, ReadOnly, PowerCut, NoMemory}
 use Rattle.flash_model.specs.Device.{Device}
@@ -36,7 +36,7 @@ pub record IsFresh (given : Device) (limit : ℕ) (now : Moment) : Type 0 where
 -- for data, or in as many as the bad list has; the device is off; memory was wanted
 abbrev pub FreshCause : Device → ℕ → Fault → Device → Type 0
 FreshCause given limit BadGeometry left = IsGeometry given.geometry → ⊥
-FreshCause given limit Invalid left = (limit < 2) ⊎ (64 < limit)
+FreshCause given limit Invalid left = (limit < MIN_VERSIONS) ⊎ (MAX_VERSIONS < limit)
 FreshCause given limit FlashFull left = given.failures + (given.geometry.blocks - first_data) ≤ left.failures
 FreshCause given limit ReadOnly left = left.failures ≡ given.failures + MAX_BAD_BLOCKS
 FreshCause given limit PowerCut left = left.powered ≡ false

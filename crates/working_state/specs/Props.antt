@@ -13,7 +13,7 @@ use Rattle.node_format.specs.Items.{Item}
 use Rattle.node_format.specs.declared.places.Place.{Place}
 use Rattle.node_format.specs.declared.places.Place.TheVariants.{Dir, File}
 use Rattle.block_trees.specs.Bodies.{Blocks, pointer_of, head_index, IsChain, IsLinked, IsBody}
-use Rattle.block_trees.specs.Trees.{entries_of, IsWhole}
+use Rattle.block_trees.specs.Trees.{entries_in, IsWhole}
 use Rattle.working_state.specs.Mounted.{IsMounted}
 use Rattle.working_state.specs.Seen.{machine_on}
 use Rattle.working_state.specs.declared.state.State.{State}
@@ -38,7 +38,7 @@ same-items : (a b : List Item) → Some a ≡ Some b → a ≡ b
 same-items a b e = ap (λ o. unwrap_or o a) e
 
 whole-prop : (capacity : ℕ) (f : Blocks) (place : Place) → IsProp (IsWhole capacity f place)
-whole-prop capacity f (Dir block) a b = Σ_prop_path (λ items. entries-set (entries_of (f block)) (Some items)) (same-items a.0 b.0 (sym a.1 ∙ b.1))
+whole-prop capacity f (Dir block) a b = Σ_prop_path (λ items. entries-set (entries_in f block) (Some items)) (same-items a.0 b.0 (sym a.1 ∙ b.1))
 whole-prop capacity f (File head size) a b = body-prop capacity f head size a b
 
 entry-set : IsSet (Option Entry)

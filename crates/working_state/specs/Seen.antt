@@ -5,9 +5,10 @@ use Rattle.std.specs.FinSet as set
 use Rattle.std.specs.Ordering.{nat_cmp}
 use Rattle.history_machine.specs.History.{map_roots}
 use Rattle.plain_trees.specs.Trees.{Tree}
-use Rattle.history_machine.specs.Machine.{Machine, Space}
+use Rattle.history_machine.specs.Machine.{Machine, Space, machine_with}
 use Rattle.flash_model.specs.Device.{Device}
 use Rattle.flash_model.specs.Geometry.{block_bytes}
+use Rattle.read_only.specs.Modes.{bad_anchors, is_read_only}
 use Rattle.allocator.specs.Ring.{data_blocks, free_count}
 use Rattle.node_format.specs.Headers.{body_front}
 use Rattle.node_store.specs.declared.storage.Storage.{Storage}
@@ -25,19 +26,11 @@ tree_on d root = root_tree (capacity_of d) (node_of d) root
 
 -- the machine: the history with the tree of each root in its place, and the open files
 abbrev pub machine_on : Device → State → Machine
-machine_on d state = record { history = map_roots (tree_on d) state.history; descriptors = state.files }
-
--- how many of the anchors, the blocks before the first data block, are bad
-abbrev pub bad_anchors : set.FinSet nat_cmp → ℕ
-bad_anchors bad = count_by (set.contains bad) (range_with_len 0 first_data)
+machine_on d state = machine_with (map_roots (tree_on d) state.history) state.files
 
 -- how many of the data blocks of a flash of so many blocks are bad
 abbrev pub bad_data : ℕ → set.FinSet nat_cmp → ℕ
 bad_data blocks bad = count_by (set.contains bad) (data_blocks blocks)
-
--- read-only mode is on while 256 blocks or seven anchors are bad
-abbrev pub is_read_only : set.FinSet nat_cmp → Bool
-is_read_only bad = nat_le 256 (set.len bad) || nat_le 7 (bad_anchors bad)
 
 -- what is used of a flash: free blocks are those that the ring has as neither used nor bad
 abbrev pub space_of : Device → Storage → Space

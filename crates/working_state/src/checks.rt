@@ -3,15 +3,14 @@ ghost use Rattle.std.specs.Prelude.{◌≡◌, ◌<◌, ◌⊎◌, ◌||◌, tru
 ghost use Rattle.history_machine.specs.Descriptors.{any_open};
 ghost use Rattle.fs_types.specs.declared.faults.Fault.{Fault};
 ghost use Rattle.working_state.specs.Changes.{IsReadOnly, IsOverflow};
-ghost use Rattle.working_state.specs.Seen.{is_read_only, bad_anchors};
+ghost use Rattle.read_only.specs.Modes.{is_read_only};
 ghost use Rattle.working_state.specs.Steps.{last_serial, is_cut_answer};
 
 use crate::state::State;
-use bad_blocks::BadBlocks;
-use fs_types::MAX_BAD_BLOCKS;
 use fs_types::Fault;
 use history::History;
 use node_store::Storage;
+use read_only::is_read_only;
 
 impl State {
     /// Refuses a call where an earlier one answered that the power is off.
@@ -48,20 +47,6 @@ impl State {
         }
         answer
     }
-}
-
-/// Whether at least seven anchors or 256 blocks are bad.
-fn is_read_only(bad: &BadBlocks) -> bool
-    ensures { result ≡ is_read_only bad.now }
-{
-    bad.len() >= MAX_BAD_BLOCKS || bad_anchors(bad) >= 7
-}
-
-/// How many of the anchors, blocks 0 to 7, are bad.
-fn bad_anchors(bad: &BadBlocks) -> usize
-    ensures { result ≡ bad_anchors bad.now }
-{
-    (0..8).filter(|block| bad.contains(*block)).count()
 }
 
 /// Refuses in read-only mode.

@@ -5,6 +5,7 @@ ghost use Rattle.std.specs.Prelude.{◌≡◌, ℕ, ◌<◌, ◌≤◌, ◌+◌,
 ghost use Rattle.std.specs.Option.{option_map_or};
 ghost use Rattle.history_machine.specs.Descriptors.{descriptor_at};
 ghost use Rattle.history_machine.specs.Machine.{pwrite_refusal, ftruncate_refusal};
+ghost use Rattle.fs_types.specs.declared.limits.TheConstants.{MAX_FILE_BYTES};
 ghost use Rattle.fs_types.specs.declared.calls.Call.{Call};
 ghost use Rattle.fs_types.specs.declared.calls.Reply.{Reply};
 ghost use Rattle.fs_types.specs.declared.faults.Fault.TheVariants.{BadDescriptor};
@@ -27,7 +28,7 @@ use crate::state::State;
 use bitflags::Flags;
 use directory::{Found, Trail};
 use flash_model::Flash;
-use fs_types::{Fault, OpenFlags, Path};
+use fs_types::{Fault, MAX_FILE_BYTES, OpenFlags, Path};
 use node_store::Storage;
 use open_files::OpenFiles;
 use skip_list_file::Body;
@@ -35,7 +36,7 @@ use std::alloc::Global;
 use tree_edits::Edit;
 
 /// The most bytes in a file.
-const MOST_BYTES: u64 = 16_777_216;
+const MOST_BYTES: u64 = MAX_FILE_BYTES as u64;
 
 impl State {
     /// Writes bytes at an offset of an open file, and answers how many.
@@ -141,7 +142,7 @@ fn check_write<'a>(
 ) -> Result<&'a Path, Fault>
     ensures path { IfOk result (λ path. IsPathOf files.now descriptor path.now) }
     ensures ok { OnOk result (option_map_or (pwrite_refusal offset bytes.now) (descriptor_at files.now descriptor) (Some BadDescriptor) ≡ None) }
-    ensures fits { OnOk result (0 < length bytes.now → offset + length bytes.now ≤ 16777216) }
+    ensures fits { OnOk result (0 < length bytes.now → offset + length bytes.now ≤ MAX_FILE_BYTES) }
     ensures err { IfErr result (λ fault. option_map_or (pwrite_refusal offset bytes.now) (descriptor_at files.now descriptor) (Some BadDescriptor) ≡ Some fault) }
 {
     let Some(file) = files.get(descriptor) else {
@@ -162,7 +163,7 @@ fn check_write<'a>(
 fn check_resize(files: &OpenFiles, descriptor: u64, size: u64) -> Result<&Path, Fault>
     ensures path { IfOk result (λ path. IsPathOf files.now descriptor path.now) }
     ensures ok { OnOk result (option_map_or (ftruncate_refusal size) (descriptor_at files.now descriptor) (Some BadDescriptor) ≡ None) }
-    ensures fits { OnOk result (size ≤ 16777216) }
+    ensures fits { OnOk result (size ≤ MAX_FILE_BYTES) }
     ensures err { IfErr result (λ fault. option_map_or (ftruncate_refusal size) (descriptor_at files.now descriptor) (Some BadDescriptor) ≡ Some fault) }
 {
     let Some(file) = files.get(descriptor) else {

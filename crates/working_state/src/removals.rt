@@ -7,7 +7,7 @@ ghost use Rattle.history_machine.specs.Machine.{refusal};
 ghost use Rattle.fs_types.specs.Names.{is_path};
 ghost use Rattle.fs_types.specs.declared.calls.Call.{Call};
 ghost use Rattle.node_store.specs.NodePages.{node_of};
-ghost use Rattle.block_trees.specs.Trees.{entries_of};
+ghost use Rattle.block_trees.specs.Trees.{entries_in};
 ghost use Rattle.directory.specs.declared.lookups.Found.TheVariants as found;
 ghost use Rattle.directory.specs.Lookups.{look_up};
 ghost use Rattle.directory.specs.Trails.{IsTrail};
@@ -77,7 +77,7 @@ impl State {
         ensures lawful { OnOk result (is_path path.now ≡ true) }
         ensures below { OnOk result (0 < length path.now) }
         ensures way { IfOk result (IsTrail (node_of (F.device flash.new)) root path.now) }
-        ensures empty { OnOk result ((block : ℕ) × (look_up (node_of (F.device flash.new)) root path.now ≡ Ok (found.Dir block)) × (entries_of (node_of (F.device flash.new) block) ≡ Some [])) }
+        ensures empty { OnOk result ((block : ℕ) × (look_up (node_of (F.device flash.new)) root path.now ≡ Ok (found.Dir block)) × (entries_in (node_of (F.device flash.new)) block ≡ Some [])) }
         ensures accepted { OnOk result (refusal (machine_on (F.device flash.old) self.old) (Call.Rmdir path.now) ≡ None) }
         ensures refused { IfErr result (λ fault. Refuses (seen_on (F.device flash.old) self.old) (machine_on (F.device flash.old) self.old) (Call.Rmdir path.now) fault (seen_on (F.device flash.new) self.new)) }
     {

@@ -6,6 +6,7 @@ ghost use Rattle.plain_trees.specs.Contents.{Entry, is_dir, begins, parent_of};
 ghost use Rattle.history_machine.specs.Descriptors.{is_open, is_open_within};
 ghost use Rattle.history_machine.specs.History.{present_root};
 ghost use Rattle.history_machine.specs.Machine.{refusal, found_refusal, rename_refusal, present_tree};
+ghost use Rattle.fs_types.specs.declared.limits.TheConstants.{MAX_NAMES};
 ghost use Rattle.fs_types.specs.Names.{is_path, same_path};
 ghost use Rattle.fs_types.specs.declared.calls.Call.{Call};
 ghost use Rattle.fs_types.specs.declared.faults.Fault.TheVariants as faults;
@@ -30,7 +31,7 @@ use crate::lookups::find_path;
 use crate::state::State;
 use directory::{Found, Trail, is_deeper};
 use flash_model::Flash;
-use fs_types::{Fault, Path};
+use fs_types::{Fault, MAX_NAMES, Path};
 use node_format::Place;
 use node_store::Store;
 use plain_trees::{is_beginning, parent};
@@ -162,7 +163,7 @@ impl State {
         ensures nodes { node_of (F.device flash.new) ≡ node_of (F.device flash.old) }
         ensures lawful { OnOk result (is_path old.now && is_path new.now ≡ true) }
         ensures way { IfOk result (IsTrail (node_of (F.device flash.old)) root new.now) }
-        ensures shallow { OnOk result (IsShallow (node_of (F.device flash.old)) place (16 - length new.now)) }
+        ensures shallow { OnOk result (IsShallow (node_of (F.device flash.old)) place (MAX_NAMES - length new.now)) }
         ensures capacity { OnOk result (same_path (parent_of old.now) (parent_of new.now) ≡ false → has_room (look_up (node_of (F.device flash.old)) root new.now) ≡ true) }
         ensures accepted { OnOk result ((entry : Entry) → is_dir entry ≡ is_dir_place place → rename_refusal (machine_on (F.device flash.old) self.old) old.now new.now entry ≡ None) }
         ensures refused { IfErr result (λ fault. ((entry : Entry) → is_dir entry ≡ is_dir_place place → rename_refusal (machine_on (F.device flash.old) self.old) old.now new.now entry ≡ Some fault) ⊎ ReadCause (seen_on (F.device flash.old) self.old) fault (seen_on (F.device flash.new) self.new)) }
@@ -233,8 +234,8 @@ impl State {
         requires stands { leads (node_of (F.device flash.old)) (Dir root) old.now ≡ Some place }
         ensures looked { IsLooked (F.device flash.old) self.old (F.device flash.new) self.new }
         ensures nodes { node_of (F.device flash.new) ≡ node_of (F.device flash.old) }
-        ensures shallow { OnOk result (IsShallow (node_of (F.device flash.old)) place (16 - length new.now)) }
-        ensures refused { IfErr result (λ fault. ((fault ≡ faults.NameTooLong) × IsDeeper (node_of (F.device flash.old)) place (16 - length new.now)) ⊎ ReadCause (seen_on (F.device flash.old) self.old) fault (seen_on (F.device flash.new) self.new)) }
+        ensures shallow { OnOk result (IsShallow (node_of (F.device flash.old)) place (MAX_NAMES - length new.now)) }
+        ensures refused { IfErr result (λ fault. ((fault ≡ faults.NameTooLong) × IsDeeper (node_of (F.device flash.old)) place (MAX_NAMES - length new.now)) ⊎ ReadCause (seen_on (F.device flash.old) self.old) fault (seen_on (F.device flash.new) self.new)) }
     {
         let before = old.names().len();
         let after = new.names().len();
@@ -244,7 +245,7 @@ impl State {
         let Place::Dir { block } = place else {
             return Ok(());
         };
-        let most = 16 - after;
+        let most = MAX_NAMES - after;
         if self.is_deeper(alloc, flash, block, most)? {
             return Err(Fault::NameTooLong);
         }
@@ -274,7 +275,7 @@ impl State {
         most: usize,
     ) -> Result<bool, Fault>
         requires mounted { IsMounted (F.device flash.old) self.old }
-        requires most { most ≤ 16 }
+        requires most { most ≤ MAX_NAMES }
         ensures looked { IsLooked (F.device flash.old) self.old (F.device flash.new) self.new }
         ensures nodes { node_of (F.device flash.new) ≡ node_of (F.device flash.old) }
         ensures deeper { IfOk result (λ deep. deep ≡ true → IsDeeper (node_of (F.device flash.old)) (Dir block) most) }

@@ -7,7 +7,7 @@ ghost use Rattle.fs_types.specs.declared.faults.Fault.TheVariants.{Damaged};
 ghost use Rattle.node_format.specs.Items.{Item};
 ghost use Rattle.node_store.specs.Faults.{IsReadFault};
 ghost use Rattle.node_store.specs.NodePages.{node_of};
-ghost use Rattle.block_trees.specs.Trees.{entries_of};
+ghost use Rattle.block_trees.specs.Trees.{entries_in};
 ghost use Rattle.directory.specs.Lookups.{is_path_fault};
 ghost use Rattle.working_state.specs.Mounted.{IsMounted, StateStep};
 ghost use Rattle.working_state.specs.Seen.{seen_on, machine_on};
@@ -59,8 +59,8 @@ impl State {
         requires { IsMounted (F.device flash.old) self.old }
         ensures looked { IsLooked (F.device flash.old) self.old (F.device flash.new) self.new }
         ensures nodes { node_of (F.device flash.new) ≡ node_of (F.device flash.old) }
-        ensures count { IfOk result (λ count. (items : List Item) × (entries_of (node_of (F.device flash.old) block) ≡ Some items) × (count ≡ length items)) }
-        ensures damaged { IsErrOf result Damaged → entries_of (node_of (F.device flash.old) block) ≡ None }
+        ensures count { IfOk result (λ count. (items : List Item) × (entries_in (node_of (F.device flash.old)) block ≡ Some items) × (count ≡ length items)) }
+        ensures damaged { IsErrOf result Damaged → entries_in (node_of (F.device flash.old)) block ≡ None }
         ensures why { IfErr result (λ fault. is_path_fault fault ≡ false → WorkCause (seen_on (F.device flash.old) self.old) fault (seen_on (F.device flash.new) self.new)) }
         ensures faults { IfErr result IsReadFault }
     {

@@ -2,12 +2,13 @@
 ghost use Rattle.std.specs.Prelude.{◌≡◌, ◌<◌, ◌≤◌, ◌↔◌, ◌⊎◌, true, Some, Err, [], IfOk, IfErr, vec_len, vec_capacity};
 ghost use Rattle.std.specs.FinSet as set;
 ghost use Rattle.history_machine.specs.History.{present_root};
+ghost use Rattle.fs_types.specs.declared.limits.TheConstants.{MIN_VERSIONS, MAX_VERSIONS};
 ghost use Rattle.fs_types.specs.declared.faults.Fault.{Fault};
 ghost use Rattle.flash_model.specs.Geometry.{IsGeometry, block_bytes};
 ghost use Rattle.node_store.specs.NodePages.{node_of};
 ghost use Rattle.node_store.specs.Storage as parts;
 ghost use Rattle.node_store.specs.Stores.{IsSound, Follows};
-ghost use Rattle.block_trees.specs.Trees.{entries_of};
+ghost use Rattle.block_trees.specs.Trees.{entries_in};
 ghost use Rattle.working_state.specs.Leaves.{HasWritten};
 ghost use Rattle.working_state.specs.Fresh.{unused_ring, IsFresh, FreshCause, RootCause};
 ghost use Rattle.working_state.specs.Moments.{moment};
@@ -16,7 +17,7 @@ ghost use Rattle.working_state.specs.Seen.{IsLaterFlash};
 use allocator::Ring;
 use bad_blocks::BadBlocks;
 use flash_model::{Flash, Geometry};
-use fs_types::Fault;
+use fs_types::{Fault, MAX_VERSIONS, MIN_VERSIONS};
 use history::History;
 use node_format::empty_directory;
 use node_store::{Nodes, Storage, Store};
@@ -55,12 +56,12 @@ impl State {
         ensures fresh { IfOk result (λ state. IsFresh (F.device flash.old) limit (moment (F.device flash.new) state)) }
         ensures why { IfErr result (λ fault. FreshCause (F.device flash.old) limit fault (F.device flash.new)) }
         ensures sizes { (result ≡ Err Fault.BadGeometry) ↔ ¬ IsGeometry (F.device flash.old).geometry }
-        ensures limits { (result ≡ Err Fault.Invalid) ↔ (IsGeometry (F.device flash.old).geometry × ((limit < 2) ⊎ (64 < limit))) }
+        ensures limits { (result ≡ Err Fault.Invalid) ↔ (IsGeometry (F.device flash.old).geometry × ((limit < MIN_VERSIONS) ⊎ (MAX_VERSIONS < limit))) }
     {
         if !flash.geometry().is_lawful() {
             return Err(Fault::BadGeometry);
         }
-        if limit < 2 || 64 < limit {
+        if limit < MIN_VERSIONS as u32 || MAX_VERSIONS as u32 < limit {
             return Err(Fault::Invalid);
         }
         State::with_empty_root(alloc, flash, limit)
@@ -69,8 +70,8 @@ impl State {
     /// The same, where the sizes and the limit are lawful.
     fn with_empty_root<F: Flash>(alloc: Global, flash: &mut F, limit: u32) -> Result<State, Fault>
         requires lawful { IsGeometry (F.device flash.old).geometry }
-        requires at_least { 2 ≤ limit }
-        requires at_most { limit ≤ 64 }
+        requires at_least { MIN_VERSIONS ≤ limit }
+        requires at_most { limit ≤ MAX_VERSIONS }
         ensures later { IsLaterFlash (F.device flash.old) (F.device flash.new) }
         ensures fresh { IfOk result (λ state. IsFresh (F.device flash.old) limit (moment (F.device flash.new) state)) }
         ensures why { IfErr result (λ fault. FreshCause (F.device flash.old) limit fault (F.device flash.new)) }
@@ -113,7 +114,7 @@ fn write_root<F: Flash>(flash: &mut F, storage: &mut Storage) -> Result<u32, Fau
     requires node_room { block_bytes (F.device flash.old).geometry ≤ vec_capacity storage.old.node }
     ensures written { HasWritten (F.device flash.old) storage.old 1 (F.device flash.new) storage.new }
     ensures kept { IfOk result (λ root. set.contains storage.new.ring.used root ≡ true) }
-    ensures empty { IfOk result (λ root. entries_of (node_of (F.device flash.new) root) ≡ Some []) }
+    ensures empty { IfOk result (λ root. entries_in (node_of (F.device flash.new)) root ≡ Some []) }
     ensures why { IfErr result (λ fault. RootCause (parts.storage (F.device flash.old) storage.old.bad storage.old.ring) fault (parts.storage (F.device flash.new) storage.new.bad storage.new.ring)) }
 {
     let mut store = Store::new(flash, storage);
@@ -126,7 +127,7 @@ fn write_empty<F: Flash>(store: &mut Store<'_, F>) -> Result<u32, Fault>
     ensures follows { Follows F.device store.old store.new }
     ensures written { HasWritten (F.device store.old.flash.now) store.old.storage.now 1 (F.device store.new.flash.now) store.new.storage.now }
     ensures kept { IfOk result (λ root. set.contains store.new.storage.now.ring.used root ≡ true) }
-    ensures empty { IfOk result (λ root. entries_of (node_of (F.device store.new.flash.now) root) ≡ Some []) }
+    ensures empty { IfOk result (λ root. entries_in (node_of (F.device store.new.flash.now)) root ≡ Some []) }
     ensures why { IfErr result (λ fault. RootCause (parts.storage (F.device store.old.flash.now) store.old.storage.now.bad store.old.storage.now.ring) fault (parts.storage (F.device store.new.flash.now) store.new.storage.now.bad store.new.storage.now.ring)) }
 {
     store.write(&empty_directory())

@@ -11,7 +11,7 @@ ghost use Rattle.fs_types.specs.declared.faults.Fault.TheVariants.{Damaged};
 ghost use Rattle.node_format.specs.Items.{Item};
 ghost use Rattle.node_store.specs.Faults.{IsReadFault};
 ghost use Rattle.node_store.specs.NodePages.{node_of};
-ghost use Rattle.block_trees.specs.Trees.{entries_of, names_of};
+ghost use Rattle.block_trees.specs.Trees.{entries_in, names_of};
 ghost use Rattle.directory.specs.declared.lookups.Found.TheVariants.{Missing};
 ghost use Rattle.directory.specs.Lookups.{look_up, is_path_fault};
 ghost use Rattle.directory.specs.Trails.{IsTrail};
@@ -145,8 +145,8 @@ impl State {
     ) -> Result<Sequence<(Name, bool)>, Fault>
         requires { IsMounted (F.device flash.old) self.old }
         ensures looked { IsLooked (F.device flash.old) self.old (F.device flash.new) self.new }
-        ensures names { IfOk result (λ names. (items : List Item) × (entries_of (node_of (F.device flash.old) block) ≡ Some items) × (names ≡ names_of items)) }
-        ensures damaged { IsErrOf result Damaged → entries_of (node_of (F.device flash.old) block) ≡ None }
+        ensures names { IfOk result (λ names. (items : List Item) × (entries_in (node_of (F.device flash.old)) block ≡ Some items) × (names ≡ names_of items)) }
+        ensures damaged { IsErrOf result Damaged → entries_in (node_of (F.device flash.old)) block ≡ None }
         ensures why { IfErr result (λ fault. is_path_fault fault ≡ false → WorkCause (seen_on (F.device flash.old) self.old) fault (seen_on (F.device flash.new) self.new)) }
         ensures faults { IfErr result IsReadFault }
     {

@@ -2,7 +2,6 @@ use Rattle.std.proofs.Common.{◌≡◌, true, Ok, Err, ap, subst, ◌∙◌, in
 use Rattle.std.proofs.lemmas.Bool.{and_from, le-leb}
 use Rattle.std.specs.Prelude.{nat_lt, nat_le}
 use Rattle.node_store.specs.NodePages.{node_of}
-
 use Rattle.directory.specs.Lookups.{look_up}
 use Rattle.directory.proofs.LookupLaws.{found_leads, found_leads_file}
 use Rattle.std.proofs.lemmas.Result.{err_from_is_err_and}

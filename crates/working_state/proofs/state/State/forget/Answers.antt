@@ -12,6 +12,7 @@ use Rattle.working_state.proofs.Roots.{all_forgotten}
 use Rattle.working_state.specs.Steps.{empty}
 use Rattle.working_state.proofs.Steps.{refused_off, mounted_after, answered, done, refused, never, no_cut, forget-no_cut}
 use Rattle.working_state.proofs.state.State.forget.Goals as goal
+use Rattle.history_machine.specs.Machine.{machine_with}
 
 pub returns-in_err-check_power-clause-step : goal.returns-in_err-check_power-clause-step
 returns-in_err-check_power-clause-step c = λ device.
@@ -24,7 +25,7 @@ returns-clause-step c = λ device.
     let count = c.args.count in
     let r = forget_refusal s.history count in
     answered device s (Call.Forget count) r c.forget.result (forgotten s.history count) c.forget.new.self c.forget.ensures.answer c.forget.ensures.ok c.forget.ensures.err
-    (λ ok. done device s (Call.Forget count) (forgotten s.history count) Reply.Empty c.in_ok-check_power.ensures.ok ok refl (ap (λ (h : Past Tree). record { history = h; descriptors = s.files }) (forgotten-map (tree_on device) s.history count)) (λ _. c.in_ok-check_writable.ensures.ok) (λ e. absurd (never _ e)))
+    (λ ok. done device s (Call.Forget count) (forgotten s.history count) Reply.Empty c.in_ok-check_power.ensures.ok ok refl (ap (λ (h : Past Tree). machine_with h s.files) (forgotten-map (tree_on device) s.history count)) (λ _. c.in_ok-check_writable.ensures.ok) (λ e. absurd (never _ e)))
     (λ fault e. refused device s (Call.Forget count) fault c.in_ok-check_power.ensures.ok (no_cut r fault (forget-no_cut s.history count) e) (inl e))
 
 pub returns-clause-mounted : goal.returns-clause-mounted

@@ -10,6 +10,7 @@ use Rattle.working_state.specs.Seen.{tree_on, machine_on}
 use Rattle.working_state.specs.Steps.{empty}
 use Rattle.working_state.proofs.Steps.{refused_off, mounted_after, answered, done, refused_open, refused, may_travel, no_cut, redo-no_cut, never}
 use Rattle.working_state.proofs.state.State.redo.Goals as goal
+use Rattle.history_machine.specs.Machine.{machine_with}
 
 pub returns-in_err-check_power-clause-step : goal.returns-in_err-check_power-clause-step
 returns-in_err-check_power-clause-step c = λ device.
@@ -28,7 +29,7 @@ returns-clause-step c = λ device.
     let r = redo_refusal s.history in
     let same = may_travel (machine_on device s) _ c.in_ok-check_none_open.ensures.ok ∙ redo_refusal-map (tree_on device) s.history in
     answered device s Call.Redo r c.redo.result (redone s.history) c.redo.new.self c.redo.ensures.answer c.redo.ensures.ok c.redo.ensures.err
-    (λ ok. done device s Call.Redo (redone s.history) Reply.Empty c.in_ok-check_power.ensures.ok (same ∙ ok) refl (ap (λ (h : Past Tree). record { history = h; descriptors = s.files }) (redone-map (tree_on device) s.history)) (λ e. absurd (never _ e)) (λ e. absurd (never _ e)))
+    (λ ok. done device s Call.Redo (redone s.history) Reply.Empty c.in_ok-check_power.ensures.ok (same ∙ ok) refl (ap (λ (h : Past Tree). machine_with h s.files) (redone-map (tree_on device) s.history)) (λ e. absurd (never _ e)) (λ e. absurd (never _ e)))
     (λ fault e. refused device s Call.Redo fault c.in_ok-check_power.ensures.ok (no_cut r fault (redo-no_cut s.history) e) (inl (same ∙ e)))
 
 pub returns-clause-mounted : goal.returns-clause-mounted

@@ -10,6 +10,7 @@ use Rattle.working_state.specs.Seen.{tree_on, machine_on}
 use Rattle.working_state.specs.Steps.{empty}
 use Rattle.working_state.proofs.Steps.{refused_off, mounted_after, answered, done, refused_open, refused, may_travel, no_cut, undo-no_cut, never}
 use Rattle.working_state.proofs.state.State.undo.Goals as goal
+use Rattle.history_machine.specs.Machine.{machine_with}
 
 pub returns-in_err-check_power-clause-step : goal.returns-in_err-check_power-clause-step
 returns-in_err-check_power-clause-step c = λ device.
@@ -28,7 +29,7 @@ returns-clause-step c = λ device.
     let r = undo_refusal s.history in
     let same = may_travel (machine_on device s) _ c.in_ok-check_none_open.ensures.ok ∙ undo_refusal-map (tree_on device) s.history in
     answered device s Call.Undo r c.undo.result (undone s.history) c.undo.new.self c.undo.ensures.answer c.undo.ensures.ok c.undo.ensures.err
-    (λ ok. done device s Call.Undo (undone s.history) Reply.Empty c.in_ok-check_power.ensures.ok (same ∙ ok) refl (ap (λ (h : Past Tree). record { history = h; descriptors = s.files }) (undone-map (tree_on device) s.history)) (λ e. absurd (never _ e)) (λ e. absurd (never _ e)))
+    (λ ok. done device s Call.Undo (undone s.history) Reply.Empty c.in_ok-check_power.ensures.ok (same ∙ ok) refl (ap (λ (h : Past Tree). machine_with h s.files) (undone-map (tree_on device) s.history)) (λ e. absurd (never _ e)) (λ e. absurd (never _ e)))
     (λ fault e. refused device s Call.Undo fault c.in_ok-check_power.ensures.ok (no_cut r fault (undo-no_cut s.history) e) (inl (same ∙ e)))
 
 pub returns-clause-mounted : goal.returns-clause-mounted

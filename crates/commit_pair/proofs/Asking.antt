@@ -1,6 +1,6 @@
 -- How many operations come together.
 use Rattle.std.proofs.Common.{◌≡◌, ℕ, ◌+◌, ◌*◌, ◌<◌, ◌≤◌, Bool, true, false, cond, Result, Ok, Err, refl, sym, ap, subst, ◌∙◌, arith}
-use Rattle.std.specs.Prelude.{◌/◌, ◌-◌, ◌%◌, ◌≢◌, IfOk, OnOk}
+use Rattle.std.specs.Prelude.{◌/◌, ◌-◌, ◌≢◌, IfOk, OnOk}
 use Rattle.std.specs.FinSet as set
 use Rattle.std.specs.Ordering.{nat_cmp}
 use Rattle.std.proofs.lemmas.Nat.{div-mul-add}

@@ -61,7 +61,7 @@ impl State {
         if !flash.geometry().is_lawful() {
             return Err(Fault::BadGeometry);
         }
-        if limit < MIN_VERSIONS as u32 || MAX_VERSIONS as u32 < limit {
+        if limit < (MIN_VERSIONS as u32) || (MAX_VERSIONS as u32) < limit {
             return Err(Fault::Invalid);
         }
         State::with_empty_root(alloc, flash, limit)

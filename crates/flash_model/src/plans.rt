@@ -140,22 +140,22 @@ impl Counters {
     {
         match class {
             Operation::Read => Counters {
-                reads: counted(self.reads),
+                reads: count_one(self.reads),
                 ..self
             },
             Operation::Program => Counters {
-                programs: counted(self.programs),
+                programs: count_one(self.programs),
                 ..self
             },
             Operation::Erase => Counters {
-                erases: counted(self.erases),
+                erases: count_one(self.erases),
                 ..self
             },
         }
     }
 }
 
-fn counted(count: u64) -> u64
+fn count_one(count: u64) -> u64
     ensures { result ≡ counted count }
 {
     if count < u64::MAX { count + 1 } else { count }

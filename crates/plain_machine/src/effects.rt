@@ -76,15 +76,10 @@ fn with_file(tree: &Tree, path: &Path, bytes: Vec<u8>) -> Result<Tree, AllocErro
 }
 
 /// Bytes after others are put at an offset; a gap past the end is zeros.
-fn overwritten(
-    alloc: Global,
-    old: &[u8],
-    offset: usize,
-    bytes: &[u8],
-) -> Result<Vec<u8>, AllocError>
+fn overwrite(alloc: Global, old: &[u8], offset: usize, bytes: &[u8]) -> Result<Vec<u8>, AllocError>
     ensures { IfOk result (λ new. new.items ≡ overwritten old.now offset bytes.now) }
 {
-    let mut new = resized(alloc, old, offset)?;
+    let mut new = resize(alloc, old, offset)?;
     new.extend_from_slice(bytes)?;
     if old.len() > new.len() {
         new.extend_from_slice(&old[new.len()..])?;
@@ -93,7 +88,7 @@ fn overwritten(
 }
 
 /// Bytes cut to a length, or with zeros up to it.
-fn resized(alloc: Global, old: &[u8], length: usize) -> Result<Vec<u8>, AllocError>
+fn resize(alloc: Global, old: &[u8], length: usize) -> Result<Vec<u8>, AllocError>
     ensures { IfOk result (λ new. new.items ≡ resized old.now length) }
 {
     if length <= old.len() {
@@ -116,25 +111,25 @@ pub fn tree_after(
 {
     let tree = history.root();
     match call {
-        Call::Open { path, flags } => opened(alloc, tree, path, *flags),
+        Call::Open { path, flags } => open_path(alloc, tree, path, *flags),
         Call::Pwrite {
             descriptor,
             offset,
             bytes,
-        } => written(alloc, tree, files, *descriptor, *offset, bytes.as_slice()),
+        } => write_bytes(alloc, tree, files, *descriptor, *offset, bytes.as_slice()),
         Call::Ftruncate { descriptor, length } => {
-            truncated(alloc, tree, files, *descriptor, *length)
+            set_length(alloc, tree, files, *descriptor, *length)
         }
-        Call::Rename { old, new } => renamed(alloc, tree, files, old, new),
-        Call::Unlink { path } => Ok(Some(without(tree, path)?)),
+        Call::Rename { old, new } => move_path(alloc, tree, files, old, new),
+        Call::Unlink { path } => Ok(Some(remove_path(tree, path)?)),
         Call::Mkdir { path } => Ok(Some(with_directory(tree, path)?)),
-        Call::Rmdir { path } => Ok(Some(without(tree, path)?)),
+        Call::Rmdir { path } => Ok(Some(remove_path(tree, path)?)),
         Call::Rollback { name } => rolled_back(history, name),
         _ => Ok(None),
     }
 }
 
-fn opened(
+fn open_path(
     alloc: Global,
     tree: &Tree,
     path: &Path,
@@ -148,7 +143,7 @@ fn opened(
     Ok(Some(with_file(tree, path, Vec::new(alloc))?))
 }
 
-fn written(
+fn write_bytes(
     alloc: Global,
     tree: &Tree,
     files: &OpenFiles,
@@ -165,11 +160,11 @@ fn written(
         return Ok(None);
     }
     let old = bytes_at(tree, file.path());
-    let new = overwritten(alloc, old, offset as usize, bytes)?;
+    let new = overwrite(alloc, old, offset as usize, bytes)?;
     Ok(Some(with_file(tree, file.path(), new)?))
 }
 
-fn truncated(
+fn set_length(
     alloc: Global,
     tree: &Tree,
     files: &OpenFiles,
@@ -185,11 +180,11 @@ fn truncated(
     if old.len() as u64 == length {
         return Ok(None);
     }
-    let new = resized(alloc, old, length as usize)?;
+    let new = resize(alloc, old, length as usize)?;
     Ok(Some(with_file(tree, file.path(), new)?))
 }
 
-fn renamed(
+fn move_path(
     alloc: Global,
     tree: &Tree,
     files: &OpenFiles,
@@ -202,10 +197,10 @@ fn renamed(
     if old == new {
         return Ok(None);
     }
-    Ok(Some(tree.moved(alloc, old.names(), new.names())?))
+    Ok(Some(tree.move_tree(alloc, old.names(), new.names())?))
 }
 
-fn without(tree: &Tree, path: &Path) -> Result<Tree, AllocError>
+fn remove_path(tree: &Tree, path: &Path) -> Result<Tree, AllocError>
     ensures { IfOk result (λ next. next ≡ remove tree.now path.now) }
 {
     let mut next = tree.clone()?;

@@ -37,7 +37,7 @@ pub fn is_deep(old: &[Name], depth: usize, path: &[Name]) -> bool
 }
 
 /// The path of the names of two others.
-fn joined(alloc: Global, front: &[Name], rest: &[Name]) -> Result<Path, AllocError>
+fn join_names(alloc: Global, front: &[Name], rest: &[Name]) -> Result<Path, AllocError>
     requires { is_path (front.now ++ rest.now) ≡ true }
     ensures { IfOk result (λ path. path ≡ front.now ++ rest.now) }
 {
@@ -68,7 +68,7 @@ pub fn moved_path(
     ensures { IfOk result (λ to. to ≡ path_moved old.now new.now path.now) }
 {
     match rest_of(old, path.names()) {
-        Some(rest) => Ok(Some(joined(alloc, new, rest)?)),
+        Some(rest) => Ok(Some(join_names(alloc, new, rest)?)),
         None if is_beginning(new, path.names()) => Ok(None),
         None => Ok(Some(path.clone()?)),
     }

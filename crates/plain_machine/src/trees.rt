@@ -114,7 +114,7 @@ impl Tree {
     }
 
     /// The tree with what stood at `old` and below at `new` and below, and nothing else there.
-    pub fn moved(&self, alloc: Global, old: &[Name], new: &[Name]) -> Result<Tree, AllocError>
+    pub fn move_tree(&self, alloc: Global, old: &[Name], new: &[Name]) -> Result<Tree, AllocError>
         requires lawful { is_path new.now ≡ true }
         requires shallow { is_too_deep self.now old.now new.now ≡ false }
         ensures { IfOk result (λ t. t ≡ tree.move self.now old.now new.now) }

@@ -36,7 +36,7 @@ pub enum Line {
 }
 
 /// This line, where no word follows.
-fn alone(words: &[&[u8]], line: Line) -> Result<Line, Misread>
+fn line_without_words(words: &[&[u8]], line: Line) -> Result<Line, Misread>
     ensures { result ≡ alone line (map (λ w. w.now) words.now) }
 {
     no_words(words)?;
@@ -44,7 +44,7 @@ fn alone(words: &[&[u8]], line: Line) -> Result<Line, Misread>
 }
 
 /// What the words after a verb ask.
-fn asked(alloc: Global, verb: Verb, words: &[&[u8]]) -> Result<Line, Misread>
+fn line_by_verb(alloc: Global, verb: Verb, words: &[&[u8]]) -> Result<Line, Misread>
     ensures ok { IfOk result (λ line. asked verb (map (λ w. w.now) words.now) ≡ Ok line) }
     ensures err { IfErr result (λ e. e ≢ NoMemory → asked verb (map (λ w. w.now) words.now) ≡ Err e) }
 {
@@ -59,12 +59,12 @@ fn asked(alloc: Global, verb: Verb, words: &[&[u8]]) -> Result<Line, Misread>
         Verb::Mkdir => only_path(alloc, words).map(|path| Line::Call(Call::Mkdir { path })),
         Verb::Rmdir => only_path(alloc, words).map(|path| Line::Call(Call::Rmdir { path })),
         Verb::Fsync => only_number(words).map(|descriptor| Line::Call(Call::Fsync { descriptor })),
-        Verb::Sync => alone(words, Line::Call(Call::Sync)),
+        Verb::Sync => line_without_words(words, Line::Call(Call::Sync)),
         Verb::Stat => stat(alloc, words),
         Verb::Ls => list(alloc, words),
         Verb::Read => read(alloc, words),
-        Verb::Undo => alone(words, Line::Call(Call::Undo)),
-        Verb::Redo => alone(words, Line::Call(Call::Redo)),
+        Verb::Undo => line_without_words(words, Line::Call(Call::Undo)),
+        Verb::Redo => line_without_words(words, Line::Call(Call::Redo)),
         Verb::Goto => only_number(words).map(|serial| Line::Call(Call::Goto { serial })),
         Verb::Rollback => only_name(alloc, words).map(|name| Line::Call(Call::Rollback { name })),
         Verb::Forget => only_number(words).map(|count| Line::Call(Call::Forget { count })),
@@ -74,10 +74,10 @@ fn asked(alloc: Global, verb: Verb, words: &[&[u8]]) -> Result<Line, Misread>
         Verb::Rmcheckpoint => only_name(alloc, words).map(|name| Line::Call(Call::RemoveCheckpoint {
             name,
         })),
-        Verb::Log => alone(words, Line::Call(Call::Log)),
-        Verb::Df => alone(words, Line::Call(Call::Df)),
+        Verb::Log => line_without_words(words, Line::Call(Call::Log)),
+        Verb::Df => line_without_words(words, Line::Call(Call::Df)),
         Verb::Reclaim => only_number(words).map(Line::ReclaimStep),
-        Verb::Restart => alone(words, Line::Restart),
+        Verb::Restart => line_without_words(words, Line::Restart),
         Verb::PlanFault => fault(words),
     }
 }
@@ -92,7 +92,7 @@ fn line_of_words(alloc: Global, words: &[&[u8]]) -> Result<Line, AllocError>
     let Some(verb) = verb_of(first) else {
         return Ok(Line::Syntax);
     };
-    match asked(alloc, verb, words) {
+    match line_by_verb(alloc, verb, words) {
         Ok(line) => Ok(line),
         Err(Misread::Syntax) => Ok(Line::Syntax),
         Err(Misread::Refused(fault)) => Ok(Line::Refused(fault)),

@@ -1,7 +1,7 @@
 use Rattle.std.proofs.Common.{◌∙◌, sym, ap}
 use Rattle.plain_machine.specs.Plain.{tree_of}
 use Rattle.plain_machine.proofs.Entries.{deep_made, move_made}
-use Rattle.plain_machine.proofs.trees.Tree.moved.Goals as goal
+use Rattle.plain_machine.proofs.trees.Tree.move_tree.Goals as goal
 
 pub moved_entries-requires-clause-shallow : goal.moved_entries-requires-clause-shallow
 moved_entries-requires-clause-shallow c = sym (deep_made c.self.inside.nodes.entries c.args.self.now c.self.invariant c.self.view_is c.args.old.now c.args.new.now) ∙ c.requires.shallow

@@ -1,7 +1,7 @@
 //! The calls on the history, on the working state alone: no device operation is done. Each checks in
 //! order: whether an earlier call answered that the power is off; whether a file is open, where it
 //! would move the present version; its own refusals; read-only mode; and the greatest serial.
-ghost use Rattle.std.specs.Prelude.{◌≡◌, map, IfOk};
+ghost use Rattle.std.specs.Prelude.{◌≡◌};
 ghost use Rattle.fs_types.specs.declared.calls.Call.{Call};
 ghost use Rattle.fs_types.specs.declared.calls.Reply.{Reply};
 ghost use Rattle.flash_model.specs.Device.{Device};
@@ -12,9 +12,8 @@ use crate::changes::change;
 use crate::checks::check_writable;
 use crate::state::State;
 use flash_model::Flash;
-use fs_types::{CpName, Fault, MAX_CHECKPOINTS, Reply, Sequence, Version};
-use std::alloc::{AllocError, Global};
-use std::collections::BTreeMap;
+use fs_types::{CpName, Fault, MAX_CHECKPOINTS, Reply};
+use std::alloc::Global;
 use tree_edits::Edit;
 
 impl State {
@@ -114,8 +113,8 @@ impl State {
         ensures { (device : Device) → StateStep device self.now Call.Log result device self.now }
     {
         self.check_power()?;
-        let versions = serials_of(alloc, self.history.versions())?;
-        let checkpoints = names_of(alloc, self.history.checkpoints())?;
+        let versions = self.history.serials(alloc)?;
+        let checkpoints = self.history.checkpoint_names(alloc)?;
         Ok(Reply::Log {
             next: self.history.next_serial(),
             dropped: self.history.has_dropped(),
@@ -124,27 +123,4 @@ impl State {
             checkpoints,
         })
     }
-}
-
-fn serials_of(alloc: Global, versions: &[Version<u32>]) -> Result<Sequence<u64>, AllocError>
-    ensures { IfOk result (λ serials. serials ≡ map (λ v. v.serial) versions.now) }
-{
-    let serials: Vec<u64> = versions
-        .iter()
-        .map(|version| version.serial)
-        .collect(alloc)?;
-    Ok(Sequence::from_vec(serials))
-}
-
-fn names_of(
-    alloc: Global,
-    checkpoints: &BTreeMap<CpName, u32>,
-) -> Result<Sequence<CpName>, AllocError>
-    ensures { IfOk result (λ names. names ≡ map (λ e. e.0) checkpoints.now.entries) }
-{
-    let mut names = Sequence::new(alloc);
-    for (name, _) in checkpoints {
-        names.push(name.clone()?)?;
-    }
-    Ok(names)
 }

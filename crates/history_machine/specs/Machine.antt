@@ -62,7 +62,7 @@ descriptor_refusal m descriptor refuse = option_map_or refuse (descriptor_at m.d
 abbrev pub full_table_refusal : Machine → Option Fault
 full_table_refusal m = if is_none (least_free m.descriptors) then Some TooManyOpen else None
 
--- open of what stands at the path; a directory is refused for reading too
+-- open of what stands at the path; a directory is refused for reading too, and EMFILE comes last
 abbrev pub open_refusal : Machine → Path → OpenFlags → Option Entry → Option Fault
 open_refusal m path flags None =
     if not (creates flags) then Some NoEntry
@@ -81,13 +81,14 @@ pwrite_refusal offset bytes d =
     else if nat_lt MAX_FILE_BYTES (offset + length bytes) then Some TooBig
     else None
 
+-- a descriptor that is not open for writing is EINVAL, before EFBIG of a length that is too great
 abbrev pub ftruncate_refusal : ℕ → Descriptor → Option Fault
 ftruncate_refusal n d =
     if not (can_write d.flags) then Some Invalid
     else if nat_lt MAX_FILE_BYTES n then Some TooBig
     else None
 
--- rename replaces only what is of the same kind, and only an empty directory
+-- rename replaces only what is of the same kind, and only an empty directory: else ENOTEMPTY, where EEXIST is allowed too
 abbrev pub replace_refusal : Tree → Path → Entry → Option Entry → Option Fault
 replace_refusal t new entry None = None
 replace_refusal t new (Entry.File bytes) (Some there) = if is_dir there then Some IsDirectory else None
@@ -96,7 +97,8 @@ replace_refusal t new Entry.Dir (Some there) =
     else if nat_lt 0 (entry_count t new) then Some NotEmpty
     else None
 
--- rename of what stands at `old` to another path; open files are not moved and not replaced
+-- rename of what stands at `old` to another path: ENAMETOOLONG also for a path below it that would have too many names, then
+-- EBUSY, since open files are not moved and not replaced, and a full directory last
 abbrev pub move_refusal : Machine → Path → Path → Option Fault
 move_refusal m old new =
     if is_too_deep (present_tree m) old new then Some NameTooLong
@@ -104,6 +106,7 @@ move_refusal m old new =
     else if is_none (get (present_tree m) new) && not (same_path (parent_of old) (parent_of new)) && is_full (present_tree m) (parent_of new) then Some DirectoryFull
     else None
 
+-- the same path is Ok; then a directory into itself, the new path, what stands there, and what is moved
 abbrev pub rename_refusal : Machine → Path → Path → Entry → Option Fault
 rename_refusal m old new entry =
     if same_path old new then None
@@ -111,7 +114,7 @@ rename_refusal m old new entry =
     else option_or (lookup_refusal (get (present_tree m)) new)
     (option_or (replace_refusal (present_tree m) new entry (get (present_tree m) new)) (move_refusal m old new))
 
--- an open file is not removed, where POSIX.1-2017 keeps it until it is closed
+-- a directory is EPERM; an open file is EBUSY, where POSIX.1-2017 keeps it until it is closed
 abbrev pub unlink_refusal : Machine → Path → Entry → Option Fault
 unlink_refusal m path entry =
     if is_dir entry then Some NotPermitted
@@ -126,6 +129,7 @@ mkdir_refusal m path =
     else if is_full (present_tree m) (parent_of path) then Some DirectoryFull
     else None)
 
+-- a directory with entries is ENOTEMPTY, where EEXIST is allowed too
 abbrev pub rmdir_refusal : Tree → Path → Entry → Option Fault
 rmdir_refusal t path entry =
     if not (is_dir entry) then Some NotDirectory

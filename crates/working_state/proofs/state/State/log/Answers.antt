@@ -1,11 +1,8 @@
 -- The machine's log has the same serials and names, whatever the roots stand for.
-use Rattle.std.proofs.Common.{true, map, ap, ◌∙◌, refl, inr}
+use Rattle.std.proofs.Common.{true, refl, inr}
 use Rattle.std.proofs.lemmas.Result.{err_from_is_err_and}
-use Rattle.std.specs.Prelude.{ℕ}
-use Rattle.fs_types.specs.Names.{Name}
 use Rattle.fs_types.specs.declared.calls.Call.{Call}
 use Rattle.fs_types.specs.declared.calls.Reply.{Reply}
-use Rattle.fs_types.specs.declared.calls.Version.{Version}
 use Rattle.fs_types.specs.declared.faults.Fault.{Fault}
 use Rattle.working_state.specs.Seen.{tree_on}
 use Rattle.working_state.proofs.Steps.{done, refused, off_step, never, log-tells}

@@ -1,6 +1,6 @@
 -- What a search in ring order finds, and what a block more leaves of a ring's facts.
 use Rattle.std.proofs.Common.{◌≡◌, ◌≢◌, ℕ, zero, suc, ◌+◌, ◌-◌, ◌<◌, ◌≤◌, Bool, true, false, not, cond, ◌||◌, List, [], ◌∷◌, ◌++◌, Option, Some, None, find, refl, sym, ap, ◌∙◌, subst, inl, inr, arith}
-use Rattle.std.proofs.lemmas.Bool.{true≢false, or_parts, eq-eqb, ne_eqb, lt-ltb, le-ltb, cases_lt, cases_order}
+use Rattle.std.proofs.lemmas.Bool.{true≢false, or_parts, eq-eqb, ne_eqb, cases_lt, cases_order}
 use Rattle.std.proofs.lemmas.Cmp.{nat_cmp_total}
 use Rattle.std.specs.Cmp.{unsigned_tied}
 use Rattle.std.specs.FinSet as set
@@ -9,6 +9,7 @@ use Rattle.std.specs.Option.{option_or}
 use Rattle.std.specs.Ordering.{nat_cmp, eq_by_cmp}
 use Rattle.allocator.specs.FreeCount.{free_count-less}
 use Rattle.allocator.specs.BlockSet.{BlockSet}
+use Rattle.allocator.specs.RingLaws.{distance_later, distance_earlier}
 use Rattle.allocator.specs.Ring.{Ring, IsDataBlock, AreDataBlocks, IsRing, IsNote, is_busy, free_count, distance, ring_order, IsNext, IsFirstFree}
 
 -- the first number from a up to m at which `busy` is false
@@ -50,13 +51,6 @@ find-append p (x ∷ xs) ys =
       | true ↦ refl
       | false ↦ find-append p xs ys
     ]
-
--- a later block is nearer, and the blocks up to `last` come after those
-distance_later : (n last b : ℕ) → last < b → distance n last b ≡ b - last
-distance_later n last b later = rw (lt-ltb last b later)
-
-distance_earlier : (n last b : ℕ) → b ≤ last → distance n last b ≡ b + (n - 8) - last
-distance_earlier n last b earlier = rw (le-ltb last b earlier)
 
 -- the first one after `last`, or else the first one up to it, is the first in ring order
 first_of_both : (busy : ℕ → Bool) (n last : ℕ) (r s : Option ℕ) → IsDataBlock n last

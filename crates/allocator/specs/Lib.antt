@@ -1,4 +1,5 @@
 pub mod BlockSet
 pub mod Bits
 pub mod Ring
+pub mod RingLaws
 pub mod FreeCount

@@ -152,6 +152,7 @@ impl Ring {
         ensures counted { IfSome result (λ _. self.new.takes ≡ self.old.takes + 1) }
 
         // What holds whatever is answered.
+        ensures last_block { IsDataBlock self.old.blocks self.old.last }
         ensures blocks { self.new.blocks ≡ self.old.blocks }
         ensures kept { (b : ℕ) → set.contains self.old.used b ≡ true
             → set.contains self.new.used b ≡ true }

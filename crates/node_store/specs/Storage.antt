@@ -6,7 +6,7 @@ use Rattle.fs_types.specs.declared.limits.TheConstants.{MAX_BAD_BLOCKS}
 use Rattle.fs_types.specs.declared.faults.Fault.{Fault}
 use Rattle.fs_types.specs.declared.faults.Fault.TheVariants.{FlashFull, ReadOnly, PowerCut}
 use Rattle.flash_model.specs.Device.{Device, block_of}
-use Rattle.allocator.specs.Ring.{Ring, IsDataBlock, free_count}
+use Rattle.allocator.specs.Ring.{Ring, IsDataBlock, IsNext, is_busy, free_count}
 use Rattle.node_store.specs.NodePages.{first_data, node_of, pages_for}
 use Rattle.flash_model.specs.Reading.{OnlyReads}
 
@@ -23,8 +23,12 @@ storage d bads r = record { device = d; bad = bads; ring = r }
 abbrev pub is_kept : Storage → ℕ → Bool
 is_kept s b = set.contains s.ring.used b
 
--- a take gives a data block that was neither used nor bad, and leaves one free block less
+-- a take gives the next data block that is neither used nor bad, and leaves one free block less
 pub record IsTaken (old : Ring) (bad : set.FinSet nat_cmp) (b : ℕ) (new : Ring) : Type 0 where
+  pub last_block : IsDataBlock old.blocks old.last
+  pub next : IsNext (is_busy old bad) old.blocks old.last b
+  pub last : new.last ≡ b
+  pub only : new.used ≡ set.insert old.used b
   pub data_block : IsDataBlock old.blocks b
   pub fresh : set.contains old.used b ≡ false
   pub good : set.contains bad b ≡ false
@@ -73,6 +77,18 @@ pub record IsAdded (s : Storage) (bytes : List ℕ) (t : Storage) (b : ℕ) : Ty
   pub node : node_of t.device b ≡ Some bytes
   pub room : set.len t.bad < MAX_BAD_BLOCKS
 
+-- block b was taken last: the first data block in ring order, after the one taken last before, that was not used then and
+-- is not bad now. So each one that was passed over was used, or is in the bad list
+pub record IsNextBlock (s t : Storage) (b : ℕ) : Type 0 where
+  pub next : IsNext (is_busy s.ring t.bad) s.ring.blocks s.ring.last b
+  pub last : t.ring.last ≡ b
+
+-- no block was passed over but used ones and bad ones: whatever is bad beside, the next block is the same as before
+abbrev pub PassesBad : Storage → Storage → Type 0
+PassesBad s t =
+    (bad : set.FinSet nat_cmp) (b : ℕ) → ((c : ℕ) → set.contains t.bad c ≡ true → set.contains bad c ≡ true)
+    → IsNext (is_busy t.ring bad) t.ring.blocks t.ring.last b → IsNext (is_busy s.ring bad) s.ring.blocks s.ring.last b
+
 -- a write adds the node, or is refused: no block is free, the bad list is at its limit, or power is off
 abbrev pub Adds : Storage → List ℕ → Storage → Result ℕ Fault → Type 0
 Adds s bytes t (Ok b) = IsAdded s bytes t b
@@ -102,6 +118,12 @@ abbrev pub Tries : Storage → List ℕ → Storage → Result (Option ℕ) Faul
 Tries s bytes t (Ok (Some b)) = IsAdded s bytes t b
 Tries s bytes t (Ok None) = (free_count t.ring t.bad < free_count s.ring s.bad) × (set.len t.bad < MAX_BAD_BLOCKS)
 Tries s bytes t (Err fault) = Adds s bytes t (Err fault)
+
+-- which block an attempt takes
+abbrev pub TriesNext : Storage → Storage → Result (Option ℕ) Fault → Type 0
+TriesNext s t (Ok (Some b)) = IsNextBlock s t b
+TriesNext s t (Ok None) = PassesBad s t
+TriesNext s t (Err fault) = Unit {0}
 
 abbrev pub unpaid_try : Result (Option ℕ) Fault → ℕ
 unpaid_try (Ok (Some b)) = 1

@@ -5,7 +5,7 @@ use Rattle.std.specs.Ordering.{nat_cmp}
 use Rattle.std.specs.Cmp.{unsigned_tied}
 use Rattle.std.specs.List.{range_with_len}
 use Rattle.std.proofs.Common.{sym, ◌∙◌, ap, subst, inl, inr, arith, eqb}
-use Rattle.std.proofs.lemmas.Bool.{cases_eq, cases_Bool, both_ways, ne_eqb, or_right, or_left, or_cases, eqb-true}
+use Rattle.std.proofs.lemmas.Bool.{cases_eq, cases_Bool, both_ways, ne_eqb, or_right, or_left, or_cases, eq-eqb, eqb-true}
 use Rattle.std.proofs.lemmas.Cmp.{nat_cmp_total}
 use Rattle.std.proofs.lemmas.List.Sums.{sum_by-cons}
 use Rattle.flash_model.specs.declared.sizes.Geometry.{Geometry}
@@ -13,14 +13,15 @@ use Rattle.flash_model.specs.declared.device.DevFault.{DevFault}
 use Rattle.flash_model.specs.declared.device.DevFault.TheVariants.{Failed}
 use Rattle.flash_model.specs.Geometry.{IsGeometry, block_bytes}
 use Rattle.flash_model.specs.Device.{Device, block_of, failed}
-use Rattle.allocator.specs.Ring.{Ring, IsDataBlock, is_busy, free_count}
+use Rattle.allocator.specs.Ring.{Ring, IsDataBlock, IsNext, is_busy, free_count}
+use Rattle.allocator.specs.RingLaws.{next_on}
 use Rattle.allocator.specs.FreeCount.{free_count-alike}
 use Rattle.node_store.specs.NodePages.{first_data}
 use Rattle.node_format.specs.Headers.{IsNode}
 use Rattle.node_store.specs.NodeLaws.{node_of-pages}
 use Rattle.flash_model.specs.Reading.{OnlyReads_itself, OnlyReads_on}
 use Rattle.node_store.specs.Writing.{WritesBlock}
-use Rattle.node_store.specs.Storage.{Storage, storage, is_kept, IsTaken, Evolved, IsUntouched, IsAdded, Pays}
+use Rattle.node_store.specs.Storage.{Storage, storage, is_kept, IsTaken, Evolved, IsUntouched, IsAdded, Pays, IsNextBlock, PassesBad}
 use Rattle.fs_types.specs.declared.limits.TheConstants.{MAX_BAD_BLOCKS}
 
 pub Evolved_itself : (s : Storage) → Evolved s s
@@ -243,3 +244,43 @@ less_free s b ring take =
     let paid = take.paid in
     let alike = free_alike ring s.bad b take.used in
     omega arith
+
+-- what is used after a take, beside the block that was taken, was used before
+was_used : (old : Ring) (bad : set.FinSet nat_cmp) (b : ℕ) (new : Ring) (c : ℕ) → IsTaken old bad b new → c ≢ b → set.contains new.used c ≡ true
+    → set.contains old.used c ≡ true
+was_used old bad b new c take other used =
+    elim (cases_Bool (set.contains old.used c)) [
+      | inl was ↦ was
+      | inr was_not ↦ absurd (other (new_listed old.used b c (ap (λ s. set.contains s c) (sym take.only) ∙ used) was_not))
+    ]
+
+pub Passes_itself : (s : Storage) → PassesBad s s
+Passes_itself s = λ bad b has next. next
+
+pub Passes_on : (s t u : Storage) → Evolved t u → PassesBad s t → PassesBad t u → PassesBad s u
+Passes_on s t u e first second = λ bad b has next. first bad b (λ c is. has c (e.stays_bad c is)) (second bad b has next)
+
+-- the next block after bad ones is the next block
+pub Passes_next : (s t u : Storage) (b : ℕ) → Evolved t u → PassesBad s t → IsNextBlock t u b → IsNextBlock s u b
+Passes_next s t u b e passes at = record { next = passes u.bad b e.stays_bad at.next; last = at.last }
+
+-- a take passes the block that it takes, where this one is bad afterwards
+pub took_passed : (s : Storage) (b : ℕ) (ring : Ring) (d : Device) → IsTaken s.ring s.bad b ring → PassesBad s (storage d (set.insert s.bad b) ring)
+took_passed s b ring d take = λ bad c has next.
+    let here : set.contains bad b ≡ true = has b (listed s.bad b b ∙ or_left (eqb b b) (set.contains s.bad b) (eq-eqb b b refl)) in
+    let after : IsNext (is_busy ring bad) s.ring.blocks b c =
+    subst (λ last. IsNext (is_busy ring bad) s.ring.blocks last c) take.last (subst (λ n. IsNext (is_busy ring bad) n ring.last c) take.blocks next) in
+    next_on (is_busy s.ring s.bad) (is_busy ring bad) (is_busy s.ring bad) s.ring.blocks s.ring.last b c take.last_block take.next after
+    (λ x was. elim (or_cases (set.contains s.ring.used x) (set.contains s.bad x) was) [
+      | inl used ↦ or_left (set.contains s.ring.used x) (set.contains bad x) used
+      | inr is_bad ↦ or_right (set.contains s.ring.used x) (set.contains bad x) (has x (stays_listed s.bad b x is_bad))
+    ])
+    (or_right (set.contains s.ring.used b) (set.contains bad b) here)
+    (λ x was. elim (or_cases (set.contains s.ring.used x) (set.contains bad x) was) [
+      | inl used ↦ or_left (set.contains ring.used x) (set.contains bad x) (take.kept x used)
+      | inr is_bad ↦ or_right (set.contains ring.used x) (set.contains bad x) is_bad
+    ])
+    (λ x other is. elim (or_cases (set.contains ring.used x) (set.contains bad x) is) [
+      | inl used ↦ or_left (set.contains s.ring.used x) (set.contains bad x) (was_used s.ring s.bad b ring x take other used)
+      | inr is_bad ↦ or_right (set.contains s.ring.used x) (set.contains bad x) is_bad
+    ])

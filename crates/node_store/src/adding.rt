@@ -4,7 +4,7 @@ ghost use Rattle.std.specs.FinSet as set;
 ghost use Rattle.allocator.specs.Ring.{free_count};
 ghost use Rattle.flash_model.specs.Geometry.{IsGeometry, block_bytes};
 ghost use Rattle.node_format.specs.Headers.{IsNode};
-ghost use Rattle.node_store.specs.Storage.{IsTaken, IsUntouched, storage, Evolved, Adds, Tries, Pays, Spends, unpaid, unpaid_try};
+ghost use Rattle.node_store.specs.Storage.{IsTaken, IsUntouched, IsNextBlock, storage, Evolved, Adds, Tries, TriesNext, Pays, Spends, unpaid, unpaid_try};
 ghost use Rattle.fs_types.specs.declared.limits.TheConstants.{MAX_BAD_BLOCKS};
 
 use crate::writing::write_block;
@@ -56,6 +56,7 @@ fn write_next<F: Flash>(
     ensures tries { Tries (storage (F.device flash.old) bad.old ring.old) bytes.now (storage (F.device flash.new) bad.new ring.new) result }
     ensures evolved { Evolved (storage (F.device flash.old) bad.old ring.old) (storage (F.device flash.new) bad.new ring.new) }
     ensures pays { Pays (storage (F.device flash.old) bad.old ring.old) (storage (F.device flash.new) bad.new ring.new) (unpaid_try result) }
+    ensures next { TriesNext (storage (F.device flash.old) bad.old ring.old) (storage (F.device flash.new) bad.new ring.new) result }
     ensures page { vec_len page.new ≡ vec_len page.old }
     ensures operations { Spends (storage (F.device flash.old) bad.old ring.old) (storage (F.device flash.new) bad.new ring.new) bytes.now }
 {
@@ -70,8 +71,9 @@ fn write_next<F: Flash>(
     }
 }
 
-/// Writes a node to a block that was not used, and answers the block. Where the bad list is at its
-/// limit before, nothing is done.
+/// Writes a node to a block that was not used, and answers the block: the first data block in ring
+/// order after the one taken last, but for those that were used and those that are bad by then. Where
+/// the bad list is at its limit before, nothing is done.
 #[tactic(auto, using(crate::specs::StorageLaws::Untouched_itself))]
 pub fn write_node<F: Flash>(
     flash: &mut F,
@@ -87,6 +89,7 @@ pub fn write_node<F: Flash>(
     ensures adds { Adds (storage (F.device flash.old) bad.old ring.old) bytes.now (storage (F.device flash.new) bad.new ring.new) result }
     ensures evolved { Evolved (storage (F.device flash.old) bad.old ring.old) (storage (F.device flash.new) bad.new ring.new) }
     ensures pays { Pays (storage (F.device flash.old) bad.old ring.old) (storage (F.device flash.new) bad.new ring.new) (unpaid result) }
+    ensures next { IfOk result (λ block. IsNextBlock (storage (F.device flash.old) bad.old ring.old) (storage (F.device flash.new) bad.new ring.new) block) }
     ensures page { vec_len page.new ≡ vec_len page.old }
     ensures operations { Spends (storage (F.device flash.old) bad.old ring.old) (storage (F.device flash.new) bad.new ring.new) bytes.now }
     ensures at_limit { set.len bad.old ≡ MAX_BAD_BLOCKS → IsUntouched (storage (F.device flash.old) bad.old ring.old) (storage (F.device flash.new) bad.new ring.new) }

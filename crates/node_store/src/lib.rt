@@ -8,6 +8,7 @@ mod storage;
 mod stores;
 mod writing;
 
+pub use adding::write_node;
 pub use nodes::Nodes;
 pub use storage::Storage;
 pub use stores::Store;

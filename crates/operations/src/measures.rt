@@ -29,12 +29,14 @@ pub fn asked_by(alloc: Global, row: &Measure) -> Result<Counters, MeasureError> 
 
 const EMPTY_FILE: &[&str] = &["open /f 7"];
 
+const FILE_OF_THREE_NODES: &[&str] = &["open /f 7", "ftruncate 0 10000"];
+
 const FILE_OF_1_MIB: &[&str] = &["open /f 7", "fill 1048576"];
 
 const FILE_OF_512_KIB: &[&str] = &["open /f 7", "fill 1048576", "ftruncate 0 524288"];
 
 /// The calls, with the most nodes that each may write.
-pub const MEASURES: [Measure; 18] = [
+pub const MEASURES: [Measure; 19] = [
     Measure {
         name: "mkdir at depth 1",
         before: &[],
@@ -76,6 +78,12 @@ pub const MEASURES: [Measure; 18] = [
         before: EMPTY_FILE,
         call: "pwrite 0 0 41",
         nodes: 2,
+    },
+    Measure {
+        name: "pwrite of 2 bytes, second of three nodes",
+        before: FILE_OF_THREE_NODES,
+        call: "pwrite 0 5000 4142",
+        nodes: 3,
     },
     Measure {
         name: "pwrite of 1 MiB into an empty file",

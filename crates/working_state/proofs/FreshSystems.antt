@@ -1,13 +1,13 @@
 -- A fresh system: its one version is the empty root.
-use Rattle.std.proofs.Common.{◌≡◌, ℕ, zero, suc, ◌+◌, ◌-◌, ◌≤◌, Bool, true, false, cond, Some, [], Result, Ok, Err, refl, sym, ap, subst, ◌∙◌, arith}
+use Rattle.std.proofs.Common.{◌≡◌, ℕ, zero, suc, ◌+◌, ◌-◌, ◌≤◌, Bool, true, false, cond, List, Some, [], Result, Ok, Err, refl, sym, ap, subst, ◌∙◌, arith}
 use Rattle.std.proofs.lemmas.Bool.{true≢false}
 use Rattle.std.proofs.lemmas.List.Elements.{All-push}
 use Rattle.std.proofs.lemmas.List.Sums.{sum_by-cons}
-use Rattle.std.specs.Prelude.{IsTrue, not, ◌||◌, count_by, IfErr, vec_len, vec_capacity}
+use Rattle.std.specs.Prelude.{not, ◌||◌, count_by, IfOk, IfErr, vec_len, vec_capacity}
 use Rattle.std.specs.FinSet as set
 use Rattle.std.specs.List.{range_with_len}
 use Rattle.std.specs.Ordering.{nat_cmp}
-use Rattle.history_machine.specs.History.{Past, fresh, map_roots}
+use Rattle.history_machine.specs.History.{Past, fresh, present_root, map_roots}
 use Rattle.history_machine.specs.Descriptors.{Descriptors, none_open}
 use Rattle.history_machine.specs.Machine.{IsMachine, mounted, machine_with}
 use Rattle.plain_trees.specs.Trees.{Tree, bare}
@@ -18,17 +18,16 @@ use Rattle.history_machine.proofs.Kept.{machine_law}
 use Rattle.flash_model.specs.Device.{Device}
 use Rattle.flash_model.specs.declared.sizes.Geometry.{Geometry}
 use Rattle.flash_model.specs.Geometry.{IsGeometry, block_bytes}
-use Rattle.allocator.specs.Ring.{Ring, is_busy, free_count}
+use Rattle.allocator.specs.Ring.{Ring, is_busy, free_count, IsNext}
+use Rattle.allocator.specs.RingLaws.{distance_earlier}
 use Rattle.node_store.specs.declared.storage.Storage.{Storage}
-use Rattle.node_store.specs.declared.stores.Store.{Store}
-use Rattle.node_store.specs.Faults.{IsWriteFault}
 use Rattle.node_store.specs.NodePages.{node_of}
 use Rattle.node_store.specs.Storage as parts
-use Rattle.node_store.specs.Storage.{Evolved}
-use Rattle.node_store.specs.Stores.{Causes}
-use Rattle.block_trees.specs.Trees.{entries_in}
+use Rattle.node_store.specs.Storage.{Evolved, Pays, Adds, unpaid}
+use Rattle.node_format.specs.Directories.{directory_at}
+use Rattle.block_trees.specs.Trees.{entries_of, entries_in}
 use Rattle.block_trees.proofs.RootMaps.{empty_root}
-use Rattle.working_state.specs.Fresh.{unused_ring, unused, IsFresh, FreshCause, RootCause}
+use Rattle.working_state.specs.Fresh.{unused_ring, unused, IsFirstGood, IsFresh, FreshCause, RootCause}
 use Rattle.working_state.specs.Leaves.{HasWritten}
 use Rattle.working_state.specs.Moments.{moment}
 use Rattle.working_state.specs.Seen.{capacity_of, tree_on, machine_on}
@@ -112,8 +111,9 @@ fresh_cause d limit s PowerCut e t bad ring written why = why
 fresh_cause d limit s _ e t bad ring written why = absurd why
 
 pub fresh_at : (d : Device) (limit : ℕ) (s : Storage) (e : Device) (t : State) → IsMounted e t → machine_on e t ≡ mounted (fresh limit bare) → t.is_off ≡ false
-    → s.bad ≡ set.empty → s.ring ≡ unused_ring d.geometry.blocks → HasWritten d s 1 e t.storage → IsFresh d limit (moment e t)
-fresh_at d limit s e t is shows on bad ring written =
+    → s.bad ≡ set.empty → s.ring ≡ unused_ring d.geometry.blocks → HasWritten d s 1 e t.storage
+    → ((root : ℕ) → present_root t.history ≡ Some root → IsFirstGood t.storage.bad root) → IsFresh d limit (moment e t)
+fresh_at d limit s e t is shows on bad ring written first =
     let none : set.len s.bad ≡ 0 = ap set.len bad ∙ set.len-empty nat_cmp in
     let no_takes : s.ring.takes ≡ 0 = ap (λ (r : Ring). r.takes) ring in
     let paid = written.paid in
@@ -123,33 +123,69 @@ fresh_at d limit s e t is shows on bad ring written =
       is_on = on;
       evolved = subst (λ p. Evolved p (storage_on e t)) (unused_parts d s bad ring) written.evolved;
       paid = omega arith;
+      root_block = first;
     }
 
--- why a write to a store is refused
-root_cause : {F : Type 0} (device : F → Device) (s t : Store F) (fault : Fault) → t.writes.n ≡ s.writes.n + 1 → IsWriteFault fault → Causes device s t fault
-    → RootCause (parts.storage (device s.flash.now) s.storage.now.bad s.storage.now.ring) fault (parts.storage (device t.flash.now) t.storage.now.bad t.storage.now.ring)
-root_cause device s t FlashFull one is c = let few = c.reason.few_free in omega arith
-root_cause device s t ReadOnly one is c = c.reason
-root_cause device s t PowerCut one is c = c.reason
-root_cause device s t _ one is c = absurd (not_so is)
-  where
-    not_so : IsTrue false → ⊥
-    not_so h = true≢false (sym h)
+unpaid_one : (result : Result ℕ Fault) → unpaid result ≤ 1
+unpaid_one (Ok root) = omega arith
+unpaid_one (Err PowerCut) = omega arith
+unpaid_one (Err FlashFull) = omega arith
+unpaid_one (Err _) = omega arith
 
-pub root_why : {F : Type 0} (device : F → Device) (s t : Store F) (result : Result ℕ Fault) → t.writes.n ≡ s.writes.n + 1 → IfErr result IsWriteFault → IfErr result (λ fault. Causes device s t fault)
-    → IfErr result (λ fault. RootCause (parts.storage (device s.flash.now) s.storage.now.bad s.storage.now.ring) fault (parts.storage (device t.flash.now) t.storage.now.bad t.storage.now.ring))
-root_why device s t (Ok root) one is why = tt
-root_why device s t (Err fault) one is why = root_cause device s t fault one is why
+-- the one write of the root: what it leaves, what it reads as, and why it is refused
+pub root_written : (d : Device) (s : Storage) (e : Device) (t : Storage) (result : Result ℕ Fault) → Evolved (parts.storage d s.bad s.ring) (parts.storage e t.bad t.ring)
+    → Pays (parts.storage d s.bad s.ring) (parts.storage e t.bad t.ring) (unpaid result) → vec_len t.page ≡ vec_len s.page → t.node ≡ s.node → HasWritten d s 1 e t
+root_written d s e t result evolved pays page node = record {
+  evolved = evolved;
+  paid = let one = unpaid_one result in omega arith;
+  page_len = page;
+  node_room = let same : vec_capacity t.node ≡ vec_capacity s.node = ap vec_capacity node in omega arith;
+}
+
+pub root_why : (s : parts.Storage) (bytes : List ℕ) (t : parts.Storage) (result : Result ℕ Fault) → Evolved s t → Pays s t (unpaid result) → Adds s bytes t result
+    → IfErr result (λ fault. RootCause s fault t)
+root_why s bytes t (Ok root) evolved pays adds = tt
+root_why s bytes t (Err FlashFull) evolved pays adds = let taken = evolved.taken in omega (arith, adds.0)
+root_why s bytes t (Err ReadOnly) evolved pays adds = adds
+root_why s bytes t (Err PowerCut) evolved pays adds = adds.0
+root_why s bytes t (Err _) evolved pays adds = absurd adds
+
+pub root_empty : (s : parts.Storage) (bytes : List ℕ) (t : parts.Storage) (result : Result ℕ Fault) → directory_at bytes ≡ Some [] → Adds s bytes t result
+    → IfOk result (λ root. entries_in (node_of t.device) root ≡ Some [])
+root_empty s bytes t (Ok root) read adds = ap entries_of adds.node ∙ read
+root_empty s bytes t (Err fault) read adds = tt
+
+-- on an unused flash the next block is the first data block that is not bad
+busy_unused : (blocks : ℕ) (bad : set.FinSet nat_cmp) (b : ℕ) → is_busy (unused_ring blocks) bad b ≡ set.contains bad b
+busy_unused blocks bad b = ap (λ t. t || set.contains bad b) (set.contains-empty nat_cmp b)
+
+first_good : (blocks : ℕ) (bad : set.FinSet nat_cmp) (b : ℕ) → IsNext (is_busy (unused_ring blocks) bad) blocks (blocks - 1) b → IsFirstGood bad b
+first_good blocks bad b next = record {
+  data_block = next.data_block.0;
+  good = sym (busy_unused blocks bad b) ∙ next.free;
+  first = λ c low before.
+      let near = distance_earlier blocks (blocks - 1) c (omega (arith, next.data_block)) in
+      let far = distance_earlier blocks (blocks - 1) b (omega (arith, next.data_block)) in
+      sym (busy_unused blocks bad c) ∙ next.first c (low, omega (arith, next.data_block)) (omega (arith, next.data_block));
+}
+
+pub first_root : (d : Device) (s : Storage) (e : Device) (t : Storage) (h : Past ℕ) (limit root other : ℕ) → s.ring ≡ unused_ring d.geometry.blocks → h ≡ fresh limit root
+    → parts.IsNextBlock (parts.storage d s.bad s.ring) (parts.storage e t.bad t.ring) root → present_root h ≡ Some other → IsFirstGood t.bad other
+first_root d s e t h limit root other ring is next present =
+    let same : other ≡ root = cc (sym present ∙ ap present_root is) in
+    subst (IsFirstGood t.bad) (sym same)
+    (first_good d.geometry.blocks t.bad root (subst (λ (r : Ring). IsNext (is_busy r t.bad) r.blocks r.last root) ring next.next))
 
 -- the first moment, once the root is written
 pub written_fresh : (d : Device) (limit : ℕ) (s : Storage) (e : Device) (t : Storage) (h : Past ℕ) (files : Descriptors) (root : ℕ) → IsGeometry d.geometry → s.bad ≡ set.empty → s.ring ≡ unused_ring d.geometry.blocks
-    → vec_len s.page ≡ d.geometry.page → block_bytes d.geometry ≤ vec_capacity s.node → HasWritten d s 1 e t → set.contains t.ring.used root ≡ true → entries_in (node_of e) root ≡ Some [] → 2 ≤ limit → h ≡ fresh limit root → files ≡ none_open
+    → vec_len s.page ≡ d.geometry.page → block_bytes d.geometry ≤ vec_capacity s.node → HasWritten d s 1 e t → set.contains t.ring.used root ≡ true → entries_in (node_of e) root ≡ Some []
+    → parts.IsNextBlock (parts.storage d s.bad s.ring) (parts.storage e t.bad t.ring) root → 2 ≤ limit → h ≡ fresh limit root → files ≡ none_open
     → IsFresh d limit (moment e (record { history = h; storage = t; files = files; is_off = false }))
-written_fresh d limit s e t h files root lawful bad ring len capacity written kept empty some is none =
+written_fresh d limit s e t h files root lawful bad ring len capacity written kept empty next some is none =
     let state : State = record { history = h; storage = t; files = files; is_off = false } in
     let same = sym written.evolved.geometry in
     let more = written.node_room in
     let fits : block_bytes d.geometry ≤ vec_capacity t.node = omega arith in
     let stands = fresh_mounted e state limit root refl (subst IsGeometry same lawful) (written.evolved.blocks ∙ ap (λ (r : Ring). r.blocks) ring ∙ ap (λ (g : Geometry). g.blocks) same) (written.page_len ∙ len ∙ ap (λ (g : Geometry). g.page) same)
     (subst (λ (g : Geometry). block_bytes g ≤ vec_capacity t.node) same fits) some is none empty kept in
-    fresh_at d limit s e state stands (fresh_machine e h files limit root is none empty) refl bad ring written
+    fresh_at d limit s e state stands (fresh_machine e h files limit root is none empty) refl bad ring written (λ other present. first_root d s e t h limit root other ring is next present)

@@ -1,7 +1,8 @@
 -- A fresh system: what it begins with on the flash that it is given, and why it is refused.
-use Rattle.std.specs.Prelude.{◌≡◌, ◌⊎◌, ℕ, ◌+◌, ◌-◌, ◌<◌, ◌≤◌, false}
+use Rattle.std.specs.Prelude.{◌≡◌, ◌⊎◌, ℕ, ◌+◌, ◌-◌, ◌<◌, ◌≤◌, true, false, Some}
 use Rattle.std.specs.FinSet as set
-use Rattle.history_machine.specs.History.{fresh}
+use Rattle.std.specs.Ordering.{nat_cmp}
+use Rattle.history_machine.specs.History.{fresh, present_root}
 use Rattle.plain_trees.specs.Trees.{bare}
 use Rattle.history_machine.specs.Machine.{mounted}
 use Rattle.fs_types.specs.declared.limits.TheConstants.{MAX_BAD_BLOCKS, MIN_VERSIONS, MAX_VERSIONS}
@@ -23,14 +24,22 @@ unused_ring blocks = record { blocks = blocks; used = set.empty; note = set.empt
 abbrev pub unused : Device → Storage
 unused d = storage d set.empty (unused_ring d.geometry.blocks)
 
+-- the first data block that is not bad: each one before it is in the bad list
+pub record IsFirstGood (bad : set.FinSet nat_cmp) (b : ℕ) : Type 0 where
+  pub data_block : first_data ≤ b
+  pub good : set.contains bad b ≡ false
+  pub first : (c : ℕ) → first_data ≤ c → c < b → set.contains bad c ≡ true
+
 -- the first moment of a fresh system: one version, of serial 1, with an empty root, and no file is open. The bad list has
--- the blocks in which an operation failed since, and one block more was taken at most
+-- the blocks in which an operation failed since, and one block more was taken at most. The root is in the first data block
+-- in which none failed
 pub record IsFresh (given : Device) (limit : ℕ) (now : Moment) : Type 0 where
   pub machine : machine_at now ≡ mounted (fresh limit bare)
   pub mounted : IsMountedAt now
   pub is_on : now.state.is_off ≡ false
   pub evolved : Evolved (unused given) (storage_on now.device now.state)
   pub paid : now.state.storage.ring.takes ≤ set.len now.state.storage.bad + 1
+  pub root_block : (root : ℕ) → present_root now.state.history ≡ Some root → IsFirstGood now.state.storage.bad root
 
 -- why a fresh system is refused: the sizes; the limit of kept versions; an operation failed in as many blocks as there are
 -- for data, or in as many as the bad list has; the device is off; memory was wanted

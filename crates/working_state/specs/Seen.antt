@@ -1,6 +1,5 @@
 -- What contracts see of a flash and the working state on it: the machine that they are, and what refusals depend on.
-use Rattle.std.specs.Prelude.{◌≡◌, ◌≤◌, ℕ, ◌-◌, Bool, true, ◌||◌, nat_le, count_by}
-use Rattle.std.specs.List.{range_with_len}
+use Rattle.std.specs.Prelude.{◌≡◌, ◌≤◌, ℕ, ◌-◌, Bool, true, count_by}
 use Rattle.std.specs.FinSet as set
 use Rattle.std.specs.Ordering.{nat_cmp}
 use Rattle.history_machine.specs.History.{map_roots}

@@ -7,7 +7,6 @@ ghost use Rattle.fs_types.specs.declared.faults.Fault.{Fault};
 ghost use Rattle.flash_model.specs.Geometry.{IsGeometry, block_bytes};
 ghost use Rattle.node_store.specs.NodePages.{node_of};
 ghost use Rattle.node_store.specs.Storage as parts;
-ghost use Rattle.node_store.specs.Stores.{IsSound, Follows};
 ghost use Rattle.block_trees.specs.Trees.{entries_in};
 ghost use Rattle.working_state.specs.Leaves.{HasWritten};
 ghost use Rattle.working_state.specs.Fresh.{unused_ring, IsFresh, FreshCause, RootCause};
@@ -20,7 +19,7 @@ use flash_model::{Flash, Geometry};
 use fs_types::{Fault, MAX_VERSIONS, MIN_VERSIONS};
 use history::History;
 use node_format::empty_directory;
-use node_store::{Nodes, Storage, Store};
+use node_store::{Storage, write_node};
 use open_files::OpenFiles;
 use std::alloc::Global;
 
@@ -106,29 +105,22 @@ fn unused_storage(alloc: Global, geometry: Geometry) -> Result<Storage, Fault>
     })
 }
 
-/// Writes an empty directory, and answers its block.
+/// Writes an empty directory, and answers its block: the next one that is neither used nor bad.
 fn write_root<F: Flash>(flash: &mut F, storage: &mut Storage) -> Result<u32, Fault>
     requires lawful { IsGeometry (F.device flash.old).geometry }
     requires ring_blocks { storage.old.ring.blocks ≡ (F.device flash.old).geometry.blocks }
     requires page_len { vec_len storage.old.page ≡ (F.device flash.old).geometry.page }
-    requires node_room { block_bytes (F.device flash.old).geometry ≤ vec_capacity storage.old.node }
     ensures written { HasWritten (F.device flash.old) storage.old 1 (F.device flash.new) storage.new }
     ensures kept { IfOk result (λ root. set.contains storage.new.ring.used root ≡ true) }
     ensures empty { IfOk result (λ root. entries_in (node_of (F.device flash.new)) root ≡ Some []) }
+    ensures next { IfOk result (λ root. parts.IsNextBlock (parts.storage (F.device flash.old) storage.old.bad storage.old.ring) (parts.storage (F.device flash.new) storage.new.bad storage.new.ring) root) }
     ensures why { IfErr result (λ fault. RootCause (parts.storage (F.device flash.old) storage.old.bad storage.old.ring) fault (parts.storage (F.device flash.new) storage.new.bad storage.new.ring)) }
 {
-    let mut store = Store::new(flash, storage);
-    write_empty(&mut store)
-}
-
-/// Writes an empty directory to a store, and answers its block.
-fn write_empty<F: Flash>(store: &mut Store<'_, F>) -> Result<u32, Fault>
-    requires { IsSound F.device store.old }
-    ensures follows { Follows F.device store.old store.new }
-    ensures written { HasWritten (F.device store.old.flash.now) store.old.storage.now 1 (F.device store.new.flash.now) store.new.storage.now }
-    ensures kept { IfOk result (λ root. set.contains store.new.storage.now.ring.used root ≡ true) }
-    ensures empty { IfOk result (λ root. entries_in (node_of (F.device store.new.flash.now)) root ≡ Some []) }
-    ensures why { IfErr result (λ fault. RootCause (parts.storage (F.device store.old.flash.now) store.old.storage.now.bad store.old.storage.now.ring) fault (parts.storage (F.device store.new.flash.now) store.new.storage.now.bad store.new.storage.now.ring)) }
-{
-    store.write(&empty_directory())
+    let Storage {
+        bad,
+        ring,
+        page,
+        ..
+    } = storage;
+    write_node(flash, bad, ring, page, &empty_directory())
 }

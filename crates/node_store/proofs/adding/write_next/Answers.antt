@@ -3,8 +3,8 @@ use Rattle.std.proofs.lemmas.Result.{err_from_is_err_and}
 use Rattle.flash_model.specs.declared.device.DevFault.TheVariants.{Failed}
 use Rattle.allocator.specs.Ring.{free_count}
 use Rattle.node_store.specs.Writing.{WritesBlock}
-use Rattle.node_store.specs.Storage.{storage, Evolved, Pays}
-use Rattle.node_store.specs.StorageLaws.{took_good, took_bad, took_added, pays_bad, less_free}
+use Rattle.node_store.specs.Storage.{storage, Evolved, PassesBad, Pays}
+use Rattle.node_store.specs.StorageLaws.{took_good, took_bad, took_added, took_passed, pays_bad, less_free}
 use Rattle.node_store.proofs.adding.write_next.Goals as goal
 use Rattle.node_store.proofs.adding.write_next.Goals.{After-list_block}
 use Rattle.node_store.proofs.adding.write_next.Given.{Over}
@@ -39,6 +39,13 @@ module _ (g : Over) (c : After-list_block g) where
       subst (λ bads. Pays old (storage (g.F.Flash.device c.write_block.new.flash) bads c.take_block.new.ring) 0) (sym c.list_block.ensures.listed)
       (pays_bad old c.in_ok-block.block c.take_block.new.ring (g.F.Flash.device c.write_block.new.flash) c.in_ok-block.ensures.taken)
 
+  passes : PassesBad (storage (g.F.Flash.device c.args.flash.now) c.args.bad.now c.args.ring.now)
+      (storage (g.F.Flash.device c.write_block.new.flash) c.list_block.new.bad c.take_block.new.ring)
+  passes =
+      let old = storage (g.F.Flash.device c.args.flash.now) c.args.bad.now c.args.ring.now in
+      subst (λ bads. PassesBad old (storage (g.F.Flash.device c.write_block.new.flash) bads c.take_block.new.ring)) (sym c.list_block.ensures.listed)
+      (took_passed old c.in_ok-block.block c.take_block.new.ring (g.F.Flash.device c.write_block.new.flash) c.in_ok-block.ensures.taken)
+
   less : free_count c.take_block.new.ring c.list_block.new.bad < free_count c.args.ring.now c.args.bad.now
   less =
       let old = storage (g.F.Flash.device c.args.flash.now) c.args.bad.now c.args.ring.now in
@@ -67,3 +74,7 @@ returns-in_ok-list_block-in-Err-Failed-clause-evolved g c =
 pub returns-in_ok-list_block-in-Err-Failed-clause-pays : goal.returns-in_ok-list_block-in-Err-Failed-clause-pays
 returns-in_ok-list_block-in-Err-Failed-clause-pays g c =
     pays g (goal.at.returns-in_ok-list_block-in-Err-Failed-clause-pays g c).After-list_block
+
+pub returns-in_ok-list_block-in-Err-Failed-clause-next : goal.returns-in_ok-list_block-in-Err-Failed-clause-next
+returns-in_ok-list_block-in-Err-Failed-clause-next g c =
+    passes g (goal.at.returns-in_ok-list_block-in-Err-Failed-clause-next g c).After-list_block

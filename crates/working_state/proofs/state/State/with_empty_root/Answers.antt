@@ -11,7 +11,7 @@ returns-clause-fresh g c =
     let root = c.in_ok-root.ensures in
     written_fresh (g.F.Flash.device c.args.flash.now) c.args.limit c.in_ok-storage.storage (g.F.Flash.device c.write_root.new.flash) c.write_root.new.storage c.in_ok-history.history c.new-2.result c.in_ok-root.root c.requires.lawful
     storage.bad (storage.ring ∙ ap (λ (g : Geometry). unused_ring g.blocks) c.geometry.ensures) (storage.page_len ∙ ap (λ (g : Geometry). g.page) c.geometry.ensures) (rw c.geometry.ensures at storage.node_room)
-    root.written root.kept root.empty c.requires.at_least c.in_ok-history.ensures.made c.new-2.ensures
+    root.written root.kept root.empty root.next c.requires.at_least c.in_ok-history.ensures.made c.new-2.ensures
 
 pub returns-in_err-root-clause-why : goal.returns-in_err-root-clause-why
 returns-in_err-root-clause-why g c =

@@ -3,6 +3,7 @@ pub mod EditedTrees
 pub mod EmptyDirectories
 pub mod Entries
 pub mod EntryCounts
+pub mod FileTrees
 pub mod Frames
 pub mod MovedTrees
 pub mod Reaching

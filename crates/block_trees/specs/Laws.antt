@@ -5,7 +5,7 @@ use Rattle.fs_types.specs.declared.limits.TheConstants.{MAX_NAMES}
 use Rattle.fs_types.specs.Names.{Path}
 use Rattle.plain_trees.specs.Contents.{Contents, Entry, nothing, graft, IsLast}
 use Rattle.plain_trees.specs.Contents as plain
-use Rattle.plain_trees.specs.Trees.{put, remove, move, children, is_too_deep}
+use Rattle.plain_trees.specs.Trees.{put, remove, move, children, is_too_deep, IsFileTree}
 use Rattle.node_format.specs.declared.places.Place.{Place}
 use Rattle.node_format.specs.declared.places.Place.TheVariants.{Dir, File}
 use Rattle.block_trees.specs.Bodies.{Blocks, body, IsBody}
@@ -101,3 +101,7 @@ pub record MapLaw (capacity : ℕ) (f : Blocks) (root : ℕ) : Type 0 where
 
 abbrev pub AllMaps : Type 0
 AllMaps = (capacity : ℕ) (f : Blocks) (root : ℕ) → IsRoot capacity f root → MapLaw capacity f root
+
+-- the tree of a root is one of lawful paths, of few entries in each directory and of short files
+abbrev pub AllFileTrees : Type 0
+AllFileTrees = (capacity : ℕ) (f : Blocks) (root : ℕ) → IsRoot capacity f root → IsFileTree (root_tree capacity f root)

@@ -60,6 +60,29 @@ impl<R: Drop> History<R> {
         })
     }
 
+    /// The history of these parts, with room for one version more than `limit`: it takes no memory.
+    pub fn restore(
+        versions: Vec<Version<R>>,
+        cursor: usize,
+        dropped: bool,
+        next: u64,
+        checkpoints: BTreeMap<CpName, R>,
+        limit: usize,
+    ) -> Self
+        requires kept { IsKept (record { versions = versions.items; cursor = cursor; dropped = dropped; next = next; checkpoints = checkpoints.entries; limit = limit }) }
+        requires room { limit < vec_capacity versions }
+        ensures { result ≡ record { versions = versions.items; cursor = cursor; dropped = dropped; next = next; checkpoints = checkpoints.entries; limit = limit } }
+    {
+        History {
+            versions,
+            cursor,
+            dropped,
+            next,
+            checkpoints,
+            limit,
+        }
+    }
+
     /// A change: the versions after the present one are given up, and one with this root follows it.
     /// Where there are more than `limit` then, the oldest is dropped.
     pub fn push(&mut self, root: R)

@@ -5,3 +5,4 @@ pub mod Appends
 pub mod Pushed
 pub mod Again
 pub mod PayloadLaws
+pub mod ItsFlash

@@ -19,18 +19,18 @@ use Rattle.record_format.specs.Laws.{Says, MeaningSays, SaysMeaning, OneMeaning,
 use Rattle.record_format.proofs.LawfulRecords.{both_true, counts_of, name_length}
 use Rattle.record_format.proofs.Again.{bytes_eq-true, spelling_means}
 
-bind_some : {A B : Type 0} (r : Option A) (f : A → Option B) (y : B) → (r >>= f) ≡ Some y → (x : A) × (r ≡ Some x) × (f x ≡ Some y)
+pub bind_some : {A B : Type 0} (r : Option A) (f : A → Option B) (y : B) → (r >>= f) ≡ Some y → (x : A) × (r ≡ Some x) × (f x ≡ Some y)
 bind_some None f y e = absurd cc
 bind_some (Some x) f y e = (x, refl, e)
 
-passed : {A : Type 0} (b : Bool) (r : Option A) (y : A) → cond b r None ≡ Some y → (b ≡ true) × (r ≡ Some y)
+pub passed : {A : Type 0} (b : Bool) (r : Option A) (y : A) → cond b r None ≡ Some y → (b ≡ true) × (r ≡ Some y)
 passed true r y e = (refl, e)
 passed false r y e = absurd cc
 
-abbrev found : {A : Type 0} → A → Option A
+abbrev pub found : {A : Type 0} → A → Option A
 found x = Some x
 
-some_is : {A : Type 0} (x y : A) → found x ≡ found y → x ≡ y
+pub some_is : {A : Type 0} (x y : A) → found x ≡ found y → x ≡ y
 some_is x y e = cc
 
 spelled_says : (sequence one two : ℕ) (bytes : List ℕ) (read r : Record) → read.sequence ≡ sequence → if_spelled read one two bytes ≡ Some r → Says bytes r × (r.sequence ≡ sequence)

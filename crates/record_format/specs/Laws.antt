@@ -1,5 +1,6 @@
 -- The laws of payloads and of pages.
 use Rattle.std.specs.Prelude.{◌≡◌, ℕ, ◌+◌, ◌<◌, ◌≤◌, ◌^◌, true, Some, Ok, List, length}
+use Rattle.flash_model.specs.declared.sizes.Geometry.{Geometry}
 use Rattle.record_format.specs.Payloads.{is_record, Fits, spelling, payload_bytes, meaning_of, payload_at, longest}
 use Rattle.record_format.specs.Pages.{HeadFits, head_of, head_size, used_bytes, page_bytes}
 use Rattle.record_format.specs.declared.pages.PageHead.{PageHead}
@@ -28,6 +29,10 @@ OneMeaning = (bytes : List ℕ) (r s : Record) → Fits r → Fits s → (a : Sa
 -- what is written is read, on a flash of its sizes
 abbrev pub WrittenIsRead : Type 0
 WrittenIsRead = (r : Record) → is_record r ≡ true → Fits r → payload_at r.geometry r.sequence (payload_bytes r) ≡ Ok r
+
+-- what a payload means on a flash is a lawful record of its sizes
+abbrev pub MeansItsFlash : Type 0
+MeansItsFlash = (g : Geometry) (sequence : ℕ) (bytes : List ℕ) (r : Record) → payload_at g sequence bytes ≡ Ok r → (r.geometry ≡ g) × (is_record r ≡ true)
 
 -- a payload is not empty and has at most 2,408 bytes
 abbrev pub IsShort : Type 0

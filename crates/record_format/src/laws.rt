@@ -1,13 +1,14 @@
 //! The laws of the definitions, as contracts of functions that do nothing.
-ghost use Rattle.record_format.specs.Laws.{MeaningSays, SaysMeaning, OneMeaning, WrittenIsRead, IsShort, PageIsRead};
+ghost use Rattle.record_format.specs.Laws.{MeaningSays, SaysMeaning, OneMeaning, WrittenIsRead, MeansItsFlash, IsShort, PageIsRead};
 
 /// The laws of payloads: meaning and spelling belong together, a payload has at most one meaning,
-/// and what is written is read.
+/// and what is written is read. On a flash it means a record of its sizes alone.
 pub fn payload_laws()
     ensures says { MeaningSays }
     ensures means { SaysMeaning }
     ensures one { OneMeaning }
     ensures written { WrittenIsRead }
+    ensures its_flash { MeansItsFlash }
     ensures short { IsShort }
 {}
 

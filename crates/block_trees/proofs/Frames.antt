@@ -9,7 +9,8 @@ use Rattle.plain_trees.specs.Contents.{Entry}
 use Rattle.node_format.specs.Items.{Item, named}
 use Rattle.node_format.specs.declared.places.Place.{Place}
 use Rattle.node_format.specs.declared.places.Place.TheVariants.{Dir, File}
-use Rattle.block_trees.specs.Bodies.{Blocks, index_of, pointer_of, data_of, back, data_to, head_index, body, Divides, IsChain, IsLinked, IsBody}
+use Rattle.node_format.specs.BodyNodes.{HasSlot}
+use Rattle.block_trees.specs.Bodies.{Blocks, index_of, pointer_of, data_of, back, data_to, head_index, body, IsChain, IsLinked, IsBody}
 use Rattle.block_trees.specs.Trees.{entries_of, items_of, child, leads, entry_at, tree_at, IsWhole, HasTree, listed, items_in}
 use Rattle.block_trees.specs.Reached.{IsHeld, Keeps, Reached, IsFirst, IsNamed, Names}
 use Rattle.block_trees.specs.Laws.{FrameLaw, AllFrames}
@@ -64,8 +65,8 @@ module _ (old new : Blocks) (kept kept' : ℕ → Bool) (keeps : Keeps kept old 
   linked_same : (capacity i block : ℕ) → IsChain capacity old i block → Held block → IsLinked old i block → IsLinked new i block
   linked_same capacity zero block chain held linked = tt
   linked_same capacity (suc i) block chain held linked =
-      subst (λ (node : Option (List ℕ)). ((x : ℕ) → Divides x (suc i) → pointer_of node x ≡ back new block (2 ^ x)) × IsLinked new i (pointer_of node 0)) (sym (same_node block held)) (
-        (λ x divides. linked.0 x divides ∙ sym (back_same capacity (suc i) (2 ^ x) block (divides_le divides.0 (2 ^ x) i divides.1) chain held)),
+      subst (λ (node : Option (List ℕ)). ((x : ℕ) → HasSlot (suc i) x → pointer_of node x ≡ back new block (2 ^ x)) × IsLinked new i (pointer_of node 0)) (sym (same_node block held)) (
+        (λ x has. linked.0 x has ∙ sym (back_same capacity (suc i) (2 ^ x) block (divides_le has.2.0 (2 ^ x) i has.2.1) chain held)),
         linked_same capacity i (pointer_of (old block) 0) chain.2 (held_before i block chain.0 held) linked.1,
       )
 

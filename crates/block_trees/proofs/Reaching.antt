@@ -43,11 +43,11 @@ child_names f block name place root is names =
     let found = named-contained (items_in f block) name place is in
     inl (found.0, found.1, subst (λ (p : Place). PlaceNames p root) (sym found.2) names)
 
--- place 0 of a body node after the first names the node before it
+-- slot 0 of a body node after the first names the node before it
 pub before_named : (f : Blocks) (i block : ℕ) → index_of (f block) ≡ Some (suc i) → Names (f block) (pointer_of (f block) 0)
 before_named f i block is =
     let divides : suc i ≡ suc i * 2 ^ 0 = omega arith in
-    inr (subst (λ (index : Option ℕ). BodyNames index (pointer_of (f block)) (pointer_of (f block) 0)) (sym is) (0, omega arith, (suc i, divides), refl))
+    inr (subst (λ (index : Option ℕ). BodyNames index (pointer_of (f block)) (pointer_of (f block) 0)) (sym is) (0, (omega arith, omega arith, (suc i, divides)), refl))
 
 -- what is below a held place is held
 pub held_child : (f : Blocks) (kept : ℕ → Bool) (at : Place) (name : Name) (place : Place) → child f at name ≡ Some place → IsHeld f kept at → IsHeld f kept place

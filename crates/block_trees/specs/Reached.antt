@@ -3,7 +3,8 @@ use Rattle.std.specs.Prelude.{◌≡◌, ℕ, ◌<◌, ◌⊎◌, Bool, true, Op
 use Rattle.node_format.specs.Items.{Item}
 use Rattle.node_format.specs.declared.places.Place.{Place}
 use Rattle.node_format.specs.declared.places.Place.TheVariants.{Dir, File}
-use Rattle.block_trees.specs.Bodies.{Blocks, index_of, pointer_of, Divides}
+use Rattle.node_format.specs.BodyNodes.{HasSlot}
+use Rattle.block_trees.specs.Bodies.{Blocks, index_of, pointer_of}
 use Rattle.block_trees.specs.Trees.{items_of}
 
 -- a place names a block: a directory its node, a file that is not empty its head
@@ -11,10 +12,10 @@ abbrev pub PlaceNames : Place → ℕ → Type 0
 PlaceNames (Dir block) next = block ≡ next
 PlaceNames (File head size) next = (0 < size) × (head ≡ next)
 
--- a body node names the blocks of its slots that are in use
+-- a body node names the blocks of the slots that its index has
 abbrev pub BodyNames : Option ℕ → (ℕ → ℕ) → ℕ → Type 0
 BodyNames None pointer next = ⊥
-BodyNames (Some index) pointer next = (x : ℕ) × (0 < index) × Divides x index × (pointer x ≡ next)
+BodyNames (Some index) pointer next = (x : ℕ) × HasSlot index x × (pointer x ≡ next)
 
 -- the node in a block names a block, by an entry or by a slot
 abbrev pub Names : Option (List ℕ) → ℕ → Type 0

@@ -9,6 +9,7 @@ use Rattle.byteorder.specs.Endian.{little_bytes}
 use Rattle.byteorder.specs.Numbers.{little_number-reads_back}
 use Rattle.node_format.specs.Headers.{field, body_front, IsNode}
 use Rattle.node_format.specs.BodyNodes.{HasSlot, IsBodySpelling}
+use Rattle.node_format.specs.declared.headers.TheConstants.{SLOTS}
 
 -- a field of the front
 pub field_front : (xs ys : List ℕ) (place : ℕ) → place + 4 ≤ length xs → field (xs ++ ys) place ≡ field xs place
@@ -85,22 +86,12 @@ spelled_node block index pointers bytes node capacity s =
 
 -- ---- slots
 
-pub slot_divides : (index place : ℕ) → 0 < index → place < 32 → IsTrue (nat_eq (index % (1 * 2 ^ place % 4294967296)) 0) ↔ HasSlot index place
+pub slot_divides : (index place : ℕ) → 0 < index → place < SLOTS → IsTrue (nat_eq (index % (1 * 2 ^ place % 4294967296)) 0) ↔ HasSlot index place
 slot_divides index place some few =
-    let low : 2 ^ place ≤ 2 ^ 31 = pow_mono {i = place} {j = 31} (omega arith) in
+    let low : 2 ^ place ≤ 2 ^ 15 = pow_mono {i = place} {j = 15} (omega arith) in
     let same : 1 * 2 ^ place % 4294967296 ≡ 2 ^ place = ap (λ (n : ℕ). n % 4294967296) (one-mul (2 ^ place)) ∙ mod-eq_of_lt (omega arith) in
-    let to : index % 2 ^ place ≡ 0 → HasSlot index place = λ e. (some, (index / 2 ^ place, (omega (arith, e, div-add-mod' index (2 ^ place))))) in
-    let from : HasSlot index place → index % 2 ^ place ≡ 0 = λ h. ap (λ (n : ℕ). n % 2 ^ place) h.1.1 ∙ mul-mod_left h.1.0 (2 ^ place) in (
+    let to : index % 2 ^ place ≡ 0 → HasSlot index place = λ e. (few, some, (index / 2 ^ place, (omega (arith, e, div-add-mod' index (2 ^ place))))) in
+    let from : HasSlot index place → index % 2 ^ place ≡ 0 = λ h. ap (λ (n : ℕ). n % 2 ^ place) h.2.1 ∙ mul-mod_left h.2.0 (2 ^ place) in (
       λ t. to (ap (λ (n : ℕ). index % n) (sym same) ∙ eqb-true _ _ t),
       λ h. eq-eqb _ _ (ap (λ (n : ℕ). index % n) same ∙ from h),
     )
-
-pub slot_beyond : (index place : ℕ) → index < 2 ^ 32 → 32 ≤ place → HasSlot index place → ⊥
-slot_beyond index place fits far h = on h.1.0 h.1.1
-  where
-    on : (m : ℕ) → index ≡ m * 2 ^ place → ⊥
-    on zero e = omega (arith, h.0)
-    on (suc m) e =
-        let high : 2 ^ 32 ≤ 2 ^ place = pow_mono {i = 32} {j = place} far in
-        let more : 1 * 2 ^ place ≤ suc m * 2 ^ place = mul-le-mul_right (2 ^ place) (omega arith) in
-        omega (arith, one-mul (2 ^ place))

@@ -2,9 +2,10 @@
 ghost use Rattle.std.specs.Prelude.{◌≡◌, ℕ, ◌+◌, ◌*◌, ◌^◌, ◌<◌, ◌≤◌, ◌++◌, ◌↔◌, IsTrue, length, drop, slice_index, codes, Some, IfSome, OnOk, IfOk};
 ghost use Rattle.byteorder.specs.Endian.{little_bytes};
 ghost use Rattle.node_format.specs.Headers.{field, body_front, IsNode};
-ghost use Rattle.node_format.specs.BodyNodes.{slot_count, IsBodyNode, HasSlot, IsBodySpelling};
+ghost use Rattle.node_format.specs.BodyNodes.{IsBodyNode, HasSlot, IsBodySpelling};
+ghost use Rattle.node_format.specs.declared.headers.TheConstants.{SLOTS};
 
-use crate::headers::BODY_FRONT;
+use crate::headers::{BODY_FRONT, SLOTS};
 use std::alloc::{AllocError, Global};
 use std::marker::Model;
 
@@ -13,9 +14,6 @@ const MAGIC: [u8; 4] = *b"UFNB";
 
 /// The bytes before the data.
 const FRONT: usize = BODY_FRONT as usize;
-
-/// The slots of a body node, each for a pointer to a node before it.
-const SLOTS: usize = 16;
 
 /// A node of a file's body: a part of the file's bytes, with the blocks of nodes before it, lent from
 /// the bytes of the node.
@@ -70,7 +68,7 @@ impl<'a> BodyNode<'a> {
     }
 
     /// The block that a slot names: that of the node 2 to the `slot` before this one. None where 2 to
-    /// the `slot` does not divide the index, and for the first node.
+    /// the `slot` does not divide the index, for the first node, and past the last slot.
     pub fn pointer(&self, slot: usize) -> Option<u32>
         ensures found { IfSome result (λ block. (block ≡ field self.now (16 + 4 * slot)) × HasSlot (field self.now 4) slot) }
         ensures only { HasSlot (field self.now 4) slot → result ≡ Some (field self.now (16 + 4 * slot)) }
@@ -93,12 +91,12 @@ impl<'a> BodyNode<'a> {
 /// Whether the node of an index has a pointer at a slot.
 fn has_slot(index: u32, slot: usize) -> bool
     ensures has { IsTrue result ↔ HasSlot index slot }
-    ensures few { IsTrue result → slot < 32 }
+    ensures few { IsTrue result → slot < SLOTS }
 {
     if index == 0 {
         return false;
     }
-    if slot >= 32 {
+    if slot >= SLOTS {
         return false;
     }
     index % (1 << slot) == 0
@@ -145,7 +143,7 @@ fn header(alloc: Global, index: u32, used: u32) -> Result<Vec<u8>, AllocError>
 /// Adds the slots, with these pointers and 0 in the others.
 fn push_slots(out: &mut Vec<u8>, pointers: &[u32]) -> Result<(), AllocError>
     ensures old { OnOk result ((slot : ℕ) → slot + 4 ≤ length out.old.items → field out.new.items slot ≡ field out.old.items slot) }
-    ensures slots { OnOk result ((x : ℕ) → x < slot_count → field out.new.items (length out.old.items + 4 * x) ≡ slice_index pointers.now x) }
+    ensures slots { OnOk result ((x : ℕ) → x < SLOTS → field out.new.items (length out.old.items + 4 * x) ≡ slice_index pointers.now x) }
     ensures size { OnOk result (length out.new.items ≡ length out.old.items + 64) }
 {
     for slot in 0..SLOTS {
@@ -162,7 +160,7 @@ pub fn body_node(
     pointers: &[u32],
     bytes: &[u8],
 ) -> Result<Vec<u8>, AllocError>
-    requires slots { length pointers.now ≤ slot_count }
+    requires slots { length pointers.now ≤ SLOTS }
     requires some { 1 ≤ length bytes.now }
     requires capacity { body_front + length bytes.now < 2 ^ 32 }
     ensures spelled { IfOk result (λ node. IsBodySpelling node.items index pointers.now bytes.now) }

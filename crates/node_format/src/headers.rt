@@ -13,6 +13,9 @@ pub(crate) const DIRECTORY_MAGIC: u32 = 0x444e_4655;
 /// The bytes before the data of a body node.
 pub const BODY_FRONT: u32 = 80;
 
+/// The slots of a body node, each for a pointer to a node before it.
+pub const SLOTS: usize = 16;
+
 /// The bytes before the entries of a directory node.
 const DIRECTORY_FRONT: u32 = 16;
 

@@ -11,10 +11,11 @@ use Rattle.node_format.specs.Directories.{size_of, byte_at, number_at, name_at, 
 use Rattle.node_format.specs.declared.places.Place.{Place}
 use Rattle.node_format.specs.declared.places.Place.TheVariants.{Dir, File}
 use Rattle.node_format.proofs.Fields.{bind_some, passed, not_refused, chosen, some_is}
-use Rattle.block_trees.specs.Bodies.{head_index, Divides}
+use Rattle.block_trees.specs.Bodies.{head_index}
 use Rattle.block_trees.specs.Trees.{items_of}
 use Rattle.reclaim.proofs.Chains.{divides_least}
 use Rattle.fs_types.specs.declared.limits.TheConstants.{MAX_FILE_BYTES}
+use Rattle.node_format.specs.BodyNodes.{Divides}
 
 -- ---- files
 

@@ -19,9 +19,10 @@ use Rattle.block_trees.proofs.Entries.{directory_no_index}
 use Rattle.reclaim.specs.Naming.{has_slot}
 use Rattle.reclaim.specs.Sound.{IsDirectoryAt, IsHead, IsSoundPlace, HoldsSlot, IsSoundBody, IsSoundNode}
 use Rattle.reclaim.specs.Looks.{IsLookFault, body_of, look_reads, AreSteppedTo, ArePartsOf, IsSoundAt}
-use Rattle.reclaim.proofs.NamedLaws.{has_slot-divides, divides-has_slot, divides-below}
+use Rattle.reclaim.proofs.NamedLaws.{has_slot-divides, divides-has_slot}
 use Rattle.reclaim.proofs.Lengths.{divides-short}
 use Rattle.fs_types.specs.declared.limits.TheConstants.{MAX_FILE_BYTES}
+use Rattle.node_format.specs.declared.headers.TheConstants.{SLOTS}
 
 pub never : IsTrue false → ⊥
 never is = true≢false (sym is)
@@ -122,11 +123,11 @@ body_good capacity f p (suc i) stepped fits some is exact = (
   λ t. let all = exact.0 t in (
     parts.0 ∙ ap (λ (n : ℕ). Some n) less,
     parts.1,
-    λ x divides.
-        let below : suc x < 13 = divides-short (suc i) (suc x) (omega arith) fits divides in
-        all x (omega arith) (divides-has_slot (suc i) (suc x) (omega arith) divides),
+    λ x slot.
+        let below : suc x < 13 = divides-short (suc i) (suc x) slot.1 fits slot.2 in
+        all x (omega arith) (divides-has_slot (suc i) (suc x) slot.1 slot.2),
   ),
-  λ h. exact.1 (λ x below has. h.2 x (has_slot-divides (suc i) (suc x) has).1),
+  λ h. exact.1 (λ x below has. let own = has_slot-divides (suc i) (suc x) has in h.2 x (omega arith, own.0, own.1)),
 )
   where
     less : suc i - 1 ≡ i
@@ -146,16 +147,15 @@ body_bad capacity f p (suc i) some other = (
       absurd (other (ap (option_map {U = ℕ × ℕ} (λ (n : ℕ). (n, length (data_of (f (p 0)))))) h.0 ∙ ap (λ (n : ℕ). Some (i, n)) h.1 ∙ ap (λ (n : ℕ). Some (n, capacity)) less)),
 )
 
--- pointers that are the same at the first 32 places
-pub body_same : (capacity : ℕ) (f : Blocks) (p q : ℕ → ℕ) (index : ℕ) → index < 2 ^ 32 → ((x : ℕ) → x < 32 → p x ≡ q x) → IsSoundBody capacity f p index → IsSoundBody capacity f q index
-body_same capacity f p q zero fits same h = tt
-body_same capacity f p q (suc i) fits same h = (
+-- pointers that are the same at all slots
+pub body_same : (capacity : ℕ) (f : Blocks) (p q : ℕ → ℕ) (index : ℕ) → ((x : ℕ) → x < SLOTS → p x ≡ q x) → IsSoundBody capacity f p index → IsSoundBody capacity f q index
+body_same capacity f p q zero same h = tt
+body_same capacity f p q (suc i) same h = (
   subst (λ (b : ℕ). index_of (f b) ≡ Some i) first h.0,
   subst (λ (b : ℕ). length (data_of (f b)) ≡ capacity) first h.1,
-  λ x divides.
-      let below : suc x < 32 = divides-below (suc i) (suc x) (omega arith) fits divides in
-      let before : x < 32 = omega (arith, below) in
-      subst (λ (b : ℕ). HoldsSlot (f b) x (q (suc x))) (same x before) (subst (HoldsSlot (f (p x)) x) (same (suc x) below) (h.2 x divides)),
+  λ x has.
+      let before : x < SLOTS = omega (arith, has.0) in
+      subst (λ (b : ℕ). HoldsSlot (f b) x (q (suc x))) (same x before) (subst (HoldsSlot (f (p x)) x) (same (suc x) has.0) (h.2 x has)),
 )
   where
     first : p 0 ≡ q 0
@@ -216,17 +216,17 @@ node_long capacity f held index short has is long = (λ t. absurd (never t), λ 
 
 pub node_body : (capacity : ℕ) (f : Blocks) (node : Option (List ℕ)) (places : List Place) (good : Bool) → places ≡ map (λ (item : Item). item.place) (items_of node)
     → (IsTrue good ↔ All (IsSoundPlace capacity f) places) → good ≡ true
-    → (index : ℕ) (pointers : ℕ → ℕ) (sound : Bool) → index_of node ≡ Some index → index < 2 ^ 32 → ((x : ℕ) → x < 32 → pointers x ≡ pointer_of node x) → index * capacity < MAX_FILE_BYTES
+    → (index : ℕ) (pointers : ℕ → ℕ) (sound : Bool) → index_of node ≡ Some index → ((x : ℕ) → x < SLOTS → pointers x ≡ pointer_of node x) → index * capacity < MAX_FILE_BYTES
     → (IsTrue sound ↔ IsSoundBody capacity f pointers index) → IsTrue sound ↔ IsSoundNode capacity f node
-node_body capacity f node places good is exact well index pointers sound has fits same short body = (
+node_body capacity f node places good is exact well index pointers sound has same short body = (
   λ t. record {
     entries = entries_all capacity f node places is (exact.0 well);
     pointers = λ i some.
         let own : index ≡ i = some_is index i (sym has ∙ some) in
-        subst (IsSoundBody capacity f (pointer_of node)) own (body_same capacity f pointers (pointer_of node) index fits same (body.0 t));
+        subst (IsSoundBody capacity f (pointer_of node)) own (body_same capacity f pointers (pointer_of node) index same (body.0 t));
     short = λ i some. subst (λ (k : ℕ). k * capacity < MAX_FILE_BYTES) (some_is index i (sym has ∙ some)) short;
   },
-  λ h. body.1 (body_same capacity f (pointer_of node) pointers index fits (λ x below. sym (same x below)) (h.pointers index has)),
+  λ h. body.1 (body_same capacity f (pointer_of node) pointers index (λ x below. sym (same x below)) (h.pointers index has)),
 )
 
 -- parts of the same node in other words
@@ -245,12 +245,9 @@ pub parts_plain : (capacity : ℕ) (f : Blocks) (places : List Place) (pointers 
     → (node : Option (List ℕ)) → ArePartsOf node places pointers index → IsTrue true ↔ IsSoundNode capacity f node
 parts_plain capacity f places pointers index good exact well none node parts = node_plain capacity f node places good parts.places_are exact well (sym parts.index_is ∙ none)
 
-short_fits : (capacity index : ℕ) → 0 < capacity → index * capacity < MAX_FILE_BYTES → index < 2 ^ 32
-short_fits capacity index least short = omega (arith, short, mul-le index 1 index capacity (omega arith) least)
-
-pub parts_body : (capacity : ℕ) (f f' : Blocks) (places : List Place) (pointers : List ℕ) (index : ℕ) (good sound : Bool) → f' ≡ f → (IsTrue good ↔ All (IsSoundPlace capacity f) places) → good ≡ true → 0 < capacity
+pub parts_body : (capacity : ℕ) (f f' : Blocks) (places : List Place) (pointers : List ℕ) (index : ℕ) (good sound : Bool) → f' ≡ f → (IsTrue good ↔ All (IsSoundPlace capacity f) places) → good ≡ true
     → (IsTrue sound ↔ IsSoundAt capacity f' (slice_index pointers) index) → (node : Option (List ℕ)) → ArePartsOf node places pointers (Some index) → IsTrue sound ↔ IsSoundNode capacity f node
-parts_body capacity f f' places pointers index good sound same exact well least own node parts = (λ t. (whole t).0 t, λ h. here.1 (h.short index (sym parts.index_is), body_same capacity f (pointer_of node) (slice_index pointers) index (short_fits capacity index least (h.short index (sym parts.index_is))) (λ x below. sym (parts.pointers_are x below)) (h.pointers index (sym parts.index_is))))
+parts_body capacity f f' places pointers index good sound same exact well own node parts = (λ t. (whole t).0 t, λ h. here.1 (h.short index (sym parts.index_is), body_same capacity f (pointer_of node) (slice_index pointers) index (λ x below. sym (parts.pointers_are x below)) (h.pointers index (sym parts.index_is))))
   where
     here : IsTrue sound ↔ IsSoundAt capacity f (slice_index pointers) index
     here = subst (λ (h : Blocks). IsTrue sound ↔ IsSoundAt capacity h (slice_index pointers) index) same own
@@ -258,7 +255,7 @@ parts_body capacity f f' places pointers index good sound same exact well least 
     whole : IsTrue sound → IsTrue sound ↔ IsSoundNode capacity f node
     whole t =
         let at = here.0 t in
-        node_body capacity f node places good parts.places_are exact well index (slice_index pointers) sound (sym parts.index_is) (short_fits capacity index least at.0) parts.pointers_are at.0 (λ s. (here.0 s).1, λ b. t)
+        node_body capacity f node places good parts.places_are exact well index (slice_index pointers) sound (sym parts.index_is) parts.pointers_are at.0 (λ s. (here.0 s).1, λ b. t)
 
 -- a test that is answered by another, where a file can have the index
 pub at_long : (capacity : ℕ) (f : Blocks) (p : ℕ → ℕ) (index : ℕ) (short : Bool) → short ≡ nat_lt (index * capacity) MAX_FILE_BYTES → short ≡ false → IsTrue false ↔ IsSoundAt capacity f p index

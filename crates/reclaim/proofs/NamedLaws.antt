@@ -1,6 +1,6 @@
 -- The blocks that a node names, and the list of them.
 use Rattle.std.proofs.Common.{◌≡◌, ◌↔◌, ◌⊎◌, inl, inr, ℕ, zero, suc, ◌+◌, ◌/◌, ◌%◌, ◌^◌, ◌<◌, Bool, true, false, cond, Option, Some, None, List, [], ◌∷◌, ◌++◌, refl, sym, ap, subst, ◌∙◌, arith}
-use Rattle.std.specs.Prelude.{◌==◌, nat_lt, Contains, IfSome}
+use Rattle.std.specs.Prelude.{◌==◌, nat_lt, Contains}
 use Rattle.std.specs.List.{flat_map}
 use Rattle.std.proofs.Math.Nat.{div-add-mod', mul-mod_left}
 use Rattle.std.proofs.lemmas.Bool.{and_parts, and_from, ltb-true, lt-ltb, eqb-true, eq-eqb, cases_lt}
@@ -8,11 +8,12 @@ use Rattle.std.proofs.lemmas.List.Elements.{Contains-append_left, Contains-appen
 use Rattle.node_format.specs.Items.{Item}
 use Rattle.node_format.specs.declared.places.Place.{Place}
 use Rattle.node_format.specs.declared.places.Place.TheVariants.{Dir, File}
-use Rattle.node_format.proofs.BodyFields.{slot_beyond}
-use Rattle.block_trees.specs.Bodies.{index_of, pointer_of, Divides}
+use Rattle.block_trees.specs.Bodies.{index_of, pointer_of}
 use Rattle.block_trees.specs.Trees.{items_of}
 use Rattle.block_trees.specs.Reached.{PlaceNames, BodyNames, Names}
 use Rattle.reclaim.specs.Naming.{place_names, item_names, has_slot, slots_named, body_named}
+use Rattle.node_format.specs.BodyNodes.{Divides, HasSlot}
+use Rattle.node_format.specs.declared.headers.TheConstants.{SLOTS}
 
 -- ---- entries
 
@@ -67,7 +68,7 @@ items_from (first ∷ items) item b (suc k, lt, is) names =
 
 -- ---- slots
 
--- one place more
+-- one slot more
 pub slots_named-has : (index : ℕ) (pointer : ℕ → ℕ) (x : ℕ) → has_slot index x ≡ true
     → slots_named index pointer (x + 1) ≡ slots_named index pointer x ++ pointer x ∷ []
 unfolding slots_named
@@ -86,14 +87,14 @@ pub slots_named-none : (index : ℕ) (pointer : ℕ → ℕ) → slots_named ind
 unfolding slots_named
 slots_named-none index pointer = refl
 
--- the node has a pointer at a place below n, to the block
+-- the node has a pointer at a slot below n, to the block
 abbrev HasPointer : ℕ → (ℕ → ℕ) → ℕ → ℕ → Type 0
 HasPointer index pointer n b = (x : ℕ) × (x < n) × (has_slot index x ≡ true) × (pointer x ≡ b)
 
-places_to : (index : ℕ) (pointer : ℕ → ℕ) (n b : ℕ) → Contains (slots_named index pointer n) b → HasPointer index pointer n b
+slots_to : (index : ℕ) (pointer : ℕ → ℕ) (n b : ℕ) → Contains (slots_named index pointer n) b → HasPointer index pointer n b
 unfolding slots_named
-places_to index pointer zero b h = absurd (in_none b h)
-places_to index pointer (suc n) b h = on (has_slot index n) refl h (places_to index pointer n b)
+slots_to index pointer zero b h = absurd (in_none b h)
+slots_to index pointer (suc n) b h = on (has_slot index n) refl h (slots_to index pointer n b)
   where
     more : HasPointer index pointer n b → HasPointer index pointer (suc n) b
     more (x, lt, has, is) = (x, omega arith, has, is)
@@ -108,12 +109,12 @@ places_to index pointer (suc n) b h = on (has_slot index n) refl h (places_to in
     on true has h again = last has (Contains-push_cases (slots_named index pointer n) (pointer n) b h) again
     on false lacks h again = more (again h)
 
-places_from : (index : ℕ) (pointer : ℕ → ℕ) (n x : ℕ) → x < n → has_slot index x ≡ true → Contains (slots_named index pointer n) (pointer x)
+slots_from : (index : ℕ) (pointer : ℕ → ℕ) (n x : ℕ) → x < n → has_slot index x ≡ true → Contains (slots_named index pointer n) (pointer x)
 unfolding slots_named
-places_from index pointer zero x lt has = absurd (omega arith)
-places_from index pointer (suc n) x lt has =
+slots_from index pointer zero x lt has = absurd (omega arith)
+slots_from index pointer (suc n) x lt has =
     elim (cases_lt x n) [
-      | inl before ↦ on (has_slot index n) (places_from index pointer n x before has)
+      | inl before ↦ on (has_slot index n) (slots_from index pointer n x before has)
       | inr past ↦
           let same : n ≡ x = omega arith in
           let here : has_slot index n ≡ true = ap (has_slot index) same ∙ has in
@@ -126,7 +127,7 @@ places_from index pointer (suc n) x lt has =
     on true h = Contains-append_left (slots_named index pointer n) (pointer n ∷ []) (pointer x) h
     on false h = h
 
--- the test of a place
+-- the test of a slot
 pub has_slot-divides : (index x : ℕ) → has_slot index x ≡ true → (0 < index) × Divides x index
 has_slot-divides index x has =
     let parts = and_parts (nat_lt 0 index) (index % 2 ^ x == 0) has in
@@ -138,34 +139,25 @@ divides-has_slot index x some (m, is) =
     let e : index % 2 ^ x ≡ 0 = ap (λ (n : ℕ). n % 2 ^ x) is ∙ mul-mod_left m (2 ^ x) in
     and_from (nat_lt 0 index) (index % 2 ^ x == 0) (lt-ltb 0 index some) (eq-eqb (index % 2 ^ x) 0 e)
 
--- no place from 32 on divides a number of four bytes
-pub divides-below : (index x : ℕ) → 0 < index → index < 2 ^ 32 → Divides x index → x < 32
-divides-below index x some fits divides =
-    elim (cases_lt x 32) [
-      | inl below ↦ below
-      | inr past ↦ absurd (slot_beyond index x fits past (some, divides))
-    ]
-
 body_to : (o : Option ℕ) (pointer : ℕ → ℕ) (b : ℕ) → Contains (body_named o pointer) b → BodyNames o pointer b
 body_to None pointer b h = absurd (in_none b h)
 body_to (Some index) pointer b h =
-    let found = places_to index pointer 32 b h in
+    let found = slots_to index pointer SLOTS b h in
     let has = has_slot-divides index found.0 found.2 in
-    (found.0, has.0, has.1, found.3)
+    (found.0, (found.1, has.0, has.1), found.3)
 
-body_from : (o : Option ℕ) (pointer : ℕ → ℕ) (b : ℕ) → IfSome o (λ index. index < 2 ^ 32) → BodyNames o pointer b → Contains (body_named o pointer) b
-body_from None pointer b fits h = absurd h
-body_from (Some index) pointer b fits (x, some, divides, is) =
-    subst (Contains (slots_named index pointer 32)) is
-    (places_from index pointer 32 x (divides-below index x some fits divides) (divides-has_slot index x some divides))
+body_from : (o : Option ℕ) (pointer : ℕ → ℕ) (b : ℕ) → BodyNames o pointer b → Contains (body_named o pointer) b
+body_from None pointer b h = absurd h
+body_from (Some index) pointer b (x, has, is) =
+    subst (Contains (slots_named index pointer SLOTS)) is
+    (slots_from index pointer SLOTS x has.0 (divides-has_slot index x has.1 has.2))
 
 -- ---- both
 
 -- the list has what the node names, and nothing else
-pub named_all : (bytes list : List ℕ) → IfSome (index_of (Some bytes)) (λ index. index < 2 ^ 32)
-    → list ≡ flat_map item_names (items_of (Some bytes)) ++ body_named (index_of (Some bytes)) (pointer_of (Some bytes))
+pub named_all : (bytes list : List ℕ) → list ≡ flat_map item_names (items_of (Some bytes)) ++ body_named (index_of (Some bytes)) (pointer_of (Some bytes))
     → (b : ℕ) → Contains list b ↔ Names (Some bytes) b
-named_all bytes list fits is b = (
+named_all bytes list is b = (
   λ h. to (Contains-append_cases (flat_map item_names (items_of (Some bytes))) (body_named (index_of (Some bytes)) (pointer_of (Some bytes))) b (subst (λ (xs : List ℕ). Contains xs b) is h)),
   λ h. subst (λ (xs : List ℕ). Contains xs b) (sym is) (from h),
 )
@@ -178,4 +170,4 @@ named_all bytes list fits is b = (
     from (inl (item, within, names)) =
         Contains-append_left (flat_map item_names (items_of (Some bytes))) (body_named (index_of (Some bytes)) (pointer_of (Some bytes))) b (items_from (items_of (Some bytes)) item b within names)
     from (inr h) =
-        Contains-append_right (flat_map item_names (items_of (Some bytes))) (body_named (index_of (Some bytes)) (pointer_of (Some bytes))) b (body_from (index_of (Some bytes)) (pointer_of (Some bytes)) b fits h)
+        Contains-append_right (flat_map item_names (items_of (Some bytes))) (body_named (index_of (Some bytes)) (pointer_of (Some bytes))) b (body_from (index_of (Some bytes)) (pointer_of (Some bytes)) b h)

@@ -10,46 +10,47 @@ use Rattle.node_format.specs.Directories.{size_of}
 use Rattle.node_format.specs.EntryLaws.{named-contained}
 use Rattle.node_format.specs.declared.places.Place.{Place}
 use Rattle.node_format.specs.declared.places.Place.TheVariants.{Dir, File}
-use Rattle.block_trees.specs.Bodies.{Blocks, index_of, pointer_of, back, head_index, Divides, IsChain, IsLinked, IsBody}
+use Rattle.block_trees.specs.Bodies.{Blocks, index_of, pointer_of, back, head_index, IsChain, IsLinked, IsBody}
 use Rattle.block_trees.specs.Trees.{items_of, entries_of, child, leads, IsWhole, HasTree, IsRoot, entries_in, items_in}
 use Rattle.block_trees.specs.Reached.{PlaceNames, BodyNames, Names, Reached, IsFirst, IsNamed}
 use Rattle.block_trees.proofs.Entries.{entry_named, directory_no_index, place_is}
 use Rattle.block_trees.proofs.Reaching.{before_named}
 use Rattle.reclaim.specs.Sound.{IsDirectoryAt, IsHead, IsSoundPlace, HoldsSlot, AreStepped, IsSoundBody, IsSoundNode, SoundHasTrees, TreesAreSound, TreesHoldNodes}
 use Rattle.reclaim.proofs.Lengths.{entry_short, head_short, shorter}
-use Rattle.reclaim.proofs.Chains.{chain_node, chain_back, linked_back, data_length, half_divides, divides_least, fewer_divides, some_before, back_twice}
+use Rattle.reclaim.proofs.Chains.{chain_node, chain_back, linked_back, data_length, half_slot, divides_least, fewer_slots, some_before, back_twice}
+use Rattle.node_format.specs.BodyNodes.{HasSlot}
 
 -- ---- sound nodes make chains
 
 some_items : (o : Option (List Item)) (items : List Item) → o ≡ Some items → unwrap_or o [] ≡ items
 some_items o items is = ap (λ (p : Option (List Item)). unwrap_or p []) is
 
--- one place more
-place_more : (f : Blocks) (i block x : ℕ) → IsLinked f i (pointer_of (f block) 0) → Divides (suc x) (suc i)
+-- one slot more
+slot_more : (f : Blocks) (i block x : ℕ) → IsLinked f i (pointer_of (f block) 0) → HasSlot (suc i) (suc x)
     → pointer_of (f block) x ≡ back f block (2 ^ x) → HoldsSlot (f (pointer_of (f block) x)) x (pointer_of (f block) (suc x))
     → pointer_of (f block) (suc x) ≡ back f block (2 ^ suc x)
-place_more f i block x linked divides so_far (bytes, held, next) = on (2 ^ x) refl (suc i - 2 ^ x) refl
+slot_more f i block x linked has so_far (bytes, held, next) = on (2 ^ x) refl (suc i - 2 ^ x) refl
   where
     on : (power : ℕ) → 2 ^ x ≡ power → (j : ℕ) → suc i - 2 ^ x ≡ j → pointer_of (f block) (suc x) ≡ back f block (2 ^ suc x)
     on zero p j e = absurd (omega (arith, pow_pos x))
-    on (suc before) p zero e = absurd (omega (arith, some_before x i divides))
+    on (suc before) p zero e = absurd (omega (arith, some_before x i has))
     on (suc before) p (suc j) e =
-        let le : before ≤ i = omega (arith, some_before x i divides) in
+        let le : before ≤ i = omega (arith, some_before x i has) in
         let there : back f block (2 ^ x) ≡ back f (pointer_of (f block) 0) before = ap (back f block) p in
         let left : i - before ≡ suc j = omega arith in
         let own : IsLinked f (suc j) (back f block (2 ^ x)) =
         subst (λ (b : ℕ). IsLinked f (suc j) b) (sym there)
         (subst (λ (k : ℕ). IsLinked f k (back f (pointer_of (f block) 0) before)) left (linked_back f before i (pointer_of (f block) 0) le linked)) in
         let step : pointer_of (f (back f block (2 ^ x))) x ≡ back f (back f block (2 ^ x)) (2 ^ x) =
-        own.0 x (subst (Divides x) e (half_divides x (suc i) divides)) in
+        own.0 x (half_slot x (suc i) j e has) in
         sym next ∙ ap (λ (o : Option (List ℕ)). pointer_of o x) (sym held) ∙ ap (λ (b : ℕ). pointer_of (f b) x) so_far ∙ step ∙ back_twice f x block
 
--- each place of a node names the node so many before it, where what is before it is linked
-places_linked : (f : Blocks) (i block : ℕ) → IsLinked f i (pointer_of (f block) 0) → AreStepped f (pointer_of (f block)) (suc i)
-    → (x : ℕ) → Divides x (suc i) → pointer_of (f block) x ≡ back f block (2 ^ x)
-places_linked f i block linked stepped zero divides = refl
-places_linked f i block linked stepped (suc x) divides =
-    place_more f i block x linked divides (places_linked f i block linked stepped x (fewer_divides x (suc i) divides)) (stepped x divides)
+-- each slot of a node names the node so many before it, where what is before it is linked
+slots_linked : (f : Blocks) (i block : ℕ) → IsLinked f i (pointer_of (f block) 0) → AreStepped f (pointer_of (f block)) (suc i)
+    → (x : ℕ) → HasSlot (suc i) x → pointer_of (f block) x ≡ back f block (2 ^ x)
+slots_linked f i block linked stepped zero has = refl
+slots_linked f i block linked stepped (suc x) has =
+    slot_more f i block x linked has (slots_linked f i block linked stepped x (fewer_slots x (suc i) has)) (stepped x has)
 
 -- the node in a block is part of a linked chain, of full nodes before it
 pub record IsLinkedChain (capacity : ℕ) (f : Blocks) (i block : ℕ) : Type 0 where
@@ -65,7 +66,7 @@ chain_sound capacity f roots sound (suc i) block reached is =
     let before = chain_sound capacity f roots sound i (pointer_of (f block) 0) (IsNamed reached (before_named f i block is)) own.0 in
     record {
       chain = (is, own.1, before.chain);
-      linked = (places_linked f i block before.linked own.2, before.linked);
+      linked = (slots_linked f i block before.linked own.2, before.linked);
       short = (sound block reached).short (suc i) is;
     }
 
@@ -176,11 +177,11 @@ no_entry node i item is within = on (entries_of node) refl within
     on (Some items) e within = no_number i (sym is ∙ directory_no_index node items e)
 
 -- a node before one of a chain, by a slot
-pointed : (capacity : ℕ) (f : Blocks) (i block x next : ℕ) → IsLinkedChain capacity f i block → 0 < i → Divides x i → pointer_of (f block) x ≡ next → IsShaped capacity f next
-pointed capacity f zero block x next c some divides is = absurd (omega arith)
-pointed capacity f (suc i) block x next c some divides is =
-    let le : 2 ^ x ≤ suc i = divides_least x (suc i) some divides in
-    subst (IsShaped capacity f) (sym (c.linked.0 x divides) ∙ is)
+pointed : (capacity : ℕ) (f : Blocks) (i block x next : ℕ) → IsLinkedChain capacity f i block → HasSlot i x → pointer_of (f block) x ≡ next → IsShaped capacity f next
+pointed capacity f zero block x next c has is = absurd (omega (arith, has.1))
+pointed capacity f (suc i) block x next c has is =
+    let le : 2 ^ x ≤ suc i = divides_least x (suc i) has.1 has.2 in
+    subst (IsShaped capacity f) (sym (c.linked.0 x has) ∙ is)
     (inr (suc i - 2 ^ x, record { chain = chain_back capacity f (2 ^ x) (suc i) block le c.chain; linked = linked_back f (2 ^ x) (suc i) block le c.linked; short = shorter capacity (suc i) (suc i - 2 ^ x) (omega arith) c.short }))
 
 named_shape : (capacity : ℕ) (f : Blocks) (block next : ℕ) → IsShaped capacity f block → Names (f block) next → IsShaped capacity f next
@@ -192,7 +193,7 @@ named_shape capacity f block next (inl (depth, tree)) (inr names) =
 named_shape capacity f block next (inr (i, c)) (inl (item, within, names)) = absurd (no_entry (f block) i item (chain_node capacity i block f c.chain) within)
 named_shape capacity f block next (inr (i, c)) (inr names) =
     let own = subst (λ (o : Option ℕ). BodyNames o (pointer_of (f block)) next) (chain_node capacity i block f c.chain) names in
-    pointed capacity f i block own.0 next c own.1 own.2 own.3
+    pointed capacity f i block own.0 next c own.1 own.2
 
 reached_shape : (capacity : ℕ) (f : Blocks) (roots : List ℕ) → ((root : ℕ) → Contains roots root → IsRoot capacity f root) → {b : ℕ} → Reached f roots b → IsShaped capacity f b
 reached_shape capacity f roots trees {b} (IsFirst within) = inl (16, trees b within)
@@ -219,22 +220,22 @@ place_held node x next i is at =
     (found.0, found.1, ap (λ (o : Option (List ℕ)). pointer_of o x) (sym found.1) ∙ at)
 
 chain_stepped : (capacity : ℕ) (f : Blocks) (i block : ℕ) → IsLinkedChain capacity f (suc i) block → AreStepped f (pointer_of (f block)) (suc i)
-chain_stepped capacity f i block c x divides = on (suc i - 2 ^ x) refl
+chain_stepped capacity f i block c x has = on (suc i - 2 ^ x) refl
   where
     on : (j : ℕ) → suc i - 2 ^ x ≡ j → HoldsSlot (f (pointer_of (f block) x)) x (pointer_of (f block) (suc x))
-    on zero e = absurd (omega (arith, some_before x i divides))
+    on zero e = absurd (omega (arith, some_before x i has))
     on (suc j) e =
-        let le : 2 ^ x ≤ suc i = omega (arith, some_before x i divides) in
-        let here : pointer_of (f block) x ≡ back f block (2 ^ x) = c.linked.0 x (fewer_divides x (suc i) divides) in
+        let le : 2 ^ x ≤ suc i = omega (arith, some_before x i has) in
+        let here : pointer_of (f block) x ≡ back f block (2 ^ x) = c.linked.0 x (fewer_slots x (suc i) has) in
         let chain = chain_back capacity f (2 ^ x) (suc i) block le c.chain in
         let own : IsLinked f (suc j) (back f block (2 ^ x)) =
         subst (λ (k : ℕ). IsLinked f k (back f block (2 ^ x))) e (linked_back f (2 ^ x) (suc i) block le c.linked) in
         let step : pointer_of (f (back f block (2 ^ x))) x ≡ back f (back f block (2 ^ x)) (2 ^ x) =
-        own.0 x (subst (Divides x) e (half_divides x (suc i) divides)) in
+        own.0 x (half_slot x (suc i) j e has) in
         subst (λ (b : ℕ). HoldsSlot (f b) x (pointer_of (f block) (suc x))) (sym here)
         (place_held (f (back f block (2 ^ x))) x (pointer_of (f block) (suc x)) (suc i - 2 ^ x)
         (chain_node capacity (suc i - 2 ^ x) (back f block (2 ^ x)) f chain)
-        (step ∙ back_twice f x block ∙ sym (c.linked.0 (suc x) divides)))
+        (step ∙ back_twice f x block ∙ sym (c.linked.0 (suc x) has)))
 
 chain_body : (capacity : ℕ) (f : Blocks) (i block : ℕ) → IsLinkedChain capacity f i block → IsSoundBody capacity f (pointer_of (f block)) i
 chain_body capacity f zero block c = tt

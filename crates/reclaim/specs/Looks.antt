@@ -11,6 +11,7 @@ use Rattle.block_trees.specs.Bodies.{Blocks, index_of, data_of, pointer_of}
 use Rattle.block_trees.specs.Trees.{entries_of, items_of}
 use Rattle.reclaim.specs.Naming.{has_slot}
 use Rattle.reclaim.specs.Sound.{HoldsSlot, IsSoundBody}
+use Rattle.node_format.specs.declared.headers.TheConstants.{SLOTS}
 
 -- the index of a body node, and how many data bytes it has
 abbrev pub body_of : Option (List ℕ) → Option (ℕ × ℕ)
@@ -28,15 +29,15 @@ IsLookFault fault = IsTrue (is_look_fault fault)
 abbrev pub look_reads : Option (List ℕ) → ℕ
 look_reads node = option_map_or (λ items. 1 + length items) (entries_of node) 14
 
--- the pointers of an index are stepped at the places below n
+-- the pointers of an index are stepped at the slots below n
 abbrev pub AreSteppedTo : Blocks → (ℕ → ℕ) → ℕ → ℕ → Type 0
 AreSteppedTo f pointer index n = (x : ℕ) → x < n → has_slot index (suc x) ≡ true → HoldsSlot (f (pointer x)) x (pointer (suc x))
 
 -- the places of the entries of a node, what stands in its slots, and its index
 pub record ArePartsOf (node : Option (List ℕ)) (places : List Place) (pointers : List ℕ) (index : Option ℕ) : Type 0 where
   pub places_are : places ≡ map (λ (item : Item). item.place) (items_of node)
-  pub count : length pointers ≡ 32
-  pub pointers_are : (x : ℕ) → x < 32 → slice_index pointers x ≡ pointer_of node x
+  pub count : length pointers ≡ SLOTS
+  pub pointers_are : (x : ℕ) → x < SLOTS → slice_index pointers x ≡ pointer_of node x
   pub index_is : index ≡ index_of node
 
 -- a file can have a node of this index, and its pointers are sound

@@ -3,6 +3,7 @@ use Rattle.std.specs.Prelude.{ℕ, zero, suc, ◌%◌, ◌^◌, ◌&&◌, ◌==�
 use Rattle.node_format.specs.Items.{Item}
 use Rattle.node_format.specs.declared.places.Place.{Place}
 use Rattle.node_format.specs.declared.places.Place.TheVariants.{Dir, File}
+use Rattle.node_format.specs.declared.headers.TheConstants.{SLOTS}
 
 -- a directory's block, and the head of a file that is not empty
 abbrev pub place_names : Place → List ℕ
@@ -13,11 +14,11 @@ place_names (File head (suc n)) = head ∷ []
 abbrev pub item_names : Item → List ℕ
 item_names item = place_names item.place
 
--- whether the node of an index has a pointer at place x
+-- whether the node of an index has a pointer at slot x, of those that nodes have
 abbrev pub has_slot : ℕ → ℕ → Bool
 has_slot index x = nat_lt 0 index && (index % 2 ^ x == 0)
 
--- the blocks of the pointers of an index at its first places, so many
+-- the blocks of the pointers of an index at its first slots, so many
 unfoldable pub slots_named : ℕ → (ℕ → ℕ) → ℕ → List ℕ
 slots_named index pointer zero = []
 slots_named index pointer (suc x) =
@@ -26,4 +27,4 @@ slots_named index pointer (suc x) =
 -- the blocks of the pointers of a body node
 abbrev pub body_named : Option ℕ → (ℕ → ℕ) → List ℕ
 body_named None pointer = []
-body_named (Some index) pointer = slots_named index pointer 32
+body_named (Some index) pointer = slots_named index pointer SLOTS

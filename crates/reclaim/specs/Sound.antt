@@ -4,11 +4,12 @@ use Rattle.std.specs.Prelude.{◌≡◌, ◌≢◌, ℕ, zero, suc, ◌+◌, ◌
 use Rattle.node_format.specs.Items.{Item}
 use Rattle.node_format.specs.declared.places.Place.{Place}
 use Rattle.node_format.specs.declared.places.Place.TheVariants.{Dir, File}
-use Rattle.block_trees.specs.Bodies.{Blocks, index_of, pointer_of, data_of, head_index, Divides}
+use Rattle.block_trees.specs.Bodies.{Blocks, index_of, pointer_of, data_of, head_index}
 use Rattle.block_trees.specs.Trees.{entries_of, IsRoot, entries_in}
 use Rattle.block_trees.specs.Reached.{Reached}
 use Rattle.block_trees.specs.Laws.{IsShallow}
 use Rattle.fs_types.specs.declared.limits.TheConstants.{MAX_FILE_BYTES, MAX_NAMES}
+use Rattle.node_format.specs.BodyNodes.{HasSlot}
 
 -- the block holds a directory node
 abbrev pub IsDirectoryAt : Blocks → ℕ → Type 0
@@ -29,11 +30,11 @@ IsSoundPlace capacity f (File head size) = IsHead capacity f head size
 abbrev pub HoldsSlot : Option (List ℕ) → ℕ → ℕ → Type 0
 HoldsSlot node x next = (bytes : List ℕ) × (node ≡ Some bytes) × (pointer_of (Some bytes) x ≡ next)
 
--- each place is the one before it of the node that the one before it names
+-- each slot that the index has, after slot 0, is the one before it of the node that the one before it names
 abbrev pub AreStepped : Blocks → (ℕ → ℕ) → ℕ → Type 0
-AreStepped f pointer index = (x : ℕ) → Divides (suc x) index → HoldsSlot (f (pointer x)) x (pointer (suc x))
+AreStepped f pointer index = (x : ℕ) → HasSlot index (suc x) → HoldsSlot (f (pointer x)) x (pointer (suc x))
 
--- the node before is full and has the index before, and the places are stepped
+-- the node before is full and has the index before, and the slots are stepped
 abbrev pub IsSoundBody : ℕ → Blocks → (ℕ → ℕ) → ℕ → Type 0
 IsSoundBody capacity f pointer zero = Unit {0}
 IsSoundBody capacity f pointer (suc i) =

@@ -3,15 +3,16 @@ ghost use Rattle.std.specs.Prelude.{◌≡◌, ◌≢◌, ℕ, ◌+◌, ◌*◌,
 ghost use Rattle.fs_types.specs.declared.limits.TheConstants.{MAX_FILE_BYTES};
 ghost use Rattle.fs_types.specs.declared.faults.Fault.TheVariants.{Damaged};
 ghost use Rattle.node_format.specs.declared.places.Place.TheVariants.{Dir, File};
+ghost use Rattle.node_format.specs.declared.headers.TheConstants.{SLOTS};
 ghost use Rattle.block_trees.specs.Bodies.{index_of, pointer_of, data_of};
 ghost use Rattle.block_trees.specs.Trees.{entries_of, items_of};
 ghost use Rattle.reclaim.specs.Sound.{IsDirectoryAt, IsHead, IsSoundPlace, HoldsSlot, IsSoundBody, IsSoundNode, AreStepped};
 ghost use Rattle.reclaim.specs.Looks as spec;
 ghost use Rattle.node_store.specs.Frames.{OnlyLooks};
 
-use crate::fields::{SLOTS, has_pointer, index_in, pointer_in};
+use crate::fields::{has_pointer, index_in, pointer_in};
 use fs_types::{Fault, MAX_FILE_BYTES};
-use node_format::{BODY_FRONT, Entries, Place};
+use node_format::{BODY_FRONT, Entries, Place, SLOTS};
 use node_store::Nodes;
 use std::alloc::{AllocError, Global};
 
@@ -155,8 +156,8 @@ fn are_sound_places<N: Nodes>(nodes: &mut N, capacity: u32, places: &[Place]) ->
 
 /// What stands in the slots of a node, those that are not in use too.
 fn pointers_in(alloc: Global, bytes: &[u8]) -> Result<Vec<u32>, AllocError>
-    ensures count { IfOk result (λ v. length v.items ≡ 32) }
-    ensures each { IfOk result (λ v. (x : ℕ) → x < 32 → slice_index v.items x ≡ pointer_of (Some bytes.now) x) }
+    ensures count { IfOk result (λ v. length v.items ≡ SLOTS) }
+    ensures each { IfOk result (λ v. (x : ℕ) → x < SLOTS → slice_index v.items x ≡ pointer_of (Some bytes.now) x) }
 {
     let mut out = Vec::new(alloc);
     for slot in 0..SLOTS {
@@ -168,7 +169,7 @@ fn pointers_in(alloc: Global, bytes: &[u8]) -> Result<Vec<u32>, AllocError>
 /// Whether a slot of the node in a block names a block.
 fn holds_slot<N: Nodes>(nodes: &mut N, block: u32, slot: usize, next: u32) -> Result<bool, Fault>
     requires sound { N.is_sound nodes.old }
-    requires slot { slot < 32 }
+    requires slot { slot < SLOTS }
     ensures exact { IfOk result (λ holds. IsTrue holds ↔ HoldsSlot (N.node nodes.old block) slot next) }
     ensures why { IfErr result (λ fault. N.causes nodes.old nodes.new fault) }
     ensures faults { IfErr result spec.IsLookFault }
@@ -186,7 +187,7 @@ fn holds_slot<N: Nodes>(nodes: &mut N, block: u32, slot: usize, next: u32) -> Re
 /// names.
 fn are_stepped<N: Nodes>(nodes: &mut N, pointers: &[u32], index: u32) -> Result<bool, Fault>
     requires sound { N.is_sound nodes.old }
-    requires count { length pointers.now ≡ 32 }
+    requires count { length pointers.now ≡ SLOTS }
     ensures exact { IfOk result (λ good. IsTrue good ↔ spec.AreSteppedTo (N.node nodes.old) (slice_index pointers.now) index 12) }
     ensures why { IfErr result (λ fault. N.causes nodes.old nodes.new fault) }
     ensures faults { IfErr result spec.IsLookFault }
@@ -212,7 +213,7 @@ fn is_sound_body<N: Nodes>(
     index: u32,
 ) -> Result<bool, Fault>
     requires sound { N.is_sound nodes.old }
-    requires count { length pointers.now ≡ 32 }
+    requires count { length pointers.now ≡ SLOTS }
     requires short { index < 2 ^ 13 }
     ensures exact { IfOk result (λ good. IsTrue good ↔ IsSoundBody capacity (N.node nodes.old) (slice_index pointers.now) index) }
     ensures why { IfErr result (λ fault. N.causes nodes.old nodes.new fault) }
@@ -247,7 +248,7 @@ fn is_sound_at<N: Nodes>(
 ) -> Result<bool, Fault>
     requires sound { N.is_sound nodes.old }
     requires capacity { 2 ^ 11 ≤ capacity }
-    requires count { length pointers.now ≡ 32 }
+    requires count { length pointers.now ≡ SLOTS }
     ensures exact { IfOk result (λ good. IsTrue good ↔ spec.IsSoundAt capacity (N.node nodes.old) (slice_index pointers.now) index) }
     ensures why { IfErr result (λ fault. N.causes nodes.old nodes.new fault) }
     ensures faults { IfErr result spec.IsLookFault }
@@ -292,7 +293,7 @@ fn are_sound_parts<N: Nodes>(
 ) -> Result<bool, Fault>
     requires sound { N.is_sound nodes.old }
     requires capacity { 2 ^ 11 ≤ capacity }
-    requires count { length pointers.now ≡ 32 }
+    requires count { length pointers.now ≡ SLOTS }
     ensures exact { IfOk result (λ good. (node : Option (List ℕ)) → spec.ArePartsOf node places.now pointers.now index → IsTrue good ↔ IsSoundNode capacity (N.node nodes.old) node) }
     ensures why { IfErr result (λ fault. N.causes nodes.old nodes.new fault) }
     ensures faults { IfErr result spec.IsLookFault }

@@ -1,14 +1,15 @@
 //! The blocks that a node names.
-ghost use Rattle.std.specs.Prelude.{◌≡◌, ℕ, ◌^◌, ◌<◌, ◌↔◌, ◌++◌, Some, OnOk, IfOk, IfErr, IfSome, Contains, option_to_list};
+ghost use Rattle.std.specs.Prelude.{◌≡◌, ℕ, ◌↔◌, ◌++◌, Some, OnOk, IfOk, IfErr, Contains, option_to_list};
 ghost use Rattle.std.specs.List.{flat_map};
+ghost use Rattle.node_format.specs.declared.headers.TheConstants.{SLOTS};
 ghost use Rattle.block_trees.specs.Bodies.{index_of, pointer_of};
 ghost use Rattle.block_trees.specs.Trees.{items_of};
 ghost use Rattle.block_trees.specs.Reached.{Names};
 ghost use Rattle.reclaim.specs.Naming.{place_names, item_names, slots_named, body_named};
 
-use crate::fields::{SLOTS, has_pointer, index_in, pointer_in};
+use crate::fields::{has_pointer, index_in, pointer_in};
 use fs_types::Fault;
-use node_format::{Entries, Place};
+use node_format::{Entries, Place, SLOTS};
 use std::alloc::{AllocError, Global};
 
 // The block that a place names: none for an empty file.
@@ -34,7 +35,7 @@ fn push_entries(out: &mut Vec<u32>, entries: Entries<'_>) -> Result<(), AllocErr
 }
 
 fn push_slots(out: &mut Vec<u32>, index: u32, bytes: &[u8]) -> Result<(), AllocError>
-    ensures { OnOk result (out.new.items ≡ out.old.items ++ slots_named index (pointer_of (Some bytes.now)) 32) }
+    ensures { OnOk result (out.new.items ≡ out.old.items ++ slots_named index (pointer_of (Some bytes.now)) SLOTS) }
 {
     for slot in 0..SLOTS {
         if has_pointer(index, slot) {
@@ -54,8 +55,7 @@ fn push_directory(out: &mut Vec<u32>, bytes: &[u8]) -> Result<(), AllocError>
 }
 
 fn push_body(out: &mut Vec<u32>, bytes: &[u8]) -> Result<(), AllocError>
-    ensures list { OnOk result (out.new.items ≡ out.old.items ++ body_named (index_of (Some bytes.now)) (pointer_of (Some bytes.now))) }
-    ensures fits { IfSome (index_of (Some bytes.now)) (λ index. index < 2 ^ 32) }
+    ensures { OnOk result (out.new.items ≡ out.old.items ++ body_named (index_of (Some bytes.now)) (pointer_of (Some bytes.now))) }
 {
     let Some(index) = index_in(bytes) else {
         return Ok(());

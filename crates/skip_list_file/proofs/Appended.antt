@@ -4,7 +4,7 @@ use Rattle.std.proofs.lemmas.List.{take_all}
 use Rattle.std.proofs.lemmas.Nat.{pow_pos, div-mul-add}
 use Rattle.std.specs.Prelude.{Contains, unwrap_or}
 use Rattle.node_format.specs.Items.{Item}
-use Rattle.block_trees.specs.Bodies.{Blocks, index_of, pointer_of, data_of, back, data_to, head_index, body, Divides, IsChain, IsLinked, IsBody}
+use Rattle.block_trees.specs.Bodies.{Blocks, index_of, pointer_of, data_of, back, data_to, head_index, body, IsChain, IsLinked, IsBody}
 use Rattle.block_trees.specs.Trees.{entries_in}
 use Rattle.block_trees.specs.Reached.{Reached, Names, BodyNames}
 use Rattle.block_trees.proofs.Entries.{directory_no_index}
@@ -12,6 +12,7 @@ use Rattle.block_trees.proofs.Reaching.{IsReachedBy, reached_by}
 use Rattle.skip_list_file.specs.Writing.{slot_before}
 use Rattle.skip_list_file.proofs.Parts.{data_length}
 use Rattle.skip_list_file.proofs.Fronts.{reached_back, HasHead, has_head, is_body, body_taken}
+use Rattle.node_format.specs.BodyNodes.{Divides, HasSlot}
 
 -- ---- slots
 
@@ -28,7 +29,7 @@ divides_least x index some (suc m, e) = omega (arith, suc-mul m (2 ^ x))
 pub record IsNext (old f : Blocks) (head i next : ℕ) (chunk : List ℕ) : Type 0 where
   pub index : index_of (f next) ≡ Some i
   pub bytes : data_of (f next) ≡ chunk
-  pub places : (x : ℕ) → 0 < i → Divides x i → pointer_of (f next) x ≡ slot_before old head x
+  pub slots : (x : ℕ) → HasSlot i x → pointer_of (f next) x ≡ slot_before old head x
 
 pub record IsAppended (capacity : ℕ) (f : Blocks) (head i next : ℕ) (chunk : List ℕ) : Type 0 where
   pub whole : IsBody capacity f next (i * capacity + length chunk)
@@ -74,14 +75,14 @@ module _ (capacity : ℕ) (f : Blocks) (head next : ℕ) (chunk : List ℕ) (som
     where
       alone : (b : ℕ) → IsReachedBy f next b → (next ≡ b) ⊎ ((0 < 0) × Reached f (head ∷ []) b)
       alone b (inl here) = inl here
-      alone b (inr (other, names, reached)) = let own = named_by f 0 next other node.index names in absurd (omega (arith, own.1))
+      alone b (inr (other, names, reached)) = let own = named_by f 0 next other node.index names in absurd (omega (arith, own.1.1))
 
   append_more : (i : ℕ) → IsBody capacity f head (suc i * capacity) → length (data_of (f head)) ≡ capacity → IsNext f f head (suc i) next chunk → IsAppended capacity f head (suc i) next chunk
   append_more i whole full node =
       let size : ℕ = suc i * capacity + length chunk in
       let old_index : head_index capacity (suc i * capacity) ≡ i = index_at capacity i capacity (suc i * capacity) (omega arith) (omega arith) (omega (arith, suc-mul i capacity)) in
       let old = has_head capacity f i head (suc i * capacity) (omega (arith, suc-mul i capacity)) old_index whole in
-      let back_one : pointer_of (f next) 0 ≡ head = node.places 0 (omega arith) (suc i, omega arith) in
+      let back_one : pointer_of (f next) 0 ≡ head = node.slots 0 (omega arith, omega arith, (suc i, omega arith)) in
       let front : length (data_to f i head) ≡ suc i * capacity = omega (arith, data_length capacity f i head old.chain, suc-mul i capacity) in
       let bytes : data_to f (suc i) next ≡ data_to f i head ++ chunk = ap (λ (b : ℕ). data_to f i b ++ data_of (f next)) back_one ∙ ap (λ (d : List ℕ). data_to f i head ++ d) node.bytes in
       let count : length (data_to f (suc i) next) ≡ size = ap length bytes ∙ omega (arith, length-append (data_to f i head) chunk) in
@@ -95,7 +96,7 @@ module _ (capacity : ℕ) (f : Blocks) (head next : ℕ) (chunk : List ℕ) (som
         index = index_at capacity (suc i) (length chunk) size some fits refl;
         chain = chain;
         long = omega arith;
-        linked = ((λ x divides. node.places x (omega arith) divides ∙ stepped x back_one), subst (λ (b : ℕ). IsLinked f i b) (sym back_one) old.linked);
+        linked = ((λ x has. node.slots x has ∙ stepped x back_one), subst (λ (b : ℕ). IsLinked f i b) (sym back_one) old.linked);
       } in
       record {
         whole = is_body capacity f (suc i) next size has;
@@ -113,8 +114,8 @@ module _ (capacity : ℕ) (f : Blocks) (head next : ℕ) (chunk : List ℕ) (som
       below chain b (inl here) = inl here
       below chain b (inr (other, names, reached)) =
           let own = named_by f (suc i) next other node.index names in
-          let place : other ≡ slot_before f head own.0 = sym own.3 ∙ node.places own.0 (omega arith) own.2 in
-          let within : 2 ^ own.0 - 1 ≤ i = omega (arith, divides_least own.0 (suc i) (omega arith) own.2) in
+          let place : other ≡ slot_before f head own.0 = sym own.2 ∙ node.slots own.0 own.1 in
+          let within : 2 ^ own.0 - 1 ≤ i = omega (arith, divides_least own.0 (suc i) (omega arith) own.1.2) in
           inr (omega arith, reached_back capacity f (2 ^ own.0 - 1) i head within chain (subst (λ (r : ℕ). Reached f (r ∷ []) b) place reached))
 
 -- a node after full ones: the body goes on by its data

@@ -1,11 +1,10 @@
 -- Chains of nodes: what stands so many nodes before another, and the bytes of the nodes there.
 use Rattle.std.proofs.Common.{◌≡◌, ℕ, zero, suc, ◌+◌, ◌-◌, ◌*◌, ◌^◌, ◌<◌, ◌≤◌, Bool, true, false, cond, eqb, ltb, leb, Option, Some, None, List, length, refl, sym, ap, subst, ◌∙◌, arith}
-use Rattle.std.proofs.Math.Nat.{one-le-pow}
 use Rattle.std.proofs.lemmas.Bool.{eqb-true, ltb-true}
 use Rattle.node_format.specs.Headers.{field, body_magic, body_size, IsNode}
 use Rattle.node_format.specs.BodyNodes.{IsBodyNode, HasSlot}
-use Rattle.block_trees.specs.Bodies.{Blocks, index_of, pointer_of, back, Divides, IsChain, IsLinked}
-use Rattle.skip_list_file.specs.Reading.{IsUseful, IsLargest}
+use Rattle.block_trees.specs.Bodies.{Blocks, index_of, pointer_of, back, IsChain, IsLinked}
+use Rattle.skip_list_file.specs.Reading.{IsUseful, IsLargest, HasDigits}
 use Rattle.skip_list_file.proofs.Hops.{Hops, next_hop}
 
 -- ---- one node
@@ -44,7 +43,7 @@ body_at limit index held bytes is whole indexed =
 -- the block before a node that is not the first
 pub slot_zero : (held : Option (List ℕ)) (index : ℕ) (bytes : List ℕ) (found : Option ℕ) → IsBodyAt held index bytes → 0 < index → (HasSlot (field bytes 4) 0 → found ≡ Some (field bytes (16 + 4 * 0))) → found ≡ Some (pointer_of held 0)
 slot_zero held index bytes found at some only =
-    only (omega (arith, at.index_is), (field bytes 4, omega arith)) ∙ ap (λ (n : Option (List ℕ)). Some (pointer_of n 0)) (sym at.bytes_are)
+    only (omega arith, omega (arith, at.index_is), (field bytes 4, omega arith)) ∙ ap (λ (n : Option (List ℕ)). Some (pointer_of n 0)) (sym at.bytes_are)
 
 -- ---- nodes before
 
@@ -74,9 +73,9 @@ linked_back f (suc n) (suc i) block le linked =
     let e : i - n ≡ suc i - suc n = omega arith in
     subst (λ (k : ℕ). IsLinked f k (back f (pointer_of (f block) 0) n)) e (linked_back f n i (pointer_of (f block) 0) (omega arith) linked.1)
 
-pub pointer_back : (f : Blocks) (x i block : ℕ) → 0 < i → Divides x i → IsLinked f i block → pointer_of (f block) x ≡ back f block (2 ^ x)
-pointer_back f x zero block some divides linked = absurd (omega arith)
-pointer_back f x (suc i) block some divides linked = linked.0 x divides
+pub pointer_back : (f : Blocks) (x i block : ℕ) → HasSlot i x → IsLinked f i block → pointer_of (f block) x ≡ back f block (2 ^ x)
+pointer_back f x zero block has linked = absurd (omega (arith, has.1))
+pointer_back f x (suc i) block has linked = linked.0 x has
 
 -- ---- the way to a node
 
@@ -91,7 +90,7 @@ pub record IsOnWay (capacity : ℕ) (f : Blocks) (head head_index index at block
 pub way_on : (capacity : ℕ) (f : Blocks) (head head_index index at block x next : ℕ) → IsOnWay capacity f head head_index index at block → IsUseful x at index → next ≡ pointer_of (f block) x → IsOnWay capacity f head head_index index (at - 2 ^ x) next
 way_on capacity f head head_index index at block x next way useful is =
     let le : 2 ^ x ≤ at = omega (arith, useful.1) in
-    let to : next ≡ back f block (2 ^ x) = is ∙ pointer_back f x at block (omega (arith, power, useful.1)) useful.0 way.linked in
+    let to : next ≡ back f block (2 ^ x) = is ∙ pointer_back f x at block useful.0 way.linked in
     let e : (head_index - at) + 2 ^ x ≡ head_index - (at - 2 ^ x) = omega (arith, way.below) in
     record {
       chain = subst (λ (b : ℕ). IsChain capacity f (at - 2 ^ x) b) (sym to) (chain_back capacity f (2 ^ x) at block le way.chain);
@@ -100,13 +99,10 @@ way_on capacity f head head_index index at block x next way useful is =
       above = omega (arith, useful.1);
       below = omega (arith, way.below);
     }
-  where
-    power : 1 ≤ 2 ^ x
-    power = one-le-pow x 2 (omega arith)
 
 -- the hops that were read, and those that are left, are at most two for each digit
 abbrev pub FewReads : ℕ → ℕ → ℕ → ℕ → ℕ → Type 0
-FewReads head_index index at before now = (digits : ℕ) → head_index < 2 ^ digits → (n : ℕ) × Hops at index n × (now + n ≤ before + 2 * digits)
+FewReads head_index index at before now = (digits : ℕ) → HasDigits head_index digits → (n : ℕ) × Hops at index n × (now + n ≤ before + 2 * digits)
 
 pub few_on : (head_index index at before now now' x : ℕ) → index < at → IsLargest x at index → now' ≡ now + 1 → FewReads head_index index at before now → FewReads head_index index (at - 2 ^ x) before now'
 few_on head_index index at before now now' x lt largest is few = λ digits small.

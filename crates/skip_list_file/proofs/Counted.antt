@@ -6,13 +6,13 @@ use Rattle.std.proofs.lemmas.Nat.{mul-le, le-div, div-add-mod', mod_below}
 use Rattle.std.proofs.Math.Nat.{div-mul-le_self}
 use Rattle.plain_trees.specs.Contents.{nodes_from}
 use Rattle.block_trees.specs.Bodies.{head_index}
-use Rattle.skip_list_file.specs.Reading.{nodes_between}
+use Rattle.skip_list_file.specs.Reading.{nodes_between, HasDigits}
 use Rattle.skip_list_file.specs.Writing.{KeepsNone}
 use Rattle.skip_list_file.proofs.Parts.{count_some, count_none, div_mono}
 
 -- the reads so far: the nodes after the edit are read once each, and the first that is written with a few more
 pub record AreFew (capacity size end first index before now : ℕ) : Type 0 where
-  pub all : (digits : ℕ) → head_index capacity size < 2 ^ digits → now ≤ before + ((nodes_between capacity end size - (head_index capacity size + 1 - index)) + (1 + 2 * digits))
+  pub all : (digits : ℕ) → HasDigits (head_index capacity size) digits → now ≤ before + ((nodes_between capacity end size - (head_index capacity size + 1 - index)) + (1 + 2 * digits))
   pub none : index ≤ first → now ≤ before
 
 pub few_first : (capacity size offset first digits : ℕ) → 0 < capacity → first ≡ min offset size / capacity → head_index capacity size < 2 ^ digits → first ≤ 2 ^ digits
@@ -27,11 +27,11 @@ few_first capacity size offset first digits least is small = on first is
 
 -- the reads of a start
 pub few_begun : (capacity size offset end first before front table now : ℕ) → 0 < capacity → first ≡ min offset size / capacity
-    → ((digits : ℕ) → head_index capacity size < 2 ^ digits → front ≤ before + 2 * digits) → ((digits : ℕ) → first ≤ 2 ^ digits → table ≤ front + digits) → now ≤ table + nodes_between capacity end size
-    → (digits : ℕ) → head_index capacity size < 2 ^ digits → now ≤ before + (nodes_between capacity end size + 3 * digits)
+    → ((digits : ℕ) → HasDigits (head_index capacity size) digits → front ≤ before + 2 * digits) → ((digits : ℕ) → first ≤ 2 ^ digits → table ≤ front + digits) → now ≤ table + nodes_between capacity end size
+    → (digits : ℕ) → HasDigits (head_index capacity size) digits → now ≤ before + (nodes_between capacity end size + 3 * digits)
 few_begun capacity size offset end first before front table now least is by_front by_table by_list digits small =
     let a = by_front digits small in
-    let b = by_table digits (few_first capacity size offset first digits least is small) in
+    let b = by_table digits (few_first capacity size offset first digits least is small.1) in
     omega arith
 
 -- none so far
@@ -43,17 +43,17 @@ few_none capacity size end first now = record {
 
 -- one node more
 pub few_on : (capacity size offset end first index count before now now' blocks : ℕ) → 0 < capacity → first ≡ min offset size / capacity → first ≤ index → count ≤ capacity → blocks ≡ nodes_between capacity end size
-    → (KeepsNone size offset end (index * capacity) (index * capacity + count) → now' ≡ now) → (head_index capacity size - index < blocks → now' ≤ now + 1) → ((digits : ℕ) → head_index capacity size < 2 ^ digits → now' ≤ now + (1 + 2 * digits))
+    → (KeepsNone size offset end (index * capacity) (index * capacity + count) → now' ≡ now) → (head_index capacity size - index < blocks → now' ≤ now + 1) → ((digits : ℕ) → HasDigits (head_index capacity size) digits → now' ≤ now + (1 + 2 * digits))
     → AreFew capacity size end first index before now → AreFew capacity size end first (index + 1) before now'
 few_on capacity size offset end first index count before now now' blocks least is from fits counted unread listed any few = record {
   all = λ digits small. all digits small (cases_lt (index * capacity) size) (cases_lt first index);
   none = λ at. absurd (omega arith);
 }
   where
-    same : (digits : ℕ) → head_index capacity size < 2 ^ digits → now' ≡ now → now' ≤ before + ((nodes_between capacity end size - (head_index capacity size + 1 - (index + 1))) + (1 + 2 * digits))
+    same : (digits : ℕ) → HasDigits (head_index capacity size) digits → now' ≡ now → now' ≤ before + ((nodes_between capacity end size - (head_index capacity size + 1 - (index + 1))) + (1 + 2 * digits))
     same digits small e = (let most = few.all digits small in omega arith)
 
-    one : (digits : ℕ) → head_index capacity size < 2 ^ digits → index ≤ head_index capacity size → head_index capacity size - index < nodes_between capacity end size → now' ≤ now + 1
+    one : (digits : ℕ) → HasDigits (head_index capacity size) digits → index ≤ head_index capacity size → head_index capacity size - index < nodes_between capacity end size → now' ≤ now + 1
         → now' ≤ before + ((nodes_between capacity end size - (head_index capacity size + 1 - (index + 1))) + (1 + 2 * digits))
     one digits small le lt e = (let most = few.all digits small in omega arith)
 
@@ -85,7 +85,7 @@ few_on capacity size offset end first index count before now now' blocks least i
             let parts : (index + 1) * capacity ≡ index * capacity + capacity = grind arith in
             omega (arith, div-mul-le_self end capacity)
 
-    all : (digits : ℕ) → head_index capacity size < 2 ^ digits → (index * capacity < size) ⊎ (size ≤ index * capacity) → (first < index) ⊎ (index ≤ first)
+    all : (digits : ℕ) → HasDigits (head_index capacity size) digits → (index * capacity < size) ⊎ (size ≤ index * capacity) → (first < index) ⊎ (index ≤ first)
         → now' ≤ before + ((nodes_between capacity end size - (head_index capacity size + 1 - (index + 1))) + (1 + 2 * digits))
     all digits small (inr past) other = same digits small (unread (inl past))
     all digits small (inl within) (inr at) = (let begun = few.none at in let more = any digits small in omega arith)
@@ -99,19 +99,19 @@ few_on capacity size offset end first index count before now now' blocks least i
         on le (inr not_in_list) = same digits small (unread (inr (begins lt within, ends not_in_list le)))
 
 -- in all
-pub few_all : (capacity size end first index before now : ℕ) → AreFew capacity size end first index before now → (digits : ℕ) → head_index capacity size < 2 ^ digits → now ≤ before + (nodes_between capacity end size + (1 + 2 * digits))
+pub few_all : (capacity size end first index before now : ℕ) → AreFew capacity size end first index before now → (digits : ℕ) → HasDigits (head_index capacity size) digits → now ≤ before + (nodes_between capacity end size + (1 + 2 * digits))
 few_all capacity size end first index before now few digits small = (let most = few.all digits small in omega arith)
 
 abbrev pub AreAll : ℕ → ℕ → ℕ → ℕ → ℕ → Type 0
-AreAll size end before now capacity = (digits : ℕ) → head_index capacity size < 2 ^ digits → now ≤ before + (2 * nodes_between capacity end size + (1 + 5 * digits))
+AreAll size end before now capacity = (digits : ℕ) → HasDigits (head_index capacity size) digits → now ≤ before + (2 * nodes_between capacity end size + (1 + 5 * digits))
 
 -- a start alone
-pub few_begun_all : (capacity size end before now : ℕ) → ((digits : ℕ) → head_index capacity size < 2 ^ digits → now ≤ before + (nodes_between capacity end size + 3 * digits)) → AreAll size end before now capacity
+pub few_begun_all : (capacity size end before now : ℕ) → ((digits : ℕ) → HasDigits (head_index capacity size) digits → now ≤ before + (nodes_between capacity end size + 3 * digits)) → AreAll size end before now capacity
 few_begun_all capacity size end before now a digits small = (let few = a digits small in omega arith)
 
 -- a start, and the nodes written
-pub few_both : (capacity size end before middle now : ℕ) → ((digits : ℕ) → head_index capacity size < 2 ^ digits → middle ≤ before + (nodes_between capacity end size + 3 * digits))
-    → ((digits : ℕ) → head_index capacity size < 2 ^ digits → now ≤ middle + (nodes_between capacity end size + (1 + 2 * digits))) → AreAll size end before now capacity
+pub few_both : (capacity size end before middle now : ℕ) → ((digits : ℕ) → HasDigits (head_index capacity size) digits → middle ≤ before + (nodes_between capacity end size + 3 * digits))
+    → ((digits : ℕ) → HasDigits (head_index capacity size) digits → now ≤ middle + (nodes_between capacity end size + (1 + 2 * digits))) → AreAll size end before now capacity
 few_both capacity size end before middle now a b digits small =
     let first = a digits small in
     let rest = b digits small in
@@ -132,11 +132,3 @@ few_listed capacity size end count capacity' same is = subst (λ (r : ℕ). coun
     on : (end < size) ⊎ (size ≤ end) → count ≤ head_index capacity size + 1
     on (inl lt) = omega (arith, is, count_some capacity end size lt)
     on (inr le) = omega (arith, is, count_none capacity end size le)
-
--- a file has few nodes
-pub few_indices : (capacity size : ℕ) → 4016 ≤ capacity → size ≤ 16777216 → (size - 1) / capacity < 2 ^ 15
-few_indices capacity size least most = on (cases_lt ((size - 1) / capacity) 32768)
-  where
-    on : ((size - 1) / capacity < 32768) ⊎ (32768 ≤ (size - 1) / capacity) → (size - 1) / capacity < 2 ^ 15
-    on (inl lt) = lt
-    on (inr le) = absurd (omega (arith, mul-le 32768 4016 ((size - 1) / capacity) capacity le least, div-mul-le_self (size - 1) capacity))

@@ -7,9 +7,9 @@ use Rattle.std.proofs.Math.Seq.{take-add}
 use Rattle.fs_types.specs.Names.{Path}
 use Rattle.plain_trees.specs.Contents.{Entry, resized}
 use Rattle.node_format.specs.Headers.{field, body_front, body_magic, IsNode}
-use Rattle.node_format.specs.BodyNodes.{IsBodySpelling}
+use Rattle.node_format.specs.BodyNodes.{IsBodySpelling, HasSlot}
 use Rattle.node_format.specs.declared.places.Place.TheVariants.{Dir, File}
-use Rattle.block_trees.specs.Bodies.{Blocks, index_of, data_of, head_index, body, Divides, IsChain, IsBody, back, pointer_of}
+use Rattle.block_trees.specs.Bodies.{Blocks, index_of, data_of, head_index, body, IsChain, IsBody, back, pointer_of}
 use Rattle.block_trees.specs.Trees.{leads, HasTree, IsWhole}
 use Rattle.block_trees.specs.Reached.{Reached, IsHeld, Keeps, PlaceNames}
 use Rattle.block_trees.proofs.Entries.{place_is}
@@ -23,7 +23,6 @@ use Rattle.skip_list_file.proofs.Chains.{chain_node}
 use Rattle.skip_list_file.proofs.Parts.{data_length}
 use Rattle.skip_list_file.proofs.EditedBytes.{resized_cut, edited_length}
 use Rattle.skip_list_file.proofs.Appended.{IsNext, IsAppended, append_node, index_at, divides_least}
-use Rattle.skip_list_file.proofs.Places.{few_slots}
 use Rattle.skip_list_file.proofs.NodeBytes.{data_fits}
 
 -- ---- what is held stays
@@ -89,10 +88,10 @@ are_linked capacity f head (suc i) least is =
     (h.chain, h.linked)
 
 slots_stay : (capacity : ℕ) (old new : Blocks) (kept kept' : ℕ → Bool) (head i : ℕ) → Keeps kept old kept' new → AreLinked capacity old head i → (0 < i → (b : ℕ) → Reached old (head ∷ []) b → kept b ≡ true)
-    → (x : ℕ) → 0 < i → Divides x i → slot_before old head x ≡ slot_before new head x
-slots_stay capacity old new kept kept' head zero keeps linked held x some divides = absurd (omega arith)
-slots_stay capacity old new kept kept' head (suc i) keeps linked held x some divides =
-    sym (back_stays capacity old new kept kept' keeps i (2 ^ x - 1) head (omega (arith, divides_least x (suc i) some divides)) linked.0 (held some))
+    → (x : ℕ) → HasSlot i x → slot_before old head x ≡ slot_before new head x
+slots_stay capacity old new kept kept' head zero keeps linked held x has = absurd (omega (arith, has.1))
+slots_stay capacity old new kept kept' head (suc i) keeps linked held x has =
+    sym (back_stays capacity old new kept kept' keeps i (2 ^ x - 1) head (omega (arith, divides_least x (suc i) has.1 has.2)) linked.0 (held has.1))
 
 pub grown : (capacity : ℕ) (old new : Blocks) (kept kept' : ℕ → Bool) (head i next : ℕ) (bytes : List ℕ) → Keeps kept old kept' new → IsBody capacity old head (i * capacity) → IsHeld old kept (File head (i * capacity))
     → (0 < i → length (data_of (old head)) ≡ capacity) → 0 < length bytes → length bytes ≤ capacity → IsNext old new head i next bytes → kept next ≡ false → kept' next ≡ true → IsGrown capacity old new kept kept' head i next bytes
@@ -117,8 +116,8 @@ grown capacity old new kept kept' head i next bytes keeps whole held full some f
     more = append_node capacity new head i next bytes some fits stays.whole (λ below. ap (λ (n : Option (List ℕ)). length (data_of n)) (same_head below) ∙ full below) (record {
       index = node.index;
       bytes = node.bytes;
-      places = λ x below divides. node.places x below divides
-          ∙ slots_stay capacity old new kept kept' head i keeps (are_linked capacity old head i (omega arith) whole) (λ there b reached. held head (size there, refl) b reached) x below divides;
+      slots = λ x has. node.slots x has
+          ∙ slots_stay capacity old new kept kept' head i keeps (are_linked capacity old head i (omega arith) whole) (λ there b reached. held head (size there, refl) b reached) x has;
     })
 
     all_kept : (b : ℕ) → (next ≡ b) ⊎ ((0 < i) × Reached new (head ∷ []) b) → kept' b ≡ true
@@ -130,12 +129,12 @@ grown capacity old new kept kept' head i next bytes keeps whole held full some f
     fresh b (inr (below, reached)) = inr (below, stays.reached (size below) b reached)
 
 -- the node of a block from the bytes that were written
-pub is_next : (old new : Blocks) (head i next : ℕ) (pointers bytes node : List ℕ) → new next ≡ Some node → IsBodySpelling node i pointers bytes → i < 2 ^ 15
-    → ((x : ℕ) → 0 < i → Divides x i → slice_index pointers x ≡ slot_before old head x) → IsNext old new head i next bytes
-is_next old new head i next pointers bytes node is spelled few slots = record {
+pub is_next : (old new : Blocks) (head i next : ℕ) (pointers bytes node : List ℕ) → new next ≡ Some node → IsBodySpelling node i pointers bytes
+    → ((x : ℕ) → HasSlot i x → slice_index pointers x ≡ slot_before old head x) → IsNext old new head i next bytes
+is_next old new head i next pointers bytes node is spelled slots = record {
   index = ap index_of is ∙ found (field node 0) spelled.node.magic ∙ ap (λ (n : ℕ). Some n) spelled.index_is;
   bytes = ap data_of is ∙ spelled.data_is;
-  places = λ x some divides. ap (λ (n : Option (List ℕ)). pointer_of n x) is ∙ spelled.slots x (few_slots x i some few divides) ∙ slots x some divides;
+  slots = λ x has. ap (λ (n : Option (List ℕ)). pointer_of n x) is ∙ spelled.slots x has.0 ∙ slots x has;
 }
   where
     found : (magic : ℕ) → magic ≡ body_magic → (if magic == body_magic then Some (field node 4) else None) ≡ Some (field node 4)

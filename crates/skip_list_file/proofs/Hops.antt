@@ -6,8 +6,9 @@ use Rattle.std.proofs.Math.Nat.{div-add-mod', mul_assoc, mul-div_cancel, mul-mod
 use Rattle.std.proofs.Math.Pow.{pow_mono}
 use Rattle.std.proofs.lemmas.Bool.{cases_lt}
 use Rattle.std.proofs.lemmas.Nat.Bits.{bit_at-trailing_zeros}
-use Rattle.block_trees.specs.Bodies.{Divides}
 use Rattle.skip_list_file.specs.Reading.{IsUseful, IsLargest}
+use Rattle.node_format.specs.BodyNodes.{Divides}
+use Rattle.node_format.specs.declared.headers.TheConstants.{SLOTS}
 
 -- so many hops lead from index i to index j
 abbrev pub Hops : ℕ → ℕ → ℕ → Type 0
@@ -86,30 +87,34 @@ not_both x i le (m, e) (n, f) =
     let d : m * 2 ≡ suc (n * 2) = sym (mul-div_cancel (m * 2) {n = 2 ^ x} (one-le-pow x 2 (omega arith))) ∙ ap (λ (k : ℕ). k / 2 ^ x) c ∙ mul-div_cancel (suc (n * 2)) {n = 2 ^ x} (one-le-pow x 2 (omega arith)) in
     omega arith
 
+-- a slot of a node leads towards an index that is not nearer
+leads_on : (x i j : ℕ) → x < SLOTS → j + 2 ^ x ≤ i → Divides x i → IsUseful x i j
+leads_on x i j lt far divides = ((lt, omega (arith, one-le-pow x 2 (omega arith), far), divides), far)
+
 -- near the end, each hop halves what is left
-descend : (x i j : ℕ) → j ≤ i → i < j + 2 ^ x → Divides x i → WithinHops i j x
-descend zero i j le near divides = (0, omega arith, omega arith)
-descend (suc x) i j le near divides = elim (cases_lt i (j + 2 ^ x)) [
-  | inl nearer ↦ more i j x (suc x) (omega arith) (descend x i j le nearer (divides_lower x i divides))
-  | inr far ↦ one_more x i j x (largest far) (descend x (i - 2 ^ x) j (omega arith) (omega (arith, double x)) (after (divides_lower x i divides)))
+descend : (x i j : ℕ) → x ≤ SLOTS → j ≤ i → i < j + 2 ^ x → Divides x i → WithinHops i j x
+descend zero i j few le near divides = (0, omega arith, omega arith)
+descend (suc x) i j few le near divides = elim (cases_lt i (j + 2 ^ x)) [
+  | inl nearer ↦ more i j x (suc x) (omega arith) (descend x i j (omega arith) le nearer (divides_lower x i divides))
+  | inr far ↦ one_more x i j x (largest far) (descend x (i - 2 ^ x) j (omega arith) (omega arith) (omega (arith, double x)) (after (divides_lower x i divides)))
 ]
   where
     largest : j + 2 ^ x ≤ i → IsLargest x i j
-    largest far = ((divides_lower x i divides, far), λ y useful. below_by_pow x y (omega (arith, useful.1)))
+    largest far = (leads_on x i j (omega arith) far (divides_lower x i divides), λ y useful. below_by_pow x y (omega (arith, useful.1)))
 
     after : Divides x i → Divides x (i - 2 ^ x)
     after d = after_one x i d
 
 -- on the way, each hop ends at an index with one more zero digit
-climb : (left x i j : ℕ) → j ≤ i → i < 2 ^ (left + x) → Divides x i → WithinHops i j (2 * left + x)
-climb zero x i j le small divides =
+climb : (left x i j : ℕ) → left + x ≤ SLOTS → j ≤ i → i < 2 ^ (left + x) → Divides x i → WithinHops i j (2 * left + x)
+climb zero x i j few le small divides =
     let power : 2 ^ (0 + x) ≡ 2 ^ x = ap (λ (k : ℕ). 2 ^ k) (omega arith) in
-    more i j x (2 * 0 + x) (omega arith) (descend x i j le (omega arith) divides)
-climb (suc left) x i j le small divides = elim (cases_lt i (j + 2 ^ x)) [
-  | inl near ↦ more i j x (2 * suc left + x) (omega arith) (descend x i j le near divides)
+    more i j x (2 * 0 + x) (omega arith) (descend x i j (omega arith) le (omega arith) divides)
+climb (suc left) x i j few le small divides = elim (cases_lt i (j + 2 ^ x)) [
+  | inl near ↦ more i j x (2 * suc left + x) (omega arith) (descend x i j (omega arith) le near divides)
   | inr far ↦ elim (parity x i divides) [
-    | inl even ↦ more i j (2 * left + suc x) (2 * suc left + x) (omega arith) (climb left (suc x) i j le (omega (arith, power)) even)
-    | inr odd ↦ farther far odd (climb left (suc x) (i - 2 ^ x) j (omega arith) (omega (arith, power)) odd)
+    | inl even ↦ more i j (2 * left + suc x) (2 * suc left + x) (omega arith) (climb left (suc x) i j (omega arith) le (omega (arith, power)) even)
+    | inr odd ↦ farther far odd (climb left (suc x) (i - 2 ^ x) j (omega arith) (omega arith) (omega (arith, power)) odd)
   ]
 ]
   where
@@ -118,9 +123,9 @@ climb (suc left) x i j le small divides = elim (cases_lt i (j + 2 ^ x)) [
 
     largest : j + 2 ^ x ≤ i → Divides (suc x) (i - 2 ^ x) → IsLargest x i j
     largest far odd = (
-      (divides, far),
+      leads_on x i j (omega arith) far divides,
       λ y useful. elim (cases_lt x y) [
-        | inl above ↦ absurd (not_both x i (omega (arith, far)) (divides_le y (suc x) i (omega arith) useful.0) odd)
+        | inl above ↦ absurd (not_both x i (omega (arith, far)) (divides_le y (suc x) i (omega arith) useful.0.2) odd)
         | inr below ↦ below
       ],
     )
@@ -129,10 +134,10 @@ climb (suc left) x i j le small divides = elim (cases_lt i (j + 2 ^ x)) [
     farther far odd rest = more i j (suc (2 * left + suc x)) (2 * suc left + x) (omega arith) (one_more x i j (2 * left + suc x) (largest far odd) rest)
 
 -- however an index is reached from another by its farthest places, it takes at most two hops for each digit
-pub few_hops : (i j digits : ℕ) → j ≤ i → i < 2 ^ digits → WithinHops i j (2 * digits)
-few_hops i j digits le small =
+pub few_hops : (i j digits : ℕ) → digits ≤ SLOTS → j ≤ i → i < 2 ^ digits → WithinHops i j (2 * digits)
+few_hops i j digits few le small =
     let power : 2 ^ (digits + 0) ≡ 2 ^ digits = ap (λ (k : ℕ). 2 ^ k) (omega arith) in
-    more i j (2 * digits + 0) (2 * digits) (omega arith) (climb digits 0 i j le (omega arith) (i, omega arith))
+    more i j (2 * digits + 0) (2 * digits) (omega arith) (climb digits 0 i j (omega arith) le (omega arith) (i, omega arith))
 
 -- a hop by the farthest place is the first of the hops
 pub next_hop : (x i j n : ℕ) → j < i → IsLargest x i j → Hops i j n → (m : ℕ) × (n ≡ suc m) × Hops (i - 2 ^ x) j m
@@ -159,18 +164,19 @@ digit_clear x n (m, e) =
     let f : n ≡ m * 2 * 2 ^ x = e ∙ doubled m x in
     ap (λ (k : ℕ). k / 2 ^ x % 2) f ∙ ap (λ (k : ℕ). k % 2) (mul-div_cancel (m * 2) {n = 2 ^ x} (one-le-pow x 2 (omega arith))) ∙ mul-mod_left m 2
 
-pub farthest : (index before log place : ℕ) → before < index → index < 2 ^ 32 → 2 ^ log ≤ index - before → index - before < 2 * 2 ^ log → place ≡ min (trailing_zeros w32 index) log → IsLargest place index before
+pub farthest : (index before log place : ℕ) → before < index → index < 2 ^ 32 → 2 ^ log ≤ index - before → index - before < 2 * 2 ^ log → place ≡ min (min (trailing_zeros w32 index) log) (SLOTS - 1) → IsLargest place index before
 farthest index before log place lt fits power next is =
     let zeros = bit_at-trailing_zeros w32 index (omega arith) fits in
     let all = divides_digits (trailing_zeros w32 index) index (λ k below. zeros.2 k below) in
     let lower : 2 ^ place ≤ 2 ^ log = pow_mono {i = place} {j = log} (omega arith) in
-    ((divides_le (trailing_zeros w32 index) place index (omega arith) all, omega arith), λ y useful. largest y useful)
+    (leads_on place index before (omega arith) (omega arith) (divides_le (trailing_zeros w32 index) place index (omega arith) all), λ y useful. largest y useful)
   where
     largest : (y : ℕ) → IsUseful y index before → y ≤ place
     largest y useful =
         let zeros = bit_at-trailing_zeros w32 index (omega arith) fits in
+        let slot : y < SLOTS = useful.0.0 in
         let near : y ≤ log = below_by_pow log y (omega (arith, useful.1, pow-suc 2 log)) in
         elim (cases_lt (trailing_zeros w32 index) y) [
-          | inl above ↦ let clear = digit_clear (trailing_zeros w32 index) index (divides_le y (suc (trailing_zeros w32 index)) index (omega arith) useful.0) in absurd (omega (arith, clear, zeros.1))
+          | inl above ↦ let clear = digit_clear (trailing_zeros w32 index) index (divides_le y (suc (trailing_zeros w32 index)) index (omega arith) useful.0.2) in absurd (omega (arith, clear, zeros.1))
           | inr within ↦ omega arith
         ]

@@ -37,7 +37,7 @@ listed_chain capacity f head size step some is le = front_chain capacity f step 
 pub listed_pointer : (capacity : ℕ) (f : Blocks) (head size step : ℕ) → 0 < size → IsBody capacity f head size → step < head_index capacity size → HasPointer (f (back f head step)) 0
 listed_pointer capacity f head size step some is lt =
     let left : ℕ = head_index capacity size - step in
-    (left, chain_node capacity left (back f head step) f (listed_chain capacity f head size step some is (omega arith)), (omega arith, (left, omega arith)))
+    (left, chain_node capacity left (back f head step) f (listed_chain capacity f head size step some is (omega arith)), (omega arith, omega arith, (left, omega arith)))
 
 pub listed_next : (f : Blocks) (head step : ℕ) → pointer_of (f (back f head step)) 0 ≡ back f head (step + 1)
 listed_next f head step = back_back f step 1 head

@@ -7,12 +7,14 @@ use Rattle.std.proofs.lemmas.List.{get_or-set_same, get_or-set_other}
 use Rattle.std.proofs.lemmas.Nat.{pow_pos, mul-le, le-div, mod_below, mod-mul-add, div-add-mod'}
 use Rattle.std.proofs.Math.Nat.{div-mul-le_self}
 use Rattle.std.proofs.Math.Pow.{pow_mono}
-use Rattle.block_trees.specs.Bodies.{Blocks, pointer_of, back, Divides, IsChain, IsLinked}
+use Rattle.block_trees.specs.Bodies.{Blocks, pointer_of, back, IsChain, IsLinked}
 use Rattle.skip_list_file.specs.Writing.{slot_before, AreLinked, IsTable}
 use Rattle.skip_list_file.proofs.Chains.{back_back, chain_node, pointer_back}
 use Rattle.skip_list_file.proofs.Fronts.{front_chain, front_linked}
 use Rattle.skip_list_file.proofs.Appended.{power_double}
-use Rattle.skip_list_file.proofs.Places.{HasPointer, divides_by, divides_below, few_slots, split_power}
+use Rattle.skip_list_file.proofs.Places.{HasPointer, divides_by, divides_below, split_power}
+use Rattle.node_format.specs.BodyNodes.{Divides, HasSlot}
+use Rattle.node_format.specs.declared.headers.TheConstants.{SLOTS}
 
 -- ---- what is left after a power, and after twice the power
 
@@ -67,14 +69,14 @@ some_multiple : (q p : ℕ) → 0 < p → (q % 2 ≡ 0 → ⊥) → 0 < q * p
 some_multiple zero p some odd = absurd (odd (omega arith))
 some_multiple (suc q) p some odd = omega (arith, mul-le 1 p (suc q) p (omega arith) (omega arith))
 
-pub odd_pointer : (capacity : ℕ) (f : Blocks) (block n x : ℕ) → IsChain capacity f (n / 2 ^ x * 2 ^ x) block → (n / 2 ^ x % 2 ≡ 0 → ⊥) → HasPointer (f block) x
-odd_pointer capacity f block n x chain odd = (n / 2 ^ x * 2 ^ x, chain_node capacity (n / 2 ^ x * 2 ^ x) block f chain, (some_multiple (n / 2 ^ x) (2 ^ x) (pow_pos x) odd, (n / 2 ^ x, refl)))
+pub odd_pointer : (capacity : ℕ) (f : Blocks) (block n x : ℕ) → x < SLOTS → IsChain capacity f (n / 2 ^ x * 2 ^ x) block → (n / 2 ^ x % 2 ≡ 0 → ⊥) → HasPointer (f block) x
+odd_pointer capacity f block n x few chain odd = (n / 2 ^ x * 2 ^ x, chain_node capacity (n / 2 ^ x * 2 ^ x) block f chain, (few, some_multiple (n / 2 ^ x) (2 ^ x) (pow_pos x) odd, (n / 2 ^ x, refl)))
 
-pub odd_next : (f : Blocks) (block n x next : ℕ) → IsLinked f (n / 2 ^ x * 2 ^ x) block → (n / 2 ^ x % 2 ≡ 0 → ⊥) → next ≡ pointer_of (f block) x → next ≡ back f block (n / 2 ^ x % 2 * 2 ^ x)
-odd_next f block n x next linked odd is =
+pub odd_next : (f : Blocks) (block n x next : ℕ) → x < SLOTS → IsLinked f (n / 2 ^ x * 2 ^ x) block → (n / 2 ^ x % 2 ≡ 0 → ⊥) → next ≡ pointer_of (f block) x → next ≡ back f block (n / 2 ^ x % 2 * 2 ^ x)
+odd_next f block n x next few linked odd is =
     let one : n / 2 ^ x % 2 ≡ 1 = one_of (n / 2 ^ x % 2) odd (mod_below (n / 2 ^ x) 2 (omega arith)) in
     let e : 2 ^ x ≡ n / 2 ^ x % 2 * 2 ^ x = sym (ap (λ (b : ℕ). b * 2 ^ x) one ∙ (let again : 1 * 2 ^ x ≡ 2 ^ x = omega arith in again)) in
-    is ∙ pointer_back f x (n / 2 ^ x * 2 ^ x) block (some_multiple (n / 2 ^ x) (2 ^ x) (pow_pos x) odd) (n / 2 ^ x, refl) linked ∙ ap (back f block) e
+    is ∙ pointer_back f x (n / 2 ^ x * 2 ^ x) block (few, some_multiple (n / 2 ^ x) (2 ^ x) (pow_pos x) odd, (n / 2 ^ x, refl)) linked ∙ ap (back f block) e
   where
     one_of : (b : ℕ) → (b ≡ 0 → ⊥) → b < 2 → b ≡ 1
     one_of zero not lt = absurd (not refl)
@@ -117,9 +119,9 @@ before_multiple x index some (suc m, e) =
     let parts : index - 1 ≡ m * p + (p - 1) = omega (arith, rows) in
     ap (λ (n : ℕ). n % p) parts ∙ mod-mul-add m p (p - 1) (omega arith)
 
--- the places of the next node
-pub table_slots : (f : Blocks) (head index last : ℕ) (table : List ℕ) → index ≤ last → IsTable f head index last table → (x : ℕ) → 0 < index → Divides x index → slice_index table x ≡ slot_before f head x
-table_slots f head index last table le is x some divides = is x index some (omega arith) le divides ∙ ap (back f head) (before_multiple x index some divides)
+-- the slots of the next node
+pub table_slots : (f : Blocks) (head index last : ℕ) (table : List ℕ) → index ≤ last → IsTable f head index last table → (x : ℕ) → HasSlot index x → slice_index table x ≡ slot_before f head x
+table_slots f head index last table le is x has = is x index has.1 (omega arith) le has ∙ ap (back f head) (before_multiple x index has.1 has.2)
 
 chosen : (n block old : ℕ) → n ≡ 0 → (if n == 0 then block else old) ≡ block
 chosen n block old e = ap (λ (m : ℕ). if m == 0 then block else old) e
@@ -151,12 +153,11 @@ mod_after n p some more not = on (n % p) refl
         e ∙ ap suc (sym (ap (λ (m : ℕ). m % p) parts ∙ mod-mul-add (n / p) p r (omega arith)))
 
 -- a table goes on with the node that was written
-pub table_on : (f f' : Blocks) (head next index last : ℕ) (table table' : List ℕ) → last < 2 ^ 15 → IsTable f head index last table → ((x : ℕ) → x < 16 → slice_index table' x ≡ (if index % 2 ^ x == 0 then next else slice_index table x))
+pub table_on : (f f' : Blocks) (head next index last : ℕ) (table table' : List ℕ) → IsTable f head index last table → ((x : ℕ) → x < SLOTS → slice_index table' x ≡ (if index % 2 ^ x == 0 then next else slice_index table x))
     → (0 < index → pointer_of (f' next) 0 ≡ head) → ((n : ℕ) → 0 < index → n < index → back f' head n ≡ back f head n) → IsTable f' next (index + 1) last table'
-table_on f f' head next index last table table' few is moved before stays x k some from to divides =
-    let within : x < 16 = few_slots x k (omega arith) (omega arith) divides in
+table_on f f' head next index last table table' is moved before stays x k some from to has =
     let same : index + 1 - 1 ≡ index = omega arith in
-    moved x within ∙ at_index (index % 2 ^ x) refl ∙ ap (λ (n : ℕ). back f' next (n % 2 ^ x)) (sym same)
+    moved x has.0 ∙ at_index (index % 2 ^ x) refl ∙ ap (λ (n : ℕ). back f' next (n % 2 ^ x)) (sym same)
   where
     at_index : (r : ℕ) → index % 2 ^ x ≡ r → (if index % 2 ^ x == 0 then next else slice_index table x) ≡ back f' next (index % 2 ^ x)
     at_index zero e = chosen (index % 2 ^ x) next (slice_index table x) e ∙ ap (back f' next) (sym e)
@@ -166,7 +167,7 @@ table_on f f' head next index last table table' few is moved before stays x k so
         let rest : (index - 1) % 2 ^ x ≡ r = (let after = mod_after index (2 ^ x) (pow_pos x) more not in omega (arith, after)) in
         let less : r < index = omega (arith, mod_le (index - 1) (2 ^ x)) in
         left_out (index % 2 ^ x) next (slice_index table x) not
-        ∙ is x k more (omega arith) to divides ∙ ap (back f head) rest ∙ sym (stays r more less)
+        ∙ is x k more (omega arith) to has ∙ ap (back f head) rest ∙ sym (stays r more less)
         ∙ ap (λ (b : ℕ). back f' b r) (sym (before more)) ∙ ap (back f' next) (sym e)
       where
         positive : (n : ℕ) → n % 2 ^ x ≡ suc r → 0 < n

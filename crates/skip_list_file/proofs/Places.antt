@@ -2,9 +2,8 @@
 use Rattle.std.proofs.Common.{◌≡◌, ℕ, ◌+◌, ◌-◌, ◌*◌, ◌/◌, ◌%◌, ◌^◌, ◌<◌, ◌≤◌, ◌⊎◌, inl, inr, Option, Some, List, ap, ◌∙◌, arith}
 use Rattle.std.proofs.lemmas.Bool.{cases_lt}
 use Rattle.std.proofs.lemmas.Nat.{pow_pos, pow_below, pow-add, mod-mul-add, div-add-mod'}
-use Rattle.node_format.specs.BodyNodes.{HasSlot}
-use Rattle.block_trees.specs.Bodies.{index_of, Divides}
-use Rattle.skip_list_file.proofs.Appended.{divides_least}
+use Rattle.node_format.specs.BodyNodes.{HasSlot, Divides}
+use Rattle.block_trees.specs.Bodies.{index_of}
 
 -- ---- which powers of 2 divide an index
 
@@ -26,15 +25,8 @@ divides_below x place index not (m, e) = on (cases_lt x place)
     on (inl lt) = lt
     on (inr le) = absurd (not (multiple m (2 ^ (x - place)) (2 ^ place) index (e ∙ ap (λ (p : ℕ). m * p) (split_power place x le)) (pow_pos place)))
 
-pub few_slots : (x index : ℕ) → 0 < index → index < 2 ^ 15 → Divides x index → x < 16
-few_slots x index some few divides = on (cases_lt x 16)
-  where
-    on : (x < 16) ⊎ (16 ≤ x) → x < 16
-    on (inl lt) = lt
-    on (inr le) = absurd (omega (arith, divides_least x index some divides, pow_below 15 x (omega arith)))
+-- ---- one slot
 
--- ---- one place
-
--- a body node has a pointer at a place
+-- a body node has a pointer at a slot
 abbrev pub HasPointer : Option (List ℕ) → ℕ → Type 0
 HasPointer node x = (i : ℕ) × (index_of node ≡ Some i) × HasSlot i x

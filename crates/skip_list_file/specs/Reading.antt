@@ -3,15 +3,21 @@ use Rattle.std.specs.Prelude.{◌≡◌, ◌<◌, List, length, slice_index, ℕ
 use Rattle.fs_types.specs.declared.faults.Fault.{Fault}
 use Rattle.fs_types.specs.declared.faults.Fault.TheVariants.{Damaged}
 use Rattle.node_store.specs.Faults.{is_read_fault}
-use Rattle.block_trees.specs.Bodies.{Blocks, back, Divides}
+use Rattle.block_trees.specs.Bodies.{Blocks, back}
+use Rattle.node_format.specs.BodyNodes.{HasSlot}
+use Rattle.node_format.specs.declared.headers.TheConstants.{SLOTS}
 
--- slot x leads from index i towards index j, and not past it
+-- slot x, which the node of index i has, leads towards index j, and not past it
 abbrev pub IsUseful : ℕ → ℕ → ℕ → Type 0
-IsUseful x i j = Divides x i × (j + 2 ^ x ≤ i)
+IsUseful x i j = HasSlot i x × (j + 2 ^ x ≤ i)
 
 -- it is the one that leads farthest
 abbrev pub IsLargest : ℕ → ℕ → ℕ → Type 0
 IsLargest x i j = IsUseful x i j × ((y : ℕ) → IsUseful y i j → y ≤ x)
+
+-- an index has at most so many binary digits, and no more than a node has slots: each file's has at most 13
+abbrev pub HasDigits : ℕ → ℕ → Type 0
+HasDigits index digits = (digits ≤ SLOTS) × (index < 2 ^ digits)
 
 -- how many nodes hold the bytes from one place to another
 abbrev pub nodes_between : ℕ → ℕ → ℕ → ℕ

@@ -5,9 +5,10 @@ use Rattle.fs_types.specs.declared.faults.Fault.TheVariants.{FlashFull, ReadOnly
 use Rattle.plain_trees.specs.Contents.{resized, overwritten}
 use Rattle.node_format.specs.declared.places.Place.TheVariants.{File}
 use Rattle.block_trees.specs.Bodies as bodies
-use Rattle.block_trees.specs.Bodies.{Blocks, index_of, back, Divides, IsChain, IsLinked, IsBody}
+use Rattle.block_trees.specs.Bodies.{Blocks, index_of, back, IsChain, IsLinked, IsBody}
 use Rattle.block_trees.specs.Reached.{Reached, IsHeld, PlaceNames}
 use Rattle.skip_list_file.specs.declared.bodies.Body.{Body}
+use Rattle.node_format.specs.BodyNodes.{HasSlot}
 
 -- a body has these bytes, and all that it reaches is kept
 pub record IsWritten (capacity : ℕ) (f : Blocks) (kept : ℕ → Bool) (body : Body) (bytes : List ℕ) : Type 0 where
@@ -52,11 +53,11 @@ abbrev pub AreLinked : ℕ → Blocks → ℕ → ℕ → Type 0
 AreLinked capacity f head zero = Unit {0}
 AreLinked capacity f head (suc i) = IsChain capacity f i head × IsLinked f i head
 
--- a table for the nodes from the one after a head, of this index, to the last: place x is the block of
--- the greatest index below it that 2 to the x divides, for each place that one of those nodes has
+-- a table for the nodes from the one after a head, of this index, to the last: slot x is the block of
+-- the greatest index below it that 2 to the x divides, for each slot that one of those nodes has
 abbrev pub IsTable : Blocks → ℕ → ℕ → ℕ → List ℕ → Type 0
 IsTable f head index last table =
-    (x k : ℕ) → 0 < index → index ≤ k → k ≤ last → Divides x k → slice_index table x ≡ back f head ((index - 1) % 2 ^ x)
+    (x k : ℕ) → 0 < index → index ≤ k → k ≤ last → HasSlot k x → slice_index table x ≡ back f head ((index - 1) % 2 ^ x)
 
 -- the front of a body: its first bytes, in the nodes that hold them
 pub record IsFront (capacity : ℕ) (f : Blocks) (head size front part : ℕ) : Type 0 where

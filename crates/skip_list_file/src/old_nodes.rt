@@ -63,7 +63,7 @@ fn find_listed<N: Nodes>(
     requires blocks { spec.AreBlocks (N.node nodes.old) head blocks.now }
     ensures found { IfOk result (λ block. block ≡ back (N.node nodes.old) head (head_index - index)) }
     ensures listed { head_index - index < length blocks.now → N.reads nodes.new ≡ N.reads nodes.old }
-    ensures reads { (digits : ℕ) → head_index < 2 ^ digits → N.reads nodes.new ≤ N.reads nodes.old + 2 * digits }
+    ensures reads { (digits : ℕ) → spec.HasDigits head_index digits → N.reads nodes.new ≤ N.reads nodes.old + 2 * digits }
     ensures why { IfErr result (λ fault. N.causes nodes.old nodes.new fault) }
     ensures faults { IfErr result spec.IsBodyFault }
     ensures looks { OnlyLooks N.node N.kept N.writes N.follows N.is_sound N.limit N.blocks nodes.old nodes.new }
@@ -97,7 +97,7 @@ pub(crate) fn read_kept<N: Nodes>(
     ensures kept { OnOk result ((i : ℕ) → i < length out.old → (index * capacity + i < offset) ⊎ (end ≤ index * capacity + i) → slice_index out.new i ≡ slice_index (trees.body capacity (N.node nodes.old) body.head body.length) (index * capacity + i)) }
     ensures unread { KeepsNone body.length offset end (index * capacity) (index * capacity + length out.old) → N.reads nodes.new ≡ N.reads nodes.old }
     ensures listed { head_index capacity body.length - index < length blocks.now → N.reads nodes.new ≤ N.reads nodes.old + 1 }
-    ensures reads { (digits : ℕ) → head_index capacity body.length < 2 ^ digits → N.reads nodes.new ≤ N.reads nodes.old + (1 + 2 * digits) }
+    ensures reads { (digits : ℕ) → spec.HasDigits (head_index capacity body.length) digits → N.reads nodes.new ≤ N.reads nodes.old + (1 + 2 * digits) }
     ensures why { IfErr result (λ fault. N.causes nodes.old nodes.new fault) }
     ensures faults { IfErr result spec.IsBodyFault }
     ensures looks { OnlyLooks N.node N.kept N.writes N.follows N.is_sound N.limit N.blocks nodes.old nodes.new }

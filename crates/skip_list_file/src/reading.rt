@@ -10,7 +10,7 @@ ghost use Rattle.node_store.specs.Frames.{OnlyLooks};
 
 use crate::bodies::Body;
 use fs_types::{Bytes, Fault};
-use node_format::{BODY_FRONT, BodyNode};
+use node_format::{BODY_FRONT, BodyNode, SLOTS};
 use node_store::Nodes;
 use std::alloc::Global;
 
@@ -19,7 +19,8 @@ fn farthest_slot(index: u32, before: u32) -> u32
     requires { before < index }
     ensures { spec.IsLargest result index before }
 {
-    index.trailing_zeros().min((index - before).ilog2())
+    let slot = index.trailing_zeros().min((index - before).ilog2());
+    slot.min(SLOTS as u32 - 1)
 }
 
 /// The block that a slot of a body node names, of a slot that it has.
@@ -43,7 +44,7 @@ pub(crate) fn pointer_at<N: Nodes>(nodes: &mut N, block: u32, slot: u32) -> Resu
 }
 
 /// The block of the node of an index, from the head of a linked chain: one read for each hop, at most
-/// two hops for each binary digit of the head's index.
+/// two hops for each binary digit of the head's index, of at most 16 digits.
 ///
 /// Refused only with what reads are refused with: the chain is whole.
 pub(crate) fn find<N: Nodes>(
@@ -57,7 +58,7 @@ pub(crate) fn find<N: Nodes>(
     requires linked { IsLinked (N.node nodes.old) head_index head }
     requires before { index ≤ head_index }
     ensures found { IfOk result (λ block. block ≡ back (N.node nodes.old) head (head_index - index)) }
-    ensures reads { (digits : ℕ) → head_index < 2 ^ digits → N.reads nodes.new ≤ N.reads nodes.old + 2 * digits }
+    ensures reads { (digits : ℕ) → spec.HasDigits head_index digits → N.reads nodes.new ≤ N.reads nodes.old + 2 * digits }
     ensures why { IfErr result (λ fault. N.causes nodes.old nodes.new fault) }
     ensures faults { IfErr result spec.IsBodyFault }
     ensures looks { OnlyLooks N.node N.kept N.writes N.follows N.is_sound N.limit N.blocks nodes.old nodes.new }
@@ -157,7 +158,7 @@ pub fn read_range<N: Nodes>(
     requires sound { N.is_sound nodes.old }
     requires body { IsBody (N.limit nodes.old - body_front) (N.node nodes.old) body.head body.length }
     ensures read { IfOk result (λ bytes. bytes ≡ read_from (trees.body (N.limit nodes.old - body_front) (N.node nodes.old) body.head body.length) offset count) }
-    ensures reads { (digits : ℕ) → head_index (N.limit nodes.old - body_front) body.length < 2 ^ digits → N.reads nodes.new ≤ N.reads nodes.old + (spec.nodes_of_range (N.limit nodes.old - body_front) body.length offset count + 2 * digits) }
+    ensures reads { (digits : ℕ) → spec.HasDigits (head_index (N.limit nodes.old - body_front) body.length) digits → N.reads nodes.new ≤ N.reads nodes.old + (spec.nodes_of_range (N.limit nodes.old - body_front) body.length offset count + 2 * digits) }
     ensures unread { spec.nodes_of_range (N.limit nodes.old - body_front) body.length offset count ≡ 0 → N.reads nodes.new ≡ N.reads nodes.old }
     ensures why { IfErr result (λ fault. N.causes nodes.old nodes.new fault) }
     ensures faults { IfErr result spec.IsBodyFault }

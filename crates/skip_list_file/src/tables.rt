@@ -1,16 +1,15 @@
 //! The slots of the next node of a chain, kept while nodes are written.
 ghost use Rattle.std.specs.Prelude.{◌≡◌, ℕ, ◌+◌, ◌-◌, ◌*◌, ◌/◌, ◌%◌, ◌^◌, ◌<◌, ◌≤◌, ◌==◌, if◌then◌else◌, length, slice_index, IfOk, IfErr};
 ghost use Rattle.block_trees.specs.Bodies.{back, IsChain, IsLinked};
+ghost use Rattle.node_format.specs.declared.headers.TheConstants.{SLOTS};
 ghost use Rattle.skip_list_file.specs.Reading.{IsBodyFault};
 ghost use Rattle.skip_list_file.specs.Writing as spec;
 ghost use Rattle.node_store.specs.Frames.{OnlyLooks};
 
 use crate::reading::pointer_at;
 use fs_types::Fault;
+use node_format::SLOTS;
 use node_store::Nodes;
-
-/// The slots of a body node.
-pub(crate) const SLOTS: usize = 16;
 
 /// The last block for each power of two: slot `x` is the block of the node of the greatest index
 /// below the next one that 2 to the `x` divides.
@@ -25,7 +24,7 @@ fn step_back<N: Nodes>(nodes: &mut N, block: u32, most: u32, slot: u32) -> Resul
     requires sound { N.is_sound nodes.old }
     requires chain { (capacity : ℕ) × IsChain capacity (N.node nodes.old) (most / 2 ^ slot * 2 ^ slot) block }
     requires linked { IsLinked (N.node nodes.old) (most / 2 ^ slot * 2 ^ slot) block }
-    requires few { slot < 16 }
+    requires few { slot < SLOTS }
     ensures next { IfOk result (λ next. next ≡ back (N.node nodes.old) block (most / 2 ^ slot % 2 * 2 ^ slot)) }
     ensures reads { N.reads nodes.new ≤ N.reads nodes.old + 1 }
     ensures unread { most < 2 ^ slot → N.reads nodes.new ≡ N.reads nodes.old }
@@ -51,7 +50,6 @@ pub(crate) fn start_table<N: Nodes>(
     requires sound { N.is_sound nodes.old }
     requires linked { (capacity : ℕ) × spec.AreLinked capacity (N.node nodes.old) head index }
     requires order { index ≤ last }
-    requires few { last < 2 ^ 15 }
     ensures table { IfOk result (λ table. spec.IsTable (N.node nodes.old) head index last table.blocks) }
     ensures reads { (digits : ℕ) → index ≤ 2 ^ digits → N.reads nodes.new ≤ N.reads nodes.old + digits }
     ensures why { IfErr result (λ fault. N.causes nodes.old nodes.new fault) }
@@ -78,7 +76,7 @@ pub(crate) fn start_table<N: Nodes>(
 impl Table {
     /// Takes in that the node of an index was written to a block.
     pub(crate) fn move_on(&mut self, index: u32, block: u32)
-        ensures { (x : ℕ) → x < 16 → slice_index self.new.blocks x ≡ (if index % 2 ^ x == 0 then block else slice_index self.old.blocks x) }
+        ensures { (x : ℕ) → x < SLOTS → slice_index self.new.blocks x ≡ (if index % 2 ^ x == 0 then block else slice_index self.old.blocks x) }
     {
         for slot in 0..SLOTS {
             if index % 2u32.pow(slot as u32) != 0 {

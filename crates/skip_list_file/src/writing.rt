@@ -5,12 +5,13 @@ ghost use Rattle.node_format.specs.Headers.{body_front};
 ghost use Rattle.node_format.specs.declared.places.Place.TheVariants.{File};
 ghost use Rattle.plain_trees.specs.Contents.{read_from, nodes_from, pwrite_need, ftruncate_need, resized, overwritten};
 ghost use Rattle.block_trees.specs.Bodies as bodies;
-ghost use Rattle.block_trees.specs.Bodies.{head_index, Divides, IsBody};
+ghost use Rattle.block_trees.specs.Bodies.{head_index, IsBody};
 ghost use Rattle.block_trees.specs.Reached.{IsHeld, Keeps};
-ghost use Rattle.skip_list_file.specs.Reading.{nodes_between, AreBlocks};
+ghost use Rattle.skip_list_file.specs.Reading.{nodes_between, AreBlocks, HasDigits};
 ghost use Rattle.skip_list_file.specs.Writing as spec;
 ghost use Rattle.node_store.specs.Frames.{OnlyLooks, Works};
 ghost use Rattle.fs_types.specs.declared.limits.TheConstants.{MAX_FILE_BYTES};
+ghost use Rattle.node_format.specs.BodyNodes.{HasSlot};
 
 use crate::bodies::Body;
 use crate::old_nodes::{list_blocks, read_kept};
@@ -37,11 +38,10 @@ fn append<N: Nodes>(
     requires whole { IsBody capacity (N.node nodes.old) head (index * capacity) }
     requires held { IsHeld (N.node nodes.old) (N.kept nodes.old) (File head (index * capacity)) }
     requires most { capacity < 2 ^ 18 }
-    requires few { index < 2 ^ 15 }
     requires some { 0 < length bytes.now }
     requires fits { length bytes.now ≤ capacity }
-    requires places { (x : ℕ) → 0 < index → Divides x index → slice_index table.old.blocks x ≡ spec.slot_before (N.node nodes.old) head x }
-    ensures table { IfOk result (λ next. (last : ℕ) → last < 2 ^ 15 → spec.IsTable (N.node nodes.old) head index last table.old.blocks → spec.IsTable (N.node nodes.new) next (index + 1) last table.new.blocks) }
+    requires slots { (x : ℕ) → HasSlot index x → slice_index table.old.blocks x ≡ spec.slot_before (N.node nodes.old) head x }
+    ensures table { IfOk result (λ next. (last : ℕ) → spec.IsTable (N.node nodes.old) head index last table.old.blocks → spec.IsTable (N.node nodes.new) next (index + 1) last table.new.blocks) }
     ensures reads { N.reads nodes.new ≡ N.reads nodes.old }
     ensures grown { IfOk result (λ next. spec.IsGrown capacity (N.node nodes.old) (N.node nodes.new) (N.kept nodes.old) (N.kept nodes.new) head index next bytes.now) }
     ensures why { IfErr result (λ fault. N.causes nodes.old nodes.new fault) }
@@ -63,7 +63,7 @@ fn front<N: Nodes>(nodes: &mut N, capacity: u32, body: Body, part: u32) -> Resul
     requires least { 0 < capacity }
     requires whole { IsBody capacity (N.node nodes.old) body.head body.length }
     requires within { part ≤ body.length }
-    ensures reads { (digits : ℕ) → head_index capacity body.length < 2 ^ digits → N.reads nodes.new ≤ N.reads nodes.old + 2 * digits }
+    ensures reads { (digits : ℕ) → HasDigits (head_index capacity body.length) digits → N.reads nodes.new ≤ N.reads nodes.old + 2 * digits }
     ensures front { IfOk result (λ front. spec.IsFront capacity (N.node nodes.old) body.head body.length front part) }
     ensures why { IfErr result (λ fault. N.causes nodes.old nodes.new fault) }
     ensures faults { IfErr result spec.IsWritingFault }
@@ -115,7 +115,7 @@ fn edit_into<N: Nodes>(
     ensures edited { OnOk result ((size : ℕ) → index * capacity + length out.old ≤ size → out.new ≡ read_from (spec.edited (bodies.body capacity (N.node nodes.old) body.head body.length) offset bytes.now size) (index * capacity) (length out.old)) }
     ensures unread { spec.KeepsNone body.length offset (offset + length bytes.now) (index * capacity) (index * capacity + length out.old) → N.reads nodes.new ≡ N.reads nodes.old }
     ensures listed { head_index capacity body.length - index < length blocks.now → N.reads nodes.new ≤ N.reads nodes.old + 1 }
-    ensures reads { (digits : ℕ) → head_index capacity body.length < 2 ^ digits → N.reads nodes.new ≤ N.reads nodes.old + (1 + 2 * digits) }
+    ensures reads { (digits : ℕ) → HasDigits (head_index capacity body.length) digits → N.reads nodes.new ≤ N.reads nodes.old + (1 + 2 * digits) }
     ensures why { IfErr result (λ fault. N.causes nodes.old nodes.new fault) }
     ensures faults { IfErr result spec.IsWritingFault }
     ensures looks { OnlyLooks N.node N.kept N.writes N.follows N.is_sound N.limit N.blocks nodes.old nodes.new }
@@ -149,7 +149,7 @@ fn edited_bytes<N: Nodes>(
     ensures edited { IfOk result (λ new. (size : ℕ) → index * capacity + count ≤ size → new.items ≡ read_from (spec.edited (bodies.body capacity (N.node nodes.old) body.head body.length) offset bytes.now size) (index * capacity) count) }
     ensures unread { spec.KeepsNone body.length offset (offset + length bytes.now) (index * capacity) (index * capacity + count) → N.reads nodes.new ≡ N.reads nodes.old }
     ensures listed { head_index capacity body.length - index < length blocks.now → N.reads nodes.new ≤ N.reads nodes.old + 1 }
-    ensures reads { (digits : ℕ) → head_index capacity body.length < 2 ^ digits → N.reads nodes.new ≤ N.reads nodes.old + (1 + 2 * digits) }
+    ensures reads { (digits : ℕ) → HasDigits (head_index capacity body.length) digits → N.reads nodes.new ≤ N.reads nodes.old + (1 + 2 * digits) }
     ensures why { IfErr result (λ fault. N.causes nodes.old nodes.new fault) }
     ensures faults { IfErr result spec.IsWritingFault }
     ensures looks { OnlyLooks N.node N.kept N.writes N.follows N.is_sound N.limit N.blocks nodes.old nodes.new }
@@ -189,7 +189,6 @@ fn write_node<N: Nodes>(
     requires small { change.capacity < 2 ^ 18 }
     requires within { index * change.capacity < change.size }
     requires size { change.size ≤ MAX_FILE_BYTES }
-    requires few { (change.size - 1) / change.capacity < 2 ^ 15 }
     requires last { index ≤ (change.size - 1) / change.capacity }
     requires fits { change.offset + length bytes.now ≤ MAX_FILE_BYTES }
     requires whole { IsBody change.capacity (N.node nodes.old) change.body.head change.body.length }
@@ -201,7 +200,7 @@ fn write_node<N: Nodes>(
     ensures table { IfOk result (λ next. spec.IsTable (N.node nodes.new) next (index + 1) ((change.size - 1) / change.capacity) table.new.blocks) }
     ensures unread { spec.KeepsNone change.body.length change.offset (change.offset + length bytes.now) (index * change.capacity) (index * change.capacity + min change.capacity (change.size - index * change.capacity)) → N.reads nodes.new ≡ N.reads nodes.old }
     ensures listed { head_index change.capacity change.body.length - index < length old.now → N.reads nodes.new ≤ N.reads nodes.old + 1 }
-    ensures reads { (digits : ℕ) → head_index change.capacity change.body.length < 2 ^ digits → N.reads nodes.new ≤ N.reads nodes.old + (1 + 2 * digits) }
+    ensures reads { (digits : ℕ) → HasDigits (head_index change.capacity change.body.length) digits → N.reads nodes.new ≤ N.reads nodes.old + (1 + 2 * digits) }
     ensures why { IfErr result (λ fault. N.causes nodes.old nodes.new fault) }
     ensures faults { IfErr result spec.IsWritingFault }
     ensures one { IfOk result (λ _. N.writes nodes.new ≡ N.writes nodes.old + 1) }
@@ -250,12 +249,11 @@ fn start_at<N: Nodes>(
     requires first { first ≡ min change.offset change.body.length / change.capacity }
     requires some { 0 < change.size }
     requires last { first ≤ (change.size - 1) / change.capacity }
-    requires few { (change.size - 1) / change.capacity < 2 ^ 15 }
     ensures front { IfOk result (λ start. spec.IsFront change.capacity (N.node nodes.old) change.body.head change.body.length start.head (first * change.capacity)) }
     ensures table { IfOk result (λ start. spec.IsTable (N.node nodes.old) start.head first ((change.size - 1) / change.capacity) start.table.blocks) }
     ensures old { IfOk result (λ start. AreBlocks (N.node nodes.old) change.body.head start.old.items) }
     ensures count { IfOk result (λ start. length start.old.items ≡ nodes_between change.capacity end change.body.length) }
-    ensures reads { (digits : ℕ) → head_index change.capacity change.body.length < 2 ^ digits → N.reads nodes.new ≤ N.reads nodes.old + (nodes_between change.capacity end change.body.length + 3 * digits) }
+    ensures reads { (digits : ℕ) → HasDigits (head_index change.capacity change.body.length) digits → N.reads nodes.new ≤ N.reads nodes.old + (nodes_between change.capacity end change.body.length + 3 * digits) }
     ensures why { IfErr result (λ fault. N.causes nodes.old nodes.new fault) }
     ensures faults { IfErr result spec.IsWritingFault }
     ensures looks { OnlyLooks N.node N.kept N.writes N.follows N.is_sound N.limit N.blocks nodes.old nodes.new }
@@ -293,7 +291,7 @@ fn write_nodes<N: Nodes>(
     requires count { length start.old.items ≡ nodes_between change.capacity (change.offset + length bytes.now) change.body.length }
     ensures written { IfOk result (λ new. spec.IsWritten change.capacity (N.node nodes.new) (N.kept nodes.new) new (spec.edited (bodies.body change.capacity (N.node nodes.old) change.body.head change.body.length) change.offset bytes.now change.size)) }
     ensures reaches { IfOk result (λ new. spec.OnlyReaches (N.node nodes.old) (N.node nodes.new) (N.kept nodes.old) change.body new) }
-    ensures reads { (digits : ℕ) → head_index change.capacity change.body.length < 2 ^ digits → N.reads nodes.new ≤ N.reads nodes.old + (nodes_between change.capacity (change.offset + length bytes.now) change.body.length + (1 + 2 * digits)) }
+    ensures reads { (digits : ℕ) → HasDigits (head_index change.capacity change.body.length) digits → N.reads nodes.new ≤ N.reads nodes.old + (nodes_between change.capacity (change.offset + length bytes.now) change.body.length + (1 + 2 * digits)) }
     ensures why { IfErr result (λ fault. N.causes nodes.old nodes.new fault) }
     ensures faults { IfErr result spec.IsWritingFault }
     ensures count { IfOk result (λ _. N.writes nodes.new ≡ N.writes nodes.old + nodes_from change.capacity (min change.offset change.body.length) change.size) }
@@ -343,7 +341,7 @@ fn change_body<N: Nodes>(
     ensures reaches { IfOk result (λ new. spec.OnlyReaches (N.node nodes.old) (N.node nodes.new) (N.kept nodes.old) body new) }
     ensures why { IfErr result (λ fault. N.causes nodes.old nodes.new fault) }
     ensures faults { IfErr result spec.IsWritingFault }
-    ensures reads { (digits : ℕ) → head_index (N.limit nodes.old - body_front) body.length < 2 ^ digits → N.reads nodes.new ≤ N.reads nodes.old + (2 * nodes_between (N.limit nodes.old - body_front) (offset + length bytes.now) body.length + (1 + 5 * digits)) }
+    ensures reads { (digits : ℕ) → HasDigits (head_index (N.limit nodes.old - body_front) body.length) digits → N.reads nodes.new ≤ N.reads nodes.old + (2 * nodes_between (N.limit nodes.old - body_front) (offset + length bytes.now) body.length + (1 + 5 * digits)) }
     ensures count { IfOk result (λ _. N.writes nodes.new ≡ N.writes nodes.old + nodes_from (N.limit nodes.old - body_front) (min offset body.length) size) }
     ensures writes { N.writes nodes.new ≤ N.writes nodes.old + nodes_from (N.limit nodes.old - body_front) (min offset body.length) size }
     ensures works { Works N.follows N.is_sound N.limit N.blocks nodes.old nodes.new }
@@ -386,7 +384,7 @@ pub fn write_range<N: Nodes>(
     ensures written { IfOk result (λ new. spec.IsWritten (N.limit nodes.old - body_front) (N.node nodes.new) (N.kept nodes.new) new (overwritten (bodies.body (N.limit nodes.old - body_front) (N.node nodes.old) body.head body.length) offset bytes.now)) }
     ensures reaches { IfOk result (λ new. spec.OnlyReaches (N.node nodes.old) (N.node nodes.new) (N.kept nodes.old) body new) }
     ensures keeps { Keeps (N.kept nodes.old) (N.node nodes.old) (N.kept nodes.new) (N.node nodes.new) }
-    ensures reads { (digits : ℕ) → head_index (N.limit nodes.old - body_front) body.length < 2 ^ digits → N.reads nodes.new ≤ N.reads nodes.old + (2 * nodes_between (N.limit nodes.old - body_front) (offset + length bytes.now) body.length + (1 + 5 * digits)) }
+    ensures reads { (digits : ℕ) → HasDigits (head_index (N.limit nodes.old - body_front) body.length) digits → N.reads nodes.new ≤ N.reads nodes.old + (2 * nodes_between (N.limit nodes.old - body_front) (offset + length bytes.now) body.length + (1 + 5 * digits)) }
     ensures count { IfOk result (λ _. N.writes nodes.new ≡ N.writes nodes.old + pwrite_need (N.limit nodes.old - body_front) body.length offset (length bytes.now)) }
     ensures writes { N.writes nodes.new ≤ N.writes nodes.old + pwrite_need (N.limit nodes.old - body_front) body.length offset (length bytes.now) }
     ensures why { IfErr result (λ fault. N.causes nodes.old nodes.new fault) }
@@ -416,7 +414,7 @@ pub fn set_length<N: Nodes>(
     ensures written { IfOk result (λ new. spec.IsWritten (N.limit nodes.old - body_front) (N.node nodes.new) (N.kept nodes.new) new (resized (bodies.body (N.limit nodes.old - body_front) (N.node nodes.old) body.head body.length) length)) }
     ensures reaches { IfOk result (λ new. spec.OnlyReaches (N.node nodes.old) (N.node nodes.new) (N.kept nodes.old) body new) }
     ensures keeps { Keeps (N.kept nodes.old) (N.node nodes.old) (N.kept nodes.new) (N.node nodes.new) }
-    ensures reads { (digits : ℕ) → head_index (N.limit nodes.old - body_front) body.length < 2 ^ digits → N.reads nodes.new ≤ N.reads nodes.old + (1 + 5 * digits) }
+    ensures reads { (digits : ℕ) → HasDigits (head_index (N.limit nodes.old - body_front) body.length) digits → N.reads nodes.new ≤ N.reads nodes.old + (1 + 5 * digits) }
     ensures count { IfOk result (λ _. N.writes nodes.new ≡ N.writes nodes.old + ftruncate_need (N.limit nodes.old - body_front) body.length length) }
     ensures writes { N.writes nodes.new ≤ N.writes nodes.old + ftruncate_need (N.limit nodes.old - body_front) body.length length }
     ensures why { IfErr result (λ fault. N.causes nodes.old nodes.new fault) }

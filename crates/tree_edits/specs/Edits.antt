@@ -16,7 +16,7 @@ use Rattle.directory.specs.declared.lookups.Found.TheVariants as found
 use Rattle.directory.specs.Lookups.{look_up}
 use Rattle.directory.specs.Moves.{directories_along}
 use Rattle.directory.specs.Trails.{IsTrail, has_room}
-use Rattle.skip_list_file.specs.Reading.{nodes_between}
+use Rattle.skip_list_file.specs.Reading.{nodes_between, HasDigits}
 use Rattle.tree_edits.specs.declared.edits.Edit.{Edit}
 
 -- a file may be put where this was found: where nothing stands and the directory has room, and in the place of a file
@@ -93,8 +93,8 @@ abbrev pub ReadsFew : ℕ → Edit → ℕ → ℕ → Type 0
 ReadsFew capacity (Edit.MakeDirectory path trail) before after = after ≤ before + length path.now
 ReadsFew capacity (Edit.PutEmptyFile path trail) before after = after ≤ before + length path.now
 ReadsFew capacity (Edit.Overwrite path trail body offset bytes) before after =
-    (digits : ℕ) → head_index capacity body.length < 2 ^ digits → after ≤ before + (overwrite_reads capacity body.length (offset + length bytes.now) digits + length path.now)
-ReadsFew capacity (Edit.SetLength path trail body size) before after = (digits : ℕ) → head_index capacity body.length < 2 ^ digits → after ≤ before + (resize_reads digits + length path.now)
+    (digits : ℕ) → HasDigits (head_index capacity body.length) digits → after ≤ before + (overwrite_reads capacity body.length (offset + length bytes.now) digits + length path.now)
+ReadsFew capacity (Edit.SetLength path trail body size) before after = (digits : ℕ) → HasDigits (head_index capacity body.length) digits → after ≤ before + (resize_reads digits + length path.now)
 ReadsFew capacity (Edit.Remove path trail) before after = after ≤ before + length path.now
 ReadsFew capacity (Edit.Move old old_trail new new_trail place) before after = after ≤ before + directories_along old.now new.now
 ReadsFew capacity (Edit.Restore other) before after = after ≡ before

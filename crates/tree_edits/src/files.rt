@@ -17,6 +17,7 @@ ghost use Rattle.directory.specs.Lookups.{look_up};
 ghost use Rattle.directory.specs.Trails.{IsTrail, IsChangeFault};
 ghost use Rattle.tree_edits.specs.Edits.{TakesFile, overwrite_reads, resize_reads};
 ghost use Rattle.tree_edits.specs.Roots.{IsNewRoot};
+ghost use Rattle.skip_list_file.specs.Reading.{HasDigits};
 
 use directory::{Trail, put_entry};
 use fs_types::{Fault, Path};
@@ -108,7 +109,7 @@ pub(crate) fn overwrite<N: Nodes>(
     ensures faults { IfErr result IsChangeFault }
     ensures written { IfOk result (λ _. N.writes nodes.new ≡ N.writes nodes.old + (pwrite_need (N.limit nodes.old - body_front) body.length offset (length bytes.now) + length path.now)) }
     ensures writes { N.writes nodes.new ≤ N.writes nodes.old + (pwrite_need (N.limit nodes.old - body_front) body.length offset (length bytes.now) + length path.now) }
-    ensures reads { (digits : ℕ) → head_index (N.limit nodes.old - body_front) body.length < 2 ^ digits → N.reads nodes.new ≤ N.reads nodes.old + (overwrite_reads (N.limit nodes.old - body_front) body.length (offset + length bytes.now) digits + length path.now) }
+    ensures reads { (digits : ℕ) → HasDigits (head_index (N.limit nodes.old - body_front) body.length) digits → N.reads nodes.new ≤ N.reads nodes.old + (overwrite_reads (N.limit nodes.old - body_front) body.length (offset + length bytes.now) digits + length path.now) }
     ensures follows { N.follows nodes.old nodes.new }
 {
     let new = write_range(alloc, nodes, body, offset, bytes)?;
@@ -137,7 +138,7 @@ pub(crate) fn resize<N: Nodes>(
     ensures faults { IfErr result IsChangeFault }
     ensures written { IfOk result (λ _. N.writes nodes.new ≡ N.writes nodes.old + (ftruncate_need (N.limit nodes.old - body_front) body.length size + length path.now)) }
     ensures writes { N.writes nodes.new ≤ N.writes nodes.old + (ftruncate_need (N.limit nodes.old - body_front) body.length size + length path.now) }
-    ensures reads { (digits : ℕ) → head_index (N.limit nodes.old - body_front) body.length < 2 ^ digits → N.reads nodes.new ≤ N.reads nodes.old + (resize_reads digits + length path.now) }
+    ensures reads { (digits : ℕ) → HasDigits (head_index (N.limit nodes.old - body_front) body.length) digits → N.reads nodes.new ≤ N.reads nodes.old + (resize_reads digits + length path.now) }
     ensures follows { N.follows nodes.old nodes.new }
 {
     let new = set_length(alloc, nodes, body, size)?;

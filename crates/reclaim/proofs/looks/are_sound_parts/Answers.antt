@@ -24,7 +24,7 @@ returns-in-Some-clause-exact g c =
     if_ok (λ (good : Bool). IsTrue good ↔ IsSoundAt c.args.capacity f' (slice_index c.args.pointers.now) c.in-Some.index)
     (λ (good : Bool). (node : Option (List ℕ)) → ArePartsOf node c.args.places.now c.args.pointers.now c.args.index → IsTrue good ↔ IsSoundNode c.args.capacity f node)
     c.is_sound_at.result
-    (λ good own node parts. parts_body c.args.capacity f f' c.args.places.now c.args.pointers.now c.in-Some.index c.in_ok-good.good good c.are_sound_places.ensures.looks.same_nodes c.in_ok-good.ensures.exact c.if-not-good.false (omega (arith, c.requires.capacity)) own node
+    (λ good own node parts. parts_body c.args.capacity f f' c.args.places.now c.args.pointers.now c.in-Some.index c.in_ok-good.good good c.are_sound_places.ensures.looks.same_nodes c.in_ok-good.ensures.exact c.if-not-good.false own node
     (subst (ArePartsOf node c.args.places.now c.args.pointers.now) c.in-Some.is parts))
     c.is_sound_at.ensures.exact
 

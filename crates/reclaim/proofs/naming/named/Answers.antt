@@ -10,6 +10,6 @@ pub returns-clause-names : goal.returns-clause-names
 returns-clause-names c =
     let entries = flat_map item_names (items_of (Some c.args.bytes.now)) in
     let pointers = body_named (index_of (Some c.args.bytes.now)) (pointer_of (Some c.args.bytes.now)) in
-    named_all c.args.bytes.now c.push_body.new.out.items c.push_body.ensures.fits
-    (c.in_ok-push_body.ensures.list
+    named_all c.args.bytes.now c.push_body.new.out.items
+    (c.in_ok-push_body.ensures
     ∙ ap (λ (l : List ℕ). l ++ pointers) (c.in_ok-push_directory.ensures ∙ ap (λ (l : List ℕ). l ++ entries) c.new-out.ensures.items))

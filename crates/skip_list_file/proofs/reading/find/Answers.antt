@@ -17,7 +17,7 @@ loop-at-init g c =
         above = c.requires.before;
         below = omega arith;
       };
-      few = λ digits small. let h = few_hops c.args.head_index c.args.index digits c.requires.before small in (h.0, h.1, omega (arith, h.2));
+      few = λ digits small. let h = few_hops c.args.head_index c.args.index digits small.0 c.requires.before small.1 in (h.0, h.1, omega (arith, h.2));
       looks = record { same_nodes = refl; same_kept = refl; same_writes = refl; came = g.met.N.Nodes.follows_itself old; sound = c.requires.sound; same_limit = refl; same_blocks = refl };
     }
 
@@ -25,7 +25,7 @@ pub pointer_at-requires-clause-slot : goal.pointer_at-requires-clause-slot
 pointer_at-requires-clause-slot g c =
     let so_far = c.loop-at.invariant in
     let here = ap (λ (f : Blocks). index_of (f c.loop-at.block)) so_far.looks.same_nodes in
-    (c.loop-at.at, (here ∙ chain_node (g.N.Nodes.limit c.args.nodes.now - body_front) c.loop-at.at c.loop-at.block (g.N.Nodes.node c.args.nodes.now) so_far.way.chain), (omega arith, c.farthest_slot-slot.ensures.0.0))
+    (c.loop-at.at, (here ∙ chain_node (g.N.Nodes.limit c.args.nodes.now - body_front) c.loop-at.at c.loop-at.block (g.N.Nodes.node c.args.nodes.now) so_far.way.chain), c.farthest_slot-slot.ensures.0.0)
 
 pub loop-at-preserved : goal.loop-at-preserved
 loop-at-preserved g c =

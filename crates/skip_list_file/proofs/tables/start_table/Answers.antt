@@ -1,19 +1,18 @@
 use Rattle.std.proofs.Common.{◌≡◌, ℕ, suc, ◌+◌, ◌-◌, ◌*◌, ◌/◌, ◌%◌, ◌^◌, sym, ap, subst, ◌∙◌, arith}
 use Rattle.std.proofs.lemmas.List.{length-set}
 use Rattle.block_trees.specs.Bodies.{Blocks, back, IsChain, IsLinked}
-use Rattle.skip_list_file.proofs.Places.{few_slots}
 use Rattle.skip_list_file.proofs.Marks.{linked_before, mark_chain, mark_linked, mark_next, none_farther, set_named, few_more}
 use Rattle.skip_list_file.proofs.tables.start_table.Goals as goal
 
 pub returns-then-last-power-clause-table : goal.returns-then-last-power-clause-table
-returns-then-last-power-clause-table g c x k some from to divides =
+returns-then-last-power-clause-table g c x k some from to has =
     let slot = c.loop-slot.slot in
     let same : c.args.last / 2 ^ slot ≡ (c.args.index - 1) / 2 ^ slot =
     ap (λ (p : ℕ). c.args.last / p) (sym c.pow-power.ensures) ∙ c.if-last-power.true ∙ ap (λ (p : ℕ). (c.args.index - 1) / p) c.pow-power.ensures in
-    c.loop-slot.invariant.named x (none_farther c.args.index c.args.last slot x k some from to same divides)
+    c.loop-slot.invariant.named x (none_farther c.args.index c.args.last slot x k some from to same has.2)
 
 pub returns-clause-table : goal.returns-clause-table
-returns-clause-table g c x k some from to divides = c.loop-slot.invariant.named x (omega (arith, few_slots x k (omega arith) (omega (arith, c.requires.few)) divides))
+returns-clause-table g c x k some from to has = c.loop-slot.invariant.named x (omega (arith, has.0))
 
 pub step_back-requires-clause-chain : goal.step_back-requires-clause-chain
 step_back-requires-clause-chain g c =

@@ -9,7 +9,7 @@ pointer_at-requires-clause-slot g c =
     let most = c.args.most in
     let slot = c.args.slot in
     let odd : most / 2 ^ slot % 2 ≡ 0 → ⊥ = λ (e : most / 2 ^ slot % 2 ≡ 0). c.if-most-power-eq0.false (ap (λ (p : ℕ). most / p % 2) c.pow-power.ensures ∙ e) in
-    odd_pointer c.requires.chain.0 (g.N.Nodes.node c.args.nodes.now) c.args.block most slot c.requires.chain.1 odd
+    odd_pointer c.requires.chain.0 (g.N.Nodes.node c.args.nodes.now) c.args.block most slot c.requires.few c.requires.chain.1 odd
 
 pub returns-clause-next : goal.returns-clause-next
 returns-clause-next g c =
@@ -18,4 +18,4 @@ returns-clause-next g c =
     let slot = c.args.slot in
     let odd : most / 2 ^ slot % 2 ≡ 0 → ⊥ = λ (e : most / 2 ^ slot % 2 ≡ 0). c.if-most-power-eq0.false (ap (λ (p : ℕ). most / p % 2) c.pow-power.ensures ∙ e) in
     if_ok (λ next. next ≡ pointer_of (f c.args.block) slot) (λ next. next ≡ back f c.args.block (most / 2 ^ slot % 2 * 2 ^ slot)) c.pointer_at.result
-    (λ next is. odd_next f c.args.block most slot next c.requires.linked odd is) c.pointer_at.ensures.found
+    (λ next is. odd_next f c.args.block most slot next c.requires.few c.requires.linked odd is) c.pointer_at.ensures.found

@@ -23,12 +23,12 @@ returns-clause-grown g c =
     let spelled : IsBodySpelling c.deref.result.now c.args.index c.args.table.now.blocks c.args.bytes.now =
     subst (λ (node : List ℕ). IsBodySpelling node c.args.index c.args.table.now.blocks c.args.bytes.now) (sym c.deref.ensures.value) c.in_ok-node.ensures.spelled in
     let node : IsNext f (g.N.Nodes.node new) c.args.head c.args.index next c.args.bytes.now =
-    is_next f (g.N.Nodes.node new) c.args.head c.args.index next c.args.table.now.blocks c.args.bytes.now c.deref.result.now c.in_ok-block.ensures.written spelled c.requires.few c.requires.places in
+    is_next f (g.N.Nodes.node new) c.args.head c.args.index next c.args.table.now.blocks c.args.bytes.now c.deref.result.now c.in_ok-block.ensures.written spelled c.requires.slots in
     grown capacity f (g.N.Nodes.node new) (g.N.Nodes.kept old) (g.N.Nodes.kept new) c.args.head c.args.index next c.args.bytes.now keeps c.requires.whole c.requires.held full c.requires.some c.requires.fits
     node c.in_ok-block.ensures.fresh c.in_ok-block.ensures.kept
 
 pub returns-clause-table : goal.returns-clause-table
-returns-clause-table g c last few is =
+returns-clause-table g c last is =
     let old = c.args.nodes.now in
     let new = c.write.new.self in
     let capacity = c.args.capacity in
@@ -45,9 +45,9 @@ returns-clause-table g c last few is =
     let spelled : IsBodySpelling c.deref.result.now index c.args.table.now.blocks c.args.bytes.now =
     subst (λ (node : List ℕ). IsBodySpelling node index c.args.table.now.blocks c.args.bytes.now) (sym c.deref.ensures.value) c.in_ok-node.ensures.spelled in
     let node : IsNext f f' head index next c.args.bytes.now =
-    is_next f f' head index next c.args.table.now.blocks c.args.bytes.now c.deref.result.now c.in_ok-block.ensures.written spelled c.requires.few c.requires.places in
-    let before : 0 < index → pointer_of (f' next) 0 ≡ head = λ (some : 0 < index). node.places 0 some (index, omega arith) in
+    is_next f f' head index next c.args.table.now.blocks c.args.bytes.now c.deref.result.now c.in_ok-block.ensures.written spelled c.requires.slots in
+    let before : 0 < index → pointer_of (f' next) 0 ≡ head = λ (some : 0 < index). node.slots 0 (omega arith, some, (index, omega arith)) in
     let stays : (n : ℕ) → 0 < index → n < index → back f' head n ≡ back f head n = λ (n : ℕ) (some : 0 < index) (lt : n < index).
     back_stays capacity f f' (g.N.Nodes.kept old) (g.N.Nodes.kept new) keeps (index - 1) n head (omega arith) (linked_before capacity f head index some (are_linked capacity f head index least c.requires.whole)).0
     (λ b reached. c.requires.held head (product_some capacity index least some, refl) b reached) in
-    table_on f f' head next index last c.args.table.now.blocks c.move_on.new.self.blocks few is c.move_on.ensures before stays
+    table_on f f' head next index last c.args.table.now.blocks c.move_on.new.self.blocks is c.move_on.ensures before stays

@@ -7,7 +7,7 @@ use Rattle.plain_trees.specs.Contents.{nodes_from}
 use Rattle.skip_list_file.specs.Reading.{AreBlocks}
 use Rattle.skip_list_file.specs.Writing as spec
 use Rattle.skip_list_file.specs.Writing.{IsFront, IsTable, OnlyReaches}
-use Rattle.skip_list_file.proofs.Counted.{AreAll, few_all, few_both, few_begun_all, few_indices}
+use Rattle.skip_list_file.proofs.Counted.{AreAll, few_all, few_both, few_begun_all}
 use Rattle.skip_list_file.proofs.Growth.{starts_before}
 use Rattle.skip_list_file.proofs.writing.change_body.Goals as goal
 
@@ -22,9 +22,6 @@ pub start_at-requires-clause-last : goal.start_at-requires-clause-last
 start_at-requires-clause-last g c =
     let capacity : ℕ = c.block_bytes-capacity.result - 80 in
     subst (λ (n : ℕ). n / capacity ≤ (c.args.size - 1) / capacity) (sym c.min.ensures) (starts_before capacity (min c.args.offset c.args.body.length) c.args.size (omega (arith, c.block_bytes-capacity.ensures.least)) c.requires.changed)
-
-pub start_at-requires-clause-few : goal.start_at-requires-clause-few
-start_at-requires-clause-few g c = few_indices (c.block_bytes-capacity.result - 80) c.args.size (omega (arith, c.block_bytes-capacity.ensures.least)) c.requires.most
 
 pub write_nodes-requires-clause-sound : goal.write_nodes-requires-clause-sound
 write_nodes-requires-clause-sound g c = c.start_at.ensures.looks.sound

@@ -15,7 +15,7 @@ start_table-requires-clause-linked g c =
 pub returns-in_err-table-clause-reads : goal.returns-in_err-table-clause-reads
 returns-in_err-table-clause-reads g c digits small =
     let a = c.in_ok-head.ensures.reads digits small in
-    let b = c.start_table.ensures.reads digits (few_first c.args.change.capacity c.args.change.body.length c.args.change.offset c.args.first digits c.requires.least c.requires.first small) in
+    let b = c.start_table.ensures.reads digits (few_first c.args.change.capacity c.args.change.body.length c.args.change.offset c.args.first digits c.requires.least c.requires.first small.1) in
     omega (arith, a, b)
 
 pub returns-in_err-old-clause-reads : goal.returns-in_err-old-clause-reads

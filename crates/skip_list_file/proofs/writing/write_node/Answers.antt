@@ -31,8 +31,8 @@ append-requires-clause-fits g c =
     (c.deref.ensures.value ∙ c.in_ok-data.ensures.edited c.args.change.size (omega (arith, c.min-count.ensures, c.requires.within))) (omega (arith, c.min-count.ensures, c.requires.within)) in
     omega (arith, long, c.min-count.ensures)
 
-pub append-requires-clause-places : goal.append-requires-clause-places
-append-requires-clause-places g c =
+pub append-requires-clause-slots : goal.append-requires-clause-slots
+append-requires-clause-slots g c =
     let last : ℕ = (c.args.change.size - 1) / c.args.change.capacity in
     table_slots (g.N.Nodes.node c.edited_bytes.new.nodes) c.args.head c.args.index last c.args.table.now.blocks c.requires.last
     (subst (λ (h : Blocks). IsTable h c.args.head c.args.index last c.args.table.now.blocks) (sym c.edited_bytes.ensures.looks.same_nodes) c.requires.table)
@@ -51,7 +51,7 @@ returns-clause-grown g c =
 pub returns-clause-table : goal.returns-clause-table
 returns-clause-table g c =
     let last : ℕ = (c.args.change.size - 1) / c.args.change.capacity in
-    c.in_ok-next.ensures.table last c.requires.few (subst (λ (h : Blocks). IsTable h c.args.head c.args.index last c.args.table.now.blocks) (sym c.edited_bytes.ensures.looks.same_nodes) c.requires.table)
+    c.in_ok-next.ensures.table last (subst (λ (h : Blocks). IsTable h c.args.head c.args.index last c.args.table.now.blocks) (sym c.edited_bytes.ensures.looks.same_nodes) c.requires.table)
 
 pub returns-in_err-data-clause-unread : goal.returns-in_err-data-clause-unread
 returns-in_err-data-clause-unread g c none =

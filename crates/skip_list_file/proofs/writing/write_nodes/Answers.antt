@@ -10,7 +10,7 @@ use Rattle.skip_list_file.specs.Reading.{AreBlocks}
 use Rattle.skip_list_file.specs.Writing as spec
 use Rattle.skip_list_file.specs.Writing.{IsTable}
 use Rattle.skip_list_file.proofs.Fronts.{body_length}
-use Rattle.skip_list_file.proofs.Counted.{AreFew, few_none, few_on, few_all, few_listed, few_indices, written_count}
+use Rattle.skip_list_file.proofs.Counted.{AreFew, few_none, few_on, few_all, few_listed, written_count}
 use Rattle.skip_list_file.proofs.Growth.{IsBegun, body_stays, blocks_stay, begun_front, starts_before, starts_within, ends_past, turn, written_whole, written_reaches, first_within, first_own, own_first, all_ends}
 use Rattle.skip_list_file.proofs.EditedBytes.{edited_length, edited_front}
 use Rattle.skip_list_file.proofs.writing.write_nodes.Goals as goal
@@ -43,9 +43,6 @@ write_node-requires-clause-capacity g c = c.requires.capacity ∙ ap (λ (n : �
 
 pub write_node-requires-clause-within : goal.write_node-requires-clause-within
 write_node-requires-clause-within g c = starts_within c.args.change.capacity c.loop-index.index c.args.change.size (omega (arith, c.requires.least)) (omega (arith, c.requires.changed)) (omega (arith, c.loop-index-test.true))
-
-pub write_node-requires-clause-few : goal.write_node-requires-clause-few
-write_node-requires-clause-few g c = few_indices c.args.change.capacity c.args.change.size c.requires.least c.requires.size
 
 pub write_node-requires-clause-whole : goal.write_node-requires-clause-whole
 write_node-requires-clause-whole g c =

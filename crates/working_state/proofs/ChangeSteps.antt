@@ -10,7 +10,7 @@ use Rattle.plain_trees.specs.Trees.{Tree}
 use Rattle.history_machine.specs.History.{Past, present_root, changed, map_roots}
 use Rattle.history_machine.specs.HistoryMaps.{changed-map}
 use Rattle.history_machine.specs.Descriptors.{Descriptors}
-use Rattle.history_machine.specs.Machine.{Machine, has_paths, present_tree, refusal, need, change_need, answer_of, machine_of, reply_of, tree_after, history_after, history_moved, descriptors_after, makes_version, machine_with}
+use Rattle.history_machine.specs.Machine.{Machine, Space, has_paths, present_tree, refusal, need, change_need, answer_of, machine_of, reply_of, tree_after, history_after, history_moved, descriptors_after, makes_version, machine_with}
 use Rattle.fs_types.specs.declared.calls.Call.{Call}
 use Rattle.fs_types.specs.declared.calls.Reply.{Reply}
 use Rattle.fs_types.specs.declared.faults.Fault.{Fault}
@@ -28,8 +28,8 @@ use Rattle.working_state.specs.Steps.{is_light, last_serial, Refuses, CallStep}
 use Rattle.working_state.specs.Mounted.{IsStanding, IsMounted}
 use Rattle.working_state.specs.Worked.{storage_on, IsWorked, IsLooked}
 use Rattle.working_state.specs.declared.state.State.{State}
-use Rattle.working_state.proofs.Roots.{all_changed, kept_changed}
-use Rattle.working_state.proofs.Standing.{keeps, AllStand, all_stand, worked_trees, worked_machine, worked_later, worked_mounted, looked_worked, worked_on}
+use Rattle.working_state.proofs.Roots.{with_history, after_change}
+use Rattle.working_state.proofs.Standing.{keeps, AllStand, worked_trees, worked_machine, worked_later, worked_mounted, looked_worked, worked_on}
 use Rattle.working_state.proofs.PathCalls.{present_tree_is, present_stands}
 use Rattle.working_state.proofs.Refusals.{write_refuses, cause_later}
 use Rattle.working_state.proofs.Steps.{writes-version, still_machine}
@@ -96,12 +96,6 @@ pub record HasNewTree (e : Device) (t : State) (to : ℕ) (tree : Tree) : Type 0
 
 -- The new root becomes the present one.
 
-pub all_pushed : (e : Device) (t : State) (to : ℕ) → AllStand e t.storage.ring t.history → IsStanding e t.storage.ring to → AllStand e t.storage.ring (changed t.history to)
-all_pushed e t to all stands = record {
-  versions = all_changed (IsStanding e t.storage.ring) t.history to all.versions stands;
-  checkpoints = kept_changed (IsStanding e t.storage.ring) t.history to all.checkpoints;
-}
-
 -- the trees of the history are those before, and the new one
 pushed_trees : (d : Device) (s : State) (e : Device) (t : State) (to : ℕ) (tree : Tree) → IsMounted d s → IsWorked d s e t → HasNewTree e t to tree → map_roots (tree_on e) (changed t.history to) ≡ changed (map_roots (tree_on d) s.history) tree
 pushed_trees d s e t to tree m w new =
@@ -123,7 +117,7 @@ changed_state u h files = record u { history = h; files = files }
 
 -- a change that was looked at from `d` to `e` and written from `e` to `f`
 pub changed_step : (d : Device) (s : State) (e : Device) (t : State) (f : Device) (u : State) (to : ℕ) (call : Call) (tree : Tree) (reply : Reply) (h : Past ℕ) (files : Descriptors) → h ≡ changed u.history to → files ≡ descriptors_after (machine_on d s) call
-    → IsMounted d s → IsLooked d s e t → refusal (machine_on d s) call ≡ None → tree_after (machine_on d s) call ≡ Some tree → reply_of (seen_on f u).space (machine_on d s) call ≡ reply
+    → IsMounted d s → IsLooked d s e t → refusal (machine_on d s) call ≡ None → tree_after (machine_on d s) call ≡ Some tree → ((space : Space) → reply_of space (machine_on d s) call ≡ reply)
     → is_read_only t.storage.bad ≡ false → is_read_only u.storage.bad ≡ false → t.history.next < last_serial → IsWorked e t f u → HasNewTree f u to tree
     → CallStep (seen_on d s) (machine_on d s) false call (Ok reply) (seen_on f (changed_state u h files)) (machine_on f (changed_state u h files)) false
 changed_step d s e t f u to call tree reply h files pushes opens m l fine after replies writable stays serial w new =
@@ -134,7 +128,8 @@ changed_step d s e t f u to call tree reply h files pushes opens m l fine after 
       answers = (
         refl,
         record {
-          answered = ap (answer_of (seen_on f u).space (machine_on d s) call) fine ∙ ap Ok replies;
+          accepted = fine;
+          answered = λ space _. ap (answer_of space (machine_on d s) call) fine ∙ ap Ok (replies space);
           leaves = changed_machine (machine_on d s) call tree (machine_on f (changed_state u (changed u.history to) files)) fine after (pushed_trees d s f u to tree m all new) opens;
           writable = λ writes. (sym (later_writable d s e t l) ∙ writable, stays);
           serial_left = λ makes. later_serial d s e t l serial;
@@ -148,14 +143,13 @@ pub changed_mounted : (d : Device) (s : State) (f : Device) (u : State) (to : �
     → has_paths call ≡ true → CallStep (seen_on d s) (machine_on d s) false call result (seen_on f (changed_state u h files)) (machine_on f (changed_state u h files)) false → IsMounted f (changed_state u h files)
 changed_mounted d s f u to call tree result h files pushes m w new paths step =
     let mounted = worked_mounted d s f u m w in
-    let all : AllStand f u.storage.ring h = subst (AllStand f u.storage.ring) (sym pushes) (all_pushed f u to (all_stand f u mounted) new.stands) in
+    let all : AllStand f u.storage.ring (with_history u h) = subst (λ p. AllStand f u.storage.ring (with_history u p)) (sym pushes) (after_change (IsStanding f u.storage.ring) u to mounted.roots new.stands) in
     record {
       lawful = mounted.lawful;
       ring_blocks = mounted.ring_blocks;
       page_len = mounted.page_len;
       node_room = mounted.node_room;
-      versions = all.versions;
-      checkpoints = all.checkpoints;
+      roots = all;
       machine = still_machine (seen_on d s) (seen_on f (changed_state u h files)) (machine_on d s) (machine_on f (changed_state u h files)) false false call result m.machine paths step;
       off = mounted.off;
     }

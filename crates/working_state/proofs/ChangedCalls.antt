@@ -170,7 +170,7 @@ pushed_answer d s e t f st h files call edit reply m l by few written pushed ope
     let present : present_root s.history ≡ Some pushed.root = ap (λ (x : Past ℕ). present_root x) (sym l.rest.history) ∙ pushed.present in
     let tree = edited_tree e edit pushed.root in
     let new : HasNewTree f u pushed.to tree = record { stands = pushed.stands; is = pushed.shows } in
-    let step = changed_step d s e t f u pushed.to call tree reply h files pushed.pushed opens m l by.fine (by.after pushed.root present) (by.replies (seen_on f u).space) pushed.writable pushed.stays_writable pushed.serial_left w new in
+    let step = changed_step d s e t f u pushed.to call tree reply h files pushed.pushed opens m l by.fine (by.after pushed.root present) by.replies pushed.writable pushed.stays_writable pushed.serial_left w new in
     record {
       mounted = changed_mounted d s f u pushed.to call tree (Ok reply) h files pushed.pushed m all new by.paths step;
       step = step;

@@ -151,7 +151,7 @@ later_body d s f u root path head size m is w led = present_body f u root path h
 
 -- a call that changes nothing
 pub same_answer : (d : Device) (s : State) (e : Device) (t : State) (call : Call) (reply : Reply) → IsMounted d s → IsLooked d s e t → OnlyReads (machine_on d s) call → refusal (machine_on d s) call ≡ None
-    → reply_of (seen_on e t).space (machine_on d s) call ≡ reply → is_still call ≡ false → IsAnswered d s call (Ok reply) e t false
+    → ((space : Space) → reply_of space (machine_on d s) call ≡ reply) → is_still call ≡ false → IsAnswered d s call (Ok reply) e t false
 same_answer d s e t call reply m l reads fine replies moves =
     let w = looked_worked d s e t l in
     record {

@@ -112,7 +112,7 @@ pub read_step : (d : Device) (s : State) (e : Device) (t : State) (call : Call) 
     → IfErr result (λ fault. is_body_fault fault ≡ true → WorkCause (seen_on d s) fault (seen_on e t))
     → CallStep (seen_on d s) (machine_on d s) false call (replied Reply.Bytes result) (seen_on e t) (machine_on e t) (is_cut_answer result)
 read_step d s e t call root path offset count (Ok bytes) m l reads read refused why =
-    read_done d s e t call (Reply.Bytes bytes) m l reads.only (reads.by_path ∙ read.accepted) (reads.replies (seen_on e t).space ∙ ap Reply.Bytes (sym read.read))
+    read_done d s e t call (Reply.Bytes bytes) m l reads.only (reads.by_path ∙ read.accepted) (λ space. reads.replies space ∙ ap Reply.Bytes (sym read.read))
 read_step d s e t call root path offset count (Err fault) m l reads read refused why =
     refused_step d s e t call fault m (looked_worked d s e t l) (elim (cases_Bool (is_body_fault fault)) [
       | inl is ↦ inr (body_refuses (seen_on d s) (seen_on e t) (machine_on d s) call fault reads.heavy is (why is))

@@ -36,6 +36,7 @@ use Rattle.working_state.specs.Mounted.{IsStanding, IsMounted}
 use Rattle.working_state.specs.Worked.{storage_on}
 use Rattle.working_state.specs.declared.state.State.{State}
 use Rattle.block_trees.proofs.EmptyDirectories.{empty_held}
+use Rattle.working_state.proofs.Roots.{with_history, all_roots}
 use Rattle.working_state.proofs.Standing.{AllStand}
 
 -- an empty root stands
@@ -45,11 +46,11 @@ empty_stands d s root empty kept = record {
   rooted = (empty_root (capacity_of d) (node_of d) root empty).0;
 }
 
-fresh_stand : (d : Device) (s : State) (limit root : ℕ) → IsStanding d s.storage.ring root → AllStand d s.storage.ring (fresh limit root)
-fresh_stand d s limit root stands = record {
-  versions = All-push (λ (v : Version ℕ). IsStanding d s.storage.ring v.root) [] (record { serial = 1; root = root }) (λ k v below. absurd (omega arith)) stands;
-  checkpoints = λ k e below. absurd (omega arith);
-}
+fresh_stand : (d : Device) (s : State) (limit root : ℕ) → IsStanding d s.storage.ring root → AllStand d s.storage.ring (with_history s (fresh limit root))
+fresh_stand d s limit root stands =
+    all_roots (IsStanding d s.storage.ring) (with_history s (fresh limit root))
+    (All-push (λ (v : Version ℕ). IsStanding d s.storage.ring v.root) [] (record { serial = 1; root = root }) (λ k v below. absurd (omega arith)) stands)
+    (λ k e below. absurd (omega arith))
 
 pub fresh_machine : (d : Device) (h : Past ℕ) (files : Descriptors) (limit root : ℕ) → h ≡ fresh limit root → files ≡ none_open → entries_in (node_of d) root ≡ Some []
     → machine_with (map_roots (tree_on d) h) files ≡ mounted (fresh limit bare)
@@ -62,14 +63,13 @@ fresh_machine d h files limit root is none empty =
 pub fresh_mounted : (d : Device) (s : State) (limit root : ℕ) → s.is_off ≡ false → IsGeometry d.geometry → s.storage.ring.blocks ≡ d.geometry.blocks → vec_len s.storage.page ≡ d.geometry.page → block_bytes d.geometry ≤ vec_capacity s.storage.node
     → 2 ≤ limit → s.history ≡ fresh limit root → s.files ≡ none_open → entries_in (node_of d) root ≡ Some [] → set.contains s.storage.ring.used root ≡ true → IsMounted d s
 fresh_mounted d s limit root on lawful blocks len capacity some is none empty kept =
-    let all = subst (AllStand d s.storage.ring) (sym is) (fresh_stand d s limit root (empty_stands d s root empty kept)) in
+    let all = subst (λ h. AllStand d s.storage.ring (with_history s h)) (sym is) (fresh_stand d s limit root (empty_stands d s root empty kept)) in
     record {
       lawful = lawful;
       ring_blocks = blocks;
       page_len = len;
       node_room = capacity;
-      versions = all.versions;
-      checkpoints = all.checkpoints;
+      roots = all;
       machine = subst IsMachine (sym (fresh_machine d s.history s.files limit root is none empty)) (machine_law.first limit some);
       off = λ off. absurd (true≢false (sym off ∙ on));
     }

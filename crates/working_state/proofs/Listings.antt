@@ -57,7 +57,7 @@ list_done : (d : Device) (s : State) (e : Device) (t : State) (view : View) (pat
 list_done d s e t view path root block items names m l shows led spelled is =
     read_done d s e t (Call.List view path) (Reply.Names names) m l (list_reads d s view path)
     (found_refuses d s (Call.List view path) root path refuse_list (list_looks d s view path root m shows) (found.Dir block) led)
-    (list_reply d s view path root block items (seen_on e t).space m shows led spelled ∙ ap Reply.Names (sym is))
+    (λ space. list_reply d s view path root block items space m shows led spelled ∙ ap Reply.Names (sym is))
 
 -- what the names of a directory answer
 pub names_step : (d : Device) (s : State) (e : Device) (t : State) (f : Device) (u : State) (view : View) (path : Path) (root block : ℕ) (x : Found) (result : Result (List (Name × Bool)) Fault)

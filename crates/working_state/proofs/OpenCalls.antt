@@ -35,7 +35,8 @@ use Rattle.working_state.specs.Worked.{IsWorked, IsLooked, WorkCause}
 use Rattle.working_state.specs.declared.state.State.{State}
 use Rattle.working_state.proofs.PathCalls.{present_tree_is, present_stands}
 use Rattle.working_state.proofs.Refusals.{read_refuses, refused_step, never}
-use Rattle.working_state.proofs.Standing.{all_stand, AllStand, worked_machine, worked_later, worked_mounted, worked_pages, looked_worked, looked_leaves}
+use Rattle.working_state.proofs.Roots.{with_history}
+use Rattle.working_state.proofs.Standing.{AllStand, worked_machine, worked_later, worked_mounted, worked_pages, looked_worked, looked_leaves}
 use Rattle.working_state.proofs.Steps.{still_machine}
 
 -- ---- refusals
@@ -185,14 +186,13 @@ pub at_answer : {T : Type 0} (f : T → Reply) (d : Device) (s : State) (e : Dev
 at_answer f d s e t call fault result is answered = subst (λ r. IsAnswered d s call (replied f r) e t (is_cut_answer r)) (sym is) answered
 
 -- the same but for the history and the open files
-mounted_at : (e : Device) (t : State) (h : Past ℕ) (files : Descriptors) → IsMounted e t → AllStand e t.storage.ring h → IsMachine (machine_on e (record t { history = h; files = files })) → IsMounted e (record t { history = h; files = files })
+mounted_at : (e : Device) (t : State) (h : Past ℕ) (files : Descriptors) → IsMounted e t → AllStand e t.storage.ring (with_history t h) → IsMachine (machine_on e (record t { history = h; files = files })) → IsMounted e (record t { history = h; files = files })
 mounted_at e t h files m all machine = record {
   lawful = m.lawful;
   ring_blocks = m.ring_blocks;
   page_len = m.page_len;
   node_room = m.node_room;
-  versions = all.versions;
-  checkpoints = all.checkpoints;
+  roots = all;
   machine = machine;
   off = m.off;
 }
@@ -223,7 +223,7 @@ pub opened_answer : (d : Device) (s : State) (e : Device) (t : State) (path : Pa
     → files ≡ opened t.files descriptor (record { path = path; flags = flags })
     → IsAnswered d s (Call.Open path flags) (Ok (Reply.Fd descriptor)) e (record t { files = files }) false
 opened_answer d s e t path flags descriptor files m l lawful fine same free is =
-    record { mounted = mounted_at e t t.history files mid (all_stand e t mid) machine; step = step; leaves = looked_leaves d s e t call l refl; is_off = l.rest.is_off; pages = worked_pages d s e t m w }
+    record { mounted = mounted_at e t t.history files mid mid.roots machine; step = step; leaves = looked_leaves d s e t call l refl; is_off = l.rest.is_off; pages = worked_pages d s e t m w }
   where
     call : Call
     call = Call.Open path flags
@@ -252,7 +252,8 @@ opened_answer d s e t path flags descriptor files m l lawful fine same free is =
       answers = (
         refl,
         record {
-          answered = answers_descriptor (seen_on e t).space n path flags descriptor fine free;
+          accepted = fine;
+          answered = λ space _. answers_descriptor space n path flags descriptor fine free;
           leaves = leaves;
           writable = λ writes. never (is_none (refusal n call)) (sym (ap (λ o. is_none (refusal n call) && (is_some o || false)) none) ∙ writes);
           serial_left = λ makes. never (is_none (refusal n call)) (sym (ap (λ o. is_none (refusal n call) && is_some o) none) ∙ makes);

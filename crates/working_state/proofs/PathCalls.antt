@@ -9,7 +9,7 @@ use Rattle.plain_trees.specs.Contents.{Contents, Entry, lookup_refusal}
 use Rattle.plain_trees.specs.Trees.{bare}
 use Rattle.history_machine.specs.History.{present_root}
 use Rattle.history_machine.specs.HistoryMaps.{present_root-map}
-use Rattle.history_machine.specs.Machine.{Machine, present_tree, refusal, found_refusal, answer_of, machine_of, reply_of, tree_after, is_accepted}
+use Rattle.history_machine.specs.Machine.{Machine, Space, present_tree, refusal, found_refusal, answer_of, machine_of, reply_of, tree_after, is_accepted}
 use Rattle.fs_types.specs.declared.calls.Call.{Call}
 use Rattle.fs_types.specs.declared.calls.Reply.{Reply}
 use Rattle.fs_types.specs.declared.faults.Fault.{Fault}
@@ -42,7 +42,7 @@ pub present_tree_is : (d : Device) (s : State) (root : ℕ) → present_root s.h
 present_tree_is d s root is = ap (λ o. unwrap_or o bare) (present_root-map (tree_on d) s.history ∙ ap (option_map (tree_on d)) is)
 
 pub present_stands : (d : Device) (s : State) (root : ℕ) → IsMounted d s → present_root s.history ≡ Some root → IsStanding d s.storage.ring root
-present_stands d s root m is = of_present (IsStanding d s.storage.ring) s.history root m.versions is
+present_stands d s root m is = of_present (IsStanding d s.storage.ring) s root m.roots is
 
 -- what stands in the present tree stands at a lawful path
 pub found_lawful : (d : Device) (s : State) (root : ℕ) (path : Path) (x : Found) (entry : Entry) → IsMounted d s → present_root s.history ≡ Some root → look_up (node_of d) root path ≡ Ok x → entry_of (capacity_of d) (node_of d) x ≡ Some entry
@@ -151,7 +151,7 @@ pub record OnlyReads (m : Machine) (call : Call) : Type 0 where
   pub no_record : is_for_record call ≡ false
 
 pub read_done : (d : Device) (s : State) (e : Device) (t : State) (call : Call) (reply : Reply) → IsMounted d s → IsLooked d s e t → OnlyReads (machine_on d s) call
-    → refusal (machine_on d s) call ≡ None → reply_of (seen_on e t).space (machine_on d s) call ≡ reply
+    → refusal (machine_on d s) call ≡ None → ((space : Space) → reply_of space (machine_on d s) call ≡ reply)
     → CallStep (seen_on d s) (machine_on d s) false call (Ok reply) (seen_on e t) (machine_on e t) false
 read_done d s e t call reply m l reads fine replies =
     let w = looked_worked d s e t l in
@@ -161,7 +161,8 @@ read_done d s e t call reply m l reads fine replies =
       answers = (
         refl,
         record {
-          answered = ap (answer_of (seen_on e t).space before call) fine ∙ ap Ok replies;
+          accepted = fine;
+          answered = λ space _. ap (answer_of space before call) fine ∙ ap Ok (replies space);
           leaves = worked_machine d s e t m w ∙ sym reads.stays ∙ sym (ap (machine_of before call) fine);
           writable = λ writes. absurd (nothing ((and_parts (is_accepted before call) (is_some (tree_after before call) || is_for_record call) writes).1));
           serial_left = λ makes. absurd (no_tree ((and_parts (is_accepted before call) (is_some (tree_after before call)) makes).1));

@@ -12,7 +12,7 @@ use Rattle.directory.specs.Lookups.{is_path_fault, IsLookupFault}
 use Rattle.directory.specs.Trails.{IsChangeFault}
 use Rattle.working_state.specs.Leaves.{Leaves}
 use Rattle.working_state.specs.Seen.{Seen, seen_on, machine_on}
-use Rattle.working_state.specs.Steps.{last_serial, replied, is_light, is_writing, is_cut, is_cut_answer, MayRefuse, Refuses, IsLater, CallStep}
+use Rattle.working_state.specs.Steps.{last_serial, replied, is_light, is_writing, is_cut, is_cut_answer, MayRefuse, Refuses, IsLater, CallStep, tells_space}
 use Rattle.working_state.specs.Mounted.{IsMounted, StateStep}
 use Rattle.working_state.specs.Worked.{IsWorked, WorkCause}
 use Rattle.working_state.specs.declared.state.State.{State}
@@ -36,7 +36,7 @@ read_refuses old new m call _ heavy other is why = absurd (not_so is)
 
 -- a refusal of the nodes of a version, where read-only mode was off and a serial was left
 pub write_refuses : (old new : Seen) (m : Machine) (call : Call) (fault : Fault) → is_light call ≡ false → 0 < need old.capacity m call → is_writing m call ≡ true → old.read_only ≡ false → m.history.next < last_serial → IsChangeFault fault
-    → (fault ≡ FlashFull → old.space.free + old.listed < new.listed + need old.capacity m call) → WorkCause old fault new → MayRefuse old m call fault new
+    → (fault ≡ FlashFull → old.free + old.listed < new.listed + need old.capacity m call) → WorkCause old fault new → MayRefuse old m call fault new
 write_refuses old new m call FlashFull heavy needs writes off left is few why = (needs, off, left, record { none_free = why; few_free = few refl })
 write_refuses old new m call ReadOnly heavy needs writes off left is few why = (writes, why, λ _ _. left)
 write_refuses old new m call ReadFailed heavy needs writes off left is few why = (heavy, why)
@@ -79,13 +79,14 @@ Step d s call result e t off off' = CallStep (seen_on d s) (machine_on d s) off 
 pub remembered_step : {T : Type 0} (f : T → Reply) (d : Device) (s : State) (e : Device) (t u : State) (call : Call) (result again : Result T Fault)
     → again ≡ result → s.is_off ≡ false → t.is_off ≡ s.is_off → u ≡ remembering t result
     → CallStep (seen_on d s) (machine_on d s) false call (replied f result) (seen_on e t) (machine_on e t) (is_cut_answer result)
-    → Leaves (machine_on d s) call d s.storage e t.storage → StateStep d s call (replied f again) e u
-remembered_step f d s e t u call result again told on same is step leaves =
+    → Leaves (machine_on d s) call d s.storage e t.storage → tells_space call ≡ false → StateStep d s call (replied f again) e u
+remembered_step f d s e t u call result again told on same is step leaves plain =
     subst (λ r. StateStep d s call (replied f r) e u) (sym told)
     (subst (λ v. StateStep d s call (replied f result) e v) (sym is) (record {
       step = subst (λ o. Step d s call (replied f result) e t o (t.is_off || is_cut_answer result)) (sym on)
           (subst (λ o. Step d s call (replied f result) e t false (o || is_cut_answer result)) (sym (same ∙ on)) step);
       leaves = leaves;
+      told = λ space. absurd (both_ways (tells_space call) plain space);
       stopped = λ off. absurd (both_ways s.is_off on off);
     }))
 
@@ -97,8 +98,7 @@ remembered_mounted f d s e t u call result is m step = subst (IsMounted e) (sym 
   ring_blocks = m.ring_blocks;
   page_len = m.page_len;
   node_room = m.node_room;
-  versions = m.versions;
-  checkpoints = m.checkpoints;
+  roots = m.roots;
   machine = m.machine;
   off = λ off. elim (or_cases t.is_off (is_cut_answer result) off) [
     | inl was ↦ m.off was

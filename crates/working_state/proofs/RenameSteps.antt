@@ -69,7 +69,7 @@ same_reads m old new same = record {
 
 same_step : (d : Device) (s : State) (e : Device) (t : State) (old new : Path) → IsMounted d s → IsLooked d s e t → refusal (machine_on d s) (Call.Rename old new) ≡ None → same_path old new ≡ true
     → CallStep (seen_on d s) (machine_on d s) false (Call.Rename old new) (Ok Reply.Empty) (seen_on e t) (machine_on e t) false
-same_step d s e t old new m l fine same = read_done d s e t (Call.Rename old new) Reply.Empty m l (same_reads (machine_on d s) old new same) fine refl
+same_step d s e t old new m l fine same = read_done d s e t (Call.Rename old new) Reply.Empty m l (same_reads (machine_on d s) old new same) fine (λ _. refl)
 
 -- Another path.
 

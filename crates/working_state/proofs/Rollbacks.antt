@@ -16,9 +16,9 @@ use Rattle.working_state.specs.Mounted.{IsStanding, IsMounted, StateStep}
 use Rattle.working_state.specs.Seen.{tree_on, machine_on}
 use Rattle.working_state.specs.Steps.{replied, empty}
 use Rattle.working_state.specs.declared.state.State.{State}
-use Rattle.working_state.proofs.Roots.{all_changed, kept_changed}
-use Rattle.working_state.proofs.Standing.{AllStand, all_stand}
-use Rattle.working_state.proofs.Steps.{with_history, mounted_by, done, refused_change, rollback-accepted, rollback-makes, rollback-leaves}
+use Rattle.working_state.proofs.Roots.{with_history, after_change}
+use Rattle.working_state.proofs.Standing.{AllStand}
+use Rattle.working_state.proofs.Steps.{mounted_by, done, refused_change, rollback-accepted, rollback-makes, rollback-leaves}
 use Rattle.history_machine.specs.Machine.{machine_with}
 
 module _ (d : Device) (s : State) (f : Device) (st : Storage) (h : Past ℕ) (name : Name) (root : ℕ) where
@@ -36,7 +36,7 @@ module _ (d : Device) (s : State) (f : Device) (st : Storage) (h : Past ℕ) (na
   rolled_step (Ok x) on none there same kept pushed =
       let shows : tree_on d pushed.to ≡ tree_on d root = subst (λ (e : Device). tree_on e pushed.to ≡ tree_on d root) same pushed.shows in
       subst (λ (p : Past ℕ). StateStep d s call (Ok Reply.Empty) d (with_history s p)) (sym pushed.pushed)
-      (done d s call (changed s.history pushed.to) Reply.Empty on (rollback-accepted d s name root none there) refl (rollback-leaves d s name root none there ∙ same_machine pushed.to shows) (λ _. pushed.writable) (λ _. pushed.serial_left))
+      (done d s call (changed s.history pushed.to) Reply.Empty on refl (rollback-accepted d s name root none there) (λ _. refl) (rollback-leaves d s name root none there ∙ same_machine pushed.to shows) (λ _. pushed.writable) (λ _. pushed.serial_left))
   rolled_step (Err fault) on none there same kept ends = subst (λ (p : Past ℕ). StateStep d s call (Err fault) d (with_history s p)) (sym ends.0) (by ends.1)
     where
       by : ChangeCause d s.history s.storage (Restore root) fault f st → StateStep d s call (Err fault) d s
@@ -44,14 +44,11 @@ module _ (d : Device) (s : State) (f : Device) (st : Storage) (h : Past ℕ) (na
       by (inl (inr why)) = refused_change d s call fault on (rollback-makes d s name root none there) (inr why)
       by (inr work) = absurd (let some : 0 < 0 = work.why.needs in omega arith)
 
-  rolled_stand : (result : Result (Unit {0}) Fault) → IsMounted d s → f ≡ d → st ≡ s.storage → ChangeEnds d s.history s.storage (Restore root) result f h st → AllStand d s.storage.ring h
+  rolled_stand : (result : Result (Unit {0}) Fault) → IsMounted d s → f ≡ d → st ≡ s.storage → ChangeEnds d s.history s.storage (Restore root) result f h st → AllStand d s.storage.ring (with_history s h)
   rolled_stand (Ok x) m same kept pushed =
       let stands : IsStanding d s.storage.ring pushed.to = subst (λ (e : Device). IsStanding e s.storage.ring pushed.to) same (subst (λ (t : Storage). IsStanding f t.ring pushed.to) kept pushed.stands) in
-      subst (AllStand d s.storage.ring) (sym pushed.pushed) (record {
-        versions = all_changed (IsStanding d s.storage.ring) s.history pushed.to m.versions stands;
-        checkpoints = kept_changed (IsStanding d s.storage.ring) s.history pushed.to m.checkpoints;
-      })
-  rolled_stand (Err fault) m same kept ends = subst (AllStand d s.storage.ring) (sym ends.0) (all_stand d s m)
+      subst (λ p. AllStand d s.storage.ring (with_history s p)) (sym pushed.pushed) (after_change (IsStanding d s.storage.ring) s pushed.to m.roots stands)
+  rolled_stand (Err fault) m same kept ends = subst (λ p. AllStand d s.storage.ring (with_history s p)) (sym ends.0) m.roots
 
   -- the flash and what nodes are kept with are as they were
   at_same : (P : Device → State → Type 0) → f ≡ d → st ≡ s.storage → P d (with_history s h) → P f (record s { storage = st; history = h })

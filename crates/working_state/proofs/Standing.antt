@@ -1,15 +1,12 @@
 -- What stands still stands after reads and writes of nodes, and the machine is the same.
-use Rattle.std.proofs.Common.{◌≡◌, ℕ, ◌-◌, ◌≤◌, true, false, refl, sym, ap, subst, ◌∙◌, inl, inr, arith}
+use Rattle.std.proofs.Common.{◌≡◌, ℕ, ◌-◌, ◌≤◌, true, false, refl, sym, ap, subst, ◌∙◌, arith}
 use Rattle.std.proofs.lemmas.Bool.{both_ways}
-use Rattle.std.proofs.lemmas.List.Elements.{All-weaker, All-contains, All-map}
-use Rattle.std.specs.Prelude.{All, map, vec_capacity}
+use Rattle.std.specs.Prelude.{vec_capacity}
 use Rattle.std.specs.FinSet as set
 use Rattle.history_machine.specs.History.{Past, map_roots}
 use Rattle.history_machine.specs.HistoryMaps.{same-map_roots}
 use Rattle.history_machine.specs.Machine.{Machine, IsMachine, makes_version, need, machine_with}
-use Rattle.fs_types.specs.Names.{Name}
 use Rattle.fs_types.specs.declared.calls.Call.{Call}
-use Rattle.fs_types.specs.declared.calls.Version.{Version}
 use Rattle.flash_model.specs.declared.sizes.Geometry.{Geometry}
 use Rattle.flash_model.specs.Device.{Device, block_of}
 use Rattle.flash_model.specs.Geometry.{IsGeometry, block_bytes}
@@ -28,9 +25,10 @@ use Rattle.block_trees.proofs.Frames.{frame_law}
 use Rattle.working_state.specs.Leaves.{HasLooked, HasWritten, is_still, Leaves}
 use Rattle.working_state.specs.Seen.{capacity_of, tree_on, seen_on, machine_on}
 use Rattle.working_state.specs.Steps.{IsLater}
-use Rattle.working_state.specs.Mounted.{IsStanding, IsMounted, HasRoot, KeepsPages}
+use Rattle.working_state.specs.Mounted.{IsStanding, IsMounted, KeepsPages}
 use Rattle.working_state.specs.Worked.{storage_on, IsSameBut, IsWorked, IsLooked}
 use Rattle.working_state.specs.declared.state.State.{State}
+use Rattle.working_state.proofs.Roots.{with_history, AllRoots, of_versions, of_checkpoints}
 use Rattle.working_state.proofs.BadCounts.{len-within, stays_read_only}
 
 -- Blocks and roots.
@@ -59,29 +57,21 @@ same_tree s t root lawful e stands =
 
 -- Histories.
 
--- each root of a history stands
-pub record AllStand (d : Device) (ring : Ring) (h : Past ℕ) : Type 0 where
-  pub versions : All (λ v. IsStanding d ring v.root) h.versions
-  pub checkpoints : All (λ e. IsStanding d ring e.1) h.checkpoints
+-- each root of a state stands
+abbrev pub AllStand : Device → Ring → State → Type 0
+AllStand d ring = AllRoots (IsStanding d ring)
 
-pub all_stand : (d : Device) (s : State) → IsMounted d s → AllStand d s.storage.ring s.history
-all_stand d s m = record { versions = m.versions; checkpoints = m.checkpoints }
+-- a root has the same tree
+abbrev HasSameTree : Device → Device → ℕ → Type 0
+HasSameTree d e root = tree_on e root ≡ tree_on d root
 
-all_still_stand : (s t : Storage) (h : Past ℕ) → IsGeometry s.device.geometry → Evolved s t → AllStand s.device s.ring h → AllStand t.device t.ring h
-all_still_stand s t h lawful e all = record {
-  versions = All-weaker (λ (v : Version ℕ). IsStanding s.device s.ring v.root) (λ v. IsStanding t.device t.ring v.root) (λ v. still_stands s t v.root lawful e) h.versions all.versions;
-  checkpoints = All-weaker (λ (x : Name × ℕ). IsStanding s.device s.ring x.1) (λ x. IsStanding t.device t.ring x.1) (λ x. still_stands s t x.1 lawful e) h.checkpoints all.checkpoints;
-}
+all_still_stand : (s t : Storage) (u : State) → IsGeometry s.device.geometry → Evolved s t → AllStand s.device s.ring u → AllStand t.device t.ring u
+all_still_stand s t u lawful e all root has = still_stands s t root lawful e (all root has)
 
-pub same_trees : (s t : Storage) (h : Past ℕ) → IsGeometry s.device.geometry → Evolved s t → AllStand s.device s.ring h → map_roots (tree_on t.device) h ≡ map_roots (tree_on s.device) h
-same_trees s t h lawful e all =
-    same-map_roots (tree_on t.device) (tree_on s.device) h
-    (All-weaker (λ (v : Version ℕ). IsStanding s.device s.ring v.root) (λ v. tree_on t.device v.root ≡ tree_on s.device v.root) (λ v. same_tree s t v.root lawful e) h.versions all.versions)
-    (All-weaker (λ (x : Name × ℕ). IsStanding s.device s.ring x.1) (λ x. tree_on t.device x.1 ≡ tree_on s.device x.1) (λ x. same_tree s t x.1 lawful e) h.checkpoints all.checkpoints)
-
-pub root_stands : (d : Device) (ring : Ring) (h : Past ℕ) (root : ℕ) → AllStand d ring h → HasRoot h root → IsStanding d ring root
-root_stands d ring h root all (inl has) = All-contains (IsStanding d ring) (map (λ v. v.root) h.versions) root (All-map (IsStanding d ring) (λ (v : Version ℕ). v.root) h.versions all.versions) has
-root_stands d ring h root all (inr has) = All-contains (IsStanding d ring) (map (λ x. x.1) h.checkpoints) root (All-map (IsStanding d ring) (λ (x : Name × ℕ). x.1) h.checkpoints all.checkpoints) has
+pub same_trees : (s t : Storage) (u : State) → IsGeometry s.device.geometry → Evolved s t → AllStand s.device s.ring u → map_roots (tree_on t.device) u.history ≡ map_roots (tree_on s.device) u.history
+same_trees s t u lawful e all =
+    let each : AllRoots (HasSameTree s.device t.device) u = λ root has. same_tree s t root lawful e (all root has) in
+    same-map_roots (tree_on t.device) (tree_on s.device) u.history (of_versions (HasSameTree s.device t.device) u each) (of_checkpoints (HasSameTree s.device t.device) u each)
 
 -- States.
 
@@ -152,11 +142,11 @@ written_leaves d s e t f u call nodes l w moves makes few = record {
 }
 
 -- all roots stand on
-pub worked_stand : (d : Device) (s : State) (e : Device) (t : State) → IsMounted d s → IsWorked d s e t → AllStand e t.storage.ring s.history
-worked_stand d s e t m w = all_still_stand (storage_on d s) (storage_on e t) s.history m.lawful w.evolved (all_stand d s m)
+pub worked_stand : (d : Device) (s : State) (e : Device) (t : State) → IsMounted d s → IsWorked d s e t → AllStand e t.storage.ring s
+worked_stand d s e t m w = all_still_stand (storage_on d s) (storage_on e t) s m.lawful w.evolved m.roots
 
 pub worked_trees : (d : Device) (s : State) (e : Device) (t : State) → IsMounted d s → IsWorked d s e t → map_roots (tree_on e) s.history ≡ map_roots (tree_on d) s.history
-worked_trees d s e t m w = same_trees (storage_on d s) (storage_on e t) s.history m.lawful w.evolved (all_stand d s m)
+worked_trees d s e t m w = same_trees (storage_on d s) (storage_on e t) s m.lawful w.evolved m.roots
 
 pub worked_machine : (d : Device) (s : State) (e : Device) (t : State) → IsMounted d s → IsWorked d s e t → machine_on e t ≡ machine_on d s
 worked_machine d s e t m w =
@@ -164,8 +154,8 @@ worked_machine d s e t m w =
     (λ i. machine_with (history i) (w.rest.files i))
 
 -- a mounted system, with any history of roots that stand
-pub mounted_with : (d : Device) (s : State) (e : Device) (t : State) (h : Past ℕ) → IsMounted d s → IsWorked d s e t → AllStand e t.storage.ring h → IsMachine (machine_on e (record t { history = h }))
-    → IsMounted e (record t { history = h })
+pub mounted_with : (d : Device) (s : State) (e : Device) (t : State) (h : Past ℕ) → IsMounted d s → IsWorked d s e t → AllStand e t.storage.ring (with_history t h) → IsMachine (machine_on e (with_history t h))
+    → IsMounted e (with_history t h)
 mounted_with d s e t h m w all machine =
     let same = sym w.evolved.geometry in
     record {
@@ -173,14 +163,13 @@ mounted_with d s e t h m w all machine =
       ring_blocks = w.evolved.blocks ∙ m.ring_blocks ∙ ap (λ (g : Geometry). g.blocks) same;
       page_len = w.rest.page_len ∙ m.page_len ∙ ap (λ (g : Geometry). g.page) same;
       node_room = subst (λ (g : Geometry). block_bytes g ≤ vec_capacity t.storage.node) same (let capacity = m.node_room in let more = w.rest.node_room in omega arith);
-      versions = all.versions;
-      checkpoints = all.checkpoints;
+      roots = all;
       machine = machine;
       off = λ off. let was = m.off (sym w.rest.is_off ∙ off) in ap (λ (x : Device). x.powered) (w.evolved.stays_off was) ∙ was;
     }
 
 pub worked_mounted : (d : Device) (s : State) (e : Device) (t : State) → IsMounted d s → IsWorked d s e t → IsMounted e t
-worked_mounted d s e t m w = mounted_with d s e t t.history m w (subst (AllStand e t.storage.ring) (sym w.rest.history) (worked_stand d s e t m w))
+worked_mounted d s e t m w = mounted_with d s e t t.history m w (subst (λ h. AllStand e t.storage.ring (with_history t h)) (sym w.rest.history) (worked_stand d s e t m w))
     (subst IsMachine (sym (worked_machine d s e t m w)) m.machine)
 
 pub worked_later : (d : Device) (s : State) (e : Device) (t : State) → IsWorked d s e t → IsLater (seen_on d s) (seen_on e t)
@@ -195,6 +184,5 @@ worked_later d s e t w = record {
   stays_read_only = stays_read_only s.storage.bad t.storage.bad w.evolved.stays_bad;
 }
 
-pub worked_pages : (d : Device) (s : State) (e : Device) (t : State) → IsMounted d s → IsWorked d s e t → KeepsPages d s.history e
-worked_pages d s e t m w root p has reached =
-    w.evolved.kept_pages p ((root_stands d s.storage.ring s.history root (all_stand d s m) has).held root refl (block_of d p) reached)
+pub worked_pages : (d : Device) (s : State) (e : Device) (t : State) → IsMounted d s → IsWorked d s e t → KeepsPages d s e
+worked_pages d s e t m w p (root, has, reached) = w.evolved.kept_pages p ((m.roots root has).held root refl (block_of d p) reached)

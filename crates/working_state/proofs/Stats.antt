@@ -65,7 +65,7 @@ stat_file d s e t view path root head size x m l shows led is =
     let whole = (looks.rooted path (File head size) (found_leads_file (node_of d) root path head size file)).0 in
     read_done d s e t (Call.Stat view path) (Reply.Stat (Stat.File size)) m l (stat_reads d s view path)
     (found_by d s (Call.Stat view path) root path refuse_nothing looks x (found.File head size) led is)
-    (stat_found d s view path root (found.File head size) (seen_on e t).space m shows file
+    (λ space. stat_found d s view path root (found.File head size) space m shows file
     ∙ ap (λ n. Reply.Stat (Stat.File n)) (body_length (capacity_of d) (node_of d) head size whole))
 
 -- a directory, of which the number of entries was read
@@ -79,7 +79,7 @@ stat_directory d s e t f u view path root block count items x m l same k shows l
     let here : entries_in (node_of d) block ≡ Some items = ap (λ (g : Blocks). entries_in g block) (sym same) ∙ spelled in
     read_done d s f u (Call.Stat view path) (Reply.Stat (Stat.Dir count)) m (looked_on d s e t f u l k) (stat_reads d s view path)
     (found_by d s (Call.Stat view path) root path refuse_nothing looks x (found.Dir block) led is)
-    (stat_found d s view path root (found.Dir block) (seen_on f u).space m shows dir
+    (λ space. stat_found d s view path root (found.Dir block) space m shows dir
     ∙ ap (λ names. Reply.Stat (Stat.Dir (length names))) (law.lists path block (found_leads (node_of d) root path block dir))
     ∙ ap (λ n. Reply.Stat (Stat.Dir n))
     (length-map (unwrap_or (entries_in (node_of d) block) []) (λ (item : Item). (item.name, is_dir_place item.place)) ∙ ap (λ (o : Option (List Item)). length (unwrap_or o [])) here ∙ sym counts))

@@ -1,5 +1,5 @@
 -- What a call that does no device operation has to show for its step, and what stays of the invariant.
-use Rattle.std.proofs.Common.{◌≡◌, ◌⊎◌, inl, inr, ℕ, ◌+◌, ◌<◌, ◌≤◌, Bool, true, false, cond, ◌&&◌, Option, Some, None, List, [], ◌∷◌, map, Result, Ok, Err, OnOk, OnErr, IfErr, length, sym, ap, refl, ◌∙◌, subst, arith}
+use Rattle.std.proofs.Common.{◌≡◌, ◌⊎◌, inl, inr, ℕ, ◌+◌, ◌<◌, ◌≤◌, Bool, true, false, cond, ◌&&◌, Option, Some, None, List, [], ◌∷◌, map, Result, Ok, Err, OnOk, OnErr, IfOk, IfErr, length, sym, ap, refl, ◌∙◌, subst, arith}
 use Rattle.std.proofs.lemmas.Bool.{true≢false, both_ways, and_parts, and_from, le-leb, lt-leb}
 use Rattle.std.specs.Prelude.{◌==◌, ◌||◌, nat_lt, nat_le, unwrap_or}
 use Rattle.std.specs.Option.{option_map, option_map_or, is_some, is_none}
@@ -8,7 +8,7 @@ use Rattle.plain_trees.specs.Trees.{Tree}
 use Rattle.history_machine.specs.History.{Past, map_roots, changed, checkpoint_root, first_serial, place_of, undo_refusal, redo_refusal, serial_refusal, forget_refusal, name_refusal, checkpoint_refusal, with_checkpoint}
 use Rattle.history_machine.specs.HistoryMaps.{checkpoint_root-map, changed-map, checkpoint_refusal-map, with_checkpoint-map}
 use Rattle.history_machine.specs.Descriptors.{any_open}
-use Rattle.history_machine.specs.Machine.{Machine, IsMachine, has_paths, travel_refusal, log_of, refusal, answer_of, machine_of, reply_of, is_accepted, makes_version, tree_after, machine_with}
+use Rattle.history_machine.specs.Machine.{Machine, IsMachine, Space, has_paths, travel_refusal, log_of, refusal, answer_of, machine_of, reply_of, is_accepted, makes_version, tree_after, machine_with}
 use Rattle.history_machine.proofs.Kept.{machine_law}
 use Rattle.fs_types.specs.declared.calls.Call.{Call}
 use Rattle.fs_types.specs.declared.calls.Reply.{Reply}
@@ -20,16 +20,14 @@ use Rattle.node_store.specs.declared.storage.Storage.{Storage}
 use Rattle.history.specs.Answers.{answer}
 use Rattle.working_state.specs.Changes.{IsReadOnly, IsOverflow}
 use Rattle.working_state.specs.Leaves.{Leaves}
+use Rattle.working_state.specs.Roots.{IsSpace}
 use Rattle.working_state.specs.Seen.{Seen, seen_on, machine_on, tree_on}
 use Rattle.read_only.specs.Modes.{is_read_only}
-use Rattle.working_state.specs.Steps.{last_serial, replied, empty, is_cut, is_writing, is_for_record, MayRefuse, Answers, IsLater, CallStep}
+use Rattle.working_state.specs.Steps.{last_serial, replied, empty, is_cut, is_writing, is_for_record, tells_space, MayRefuse, Answers, IsLater, CallStep}
 use Rattle.working_state.specs.Mounted.{IsMounted, StateStep}
 use Rattle.working_state.specs.declared.state.State.{State}
+use Rattle.working_state.proofs.Roots.{with_history}
 use Rattle.working_state.proofs.Standing.{AllStand, still_leaves}
-
--- the state with another history
-abbrev pub with_history : State → Past ℕ → State
-with_history s p = record s { history = p }
 
 same-later : (old : Seen) → IsLater old old
 same-later old = record { capacity = refl; failed_reads = omega arith; failures = refl; listed = omega arith; taken = refl; cuts = omega arith; was_on = λ e. e; stays_read_only = λ e. e }
@@ -38,23 +36,29 @@ module _ (d : Device) (s : State) (call : Call) where
   abbrev before : Machine
   before = machine_on d s
 
+  -- the space that is left is told
+  abbrev TellsSpace : Result Reply Fault → State → Type 0
+  TellsSpace result t = IfOk result (λ reply. (space : Space) × IsSpace d t space × (answer_of space before call (refusal before call) ≡ Ok reply))
+
   -- a call that does no device operation, and is answered so
-  pub still_step : (t : State) (result : Result Reply Fault) → t.storage ≡ s.storage → (s.is_off ≡ true → t ≡ s) → CallStep (seen_on d s) before s.is_off call result (seen_on d t) (machine_on d t) t.is_off → StateStep d s call result d t
-  still_step t result same stopped step = record {
+  pub still_step : (t : State) (result : Result Reply Fault) → t.storage ≡ s.storage → (s.is_off ≡ true → t ≡ s) → (tells_space call ≡ true → TellsSpace result t) → CallStep (seen_on d s) before s.is_off call result (seen_on d t) (machine_on d t) t.is_off → StateStep d s call result d t
+  still_step t result same stopped told step = record {
     step = step;
+    told = told;
     leaves = subst (λ (x : Storage). Leaves before call d s.storage d x) (sym same) (still_leaves before d s.storage call);
     stopped = λ off. (refl, stopped off);
   }
 
   -- a call that was carried out
-  pub done : (p : Past ℕ) (reply : Reply) → s.is_off ≡ false → refusal before call ≡ None → reply_of (seen_on d s).space before call ≡ reply → machine_of before call None ≡ machine_on d (with_history s p)
+  pub done : (p : Past ℕ) (reply : Reply) → s.is_off ≡ false → tells_space call ≡ false → refusal before call ≡ None → ((space : Space) → reply_of space before call ≡ reply) → machine_of before call None ≡ machine_on d (with_history s p)
       → (is_writing before call ≡ true → is_read_only s.storage.bad ≡ false) → (makes_version before call ≡ true → s.history.next < last_serial) → StateStep d s call (Ok reply) d (with_history s p)
-  done p reply on ok tells leaves writable serial = still_step (with_history s p) (Ok reply) refl (λ off. absurd (both_ways s.is_off on off)) (record {
+  done p reply on plain ok tells leaves writable serial = still_step (with_history s p) (Ok reply) refl (λ off. absurd (both_ways s.is_off on off)) (λ space. absurd (both_ways (tells_space call) plain space)) (record {
     later = same-later (seen_on d s);
     answers = (
       on,
       record {
-        answered = ap (answer_of (seen_on d s).space before call) ok ∙ ap Ok tells;
+        accepted = ok;
+        answered = λ space _. ap (answer_of space before call) ok ∙ ap Ok (tells space);
         leaves = sym (ap (machine_of before call) ok ∙ leaves);
         writable = λ writes. (writable writes, writable writes);
         serial_left = serial;
@@ -65,14 +69,14 @@ module _ (d : Device) (s : State) (call : Call) where
 
   -- a call that was refused
   pub refused : (fault : Fault) → s.is_off ≡ false → is_cut fault ≡ false → (refusal before call ≡ Some fault) ⊎ MayRefuse (seen_on d s) before call fault (seen_on d s) → StateStep d s call (Err fault) d s
-  refused fault on no_cut why = still_step s (Err fault) refl (λ _. refl) (record {
+  refused fault on no_cut why = still_step s (Err fault) refl (λ _. refl) (λ _. tt) (record {
     later = same-later (seen_on d s);
     answers = subst (λ off. Answers (seen_on d s) before off call (Err fault) (seen_on d s) before off) (sym on) (why, refl, sym no_cut);
   })
 
   -- a call where an earlier one answered that the power is off
   pub off_step : (fault : Fault) → (fault ≡ PowerCut) × (s.is_off ≡ true) → StateStep d s call (Err fault) d s
-  off_step fault why = still_step s (Err fault) refl (λ _. refl) (record {
+  off_step fault why = still_step s (Err fault) refl (λ _. refl) (λ _. tt) (record {
     later = same-later (seen_on d s);
     answers = subst (λ off. Answers (seen_on d s) before off call (Err fault) (seen_on d s) before off) (sym why.1) (why.0, refl, refl, refl);
   })
@@ -171,7 +175,7 @@ pub checkpointed : (d : Device) (s : State) (name : Name) (result : Result (Unit
     → StateStep d s (Call.Checkpoint name) (replied empty result) d (with_history s p)
 checkpointed d s name (Ok x) p on writable free ok why err =
     subst (λ q. StateStep d s (Call.Checkpoint name) (Ok Reply.Empty) d (with_history s q)) (sym ok)
-    (done d s (Call.Checkpoint name) (with_checkpoint s.history name) Reply.Empty on (checkpoint_refusal-map (tree_on d) s.history name ∙ free) refl (ap (λ (h : Past Tree). machine_with h s.files) (with_checkpoint-map (tree_on d) s.history name)) (λ _. writable) (λ e. absurd (never _ e)))
+    (done d s (Call.Checkpoint name) (with_checkpoint s.history name) Reply.Empty on refl (checkpoint_refusal-map (tree_on d) s.history name ∙ free) (λ _. refl) (ap (λ (h : Past Tree). machine_with h s.files) (with_checkpoint-map (tree_on d) s.history name)) (λ _. writable) (λ e. absurd (never _ e)))
 checkpointed d s name (Err fault) p on writable free ok why err =
     let want : fault ≡ Fault.NoMemory = why ∙ ap (λ o. unwrap_or o Fault.NoMemory) free in
     subst (λ q. StateStep d s (Call.Checkpoint name) (Err fault) d (with_history s q)) (sym err)
@@ -202,23 +206,22 @@ still_machine s t m n true off' call (Err fault) is paths step = subst IsMachine
 still_machine s t m n false off' call (Err fault) is paths step = subst IsMachine (sym step.answers.1) is
 
 -- a call that leaves another history, on roots that stand
-pub mounted_by : (d : Device) (s : State) (call : Call) (result : Result Reply Fault) (p : Past ℕ) → IsMounted d s → has_paths call ≡ true → StateStep d s call result d (with_history s p) → AllStand d s.storage.ring p → IsMounted d (with_history s p)
+pub mounted_by : (d : Device) (s : State) (call : Call) (result : Result Reply Fault) (p : Past ℕ) → IsMounted d s → has_paths call ≡ true → StateStep d s call result d (with_history s p) → AllStand d s.storage.ring (with_history s p) → IsMounted d (with_history s p)
 mounted_by d s call result p is paths step all = record {
   lawful = is.lawful;
   ring_blocks = is.ring_blocks;
   page_len = is.page_len;
   node_room = is.node_room;
-  versions = all.versions;
-  checkpoints = all.checkpoints;
+  roots = all;
   machine = still_machine (seen_on d s) (seen_on d s) (machine_on d s) (machine_on d (with_history s p)) s.is_off s.is_off call result is.machine paths step.step;
   off = is.off;
 }
 
 -- a call that the history answers
 pub mounted_after : (d : Device) (s : State) (call : Call) (result : Result (Unit {0}) Fault) (after p : Past ℕ) → OnOk result (p ≡ after) → OnErr result (p ≡ s.history)
-    → IsMounted d s → has_paths call ≡ true → StateStep d s call (replied empty result) d (with_history s p) → AllStand d s.storage.ring after → IsMounted d (with_history s p)
+    → IsMounted d s → has_paths call ≡ true → StateStep d s call (replied empty result) d (with_history s p) → AllStand d s.storage.ring (with_history s after) → IsMounted d (with_history s p)
 mounted_after d s call result after p ok err is paths step all =
-    mounted_by d s call (replied empty result) p is paths step (by_result result (AllStand d s.storage.ring) after s.history p ok err all (record { versions = is.versions; checkpoints = is.checkpoints }))
+    mounted_by d s call (replied empty result) p is paths step (by_result result (λ h. AllStand d s.storage.ring (with_history s h)) after s.history p ok err all is.roots)
 
 -- No refusal of the history is a cut of power.
 

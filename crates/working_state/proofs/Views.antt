@@ -1,5 +1,5 @@
 -- Calls with a path in the tree that a view shows.
-use Rattle.std.proofs.Common.{◌≡◌, ℕ, false, Option, Some, None, refl, ap, subst, ◌∙◌, inl}
+use Rattle.std.proofs.Common.{◌≡◌, ℕ, false, Option, Some, None, List, refl, ap, subst, ◌∙◌, inl}
 use Rattle.std.proofs.lemmas.Option.{get_or_from_slice_get, slice_get_within}
 use Rattle.std.specs.Prelude.{slice_get, unwrap_or}
 use Rattle.std.specs.Option.{option_or, option_map, option_and_then}
@@ -20,22 +20,25 @@ use Rattle.working_state.specs.Seen.{tree_on, seen_on, machine_on}
 use Rattle.working_state.specs.Steps.{is_light, Refuses}
 use Rattle.working_state.specs.Mounted.{IsStanding, IsMounted}
 use Rattle.working_state.specs.declared.state.State.{State}
-use Rattle.working_state.proofs.Roots.{AllVersions, AllCheckpoints, of_present, of_checkpoint}
+use Rattle.working_state.proofs.Roots.{AllRoots, of_versions, of_present, of_checkpoint}
 use Rattle.working_state.proofs.PathCalls.{LooksUp}
 
 -- the root that a view shows
-of_view : {R : Type 0} (P : R → Type 0) (p : Past R) (view : View) (root : R) → AllVersions P p → AllCheckpoints P p → view_root p view ≡ Some root → P root
-of_view P p Present root all kept e = of_present P p root all e
-of_view P p (Checkpoint name) root all kept e = of_checkpoint P p name root kept e
-of_view {R = R} P p (Serial serial) root all kept e = at (place_of p serial) e
+of_view : (P : ℕ → Type 0) (s : State) (view : View) (root : ℕ) → AllRoots P s → view_root s.history view ≡ Some root → P root
+of_view P s Present root all e = of_present P s root all e
+of_view P s (Checkpoint name) root all e = of_checkpoint P s name root all e
+of_view P s (Serial serial) root all e = at (place_of s.history serial) e
   where
-    go : (i : ℕ) (o : Option (Version R)) → slice_get p.versions i ≡ o → option_map (λ v. v.root) o ≡ Some root → P root
-    go i None is e = absurd (None≢Some e)
-    go i (Some v) is e = subst P (ap (λ w. w.root) (get_or_from_slice_get p.versions i v v is) ∙ same_Some e) (all i v (slice_get_within p.versions i v is))
+    versions : List (Version ℕ)
+    versions = s.history.versions
 
-    at : (o : Option ℕ) → option_map (λ v. v.root) (option_and_then (slice_get p.versions) o) ≡ Some root → P root
+    go : (i : ℕ) (o : Option (Version ℕ)) → slice_get versions i ≡ o → option_map (λ v. v.root) o ≡ Some root → P root
+    go i None is e = absurd (None≢Some e)
+    go i (Some v) is e = subst P (ap (λ w. w.root) (get_or_from_slice_get versions i v v is) ∙ same_Some e) (of_versions P s all i v (slice_get_within versions i v is))
+
+    at : (o : Option ℕ) → option_map (λ v. v.root) (option_and_then (slice_get versions) o) ≡ Some root → P root
     at None e = absurd (None≢Some e)
-    at (Some i) e = go i (slice_get p.versions i) refl e
+    at (Some i) e = go i (slice_get versions i) refl e
 
 -- a view that shows a root
 pub record Shows (h : Past ℕ) (view : View) (root : ℕ) : Type 0 where
@@ -43,7 +46,7 @@ pub record Shows (h : Past ℕ) (view : View) (root : ℕ) : Type 0 where
   pub shown : view_root h view ≡ Some root
 
 pub view_stands : (d : Device) (s : State) (view : View) (root : ℕ) → IsMounted d s → Shows s.history view root → IsStanding d s.storage.ring root
-view_stands d s view root m shows = of_view (IsStanding d s.storage.ring) s.history view root m.versions m.checkpoints shows.shown
+view_stands d s view root m shows = of_view (IsStanding d s.storage.ring) s view root m.roots shows.shown
 
 pub view_tree_is : (d : Device) (s : State) (view : View) (root : ℕ) → Shows s.history view root → view_tree (machine_on d s) view ≡ tree_on d root
 view_tree_is d s view root shows = ap (λ o. unwrap_or o bare) (view_root-map (tree_on d) s.history view ∙ ap (option_map (tree_on d)) shows.shown)

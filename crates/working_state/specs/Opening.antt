@@ -34,4 +34,4 @@ pub record IsAnswered (old : Device) (s : State) (call : Call) (result : Result 
   pub step : CallStep (seen_on old s) (machine_on old s) false call result (seen_on new t) (machine_on new t) off
   pub leaves : Leaves (machine_on old s) call old s.storage new t.storage
   pub is_off : t.is_off ≡ s.is_off
-  pub pages : KeepsPages old s.history new
+  pub pages : KeepsPages old s new

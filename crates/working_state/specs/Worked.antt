@@ -31,7 +31,7 @@ pub record IsLooked (old : Device) (s : State) (new : Device) (t : State) : Type
 
 -- why reads and writes of nodes are refused
 abbrev pub WorkCause : Seen → Fault → Seen → Type 0
-WorkCause old FlashFull new = new.space.free ≡ 0
+WorkCause old FlashFull new = new.free ≡ 0
 WorkCause old ReadOnly new = new.read_only ≡ true
 WorkCause old ReadFailed new = old.failed_reads < new.failed_reads
 WorkCause old PowerCut new = new.powered ≡ false

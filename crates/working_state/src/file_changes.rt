@@ -51,7 +51,7 @@ impl State {
         requires { IsMounted (F.device flash.old) self.old }
         ensures mounted { IsMounted (F.device flash.new) self.new }
         ensures step { StateStep (F.device flash.old) self.old (Call.Pwrite descriptor offset bytes.now) (replied Reply.Count result) (F.device flash.new) self.new }
-        ensures pages { KeepsPages (F.device flash.old) self.old.history (F.device flash.new) }
+        ensures pages { KeepsPages (F.device flash.old) self.old (F.device flash.new) }
     {
         self.check_power()?;
         let written = self.write_file(alloc, flash, descriptor, offset, bytes);
@@ -98,7 +98,7 @@ impl State {
         requires { IsMounted (F.device flash.old) self.old }
         ensures mounted { IsMounted (F.device flash.new) self.new }
         ensures step { StateStep (F.device flash.old) self.old (Call.Ftruncate descriptor size) (replied empty result) (F.device flash.new) self.new }
-        ensures pages { KeepsPages (F.device flash.old) self.old.history (F.device flash.new) }
+        ensures pages { KeepsPages (F.device flash.old) self.old (F.device flash.new) }
     {
         self.check_power()?;
         let resized = self.resize_file(alloc, flash, descriptor, size);

@@ -37,7 +37,7 @@ impl State {
         requires { IsMounted (F.device flash.old) self.old }
         ensures mounted { IsMounted (F.device flash.new) self.new }
         ensures step { StateStep (F.device flash.old) self.old (Call.Rmdir path.now) (replied empty result) (F.device flash.new) self.new }
-        ensures pages { KeepsPages (F.device flash.old) self.old.history (F.device flash.new) }
+        ensures pages { KeepsPages (F.device flash.old) self.old (F.device flash.new) }
     {
         self.check_power()?;
         let removed = self.remove_directory(alloc, flash, path);
@@ -107,7 +107,7 @@ impl State {
         requires { IsMounted (F.device flash.old) self.old }
         ensures mounted { IsMounted (F.device flash.new) self.new }
         ensures step { StateStep (F.device flash.old) self.old (Call.Unlink path.now) (replied empty result) (F.device flash.new) self.new }
-        ensures pages { KeepsPages (F.device flash.old) self.old.history (F.device flash.new) }
+        ensures pages { KeepsPages (F.device flash.old) self.old (F.device flash.new) }
     {
         self.check_power()?;
         let removed = self.remove_file(alloc, flash, path);

@@ -81,7 +81,7 @@ impl State {
         requires { IsMounted (F.device flash.old) self.old }
         ensures mounted { IsMounted (F.device flash.new) self.new }
         ensures step { StateStep (F.device flash.old) self.old (Call.Mkdir path.now) (replied empty result) (F.device flash.new) self.new }
-        ensures pages { KeepsPages (F.device flash.old) self.old.history (F.device flash.new) }
+        ensures pages { KeepsPages (F.device flash.old) self.old (F.device flash.new) }
     {
         self.check_power()?;
         let made = self.add_directory(alloc, flash, path);

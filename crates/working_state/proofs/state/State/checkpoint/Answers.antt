@@ -12,7 +12,7 @@ use Rattle.fs_types.specs.declared.calls.Call.{Call}
 use Rattle.fs_types.specs.declared.faults.Fault.{Fault}
 use Rattle.working_state.specs.Mounted.{IsStanding}
 use Rattle.working_state.specs.Seen.{tree_on}
-use Rattle.working_state.proofs.Roots.{all_with_checkpoint, kept_with_checkpoint}
+use Rattle.working_state.proofs.Roots.{after_checkpoint}
 use Rattle.working_state.specs.Steps.{empty}
 use Rattle.working_state.proofs.Steps.{refused_off, mounted_after, refused, refused_record, checkpointed, checkpoint-exists, checkpoint-full, checkpoint-free}
 use Rattle.working_state.proofs.state.State.checkpoint.Goals as goal
@@ -71,4 +71,4 @@ returns-clause-mounted c = λ device is.
     let s = c.args.self.now in
     let name = c.args.name.now in
     mounted_after device s (Call.Checkpoint name) c.checkpoint.result (with_checkpoint s.history name) c.checkpoint.new.self (made c) c.checkpoint.ensures.err is refl (returns-clause-step c device)
-    (record { versions = all_with_checkpoint (IsStanding device s.storage.ring) s.history name is.versions; checkpoints = kept_with_checkpoint (IsStanding device s.storage.ring) s.history name is.versions is.checkpoints })
+    (after_checkpoint (IsStanding device s.storage.ring) s name is.roots)

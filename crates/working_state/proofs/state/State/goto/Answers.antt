@@ -29,10 +29,10 @@ returns-clause-step c = λ device.
     let r = serial_refusal s.history c.args.serial in
     let same = may_travel (machine_on device s) _ c.in_ok-check_none_open.ensures.ok ∙ serial_refusal-map (tree_on device) s.history c.args.serial in
     answered device s (Call.Goto c.args.serial) r c.goto.result (gone_to s.history c.args.serial) c.goto.new.self c.goto.ensures.answer c.goto.ensures.ok c.goto.ensures.err
-    (λ ok. done device s (Call.Goto c.args.serial) (gone_to s.history c.args.serial) Reply.Empty c.in_ok-check_power.ensures.ok (same ∙ ok) refl (ap (λ (h : Past Tree). machine_with h s.files) (gone_to-map (tree_on device) s.history c.args.serial)) (λ e. absurd (never _ e)) (λ e. absurd (never _ e)))
+    (λ ok. done device s (Call.Goto c.args.serial) (gone_to s.history c.args.serial) Reply.Empty c.in_ok-check_power.ensures.ok refl (same ∙ ok) (λ _. refl) (ap (λ (h : Past Tree). machine_with h s.files) (gone_to-map (tree_on device) s.history c.args.serial)) (λ e. absurd (never _ e)) (λ e. absurd (never _ e)))
     (λ fault e. refused device s (Call.Goto c.args.serial) fault c.in_ok-check_power.ensures.ok (no_cut r fault (serial-no_cut s.history c.args.serial) e) (inl (same ∙ e)))
 
 pub returns-clause-mounted : goal.returns-clause-mounted
 returns-clause-mounted c = λ device is.
     let s = c.args.self.now in
-    mounted_after device s (Call.Goto c.args.serial) c.goto.result (gone_to s.history c.args.serial) c.goto.new.self c.goto.ensures.ok c.goto.ensures.err is refl (returns-clause-step c device) (record { versions = is.versions; checkpoints = is.checkpoints })
+    mounted_after device s (Call.Goto c.args.serial) c.goto.result (gone_to s.history c.args.serial) c.goto.new.self c.goto.ensures.ok c.goto.ensures.err is refl (returns-clause-step c device) is.roots

@@ -20,4 +20,4 @@ returns-clause-mounted g c =
 pub returns-clause-step : goal.returns-clause-step
 returns-clause-step g c =
     remembered_step Reply.Names (g.F.Flash.device c.args.flash.now) c.args.self.now (g.F.Flash.device c.list_view-names.new.flash) c.list_view-names.new.self c.remember_cut.new.self (Call.List c.args.view.now c.args.path.now)
-    c.list_view-names.result c.remember_cut.result c.remember_cut.ensures.same c.in_ok-check_power.ensures.ok c.list_view-names.ensures.looked.rest.is_off c.remember_cut.ensures.off c.list_view-names.ensures.step (looked_leaves _ _ _ _ (Call.List c.args.view.now c.args.path.now) c.list_view-names.ensures.looked refl)
+    c.list_view-names.result c.remember_cut.result c.remember_cut.ensures.same c.in_ok-check_power.ensures.ok c.list_view-names.ensures.looked.rest.is_off c.remember_cut.ensures.off c.list_view-names.ensures.step (looked_leaves _ _ _ _ (Call.List c.args.view.now c.args.path.now) c.list_view-names.ensures.looked refl) refl

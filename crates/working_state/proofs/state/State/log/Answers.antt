@@ -32,4 +32,4 @@ returns c = λ device.
     let reply = Reply.Log c.next_serial.result c.has_dropped.result c.in_ok-versions.versions c.cursor.result c.in_ok-checkpoints.checkpoints in
     let serials = c.in_ok-versions.ensures ∙ ap (map (λ (v : Version ℕ). v.serial)) c.versions.ensures.versions in
     let names = c.in_ok-checkpoints.ensures ∙ ap (map (λ (e : Name × ℕ). e.0)) c.checkpoints.ensures in
-    done device s Call.Log s.history reply c.in_ok-check_power.ensures.ok refl (log-tells (tree_on device) s.history _ _ _ _ _ c.next_serial.ensures c.has_dropped.ensures serials c.cursor.ensures names) refl (λ e. absurd (never true e)) (λ e. absurd (never true e))
+    done device s Call.Log s.history reply c.in_ok-check_power.ensures.ok refl refl (λ _. log-tells (tree_on device) s.history _ _ _ _ _ c.next_serial.ensures c.has_dropped.ensures serials c.cursor.ensures names) refl (λ e. absurd (never true e)) (λ e. absurd (never true e))

@@ -1,4 +1,4 @@
-use Rattle.std.proofs.Common.{Err, ap, ◌∙◌}
+use Rattle.std.proofs.Common.{Err, ap, refl, ◌∙◌}
 use Rattle.std.proofs.lemmas.Result.{err_from_is_err_and}
 use Rattle.fs_types.specs.declared.calls.Call.{Call}
 use Rattle.fs_types.specs.declared.calls.Reply.{Reply}
@@ -19,4 +19,4 @@ returns-clause-mounted g c =
 pub returns-clause-step : goal.returns-clause-step
 returns-clause-step g c =
     remembered_step Reply.Count (g.F.Flash.device c.args.flash.now) c.args.self.now (g.F.Flash.device c.write_file-written.new.flash) c.write_file-written.new.self c.remember_cut.new.self (Call.Pwrite c.args.descriptor c.args.offset c.args.bytes.now)
-    c.write_file-written.result c.remember_cut.result c.remember_cut.ensures.same c.in_ok-check_power.ensures.ok c.write_file-written.ensures.is_off c.remember_cut.ensures.off c.write_file-written.ensures.step c.write_file-written.ensures.leaves
+    c.write_file-written.result c.remember_cut.result c.remember_cut.ensures.same c.in_ok-check_power.ensures.ok c.write_file-written.ensures.is_off c.remember_cut.ensures.off c.write_file-written.ensures.step c.write_file-written.ensures.leaves refl

@@ -29,10 +29,10 @@ returns-clause-step c = λ device.
     let r = redo_refusal s.history in
     let same = may_travel (machine_on device s) _ c.in_ok-check_none_open.ensures.ok ∙ redo_refusal-map (tree_on device) s.history in
     answered device s Call.Redo r c.redo.result (redone s.history) c.redo.new.self c.redo.ensures.answer c.redo.ensures.ok c.redo.ensures.err
-    (λ ok. done device s Call.Redo (redone s.history) Reply.Empty c.in_ok-check_power.ensures.ok (same ∙ ok) refl (ap (λ (h : Past Tree). machine_with h s.files) (redone-map (tree_on device) s.history)) (λ e. absurd (never _ e)) (λ e. absurd (never _ e)))
+    (λ ok. done device s Call.Redo (redone s.history) Reply.Empty c.in_ok-check_power.ensures.ok refl (same ∙ ok) (λ _. refl) (ap (λ (h : Past Tree). machine_with h s.files) (redone-map (tree_on device) s.history)) (λ e. absurd (never _ e)) (λ e. absurd (never _ e)))
     (λ fault e. refused device s Call.Redo fault c.in_ok-check_power.ensures.ok (no_cut r fault (redo-no_cut s.history) e) (inl (same ∙ e)))
 
 pub returns-clause-mounted : goal.returns-clause-mounted
 returns-clause-mounted c = λ device is.
     let s = c.args.self.now in
-    mounted_after device s Call.Redo c.redo.result (redone s.history) c.redo.new.self c.redo.ensures.ok c.redo.ensures.err is refl (returns-clause-step c device) (record { versions = is.versions; checkpoints = is.checkpoints })
+    mounted_after device s Call.Redo c.redo.result (redone s.history) c.redo.new.self c.redo.ensures.ok c.redo.ensures.err is refl (returns-clause-step c device) is.roots

@@ -10,7 +10,7 @@ use Rattle.fs_types.specs.declared.calls.Reply.{Reply}
 use Rattle.fs_types.specs.declared.faults.Fault.{Fault}
 use Rattle.working_state.specs.Mounted.{IsStanding}
 use Rattle.working_state.specs.Seen.{tree_on}
-use Rattle.working_state.proofs.Roots.{kept_without_checkpoint}
+use Rattle.working_state.proofs.Roots.{after_removal}
 use Rattle.working_state.specs.Steps.{empty}
 use Rattle.working_state.proofs.Steps.{refused_off, mounted_after, answered, done, refused, refused_record, never, no_cut, name-no_cut}
 use Rattle.working_state.proofs.state.State.remove_checkpoint.Goals as goal
@@ -44,7 +44,7 @@ returns-clause-step c = λ device.
     let r = name_refusal s.history name in
     let same = name_refusal-map (tree_on device) s.history name in
     answered device s (Call.RemoveCheckpoint name) r c.remove_checkpoint.result (without_checkpoint s.history name) c.remove_checkpoint.new.self c.remove_checkpoint.ensures.answer c.remove_checkpoint.ensures.ok c.remove_checkpoint.ensures.err
-    (λ ok. done device s (Call.RemoveCheckpoint name) (without_checkpoint s.history name) Reply.Empty c.in_ok-check_power.ensures.ok (same ∙ ok) refl (ap (λ (h : Past Tree). machine_with h s.files) (without_checkpoint-map (tree_on device) s.history name)) (λ _. c.in_ok-check_writable.ensures.ok) (λ e. absurd (never _ e)))
+    (λ ok. done device s (Call.RemoveCheckpoint name) (without_checkpoint s.history name) Reply.Empty c.in_ok-check_power.ensures.ok refl (same ∙ ok) (λ _. refl) (ap (λ (h : Past Tree). machine_with h s.files) (without_checkpoint-map (tree_on device) s.history name)) (λ _. c.in_ok-check_writable.ensures.ok) (λ e. absurd (never _ e)))
     (λ fault e. refused device s (Call.RemoveCheckpoint name) fault c.in_ok-check_power.ensures.ok (no_cut r fault (name-no_cut s.history name) e) (inl (same ∙ e)))
 
 pub returns-clause-mounted : goal.returns-clause-mounted
@@ -52,4 +52,4 @@ returns-clause-mounted c = λ device is.
     let s = c.args.self.now in
     let name = c.args.name.now in
     mounted_after device s (Call.RemoveCheckpoint name) c.remove_checkpoint.result (without_checkpoint s.history name) c.remove_checkpoint.new.self c.remove_checkpoint.ensures.ok c.remove_checkpoint.ensures.err is refl (returns-clause-step c device)
-    (record { versions = is.versions; checkpoints = kept_without_checkpoint (IsStanding device s.storage.ring) s.history name is.checkpoints })
+    (after_removal (IsStanding device s.storage.ring) s name is.roots)

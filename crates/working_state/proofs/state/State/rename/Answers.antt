@@ -1,4 +1,4 @@
-use Rattle.std.proofs.Common.{Err, ap, ◌∙◌}
+use Rattle.std.proofs.Common.{Err, ap, refl, ◌∙◌}
 use Rattle.std.proofs.lemmas.Result.{err_from_is_err_and}
 use Rattle.fs_types.specs.declared.calls.Call.{Call}
 use Rattle.working_state.specs.Steps.{empty}
@@ -19,4 +19,4 @@ returns-clause-mounted g c =
 pub returns-clause-step : goal.returns-clause-step
 returns-clause-step g c =
     remembered_step empty (g.F.Flash.device c.args.flash.now) c.args.self.now (g.F.Flash.device c.move_entry-moved.new.flash) c.move_entry-moved.new.self c.remember_cut.new.self (Call.Rename c.args.old.now c.args.new.now)
-    c.move_entry-moved.result c.remember_cut.result c.remember_cut.ensures.same c.in_ok-check_power.ensures.ok c.move_entry-moved.ensures.is_off c.remember_cut.ensures.off c.move_entry-moved.ensures.step c.move_entry-moved.ensures.leaves
+    c.move_entry-moved.result c.remember_cut.result c.remember_cut.ensures.same c.in_ok-check_power.ensures.ok c.move_entry-moved.ensures.is_off c.remember_cut.ensures.off c.move_entry-moved.ensures.step c.move_entry-moved.ensures.leaves refl

@@ -51,7 +51,7 @@ returns-then-from-size g c =
     changes.same_answer d s e t (Call.Ftruncate c.args.descriptor c.args.size) Reply.Empty c.requires (looked_at d s e c.find_body.new.storage c.find_body.ensures.looked)
     (changes.ftruncate_nothing (machine_on d s) c.args.descriptor c.args.size path c.in_ok-path.ensures.path
     (changes.same_length d s e t path c.in_ok-body.body.head c.in_ok-body.body.length c.from.result c.args.size c.requires seen there c.from.ensures c.if-from-size.true))
-    c.in_ok-path.ensures.ok refl refl
+    c.in_ok-path.ensures.ok (λ _. refl) refl
 
 pub find_body-requires-clause-file : goal.find_body-requires-clause-file
 find_body-requires-clause-file g c =

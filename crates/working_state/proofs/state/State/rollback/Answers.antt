@@ -46,7 +46,7 @@ pub change-requires-clause-editable : goal.change-requires-clause-editable
 change-requires-clause-editable g c = λ root present.
     let device = g.F.Flash.device c.args.flash.now in
     let s = c.args.self.now in
-    let stands = of_checkpoint (IsStanding device s.storage.ring) s.history c.args.name.now c.in_ok-root.field-0.now c.requires.checkpoints c.in_ok-root.ensures in
+    let stands = of_checkpoint (IsStanding device s.storage.ring) s c.args.name.now c.in_ok-root.field-0.now c.requires.roots c.in_ok-root.ensures in
     (stands.held, stands.rooted)
 
 pub returns-clause-step : goal.returns-clause-step

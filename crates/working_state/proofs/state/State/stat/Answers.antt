@@ -20,4 +20,4 @@ returns-clause-mounted g c =
 pub returns-clause-step : goal.returns-clause-step
 returns-clause-step g c =
     remembered_step Reply.Stat (g.F.Flash.device c.args.flash.now) c.args.self.now (g.F.Flash.device c.stat_view-stat.new.flash) c.stat_view-stat.new.self c.remember_cut.new.self (Call.Stat c.args.view.now c.args.path.now)
-    c.stat_view-stat.result c.remember_cut.result c.remember_cut.ensures.same c.in_ok-check_power.ensures.ok c.stat_view-stat.ensures.looked.rest.is_off c.remember_cut.ensures.off c.stat_view-stat.ensures.step (looked_leaves _ _ _ _ (Call.Stat c.args.view.now c.args.path.now) c.stat_view-stat.ensures.looked refl)
+    c.stat_view-stat.result c.remember_cut.result c.remember_cut.ensures.same c.in_ok-check_power.ensures.ok c.stat_view-stat.ensures.looked.rest.is_off c.remember_cut.ensures.off c.stat_view-stat.ensures.step (looked_leaves _ _ _ _ (Call.Stat c.args.view.now c.args.path.now) c.stat_view-stat.ensures.looked refl) refl

@@ -32,7 +32,7 @@ returns-then-is_empty g c =
     let s = c.args.self.now in
     let none : length c.args.bytes.now ≡ 0 = eqb-true (length c.args.bytes.now) 0 (sym c.is_empty.ensures ∙ c.if-is_empty.true) in
     changes.same_answer d s d s (Call.Pwrite c.args.descriptor c.args.offset c.args.bytes.now) (Reply.Count 0) c.requires (changes.looked_itself d s)
-    (changes.pwrite_nothing (machine_on d s) c.args.descriptor c.args.offset c.args.bytes.now none) c.in_ok-path.ensures.ok (ap Reply.Count none) refl
+    (changes.pwrite_nothing (machine_on d s) c.args.descriptor c.args.offset c.args.bytes.now none) c.in_ok-path.ensures.ok (λ _. ap Reply.Count none) refl
 
 pub returns-in_err-body : goal.returns-in_err-body
 returns-in_err-body g c =

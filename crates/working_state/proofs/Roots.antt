@@ -13,6 +13,7 @@ use Rattle.history_machine.specs.History.{Past, present_root, checkpoint_root, c
 use Rattle.plain_trees.proofs.Beneath.{None≢Some, same_Some}
 use Rattle.history_machine.proofs.Checkpoints.{all-inserted, all-removed}
 use Rattle.history_machine.proofs.Versions.{by_change, checkpoints-changed, grown, version}
+use Rattle.working_state.specs.Moments.{Moment, moment}
 use Rattle.working_state.specs.Roots.{HasRoot}
 use Rattle.working_state.specs.declared.state.State.{State}
 
@@ -85,6 +86,9 @@ module _ {R : Type 0} (P : R → Type 0) where
 -- the state with another history
 abbrev pub with_history : State → Past ℕ → State
 with_history s p = record s { history = p }
+
+abbrev pub at_history : Moment → Past ℕ → Moment
+at_history a p = moment a.device (with_history a.state p)
 
 root_at : {A : Type 0} (f : A → ℕ) (xs : List A) (k : ℕ) (d : A) → k < length xs → Contains (map f xs) (f (get_or xs k d))
 root_at f xs k d lt = let long = length-map xs f in (k, omega arith, get_or-map f xs k d (f (get_or xs k d)) lt)

@@ -33,7 +33,7 @@ module _ (d : Device) (s : State) (call : Call) (result : Result Reply Fault) (e
       let failures = step.leaves.written.evolved.failures in
       stays_writable s.storage.bad t.storage.bad step.leaves.written.evolved.stays_bad (omega arith) writable
 
-  step_free : e.failures ≤ d.failures → (seen_on d s).space.free ≤ need (capacity_of d) (machine_on d s) call + (seen_on e t).space.free
+  step_free : e.failures ≤ d.failures → (seen_on d s).free ≤ need (capacity_of d) (machine_on d s) call + (seen_on e t).free
   step_free none =
       let failures = step.leaves.written.evolved.failures in
       let taken = step.leaves.written.evolved.taken in
@@ -48,7 +48,7 @@ not_read_only old m false call ReadOnly new n off' (inr why, same, off) writable
 not_read_only old m false call _ new n off' h writable is = cc
 
 -- nor for want of a block where no block went bad and as many were free as it needs
-not_full : (old : Seen) (m : Machine) (off : Bool) (call : Call) (fault : Fault) (new : Seen) (n : Machine) (off' : Bool) → Answers old m off call (Err fault) new n off' → new.listed ≤ old.listed → need old.capacity m call ≤ old.space.free → fault ≢ FlashFull
+not_full : (old : Seen) (m : Machine) (off : Bool) (call : Call) (fault : Fault) (new : Seen) (n : Machine) (off' : Bool) → Answers old m off call (Err fault) new n off' → new.listed ≤ old.listed → need old.capacity m call ≤ old.free → fault ≢ FlashFull
 not_full old m true call fault new n off' h none enough is = let wrong = h.0 in cc
 not_full old m false call FlashFull new n off' (inl says, same, off) none enough is = absurd (true≢false (own_says m call FlashFull says))
 not_full old m false call FlashFull new n off' (inr why, same, off) none enough is = let few = why.3.few_free in absurd (omega arith)
@@ -86,9 +86,9 @@ same_state w s t here there = cc
 more_healthy : (d : Device) (s : State) (m n : Machine) (call : Call) (result : Result Reply Fault) (e : Device) (t : State) (events : List Event) (answers : List Answer) (answer : Answer)
     → StateStep d s call result e t → machine_on d s ≡ m → e.failures ≤ d.failures
     → nodes_needed (capacity_of d) m (Event.Call call ∷ events) (answer ∷ answers) ≡ need (capacity_of d) m call + nodes_needed (capacity_of d) n events answers
-    → answer ≢ Answer.Refused ReadOnly → (need (capacity_of d) m call ≤ (seen_on d s).space.free → answer ≢ Answer.Refused FlashFull)
-    → IsHealthy (seen_on e t).space.free (capacity_of e) n events answers
-    → IsHealthy (seen_on d s).space.free (capacity_of d) m (Event.Call call ∷ events) (answer ∷ answers)
+    → answer ≢ Answer.Refused ReadOnly → (need (capacity_of d) m call ≤ (seen_on d s).free → answer ≢ Answer.Refused FlashFull)
+    → IsHealthy (seen_on e t).free (capacity_of e) n events answers
+    → IsHealthy (seen_on d s).free (capacity_of d) m (Event.Call call ∷ events) (answer ∷ answers)
 more_healthy d s m n call result e t events answers answer step is none counts writable enough rest =
     let free = step_free d s call result e t step none in
     let needs = ap (λ (x : Machine). need (capacity_of d) x call) is in
@@ -96,7 +96,7 @@ more_healthy d s m n call result e t events answers answer step is none counts w
     ((writable, rest.0), λ few. (enough (omega arith), rest.1 (omega arith)))
 
 healthy : (w : World) (s : State) (m : Machine) (events : List Event) (answers : List Answer) (v : World) → w.state ≡ Some s → machine_on w.device s ≡ m → AreCalls events → Run w events answers v
-    → v.device.failures ≤ w.device.failures → is_read_only s.storage.bad ≡ false → IsHealthy (seen_on w.device s).space.free (capacity_of w.device) m events answers
+    → v.device.failures ≤ w.device.failures → is_read_only s.storage.bad ≡ false → IsHealthy (seen_on w.device s).free (capacity_of w.device) m events answers
 healthy w s m [] [] v is shows calls run none writable = (tt, λ few. tt)
 healthy w s m [] (answer ∷ answers) v is shows calls run none writable = absurd run
 healthy w s m (event ∷ events) [] v is shows calls run none writable = absurd run

@@ -151,4 +151,4 @@ HealthyLaw = (w v : World) (s : State) (events : List Event) (answers : List Ans
     → w.state ≡ Some s → AreCalls events → Run w events answers v
     → v.device.failures ≡ w.device.failures → (seen_on w.device s).read_only ≡ false
     → NoneRefused ReadOnly answers
-    × (nodes_needed (capacity_of w.device) (machine_on w.device s) events answers ≤ (seen_on w.device s).space.free → NoneRefused FlashFull answers)
+    × (nodes_needed (capacity_of w.device) (machine_on w.device s) events answers ≤ (seen_on w.device s).free → NoneRefused FlashFull answers)

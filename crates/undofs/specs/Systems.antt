@@ -21,7 +21,7 @@ module _ {F : Type 0} {flash : Ghosts F} where
 
   -- no page changed of a block that a version or a checkpoint reaches
   abbrev pub KeepsAllPages : Fs F flash → Fs F flash → Type 0
-  KeepsAllPages old new = KeepsPages (flash.device old.flash.now) old.state.history (flash.device new.flash.now)
+  KeepsAllPages old new = KeepsPages (flash.device old.flash.now) old.state (flash.device new.flash.now)
 
   -- the name of the reference to the flash, which stays the same
   abbrev pub flash_name : Fs F flash → GName

@@ -22,15 +22,15 @@ use Rattle.tree_edits.specs.declared.edits.Edit.{Edit}
 use Rattle.tree_edits.specs.Edits.{need, source}
 use Rattle.tree_edits.specs.Roots.{IsNewRoot}
 use Rattle.directory.specs.Trails.{IsChangeFault}
+use Rattle.working_state.specs.Moments.{Moment, machine_at, seen_at, IsMountedAt, capacity_at, moment}
 use Rattle.working_state.specs.Changes.{IsReady, edited_tree, WorkRefuses, IsPushed, ChangeCause, IsChanged}
 use Rattle.working_state.specs.Leaves.{HasWritten, is_still, Leaves}
-use Rattle.working_state.specs.Mounted.{IsStanding, IsMounted}
+use Rattle.working_state.specs.Mounted.{IsStanding}
 use Rattle.working_state.specs.Opening.{IsAnswered}
-use Rattle.working_state.specs.Seen.{capacity_of, tree_on, seen_of, seen_on, machine_on}
+use Rattle.working_state.specs.Seen.{capacity_of, tree_on, seen_of}
 use Rattle.read_only.specs.Modes.{bad_anchors}
 use Rattle.working_state.specs.Steps.{empty, replied, is_light, is_cut, is_cut_answer, MayRefuse, Refuses}
 use Rattle.working_state.specs.Worked.{IsWorked, IsLooked, WorkCause}
-use Rattle.working_state.specs.declared.state.State.{State}
 use Rattle.working_state.proofs.ChangeSteps.{makes, needs_all, later_stands, later_writable, later_serial, writing_refuses, HasNewTree, changed_step, changed_mounted}
 use Rattle.working_state.proofs.OpenCalls.{refused_work}
 use Rattle.working_state.proofs.Standing.{same_capacity, looked_worked, written_leaves, worked_on, worked_mounted, worked_pages}
@@ -38,13 +38,13 @@ use Rattle.working_state.proofs.Steps.{writes-version}
 
 -- ---- the state as it was
 
-pub mounted_ready : (d : Device) (s : State) → IsMounted d s → IsReady d s.storage
-mounted_ready d s m = record { lawful = m.lawful; ring_blocks = m.ring_blocks; page_len = m.page_len; node_room = m.node_room }
+pub mounted_ready : (a : Moment) → IsMountedAt a → IsReady a.device a.state.storage
+mounted_ready a m = record { lawful = m.lawful; ring_blocks = m.ring_blocks; page_len = m.page_len; node_room = m.node_room }
 
 -- after a look, the system is ready and its present root stands
 
-pub looked_ready : (d : Device) (s : State) (e : Device) (t : State) → IsMounted d s → IsLooked d s e t → IsReady e t.storage
-looked_ready d s e t m l = mounted_ready e t (worked_mounted d s e t m (looked_worked d s e t l))
+pub looked_ready : (a b : Moment) → IsMountedAt a → IsLooked a b → IsReady b.device b.state.storage
+looked_ready a b m l = mounted_ready b (worked_mounted a b m (looked_worked a b l))
 
 pub same_root : (a b : ℕ) (h i : Past ℕ) → i ≡ h → present_root h ≡ Some a → present_root i ≡ Some b → a ≡ b
 same_root a b h i same first second = some_same a b (sym first ∙ ap (λ (x : Past ℕ). present_root x) (sym same) ∙ second)
@@ -52,15 +52,15 @@ same_root a b h i same first second = some_same a b (sym first ∙ ap (λ (x : P
     some_same : (a b : ℕ) → Some a ≡ Some b → a ≡ b
     some_same a b e = cc
 
-pub looked_stands : (d : Device) (s : State) (e : Device) (t : State) (root : ℕ) → IsMounted d s → present_root s.history ≡ Some root → IsLooked d s e t
-    → (other : ℕ) → present_root t.history ≡ Some other → IsStanding e t.storage.ring other
-looked_stands d s e t root m is l other there =
-    subst (λ (r : ℕ). IsStanding e t.storage.ring r) (same_root root other s.history t.history l.rest.history is there) (later_stands d s e t root m is l)
+pub looked_stands : (a b : Moment) (root : ℕ) → IsMountedAt a → present_root a.state.history ≡ Some root → IsLooked a b
+    → (other : ℕ) → present_root b.state.history ≡ Some other → IsStanding b.device b.state.storage.ring other
+looked_stands a b root m is l other there =
+    subst (λ (r : ℕ). IsStanding b.device b.state.storage.ring r) (same_root root other a.state.history b.state.history l.rest.history is there) (later_stands a b root m is l)
 
 -- what is known of one root is known of the present one
-pub at_present : (P : ℕ → Type 0) (d : Device) (s : State) (e : Device) (t : State) (root : ℕ) → present_root s.history ≡ Some root → IsLooked d s e t → P root
-    → (other : ℕ) → present_root t.history ≡ Some other → P other
-at_present P d s e t root is l here other there = subst P (same_root root other s.history t.history l.rest.history is there) here
+pub at_present : (P : ℕ → Type 0) (a b : Moment) (root : ℕ) → present_root a.state.history ≡ Some root → IsLooked a b → P root
+    → (other : ℕ) → present_root b.state.history ≡ Some other → P other
+at_present P a b root is l here other there = subst P (same_root root other a.state.history b.state.history l.rest.history is there) here
 
 -- ---- a change
 
@@ -137,86 +137,86 @@ module _ {F : Type 0} (device : F → Device) where
 -- ---- a call that is a change
 
 -- the call is accepted, and makes this tree of the one of the present root
-pub record IsChangeBy (d : Device) (s : State) (call : Call) (made : ℕ → Tree) (reply : Reply) : Type 0 where
-  pub fine : refusal (machine_on d s) call ≡ None
-  pub after : (root : ℕ) → present_root s.history ≡ Some root → tree_after (machine_on d s) call ≡ Some (made root)
+pub record IsChangeBy (a : Moment) (call : Call) (made : ℕ → Tree) (reply : Reply) : Type 0 where
+  pub fine : refusal (machine_at a) call ≡ None
+  pub after : (root : ℕ) → present_root a.state.history ≡ Some root → tree_after (machine_at a) call ≡ Some (made root)
   pub heavy : is_light call ≡ false
   pub moves : is_still call ≡ false
   pub paths : has_paths call ≡ true
-  pub more : (capacity : ℕ) → 0 < change_need capacity (machine_on d s) call
-  pub replies : (space : Space) → reply_of space (machine_on d s) call ≡ reply
+  pub more : (capacity : ℕ) → 0 < change_need capacity (machine_at a) call
+  pub replies : (space : Space) → reply_of space (machine_at a) call ≡ reply
 
 -- nodes were written
-written_worked : (e : Device) (t : State) (f : Device) (st : Storage) (most : ℕ) → HasWritten e t.storage most f st → IsWorked e t f (record t { storage = st })
-written_worked e t f st most w = record { evolved = w.evolved; rest = record { page_len = w.page_len; node_room = w.node_room; history = refl; files = refl; is_off = refl } }
+written_worked : (b : Moment) (f : Device) (st : Storage) (most : ℕ) → HasWritten b.device b.state.storage most f st → IsWorked b (moment f (record b.state { storage = st }))
+written_worked b f st most w = record { evolved = w.evolved; rest = record { page_len = w.page_len; node_room = w.node_room; history = refl; files = refl; is_off = refl } }
 
 -- the nodes of the edit are no more than those of the call
-abbrev NeedsFew : Device → Edit → Device → State → Call → Type 0
-NeedsFew e edit d s call = need (capacity_of e) edit ≤ change_need (capacity_of d) (machine_on d s) call
+abbrev NeedsFew : Moment → Edit → Moment → Call → Type 0
+NeedsFew b edit a call = need (capacity_at b) edit ≤ change_need (capacity_at a) (machine_at a) call
 
-change_leaves : (d : Device) (s : State) (e : Device) (t : State) (f : Device) (st : Storage) (call : Call) (edit : Edit) → IsLooked d s e t → HasWritten e t.storage (need (capacity_of e) edit) f st
-    → is_still call ≡ false → makes_version (machine_on d s) call ≡ true → NeedsFew e edit d s call → Leaves (machine_on d s) call d s.storage f st
-change_leaves d s e t f st call edit l w moves version few =
-    let all = needs_all (capacity_of d) (machine_on d s) call version in
-    written_leaves d s e t f st call (need (capacity_of e) edit) l w moves version (omega arith)
+change_leaves : (a b : Moment) (f : Device) (st : Storage) (call : Call) (edit : Edit) → IsLooked a b → HasWritten b.device b.state.storage (need (capacity_at b) edit) f st
+    → is_still call ≡ false → makes_version (machine_at a) call ≡ true → NeedsFew b edit a call → Leaves (machine_at a) call a.device a.state.storage f st
+change_leaves a b f st call edit l w moves version few =
+    let all = needs_all (capacity_at a) (machine_at a) call version in
+    written_leaves a b f st call (need (capacity_at b) edit) l w moves version (omega arith)
 
-pub pushed_answer : (d : Device) (s : State) (e : Device) (t : State) (f : Device) (st : Storage) (h : Past ℕ) (files : Descriptors) (call : Call) (edit : Edit) (reply : Reply) → IsMounted d s → IsLooked d s e t
-    → IsChangeBy d s call (edited_tree e edit) reply → NeedsFew e edit d s call → HasWritten e t.storage (need (capacity_of e) edit) f st → IsPushed e t.history t.storage edit f h st → files ≡ descriptors_after (machine_on d s) call
-    → IsAnswered d s call (Ok reply) f (record t { storage = st; history = h; files = files }) false
-pushed_answer d s e t f st h files call edit reply m l by few written pushed opens =
-    let u : State = record t { storage = st } in
-    let w = written_worked e t f st (need (capacity_of e) edit) written in
-    let all = worked_on d s e t f u (looked_worked d s e t l) w in
-    let present : present_root s.history ≡ Some pushed.root = ap (λ (x : Past ℕ). present_root x) (sym l.rest.history) ∙ pushed.present in
-    let tree = edited_tree e edit pushed.root in
-    let new : HasNewTree f u pushed.to tree = record { stands = pushed.stands; is = pushed.shows } in
-    let step = changed_step d s e t f u pushed.to call tree reply h files pushed.pushed opens m l by.fine (by.after pushed.root present) (by.replies (seen_on f u).space) pushed.writable pushed.stays_writable pushed.serial_left w new in
+pub pushed_answer : (a b : Moment) (f : Device) (st : Storage) (h : Past ℕ) (files : Descriptors) (call : Call) (edit : Edit) (reply : Reply) → IsMountedAt a → IsLooked a b
+    → IsChangeBy a call (edited_tree b.device edit) reply → NeedsFew b edit a call → HasWritten b.device b.state.storage (need (capacity_at b) edit) f st → IsPushed b.device b.state.history b.state.storage edit f h st → files ≡ descriptors_after (machine_at a) call
+    → IsAnswered a call (Ok reply) (moment f (record b.state { storage = st; history = h; files = files })) false
+pushed_answer a b f st h files call edit reply m l by few written pushed opens =
+    let c : Moment = moment f (record b.state { storage = st }) in
+    let w = written_worked b f st (need (capacity_at b) edit) written in
+    let all = worked_on a b c (looked_worked a b l) w in
+    let present : present_root a.state.history ≡ Some pushed.root = ap (λ (x : Past ℕ). present_root x) (sym l.rest.history) ∙ pushed.present in
+    let tree = edited_tree b.device edit pushed.root in
+    let new : HasNewTree c pushed.to tree = record { stands = pushed.stands; is = pushed.shows } in
+    let step = changed_step a b c pushed.to call tree reply h files pushed.pushed opens m l by.fine (by.after pushed.root present) by.replies pushed.writable pushed.stays_writable pushed.serial_left w new in
     record {
-      mounted = changed_mounted d s f u pushed.to call tree (Ok reply) h files pushed.pushed m all new by.paths step;
+      mounted = changed_mounted a c pushed.to call tree (Ok reply) h files pushed.pushed m all new by.paths step;
       step = step;
-      leaves = change_leaves d s e t f st call edit l written by.moves (makes (machine_on d s) call by.fine (ap is_some (by.after pushed.root present))) few;
+      leaves = change_leaves a b f st call edit l written by.moves (makes (machine_at a) call by.fine (ap is_some (by.after pushed.root present))) few;
       is_off = all.rest.is_off;
-      pages = worked_pages d s f u m all;
+      pages = worked_pages a c m all;
     }
 
-cause_refuses : (d : Device) (s : State) (e : Device) (t : State) (f : Device) (st : Storage) (root : ℕ) (call : Call) {edit : Edit} (made : ℕ → Tree) (reply : Reply) (fault : Fault) → present_root s.history ≡ Some root → IsLooked d s e t
-    → IsChangeBy d s call made reply → NeedsFew e edit d s call → ChangeCause e t.history t.storage edit fault f st → Refuses (seen_on d s) (machine_on d s) call fault (seen_on f (record t { storage = st }))
-cause_refuses d s e t f st root call made reply fault is l by few (inl (inl only)) =
-    inr (subst (λ x. MayRefuse (seen_on d s) (machine_on d s) call x (seen_on f (record t { storage = st }))) (sym only.0)
-    (writes-version (machine_on d s) call (makes (machine_on d s) call by.fine (ap is_some (by.after root is))), only.1.on, λ off _. later_serial d s e t l (only.1.serial_left (later_writable d s e t l ∙ off))))
-cause_refuses d s e t f st root call made reply fault is l by few (inl (inr over)) =
-    inr (subst (λ x. MayRefuse (seen_on d s) (machine_on d s) call x (seen_on f (record t { storage = st }))) (sym over.0)
-    (makes (machine_on d s) call by.fine (ap is_some (by.after root is)), sym (later_writable d s e t l) ∙ over.1.writable, ap (λ (h : Past ℕ). h.next) (sym l.rest.history) ∙ over.1.last))
-cause_refuses d s e t f st root call {edit} made reply fault is l by few (inr work) =
-    writing_refuses d s e t f st edit call fault l by.heavy (makes (machine_on d s) call by.fine (ap is_some (by.after root is))) (by.more (capacity_of d)) few work
+cause_refuses : (a b : Moment) (f : Device) (st : Storage) (root : ℕ) (call : Call) {edit : Edit} (made : ℕ → Tree) (reply : Reply) (fault : Fault) → present_root a.state.history ≡ Some root → IsLooked a b
+    → IsChangeBy a call made reply → NeedsFew b edit a call → ChangeCause b.device b.state.history b.state.storage edit fault f st → Refuses (seen_at a) (machine_at a) call fault (seen_at (moment f (record b.state { storage = st })))
+cause_refuses a b f st root call made reply fault is l by few (inl (inl only)) =
+    inr (subst (λ x. MayRefuse (seen_at a) (machine_at a) call x (seen_at (moment f (record b.state { storage = st })))) (sym only.0)
+    (writes-version (machine_at a) call (makes (machine_at a) call by.fine (ap is_some (by.after root is))), only.1.on, λ off _. later_serial a b l (only.1.serial_left (later_writable a b l ∙ off))))
+cause_refuses a b f st root call made reply fault is l by few (inl (inr over)) =
+    inr (subst (λ x. MayRefuse (seen_at a) (machine_at a) call x (seen_at (moment f (record b.state { storage = st })))) (sym over.0)
+    (makes (machine_at a) call by.fine (ap is_some (by.after root is)), sym (later_writable a b l) ∙ over.1.writable, ap (λ (h : Past ℕ). h.next) (sym l.rest.history) ∙ over.1.last))
+cause_refuses a b f st root call {edit} made reply fault is l by few (inr work) =
+    writing_refuses a b f st edit call fault l by.heavy (makes (machine_at a) call by.fine (ap is_some (by.after root is))) (by.more (capacity_at a)) few work
 
-pub refused_change : (d : Device) (s : State) (e : Device) (t : State) (f : Device) (st : Storage) (h : Past ℕ) (root : ℕ) (call : Call) {edit : Edit} (made : ℕ → Tree) (reply : Reply) (fault : Fault) → IsMounted d s → present_root s.history ≡ Some root
-    → IsLooked d s e t → IsChangeBy d s call made reply → NeedsFew e edit d s call → HasWritten e t.storage (need (capacity_of e) edit) f st → (h ≡ t.history) × ChangeCause e t.history t.storage edit fault f st
-    → IsAnswered d s call (Err fault) f (record t { storage = st; history = h }) (is_cut fault)
-refused_change d s e t f st h root call {edit} made reply fault m is l by few written ends =
-    let u : State = record t { storage = st } in
-    let all = worked_on d s e t f u (looked_worked d s e t l) (written_worked e t f st (need (capacity_of e) edit) written) in
-    subst (λ (i : Past ℕ). IsAnswered d s call (Err fault) f (record t { storage = st; history = i }) (is_cut fault)) (sym ends.0)
-    (refused_work d s f u call fault m all (change_leaves d s e t f st call edit l written by.moves (makes (machine_on d s) call by.fine (ap is_some (by.after root is))) few)
-    (cause_refuses d s e t f st root call {edit = edit} made reply fault is l by few ends.1))
+pub refused_change : (a b : Moment) (f : Device) (st : Storage) (h : Past ℕ) (root : ℕ) (call : Call) {edit : Edit} (made : ℕ → Tree) (reply : Reply) (fault : Fault) → IsMountedAt a → present_root a.state.history ≡ Some root
+    → IsLooked a b → IsChangeBy a call made reply → NeedsFew b edit a call → HasWritten b.device b.state.storage (need (capacity_at b) edit) f st → (h ≡ b.state.history) × ChangeCause b.device b.state.history b.state.storage edit fault f st
+    → IsAnswered a call (Err fault) (moment f (record b.state { storage = st; history = h })) (is_cut fault)
+refused_change a b f st h root call {edit} made reply fault m is l by few written ends =
+    let c : Moment = moment f (record b.state { storage = st }) in
+    let all = worked_on a b c (looked_worked a b l) (written_worked b f st (need (capacity_at b) edit) written) in
+    subst (λ (i : Past ℕ). IsAnswered a call (Err fault) (moment f (record b.state { storage = st; history = i })) (is_cut fault)) (sym ends.0)
+    (refused_work a c call fault m all (change_leaves a b f st call edit l written by.moves (makes (machine_at a) call by.fine (ap is_some (by.after root is))) few)
+    (cause_refuses a b f st root call {edit = edit} made reply fault is l by few ends.1))
 
 -- a change that answers nothing, and leaves the open files
-pub change_answer : (d : Device) (s : State) (e : Device) (t : State) (f : Device) (st : Storage) (h : Past ℕ) (root : ℕ) (call : Call) (edit : Edit) (result : Result (Unit {0}) Fault) → IsMounted d s → present_root s.history ≡ Some root
-    → IsLooked d s e t → IsChangeBy d s call (edited_tree e edit) Reply.Empty → NeedsFew e edit d s call → descriptors_after (machine_on d s) call ≡ s.files → IsChanged e t.history t.storage edit result f h st
-    → IsAnswered d s call (replied empty result) f (record t { storage = st; history = h }) (is_cut_answer result)
-change_answer d s e t f st h root call edit (Ok x) m is l by few files changes =
-    pushed_answer d s e t f st h t.files call edit Reply.Empty m l by few changes.written changes.ends (l.rest.files ∙ sym files)
-change_answer d s e t f st h root call edit (Err fault) m is l by few files changes =
-    refused_change d s e t f st h root call (edited_tree e edit) Reply.Empty fault m is l by few changes.written changes.ends
+pub change_answer : (a b : Moment) (f : Device) (st : Storage) (h : Past ℕ) (root : ℕ) (call : Call) (edit : Edit) (result : Result (Unit {0}) Fault) → IsMountedAt a → present_root a.state.history ≡ Some root
+    → IsLooked a b → IsChangeBy a call (edited_tree b.device edit) Reply.Empty → NeedsFew b edit a call → descriptors_after (machine_at a) call ≡ a.state.files → IsChanged b.device b.state.history b.state.storage edit result f h st
+    → IsAnswered a call (replied empty result) (moment f (record b.state { storage = st; history = h })) (is_cut_answer result)
+change_answer a b f st h root call edit (Ok x) m is l by few files changes =
+    pushed_answer a b f st h b.state.files call edit Reply.Empty m l by few changes.written changes.ends (l.rest.files ∙ sym files)
+change_answer a b f st h root call edit (Err fault) m is l by few files changes =
+    refused_change a b f st h root call (edited_tree b.device edit) Reply.Empty fault m is l by few changes.written changes.ends
 
 -- the same, where the edit is that of the change
 
-pub pushed_by : (d : Device) (s : State) (e : Device) (t : State) (f : Device) (st : Storage) (h : Past ℕ) (files : Descriptors) (call : Call) {edit : Edit} (reply : Reply) → IsPushed e t.history t.storage edit f h st
-    → IsChangeBy d s call (edited_tree e edit) reply → NeedsFew e edit d s call → HasWritten e t.storage (need (capacity_of e) edit) f st → IsMounted d s → IsLooked d s e t → files ≡ descriptors_after (machine_on d s) call
-    → IsAnswered d s call (Ok reply) f (record t { storage = st; history = h; files = files }) false
-pushed_by d s e t f st h files call {edit} reply pushed by few written m l opens = pushed_answer d s e t f st h files call edit reply m l by few written pushed opens
+pub pushed_by : (a b : Moment) (f : Device) (st : Storage) (h : Past ℕ) (files : Descriptors) (call : Call) {edit : Edit} (reply : Reply) → IsPushed b.device b.state.history b.state.storage edit f h st
+    → IsChangeBy a call (edited_tree b.device edit) reply → NeedsFew b edit a call → HasWritten b.device b.state.storage (need (capacity_at b) edit) f st → IsMountedAt a → IsLooked a b → files ≡ descriptors_after (machine_at a) call
+    → IsAnswered a call (Ok reply) (moment f (record b.state { storage = st; history = h; files = files })) false
+pushed_by a b f st h files call {edit} reply pushed by few written m l opens = pushed_answer a b f st h files call edit reply m l by few written pushed opens
 
-pub change_by : (d : Device) (s : State) (e : Device) (t : State) (f : Device) (st : Storage) (h : Past ℕ) (root : ℕ) (call : Call) {edit : Edit} (result : Result (Unit {0}) Fault) → IsChanged e t.history t.storage edit result f h st
-    → IsChangeBy d s call (edited_tree e edit) Reply.Empty → NeedsFew e edit d s call → IsMounted d s → present_root s.history ≡ Some root → IsLooked d s e t → descriptors_after (machine_on d s) call ≡ s.files
-    → IsAnswered d s call (replied empty result) f (record t { storage = st; history = h }) (is_cut_answer result)
-change_by d s e t f st h root call {edit} result changes by few m is l files = change_answer d s e t f st h root call edit result m is l by few files changes
+pub change_by : (a b : Moment) (f : Device) (st : Storage) (h : Past ℕ) (root : ℕ) (call : Call) {edit : Edit} (result : Result (Unit {0}) Fault) → IsChanged b.device b.state.history b.state.storage edit result f h st
+    → IsChangeBy a call (edited_tree b.device edit) Reply.Empty → NeedsFew b edit a call → IsMountedAt a → present_root a.state.history ≡ Some root → IsLooked a b → descriptors_after (machine_at a) call ≡ a.state.files
+    → IsAnswered a call (replied empty result) (moment f (record b.state { storage = st; history = h })) (is_cut_answer result)
+change_by a b f st h root call {edit} result changes by few m is l files = change_answer a b f st h root call edit result m is l by few files changes

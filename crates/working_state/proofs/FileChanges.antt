@@ -17,11 +17,9 @@ use Rattle.fs_types.specs.declared.calls.Reply.{Reply}
 use Rattle.fs_types.specs.declared.faults.Fault.{Fault}
 use Rattle.history_machine.proofs.Accepted.{not-root}
 use Rattle.history_machine.proofs.Kept.{present-file_tree}
-use Rattle.flash_model.specs.Device.{Device}
 use Rattle.node_format.specs.Items.{Item, named}
 use Rattle.node_format.specs.declared.places.Place.{Place}
 use Rattle.node_format.specs.declared.places.Place.TheVariants as place
-use Rattle.node_store.specs.NodePages.{node_of}
 use Rattle.node_store.specs.StorageLaws.{Untouched_itself}
 use Rattle.block_trees.specs.Bodies.{Blocks, body, head_index, data_to, IsBody}
 use Rattle.block_trees.specs.Reached.{IsHeld}
@@ -32,14 +30,13 @@ use Rattle.directory.specs.declared.lookups.Found.{Found}
 use Rattle.directory.specs.declared.lookups.Found.TheVariants as found
 use Rattle.directory.specs.Lookups.{◌>>=◌, look_up, found_in, found_of, below_in, directory_at, is_path_fault, IsLookupFault}
 use Rattle.directory.proofs.LookupLaws.{found_is, found_leads_file}
+use Rattle.working_state.specs.Moments.{Moment, machine_at, storage_at, IsMountedAt, nodes_at, capacity_at, tree_at}
 use Rattle.working_state.specs.Changing.{IsPathOf}
 use Rattle.working_state.specs.Leaves.{is_still}
-use Rattle.working_state.specs.Seen.{Seen, capacity_of, tree_on, seen_on, machine_on}
+use Rattle.working_state.specs.Seen.{Seen}
 use Rattle.working_state.specs.Steps.{is_light}
-use Rattle.working_state.specs.Mounted.{IsMounted}
 use Rattle.working_state.specs.Opening.{IsAnswered}
-use Rattle.working_state.specs.Worked.{storage_on, IsWorked, IsLooked, WorkCause, ReadCause}
-use Rattle.working_state.specs.declared.state.State.{State}
+use Rattle.working_state.specs.Worked.{IsWorked, IsLooked, WorkCause, ReadCause}
 use Rattle.working_state.proofs.ChangedCalls.{IsChangeBy}
 use Rattle.working_state.proofs.ChangeSteps.{makes, later_tree}
 use Rattle.working_state.proofs.MovedEntries.{read_cause}
@@ -74,16 +71,16 @@ leads_looked f root (n ∷ m ∷ path) head size e = way (λ below. leads_looked
     way again (Some items) e = on again (named items n) e
 
 -- a file of the present tree is looked up as one
-pub present_file : (d : Device) (s : State) (root : ℕ) (path : Path) → IsMounted d s → present_root s.history ≡ Some root → IsFile (present_tree (machine_on d s)) path
-    → (head : ℕ) × (size : ℕ) × (look_up (node_of d) root path ≡ Ok (found.File head size))
-present_file d s root path m is file =
-    go (leads (node_of d) (place.Dir root) path) refl (ap (λ (t : Contents). t path) (sym (present_is d s root m is)) ∙ file.1)
+pub present_file : (a : Moment) (root : ℕ) (path : Path) → IsMountedAt a → present_root a.state.history ≡ Some root → IsFile (present_tree (machine_at a)) path
+    → (head : ℕ) × (size : ℕ) × (look_up (nodes_at a) root path ≡ Ok (found.File head size))
+present_file a root path m is file =
+    go (leads (nodes_at a) (place.Dir root) path) refl (ap (λ (t : Contents). t path) (sym (present_is a root m is)) ∙ file.1)
   where
-    go : (o : Option Place) → leads (node_of d) (place.Dir root) path ≡ o → option_map (entry_at (capacity_of d) (node_of d)) o ≡ Some (Entry.File file.0)
-        → (head : ℕ) × (size : ℕ) × (look_up (node_of d) root path ≡ Ok (found.File head size))
+    go : (o : Option Place) → leads (nodes_at a) (place.Dir root) path ≡ o → option_map (entry_at (capacity_at a) (nodes_at a)) o ≡ Some (Entry.File file.0)
+        → (head : ℕ) × (size : ℕ) × (look_up (nodes_at a) root path ≡ Ok (found.File head size))
     go None led e = absurd cc
     go (Some (place.Dir block)) led e = absurd cc
-    go (Some (place.File head size)) led e = (head, size, leads_looked (node_of d) root path head size led)
+    go (Some (place.File head size)) led e = (head, size, leads_looked (nodes_at a) root path head size led)
 
 -- a body is as long as its file
 long_body : (capacity : ℕ) (f : Blocks) (head size : ℕ) → IsBody capacity f head size → length (body capacity f head size) ≡ size
@@ -93,25 +90,25 @@ long_body capacity f head (suc n) is =
     omega (arith, length-take (suc n) (data_to f (head_index capacity (suc n)) head))
 
 -- the body of a file of the present tree
-pub record IsPresentBody (d : Device) (s : State) (path : Path) (head size : ℕ) : Type 0 where
-  pub whole : IsBody (capacity_of d) (node_of d) head size
-  pub held : IsHeld (node_of d) (set.contains s.storage.ring.used) (place.File head size)
-  pub shown : bytes_at (present_tree (machine_on d s)) path ≡ body (capacity_of d) (node_of d) head size
+pub record IsPresentBody (a : Moment) (path : Path) (head size : ℕ) : Type 0 where
+  pub whole : IsBody (capacity_at a) (nodes_at a) head size
+  pub held : IsHeld (nodes_at a) (set.contains a.state.storage.ring.used) (place.File head size)
+  pub shown : bytes_at (present_tree (machine_at a)) path ≡ body (capacity_at a) (nodes_at a) head size
   pub short : size ≤ 16777216
 
-pub present_body : (d : Device) (s : State) (root : ℕ) (path : Path) (head size : ℕ) → IsMounted d s → present_root s.history ≡ Some root → look_up (node_of d) root path ≡ Ok (found.File head size) → IsPresentBody d s path head size
-present_body d s root path head size m is led =
-    let stands = present_stands d s root m is in
-    let leads = found_leads_file (node_of d) root path head size led in
+pub present_body : (a : Moment) (root : ℕ) (path : Path) (head size : ℕ) → IsMountedAt a → present_root a.state.history ≡ Some root → look_up (nodes_at a) root path ≡ Ok (found.File head size) → IsPresentBody a path head size
+present_body a root path head size m is led =
+    let stands = present_stands a root m is in
+    let leads = found_leads_file (nodes_at a) root path head size led in
     let whole = (stands.rooted path (place.File head size) leads).0 in
-    let there : get (present_tree (machine_on d s)) path ≡ Some (Entry.File (body (capacity_of d) (node_of d) head size)) =
-    ap (λ (t : Contents). t path) (present_is d s root m is) ∙ (found_is (capacity_of d) (node_of d) root path (found.File head size) led).1 in
-    let most = (present-file_tree (machine_on d s) m.machine).lengths path (body (capacity_of d) (node_of d) head size) there in
+    let there : get (present_tree (machine_at a)) path ≡ Some (Entry.File (body (capacity_at a) (nodes_at a) head size)) =
+    ap (λ (t : Contents). t path) (present_is a root m is) ∙ (found_is (capacity_at a) (nodes_at a) root path (found.File head size) led).1 in
+    let most = (present-file_tree (machine_at a) m.machine).lengths path (body (capacity_at a) (nodes_at a) head size) there in
     record {
       whole = whole;
-      held = held_leads (node_of d) (set.contains s.storage.ring.used) path (place.Dir root) (place.File head size) leads stands.held;
+      held = held_leads (nodes_at a) (set.contains a.state.storage.ring.used) path (place.Dir root) (place.File head size) leads stands.held;
       shown = ap bytes_of there;
-      short = omega (arith, most, long_body (capacity_of d) (node_of d) head size whole);
+      short = omega (arith, most, long_body (capacity_at a) (nodes_at a) head size whole);
     }
 
 -- Refusals.
@@ -142,36 +139,36 @@ pub file_makes : (m : Machine) (call : Call) (path : Path) (bytes : List ℕ) �
 file_makes m call path bytes change = makes m call change.fine (ap is_some change.after)
 
 -- the present root after work, and the file in it
-later_root : (d : Device) (s : State) (f : Device) (u : State) (root : ℕ) → present_root s.history ≡ Some root → IsWorked d s f u → present_root u.history ≡ Some root
-later_root d s f u root is w = ap (λ (h : Past ℕ). present_root h) w.rest.history ∙ is
+later_root : (a c : Moment) (root : ℕ) → present_root a.state.history ≡ Some root → IsWorked a c → present_root c.state.history ≡ Some root
+later_root a c root is w = ap (λ (h : Past ℕ). present_root h) w.rest.history ∙ is
 
-pub later_body : (d : Device) (s : State) (f : Device) (u : State) (root : ℕ) (path : Path) (head size : ℕ) → IsMounted d s → present_root s.history ≡ Some root → IsWorked d s f u → look_up (node_of f) root path ≡ Ok (found.File head size)
-    → IsPresentBody f u path head size
-later_body d s f u root path head size m is w led = present_body f u root path head size (worked_mounted d s f u m w) (later_root d s f u root is w) led
+pub later_body : (a c : Moment) (root : ℕ) (path : Path) (head size : ℕ) → IsMountedAt a → present_root a.state.history ≡ Some root → IsWorked a c → look_up (nodes_at c) root path ≡ Ok (found.File head size)
+    → IsPresentBody c path head size
+later_body a c root path head size m is w led = present_body c root path head size (worked_mounted a c m w) (later_root a c root is w) led
 
 -- a call that changes nothing
-pub same_answer : (d : Device) (s : State) (e : Device) (t : State) (call : Call) (reply : Reply) → IsMounted d s → IsLooked d s e t → OnlyReads (machine_on d s) call → refusal (machine_on d s) call ≡ None
-    → reply_of (seen_on e t).space (machine_on d s) call ≡ reply → is_still call ≡ false → IsAnswered d s call (Ok reply) e t false
-same_answer d s e t call reply m l reads fine replies moves =
-    let w = looked_worked d s e t l in
+pub same_answer : (a b : Moment) (call : Call) (reply : Reply) → IsMountedAt a → IsLooked a b → OnlyReads (machine_at a) call → refusal (machine_at a) call ≡ None
+    → ((space : Space) → reply_of space (machine_at a) call ≡ reply) → is_still call ≡ false → IsAnswered a call (Ok reply) b false
+same_answer a b call reply m l reads fine replies moves =
+    let w = looked_worked a b l in
     record {
-      mounted = worked_mounted d s e t m w;
-      step = read_done d s e t call reply m l reads fine replies;
-      leaves = looked_leaves d s e t call l moves;
+      mounted = worked_mounted a b m w;
+      step = read_done a b call reply m l reads fine replies;
+      leaves = looked_leaves a b call l moves;
       is_off = w.rest.is_off;
-      pages = worked_pages d s e t m w;
+      pages = worked_pages a b m w;
     }
 
-pub looked_itself : (d : Device) (s : State) → IsLooked d s d s
-looked_itself d s = record { untouched = Untouched_itself (storage_on d s); rest = record { page_len = refl; node_room = omega arith; history = refl; files = refl; is_off = refl } }
+pub looked_itself : (a : Moment) → IsLooked a a
+looked_itself a = record { untouched = Untouched_itself (storage_at a); rest = record { page_len = refl; node_room = omega arith; history = refl; files = refl; is_off = refl } }
 
 -- the path of an open file
 
-pub open_file : (d : Device) (s : State) (descriptor : ℕ) (path : Path) → IsMounted d s → IsPathOf s.files descriptor path → IsFile (present_tree (machine_on d s)) path
-open_file d s descriptor path m has = m.machine.files descriptor (record { path = path; flags = has.0 }) has.1
+pub open_file : (a : Moment) (descriptor : ℕ) (path : Path) → IsMountedAt a → IsPathOf a.state.files descriptor path → IsFile (present_tree (machine_at a)) path
+open_file a descriptor path m has = m.machine.files descriptor (record { path = path; flags = has.0 }) has.1
 
-pub below_root : (d : Device) (s : State) (path : Path) → IsMounted d s → IsFile (present_tree (machine_on d s)) path → 0 < length path
-below_root d s path m file = not-root (present_tree (machine_on d s)) path (present-file_tree (machine_on d s) m.machine) (λ dir. let both = sym dir ∙ file.1 in cc)
+pub below_root : (a : Moment) (path : Path) → IsMountedAt a → IsFile (present_tree (machine_at a)) path → 0 < length path
+below_root a path m file = not-root (present_tree (machine_at a)) path (present-file_tree (machine_at a) m.machine) (λ dir. let both = sym dir ∙ file.1 in cc)
 
 -- Writing.
 
@@ -242,26 +239,26 @@ ftruncate_nothing m descriptor n path has same = record { stays = stays; no_vers
     stays i = machine_with (option_map_or (changed m.history) (no_tree i) m.history) m.descriptors
 
 -- the length of the file whose body was found
-pub present_length : (d : Device) (s : State) (e : Device) (t : State) (path : Path) (head size : ℕ) → IsMounted d s → IsWorked d s e t → IsPresentBody e t path head size → length (bytes_at (present_tree (machine_on d s)) path) ≡ size
-present_length d s e t path head size m w there =
-    ap (λ (x : Machine). length (bytes_at (present_tree x) path)) (sym (worked_machine d s e t m w)) ∙ ap length there.shown ∙ long_body (capacity_of e) (node_of e) head size there.whole
+pub present_length : (a b : Moment) (path : Path) (head size : ℕ) → IsMountedAt a → IsWorked a b → IsPresentBody b path head size → length (bytes_at (present_tree (machine_at a)) path) ≡ size
+present_length a b path head size m w there =
+    ap (λ (x : Machine). length (bytes_at (present_tree x) path)) (sym (worked_machine a b m w)) ∙ ap length there.shown ∙ long_body (capacity_at b) (nodes_at b) head size there.whole
 
-pub same_length : (d : Device) (s : State) (e : Device) (t : State) (path : Path) (head size wide n : ℕ) → IsMounted d s → IsWorked d s e t → IsPresentBody e t path head size → wide ≡ size → wide ≡ n
-    → (length (bytes_at (present_tree (machine_on d s)) path) == n) ≡ true
-same_length d s e t path head size wide n m w there is same = eq-eqb (length (bytes_at (present_tree (machine_on d s)) path)) n (present_length d s e t path head size m w there ∙ sym is ∙ same)
+pub same_length : (a b : Moment) (path : Path) (head size wide n : ℕ) → IsMountedAt a → IsWorked a b → IsPresentBody b path head size → wide ≡ size → wide ≡ n
+    → (length (bytes_at (present_tree (machine_at a)) path) == n) ≡ true
+same_length a b path head size wide n m w there is same = eq-eqb (length (bytes_at (present_tree (machine_at a)) path)) n (present_length a b path head size m w there ∙ sym is ∙ same)
 
-pub other_length : (d : Device) (s : State) (e : Device) (t : State) (path : Path) (head size wide n : ℕ) → IsMounted d s → IsWorked d s e t → IsPresentBody e t path head size → wide ≡ size → (wide ≡ n → ⊥)
-    → (length (bytes_at (present_tree (machine_on d s)) path) == n) ≡ false
-other_length d s e t path head size wide n m w there is other =
-    ne_eqb (length (bytes_at (present_tree (machine_on d s)) path)) n (λ same. other (is ∙ sym (present_length d s e t path head size m w there) ∙ same))
+pub other_length : (a b : Moment) (path : Path) (head size wide n : ℕ) → IsMountedAt a → IsWorked a b → IsPresentBody b path head size → wide ≡ size → (wide ≡ n → ⊥)
+    → (length (bytes_at (present_tree (machine_at a)) path) == n) ≡ false
+other_length a b path head size wide n m w there is other =
+    ne_eqb (length (bytes_at (present_tree (machine_at a)) path)) n (λ same. other (is ∙ sym (present_length a b path head size m w there) ∙ same))
 
 -- the change of a file's bytes, as the flash shows it after a look
-pub file_change : (d : Device) (s : State) (e : Device) (t : State) (call : Call) (path : Path) (f : List ℕ → List ℕ) (reply : Reply) → IsMounted d s → IsLooked d s e t
-    → IsFileChange (machine_on d s) call path (f (bytes_at (present_tree (machine_on d s)) path)) → ((space : Space) → reply_of space (machine_on d s) call ≡ reply)
-    → IsChangeBy d s call (λ root. put (tree_on e root) path (Entry.File (f (bytes_at (tree_on e root) path)))) reply
-file_change d s e t call path f reply m l change replies = record {
+pub file_change : (a b : Moment) (call : Call) (path : Path) (f : List ℕ → List ℕ) (reply : Reply) → IsMountedAt a → IsLooked a b
+    → IsFileChange (machine_at a) call path (f (bytes_at (present_tree (machine_at a)) path)) → ((space : Space) → reply_of space (machine_at a) call ≡ reply)
+    → IsChangeBy a call (λ root. put (tree_at b root) path (Entry.File (f (bytes_at (tree_at b root) path)))) reply
+file_change a b call path f reply m l change replies = record {
   fine = change.fine;
-  after = λ root is. change.after ∙ ap (λ (x : Tree). Some (put x path (Entry.File (f (bytes_at x path))))) (later_tree d s e t root m is l);
+  after = λ root is. change.after ∙ ap (λ (x : Tree). Some (put x path (Entry.File (f (bytes_at x path))))) (later_tree a b root m is l);
   heavy = change.heavy;
   moves = change.moves;
   paths = change.paths;
@@ -269,32 +266,32 @@ file_change d s e t call path f reply m l change replies = record {
   replies = replies;
 }
 
-pub file_lawful : (d : Device) (s : State) (path : Path) → IsMounted d s → IsFile (present_tree (machine_on d s)) path → is_path path ≡ true
-file_lawful d s path m file = (present-file_tree (machine_on d s) m.machine).paths path (ap is_some file.1)
+pub file_lawful : (a : Moment) (path : Path) → IsMountedAt a → IsFile (present_tree (machine_at a)) path → is_path path ≡ true
+file_lawful a path m file = (present-file_tree (machine_at a) m.machine).paths path (ap is_some file.1)
 
 -- How many nodes a change of a file's bytes needs, by the body that was found.
 
-capacity_at : (d : Device) (s : State) (e : Device) (t : State) → IsWorked d s e t → capacity_of d ≡ capacity_of e
-capacity_at d s e t w = sym (same_capacity (storage_on d s) (storage_on e t) w.evolved)
+same_capacity_at : (a b : Moment) → IsWorked a b → capacity_at a ≡ capacity_at b
+same_capacity_at a b w = sym (same_capacity (storage_at a) (storage_at b) w.evolved)
 
-pub pwrite_few : (d : Device) (s : State) (e : Device) (t : State) (descriptor offset : ℕ) (bytes : List ℕ) (path : Path) (head size : ℕ) → IsMounted d s → IsLooked d s e t → IsPathOf s.files descriptor path → IsPresentBody e t path head size
-    → pwrite_need (capacity_of e) size offset (length bytes) + length path ≤ change_need (capacity_of d) (machine_on d s) (Call.Pwrite descriptor offset bytes)
-pwrite_few d s e t descriptor offset bytes path head size m l has there =
-    let w = looked_worked d s e t l in
-    let long = present_length d s e t path head size m w there in
-    let same = capacity_at d s e t w in
-    let all : change_need (capacity_of d) (machine_on d s) (Call.Pwrite descriptor offset bytes) ≡ pwrite_need (capacity_of e) size offset (length bytes) + length path =
-    ap (λ (o : Option Descriptor). option_map_or (λ x. pwrite_need (capacity_of d) (length (bytes_at (present_tree (machine_on d s)) x.path)) offset (length bytes) + length x.path) o 0) has.1
+pub pwrite_few : (a b : Moment) (descriptor offset : ℕ) (bytes : List ℕ) (path : Path) (head size : ℕ) → IsMountedAt a → IsLooked a b → IsPathOf a.state.files descriptor path → IsPresentBody b path head size
+    → pwrite_need (capacity_at b) size offset (length bytes) + length path ≤ change_need (capacity_at a) (machine_at a) (Call.Pwrite descriptor offset bytes)
+pwrite_few a b descriptor offset bytes path head size m l has there =
+    let w = looked_worked a b l in
+    let long = present_length a b path head size m w there in
+    let same = same_capacity_at a b w in
+    let all : change_need (capacity_at a) (machine_at a) (Call.Pwrite descriptor offset bytes) ≡ pwrite_need (capacity_at b) size offset (length bytes) + length path =
+    ap (λ (o : Option Descriptor). option_map_or (λ x. pwrite_need (capacity_at a) (length (bytes_at (present_tree (machine_at a)) x.path)) offset (length bytes) + length x.path) o 0) has.1
     ∙ (λ i. pwrite_need (same i) (long i) offset (length bytes) + length path) in
     omega arith
 
-pub ftruncate_few : (d : Device) (s : State) (e : Device) (t : State) (descriptor n : ℕ) (path : Path) (head size : ℕ) → IsMounted d s → IsLooked d s e t → IsPathOf s.files descriptor path → IsPresentBody e t path head size
-    → ftruncate_need (capacity_of e) size n + length path ≤ change_need (capacity_of d) (machine_on d s) (Call.Ftruncate descriptor n)
-ftruncate_few d s e t descriptor n path head size m l has there =
-    let w = looked_worked d s e t l in
-    let long = present_length d s e t path head size m w there in
-    let same = capacity_at d s e t w in
-    let all : change_need (capacity_of d) (machine_on d s) (Call.Ftruncate descriptor n) ≡ ftruncate_need (capacity_of e) size n + length path =
-    ap (λ (o : Option Descriptor). option_map_or (λ x. ftruncate_need (capacity_of d) (length (bytes_at (present_tree (machine_on d s)) x.path)) n + length x.path) o 0) has.1
+pub ftruncate_few : (a b : Moment) (descriptor n : ℕ) (path : Path) (head size : ℕ) → IsMountedAt a → IsLooked a b → IsPathOf a.state.files descriptor path → IsPresentBody b path head size
+    → ftruncate_need (capacity_at b) size n + length path ≤ change_need (capacity_at a) (machine_at a) (Call.Ftruncate descriptor n)
+ftruncate_few a b descriptor n path head size m l has there =
+    let w = looked_worked a b l in
+    let long = present_length a b path head size m w there in
+    let same = same_capacity_at a b w in
+    let all : change_need (capacity_at a) (machine_at a) (Call.Ftruncate descriptor n) ≡ ftruncate_need (capacity_at b) size n + length path =
+    ap (λ (o : Option Descriptor). option_map_or (λ x. ftruncate_need (capacity_at a) (length (bytes_at (present_tree (machine_at a)) x.path)) n + length x.path) o 0) has.1
     ∙ (λ i. ftruncate_need (same i) (long i) n + length path) in
     omega arith

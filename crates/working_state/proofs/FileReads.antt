@@ -17,7 +17,6 @@ use Rattle.fs_types.specs.declared.faults.Fault.{Fault}
 use Rattle.fs_types.specs.declared.faults.Fault.TheVariants.{NoEntry, NotDirectory, BadDescriptor, Damaged, ReadFailed, PowerCut, NoMemory}
 use Rattle.history_machine.proofs.Kept.{present-file_tree}
 use Rattle.plain_trees.proofs.Lookups.{some-is, above, under-tree}
-use Rattle.flash_model.specs.Device.{Device}
 use Rattle.node_format.specs.declared.places.Place.TheVariants.{File}
 use Rattle.block_trees.specs.Bodies.{Blocks, body, IsBody}
 use Rattle.block_trees.specs.Trees.{root_tree, IsRoot}
@@ -27,12 +26,11 @@ use Rattle.directory.specs.declared.lookups.Found.TheVariants as found
 use Rattle.directory.specs.Lookups.{look_up, entry_of, is_path_fault, IsLookupFault}
 use Rattle.directory.proofs.LookupLaws.{found_is, found_leads_file}
 use Rattle.skip_list_file.specs.Reading.{is_body_fault}
-use Rattle.working_state.specs.Mounted.{IsMounted}
+use Rattle.working_state.specs.Moments.{Moment, machine_at, seen_at, IsMountedAt, Steps, IsStep, tree_at}
 use Rattle.working_state.specs.Reading.{refuse_directory, file_refusal, IsRead}
-use Rattle.working_state.specs.Seen.{Seen, tree_on, seen_on, machine_on}
-use Rattle.working_state.specs.Steps.{replied, is_light, is_cut_answer, MayRefuse, CallStep}
+use Rattle.working_state.specs.Seen.{Seen}
+use Rattle.working_state.specs.Steps.{replied, is_light, is_cut_answer, MayRefuse}
 use Rattle.working_state.specs.Worked.{IsLooked, WorkCause}
-use Rattle.working_state.specs.declared.state.State.{State}
 use Rattle.working_state.proofs.PathCalls.{found_tells, refused_tells, present_tree_is, OnlyReads, read_done}
 use Rattle.working_state.proofs.Refusals.{refused_step}
 use Rattle.working_state.proofs.Standing.{looked_worked}
@@ -100,33 +98,33 @@ body_refuses old new m call NoMemory heavy is why = heavy
 body_refuses old new m call _ heavy is why = absurd (true≢false (sym is))
 
 -- a call reads of the file at a path of the tree of a root
-pub record ReadsFile (d : Device) (s : State) (call : Call) (root : ℕ) (path : Path) (offset count : ℕ) : Type 0 where
+pub record ReadsFile (a : Moment) (call : Call) (root : ℕ) (path : Path) (offset count : ℕ) : Type 0 where
   pub heavy : is_light call ≡ false
-  pub by_path : refusal (machine_on d s) call ≡ file_refusal (tree_on d root) path
-  pub only : OnlyReads (machine_on d s) call
-  pub replies : (space : Space) → reply_of space (machine_on d s) call ≡ Reply.Bytes (read_from (bytes_at (tree_on d root) path) offset count)
+  pub by_path : refusal (machine_at a) call ≡ file_refusal (tree_at a root) path
+  pub only : OnlyReads (machine_at a) call
+  pub replies : (space : Space) → reply_of space (machine_at a) call ≡ Reply.Bytes (read_from (bytes_at (tree_at a root) path) offset count)
 
-pub read_step : (d : Device) (s : State) (e : Device) (t : State) (call : Call) (root : ℕ) (path : Path) (offset count : ℕ) (result : Result (List ℕ) Fault) → IsMounted d s → IsLooked d s e t → ReadsFile d s call root path offset count
-    → IfOk result (IsRead (tree_on d root) path offset count)
-    → IfErr result (λ fault. is_body_fault fault ≡ false → file_refusal (tree_on d root) path ≡ Some fault)
-    → IfErr result (λ fault. is_body_fault fault ≡ true → WorkCause (seen_on d s) fault (seen_on e t))
-    → CallStep (seen_on d s) (machine_on d s) false call (replied Reply.Bytes result) (seen_on e t) (machine_on e t) (is_cut_answer result)
-read_step d s e t call root path offset count (Ok bytes) m l reads read refused why =
-    read_done d s e t call (Reply.Bytes bytes) m l reads.only (reads.by_path ∙ read.accepted) (reads.replies (seen_on e t).space ∙ ap Reply.Bytes (sym read.read))
-read_step d s e t call root path offset count (Err fault) m l reads read refused why =
-    refused_step d s e t call fault m (looked_worked d s e t l) (elim (cases_Bool (is_body_fault fault)) [
-      | inl is ↦ inr (body_refuses (seen_on d s) (seen_on e t) (machine_on d s) call fault reads.heavy is (why is))
+pub read_step : (a b : Moment) (call : Call) (root : ℕ) (path : Path) (offset count : ℕ) (result : Result (List ℕ) Fault) → IsMountedAt a → IsLooked a b → ReadsFile a call root path offset count
+    → IfOk result (IsRead (tree_at a root) path offset count)
+    → IfErr result (λ fault. is_body_fault fault ≡ false → file_refusal (tree_at a root) path ≡ Some fault)
+    → IfErr result (λ fault. is_body_fault fault ≡ true → WorkCause (seen_at a) fault (seen_at b))
+    → IsStep a call (replied Reply.Bytes result) b (is_cut_answer result)
+read_step a b call root path offset count (Ok bytes) m l reads read refused why =
+    read_done a b call (Reply.Bytes bytes) m l reads.only (reads.by_path ∙ read.accepted) (λ space. reads.replies space ∙ ap Reply.Bytes (sym read.read))
+read_step a b call root path offset count (Err fault) m l reads read refused why =
+    refused_step a b call fault m (looked_worked a b l) (elim (cases_Bool (is_body_fault fault)) [
+      | inl is ↦ inr (body_refuses (seen_at a) (seen_at b) (machine_at a) call fault reads.heavy is (why is))
       | inr other ↦ inl (reads.by_path ∙ refused other)
     ])
 
 -- A file of the tree that a view shows.
 
-pub view_reads : (d : Device) (s : State) (view : View) (path : Path) (offset count root : ℕ) → IsMounted d s → Shows s.history view root → ReadsFile d s (Call.ReadAt view path offset count) root path offset count
-view_reads d s view path offset count root m shows = record {
+pub view_reads : (a : Moment) (view : View) (path : Path) (offset count root : ℕ) → IsMountedAt a → Shows a.state.history view root → ReadsFile a (Call.ReadAt view path offset count) root path offset count
+view_reads a view path offset count root m shows = record {
   heavy = refl;
-  by_path = (view_looks d s view path (Call.ReadAt view path offset count) refuse_directory refl root m shows refl).by_path;
+  by_path = (view_looks a view path (Call.ReadAt view path offset count) refuse_directory refl root m shows refl).by_path;
   only = record { stays = refl; no_version = refl; no_record = refl };
-  replies = λ space. ap (λ (t : Tree). Reply.Bytes (read_from (bytes_at t path) offset count)) (view_tree_is d s view root shows);
+  replies = λ space. ap (λ (t : Tree). Reply.Bytes (read_from (bytes_at t path) offset count)) (view_tree_is a view root shows);
 }
 
 -- An open file.
@@ -151,21 +149,21 @@ pub record IsOpen (files : Descriptors) (descriptor : ℕ) (path : Path) : Type 
   pub reads : can_read file.flags ≡ true
   pub named : path ≡ file.path
 
-pub open_reads : (d : Device) (s : State) (descriptor : ℕ) (path : Path) (offset count root : ℕ) → IsMounted d s → present_root s.history ≡ Some root → IsOpen s.files descriptor path → ReadsFile d s (Call.Pread descriptor offset count) root path offset count
-open_reads d s descriptor path offset count root m is opened = record {
+pub open_reads : (a : Moment) (descriptor : ℕ) (path : Path) (offset count root : ℕ) → IsMountedAt a → present_root a.state.history ≡ Some root → IsOpen a.state.files descriptor path → ReadsFile a (Call.Pread descriptor offset count) root path offset count
+open_reads a descriptor path offset count root m is opened = record {
   heavy = refl;
-  by_path = accepted ∙ sym (ap (λ t. file_refusal t path) (sym (present_tree_is d s root is)) ∙ file_is_read (present_tree (machine_on d s)) path (present-file_tree (machine_on d s) m.machine) file);
+  by_path = accepted ∙ sym (ap (λ t. file_refusal t path) (sym (present_tree_is a root is)) ∙ file_is_read (present_tree (machine_at a)) path (present-file_tree (machine_at a) m.machine) file);
   only = record { stays = refl; no_version = refl; no_record = refl };
   replies = λ space.
-      ap (λ o. Reply.Bytes (option_map_or (λ x. read_from (bytes_at (present_tree (machine_on d s)) x.path) offset count) o [])) opened.there
-      ∙ ap (λ p. Reply.Bytes (read_from (bytes_at (present_tree (machine_on d s)) p) offset count)) (sym opened.named)
-      ∙ ap (λ (t : Tree). Reply.Bytes (read_from (bytes_at t path) offset count)) (present_tree_is d s root is);
+      ap (λ o. Reply.Bytes (option_map_or (λ x. read_from (bytes_at (present_tree (machine_at a)) x.path) offset count) o [])) opened.there
+      ∙ ap (λ p. Reply.Bytes (read_from (bytes_at (present_tree (machine_at a)) p) offset count)) (sym opened.named)
+      ∙ ap (λ (t : Tree). Reply.Bytes (read_from (bytes_at t path) offset count)) (present_tree_is a root is);
 }
   where
-    accepted : refusal (machine_on d s) (Call.Pread descriptor offset count) ≡ None
+    accepted : refusal (machine_at a) (Call.Pread descriptor offset count) ≡ None
     accepted =
         ap (λ o. option_map_or (λ (x : Descriptor). if can_read x.flags then None else Some BadDescriptor) o (Some BadDescriptor)) opened.there
         ∙ ap (λ b. if b then None else Some BadDescriptor) opened.reads
 
-    file : IsFile (present_tree (machine_on d s)) path
-    file = subst (IsFile (present_tree (machine_on d s))) (sym opened.named) (m.machine.files descriptor opened.file opened.there)
+    file : IsFile (present_tree (machine_at a)) path
+    file = subst (IsFile (present_tree (machine_at a))) (sym opened.named) (m.machine.files descriptor opened.file opened.there)

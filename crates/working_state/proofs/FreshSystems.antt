@@ -29,26 +29,26 @@ use Rattle.block_trees.specs.Trees.{entries_of, entries_in}
 use Rattle.block_trees.proofs.RootMaps.{empty_root}
 use Rattle.working_state.specs.Fresh.{unused_ring, unused, IsFirstGood, IsFresh, FreshCause, RootCause}
 use Rattle.working_state.specs.Leaves.{HasWritten}
-use Rattle.working_state.specs.Moments.{moment}
-use Rattle.working_state.specs.Seen.{capacity_of, tree_on, machine_on}
-use Rattle.working_state.specs.Mounted.{IsStanding, IsMounted}
-use Rattle.working_state.specs.Worked.{storage_on}
+use Rattle.working_state.specs.Moments.{moment, Moment, machine_at, storage_at, IsMountedAt, nodes_at, capacity_at}
+use Rattle.working_state.specs.Seen.{capacity_of, tree_on}
+use Rattle.working_state.specs.Mounted.{IsStanding}
 use Rattle.working_state.specs.declared.state.State.{State}
 use Rattle.block_trees.proofs.EmptyDirectories.{empty_held}
+use Rattle.working_state.proofs.Roots.{with_history, all_roots, at_history}
 use Rattle.working_state.proofs.Standing.{AllStand}
 
 -- an empty root stands
-empty_stands : (d : Device) (s : State) (root : ℕ) → entries_in (node_of d) root ≡ Some [] → set.contains s.storage.ring.used root ≡ true → IsStanding d s.storage.ring root
-empty_stands d s root empty kept = record {
-  held = empty_held (node_of d) root empty (set.contains s.storage.ring.used) kept;
-  rooted = (empty_root (capacity_of d) (node_of d) root empty).0;
+empty_stands : (a : Moment) (root : ℕ) → entries_in (nodes_at a) root ≡ Some [] → set.contains a.state.storage.ring.used root ≡ true → IsStanding a.device a.state.storage.ring root
+empty_stands a root empty kept = record {
+  held = empty_held (nodes_at a) root empty (set.contains a.state.storage.ring.used) kept;
+  rooted = (empty_root (capacity_at a) (nodes_at a) root empty).0;
 }
 
-fresh_stand : (d : Device) (s : State) (limit root : ℕ) → IsStanding d s.storage.ring root → AllStand d s.storage.ring (fresh limit root)
-fresh_stand d s limit root stands = record {
-  versions = All-push (λ (v : Version ℕ). IsStanding d s.storage.ring v.root) [] (record { serial = 1; root = root }) (λ k v below. absurd (omega arith)) stands;
-  checkpoints = λ k e below. absurd (omega arith);
-}
+fresh_stand : (a : Moment) (limit root : ℕ) → IsStanding a.device a.state.storage.ring root → AllStand (at_history a (fresh limit root))
+fresh_stand a limit root stands =
+    all_roots (IsStanding a.device a.state.storage.ring) (with_history a.state (fresh limit root))
+    (All-push (λ (v : Version ℕ). IsStanding a.device a.state.storage.ring v.root) [] (record { serial = 1; root = root }) (λ k v below. absurd (omega arith)) stands)
+    (λ k e below. absurd (omega arith))
 
 pub fresh_machine : (d : Device) (h : Past ℕ) (files : Descriptors) (limit root : ℕ) → h ≡ fresh limit root → files ≡ none_open → entries_in (node_of d) root ≡ Some []
     → machine_with (map_roots (tree_on d) h) files ≡ mounted (fresh limit bare)
@@ -58,18 +58,17 @@ fresh_machine d h files limit root is none empty =
     ∙ ap (λ (t : Tree). fresh limit t) (empty_root (capacity_of d) (node_of d) root empty).1 in
     (λ i. machine_with (history i) (none i))
 
-pub fresh_mounted : (d : Device) (s : State) (limit root : ℕ) → s.is_off ≡ false → IsGeometry d.geometry → s.storage.ring.blocks ≡ d.geometry.blocks → vec_len s.storage.page ≡ d.geometry.page → block_bytes d.geometry ≤ vec_capacity s.storage.node
-    → 2 ≤ limit → s.history ≡ fresh limit root → s.files ≡ none_open → entries_in (node_of d) root ≡ Some [] → set.contains s.storage.ring.used root ≡ true → IsMounted d s
-fresh_mounted d s limit root on lawful blocks len capacity some is none empty kept =
-    let all = subst (AllStand d s.storage.ring) (sym is) (fresh_stand d s limit root (empty_stands d s root empty kept)) in
+pub fresh_mounted : (a : Moment) (limit root : ℕ) → a.state.is_off ≡ false → IsGeometry a.device.geometry → a.state.storage.ring.blocks ≡ a.device.geometry.blocks → vec_len a.state.storage.page ≡ a.device.geometry.page → block_bytes a.device.geometry ≤ vec_capacity a.state.storage.node
+    → 2 ≤ limit → a.state.history ≡ fresh limit root → a.state.files ≡ none_open → entries_in (nodes_at a) root ≡ Some [] → set.contains a.state.storage.ring.used root ≡ true → IsMountedAt a
+fresh_mounted a limit root on lawful blocks len capacity some is none empty kept =
+    let all = subst (λ h. AllStand (at_history a h)) (sym is) (fresh_stand a limit root (empty_stands a root empty kept)) in
     record {
       lawful = lawful;
       ring_blocks = blocks;
       page_len = len;
       node_room = capacity;
-      versions = all.versions;
-      checkpoints = all.checkpoints;
-      machine = subst IsMachine (sym (fresh_machine d s.history s.files limit root is none empty)) (machine_law.first limit some);
+      roots = all;
+      machine = subst IsMachine (sym (fresh_machine a.device a.state.history a.state.files limit root is none empty)) (machine_law.first limit some);
       off = λ off. absurd (true≢false (sym off ∙ on));
     }
 
@@ -110,10 +109,10 @@ fresh_cause d limit s ReadOnly e t bad ring written why =
 fresh_cause d limit s PowerCut e t bad ring written why = why
 fresh_cause d limit s _ e t bad ring written why = absurd why
 
-pub fresh_at : (d : Device) (limit : ℕ) (s : Storage) (e : Device) (t : State) → IsMounted e t → machine_on e t ≡ mounted (fresh limit bare) → t.is_off ≡ false
-    → s.bad ≡ set.empty → s.ring ≡ unused_ring d.geometry.blocks → HasWritten d s 1 e t.storage
-    → ((root : ℕ) → present_root t.history ≡ Some root → IsFirstGood t.storage.bad root) → IsFresh d limit (moment e t)
-fresh_at d limit s e t is shows on bad ring written first =
+pub fresh_at : (d : Device) (limit : ℕ) (s : Storage) (b : Moment) → IsMountedAt b → machine_at b ≡ mounted (fresh limit bare) → b.state.is_off ≡ false
+    → s.bad ≡ set.empty → s.ring ≡ unused_ring d.geometry.blocks → HasWritten d s 1 b.device b.state.storage
+    → ((root : ℕ) → present_root b.state.history ≡ Some root → IsFirstGood b.state.storage.bad root) → IsFresh d limit b
+fresh_at d limit s b is shows on bad ring written first =
     let none : set.len s.bad ≡ 0 = ap set.len bad ∙ set.len-empty nat_cmp in
     let no_takes : s.ring.takes ≡ 0 = ap (λ (r : Ring). r.takes) ring in
     let paid = written.paid in
@@ -121,7 +120,7 @@ fresh_at d limit s e t is shows on bad ring written first =
       machine = shows;
       mounted = is;
       is_on = on;
-      evolved = subst (λ p. Evolved p (storage_on e t)) (unused_parts d s bad ring) written.evolved;
+      evolved = subst (λ p. Evolved p (storage_at b)) (unused_parts d s bad ring) written.evolved;
       paid = omega arith;
       root_block = first;
     }
@@ -186,6 +185,6 @@ written_fresh d limit s e t h files root lawful bad ring len capacity written ke
     let same = sym written.evolved.geometry in
     let more = written.node_room in
     let fits : block_bytes d.geometry ≤ vec_capacity t.node = omega arith in
-    let stands = fresh_mounted e state limit root refl (subst IsGeometry same lawful) (written.evolved.blocks ∙ ap (λ (r : Ring). r.blocks) ring ∙ ap (λ (g : Geometry). g.blocks) same) (written.page_len ∙ len ∙ ap (λ (g : Geometry). g.page) same)
+    let stands = fresh_mounted (moment e state) limit root refl (subst IsGeometry same lawful) (written.evolved.blocks ∙ ap (λ (r : Ring). r.blocks) ring ∙ ap (λ (g : Geometry). g.blocks) same) (written.page_len ∙ len ∙ ap (λ (g : Geometry). g.page) same)
     (subst (λ (g : Geometry). block_bytes g ≤ vec_capacity t.node) same fits) some is none empty kept in
-    fresh_at d limit s e state stands (fresh_machine e h files limit root is none empty) refl bad ring written (λ other present. first_root d s e t h limit root other ring is next present)
+    fresh_at d limit s (moment e state) stands (fresh_machine e h files limit root is none empty) refl bad ring written (λ other present. first_root d s e t h limit root other ring is next present)

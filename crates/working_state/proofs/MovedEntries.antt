@@ -31,9 +31,9 @@ use Rattle.directory.specs.declared.lookups.Found.TheVariants as found
 use Rattle.directory.specs.Trails.{has_room}
 use Rattle.directory.specs.Lookups.{look_up, entry_of, is_path_fault, IsLookupFault}
 use Rattle.directory.proofs.LookupLaws.{found_is, found_leads, found_leads_file, missing_parent, refused_is}
-use Rattle.working_state.specs.Seen.{Seen, capacity_of, tree_on, seen_on, machine_on}
+use Rattle.working_state.specs.Moments.{Moment, machine_at, seen_at, IsMountedAt, nodes_at, capacity_at, tree_at}
+use Rattle.working_state.specs.Seen.{Seen}
 use Rattle.working_state.specs.Steps.{is_light, MayRefuse, IsLater}
-use Rattle.working_state.specs.Mounted.{IsMounted}
 use Rattle.directory.specs.Depths.{IsDeeper, IsDepthFault}
 use Rattle.working_state.specs.Renames.{target_refusal, lacks_room}
 use Rattle.working_state.specs.Worked.{IsLooked, WorkCause, ReadCause}
@@ -93,16 +93,16 @@ of_fault P fault result is holds = subst (λ r. IfErr r P) (sym is) holds
 
 -- What stands at the old path.
 
-abbrev pub PlaceRefused : Device → State → Device → State → Path → Fault → Type 0
-PlaceRefused d s e t path fault = ((refuse : Entry → Option Fault) → found_refusal (present_tree (machine_on d s)) path refuse ≡ Some fault) ⊎ ReadCause (seen_on d s) fault (seen_on e t)
+abbrev pub PlaceRefused : Moment → Moment → Path → Fault → Type 0
+PlaceRefused a b path fault = ((refuse : Entry → Option Fault) → found_refusal (present_tree (machine_at a)) path refuse ≡ Some fault) ⊎ ReadCause (seen_at a) fault (seen_at b)
 
-abbrev pub PlaceFound : Device → State → Path → Place → Type 0
-PlaceFound d s path place = (entry : Entry) × (is_dir entry ≡ is_dir_place place) × ((refuse : Entry → Option Fault) → found_refusal (present_tree (machine_on d s)) path refuse ≡ refuse entry)
+abbrev pub PlaceFound : Moment → Path → Place → Type 0
+PlaceFound a path place = (entry : Entry) × (is_dir entry ≡ is_dir_place place) × ((refuse : Entry → Option Fault) → found_refusal (present_tree (machine_at a)) path refuse ≡ refuse entry)
 
 -- What stands at the new path.
 
-abbrev pub TargetRefused : Device → State → Device → State → Path → Bool → Fault → Type 0
-TargetRefused d s e t path moves fault = ((entry : Entry) → is_dir entry ≡ moves → target_refusal (present_tree (machine_on d s)) path entry ≡ Some fault) ⊎ ReadCause (seen_on d s) fault (seen_on e t)
+abbrev pub TargetRefused : Moment → Moment → Path → Bool → Fault → Type 0
+TargetRefused a b path moves fault = ((entry : Entry) → is_dir entry ≡ moves → target_refusal (present_tree (machine_at a)) path entry ≡ Some fault) ⊎ ReadCause (seen_at a) fault (seen_at b)
 
 missing_fits : (t : Tree) (path : Path) (entry : Entry) → replace_refusal t path entry None ≡ None
 missing_fits t path Entry.Dir = refl
@@ -130,118 +130,118 @@ room_by f root path x y led called capacity = ap has_room (led ∙ ap (λ (z : F
 
 -- Look ups in the present tree.
 
-module _ (d : Device) (s : State) (root : ℕ) (path : Path) (m : IsMounted d s) (is : present_root s.history ≡ Some root) where
-  rooted : IsRoot (capacity_of d) (node_of d) root
-  rooted = (present_stands d s root m is).rooted
+module _ (a : Moment) (root : ℕ) (path : Path) (m : IsMountedAt a) (is : present_root a.state.history ≡ Some root) where
+  rooted : IsRoot (capacity_at a) (nodes_at a) root
+  rooted = (present_stands a root m is).rooted
 
-  same : get (tree_on d root) ≡ tree (capacity_of d) (node_of d) root
-  same = (map_law (capacity_of d) (node_of d) root rooted).same
+  same : get (tree_at a root) ≡ tree (capacity_at a) (nodes_at a) root
+  same = (map_law (capacity_at a) (nodes_at a) root rooted).same
 
   place_at : (refuse : Entry → Option Fault)
-      → found_refusal (present_tree (machine_on d s)) path refuse ≡ option_or (lookup_refusal (tree (capacity_of d) (node_of d) root) path) (option_map_or refuse (tree (capacity_of d) (node_of d) root path) (Some NoEntry))
+      → found_refusal (present_tree (machine_at a)) path refuse ≡ option_or (lookup_refusal (tree (capacity_at a) (nodes_at a) root) path) (option_map_or refuse (tree (capacity_at a) (nodes_at a) root path) (Some NoEntry))
   place_at refuse =
-      ap (λ t. found_refusal t path refuse) (present_tree_is d s root is)
+      ap (λ t. found_refusal t path refuse) (present_tree_is a root is)
       ∙ ap (λ (t : Contents). option_or (lookup_refusal t path) (option_map_or refuse (t path) (Some NoEntry))) same
 
-  pub place_by : (x y : Found) → look_up (node_of d) root path ≡ Ok x → x ≡ y → (refuse : Entry → Option Fault)
-      → found_refusal (present_tree (machine_on d s)) path refuse ≡ option_map_or refuse (entry_of (capacity_of d) (node_of d) y) (Some NoEntry)
+  pub place_by : (x y : Found) → look_up (nodes_at a) root path ≡ Ok x → x ≡ y → (refuse : Entry → Option Fault)
+      → found_refusal (present_tree (machine_at a)) path refuse ≡ option_map_or refuse (entry_of (capacity_at a) (nodes_at a) y) (Some NoEntry)
   place_by x y led called refuse =
-      let there = found_is (capacity_of d) (node_of d) root path x led in
+      let there = found_is (capacity_at a) (nodes_at a) root path x led in
       place_at refuse
-      ∙ ap (λ o. option_or o (option_map_or refuse (tree (capacity_of d) (node_of d) root path) (Some NoEntry))) there.0
+      ∙ ap (λ o. option_or o (option_map_or refuse (tree (capacity_at a) (nodes_at a) root path) (Some NoEntry))) there.0
       ∙ ap (λ o. option_map_or refuse o (Some NoEntry)) there.1
-      ∙ ap (λ z. option_map_or refuse (entry_of (capacity_of d) (node_of d) z) (Some NoEntry)) called
+      ∙ ap (λ z. option_map_or refuse (entry_of (capacity_at a) (nodes_at a) z) (Some NoEntry)) called
 
-  pub place_look : (e : Device) (t : State) (fault : Fault) → (is_path_fault fault ≡ true → look_up (node_of d) root path ≡ Err fault)
-      → (is_path_fault fault ≡ false → WorkCause (seen_on d s) fault (seen_on e t)) → IsLookupFault fault → PlaceRefused d s e t path fault
-  place_look e t fault refused why lookup = elim (cases_Bool (is_path_fault fault)) [
-    | inl tells ↦ inl (λ refuse. place_at refuse ∙ ap (λ o. option_or o (option_map_or refuse (tree (capacity_of d) (node_of d) root path) (Some NoEntry))) (refused_is (capacity_of d) (node_of d) root path fault rooted (refused tells)))
-    | inr other ↦ inr (read_cause (seen_on d s) (seen_on e t) fault other lookup (why other))
+  pub place_look : (b : Moment) (fault : Fault) → (is_path_fault fault ≡ true → look_up (nodes_at a) root path ≡ Err fault)
+      → (is_path_fault fault ≡ false → WorkCause (seen_at a) fault (seen_at b)) → IsLookupFault fault → PlaceRefused a b path fault
+  place_look b fault refused why lookup = elim (cases_Bool (is_path_fault fault)) [
+    | inl tells ↦ inl (λ refuse. place_at refuse ∙ ap (λ o. option_or o (option_map_or refuse (tree (capacity_at a) (nodes_at a) root path) (Some NoEntry))) (refused_is (capacity_at a) (nodes_at a) root path fault rooted (refused tells)))
+    | inr other ↦ inr (read_cause (seen_at a) (seen_at b) fault other lookup (why other))
   ]
 
-  pub place_file : (x : Found) (head size : ℕ) → look_up (node_of d) root path ≡ Ok x → x ≡ found.File head size → PlaceFound d s path (File head size)
-  place_file x head size led called = (Entry.File (body (capacity_of d) (node_of d) head size), refl, λ refuse. place_by x (found.File head size) led called refuse)
+  pub place_file : (x : Found) (head size : ℕ) → look_up (nodes_at a) root path ≡ Ok x → x ≡ found.File head size → PlaceFound a path (File head size)
+  place_file x head size led called = (Entry.File (body (capacity_at a) (nodes_at a) head size), refl, λ refuse. place_by x (found.File head size) led called refuse)
 
-  pub place_dir : (x : Found) (block : ℕ) → look_up (node_of d) root path ≡ Ok x → x ≡ found.Dir block → PlaceFound d s path (Dir block)
+  pub place_dir : (x : Found) (block : ℕ) → look_up (nodes_at a) root path ≡ Ok x → x ≡ found.Dir block → PlaceFound a path (Dir block)
   place_dir x block led called = (Entry.Dir, refl, λ refuse. place_by x (found.Dir block) led called refuse)
 
   -- a file's length has its limit
-  pub file_short : (x : Found) (head size : ℕ) → look_up (node_of d) root path ≡ Ok x → x ≡ found.File head size → size ≤ 16777216
+  pub file_short : (x : Found) (head size : ℕ) → look_up (nodes_at a) root path ≡ Ok x → x ≡ found.File head size → size ≤ 16777216
   file_short x head size led called =
-      let file : look_up (node_of d) root path ≡ Ok (found.File head size) = subst (λ z. look_up (node_of d) root path ≡ Ok z) called led in
-      let there : get (present_tree (machine_on d s)) path ≡ Some (Entry.File (body (capacity_of d) (node_of d) head size)) =
-      ap (λ t. get t path) (present_tree_is d s root is) ∙ ap (λ (t : Contents). t path) same ∙ (found_is (capacity_of d) (node_of d) root path (found.File head size) file).1 in
-      subst (λ n. n ≤ 16777216) (body_length (capacity_of d) (node_of d) head size (rooted path (File head size) (found_leads_file (node_of d) root path head size file)).0)
-      ((present-file_tree (machine_on d s) m.machine).lengths path (body (capacity_of d) (node_of d) head size) there)
+      let file : look_up (nodes_at a) root path ≡ Ok (found.File head size) = subst (λ z. look_up (nodes_at a) root path ≡ Ok z) called led in
+      let there : get (present_tree (machine_at a)) path ≡ Some (Entry.File (body (capacity_at a) (nodes_at a) head size)) =
+      ap (λ t. get t path) (present_tree_is a root is) ∙ ap (λ (t : Contents). t path) same ∙ (found_is (capacity_at a) (nodes_at a) root path (found.File head size) file).1 in
+      subst (λ n. n ≤ 16777216) (body_length (capacity_at a) (nodes_at a) head size (rooted path (File head size) (found_leads_file (nodes_at a) root path head size file)).0)
+      ((present-file_tree (machine_at a) m.machine).lengths path (body (capacity_at a) (nodes_at a) head size) there)
 
   target_at : (entry : Entry)
-      → target_refusal (present_tree (machine_on d s)) path entry ≡ option_or (lookup_refusal (tree (capacity_of d) (node_of d) root) path) (replace_refusal (tree_on d root) path entry (tree (capacity_of d) (node_of d) root path))
+      → target_refusal (present_tree (machine_at a)) path entry ≡ option_or (lookup_refusal (tree (capacity_at a) (nodes_at a) root) path) (replace_refusal (tree_at a root) path entry (tree (capacity_at a) (nodes_at a) root path))
   target_at entry =
-      ap (λ t. target_refusal t path entry) (present_tree_is d s root is)
-      ∙ ap (λ (t : Contents). option_or (lookup_refusal t path) (replace_refusal (tree_on d root) path entry (t path))) same
+      ap (λ t. target_refusal t path entry) (present_tree_is a root is)
+      ∙ ap (λ (t : Contents). option_or (lookup_refusal t path) (replace_refusal (tree_at a root) path entry (t path))) same
 
-  target_by : (x y : Found) → look_up (node_of d) root path ≡ Ok x → x ≡ y → (entry : Entry)
-      → target_refusal (present_tree (machine_on d s)) path entry ≡ replace_refusal (tree_on d root) path entry (entry_of (capacity_of d) (node_of d) y)
+  target_by : (x y : Found) → look_up (nodes_at a) root path ≡ Ok x → x ≡ y → (entry : Entry)
+      → target_refusal (present_tree (machine_at a)) path entry ≡ replace_refusal (tree_at a root) path entry (entry_of (capacity_at a) (nodes_at a) y)
   target_by x y led called entry =
-      let there = found_is (capacity_of d) (node_of d) root path x led in
+      let there = found_is (capacity_at a) (nodes_at a) root path x led in
       target_at entry
-      ∙ ap (λ o. option_or o (replace_refusal (tree_on d root) path entry (tree (capacity_of d) (node_of d) root path))) there.0
-      ∙ ap (λ o. replace_refusal (tree_on d root) path entry o) there.1
-      ∙ ap (λ z. replace_refusal (tree_on d root) path entry (entry_of (capacity_of d) (node_of d) z)) called
+      ∙ ap (λ o. option_or o (replace_refusal (tree_at a root) path entry (tree (capacity_at a) (nodes_at a) root path))) there.0
+      ∙ ap (λ o. replace_refusal (tree_at a root) path entry o) there.1
+      ∙ ap (λ z. replace_refusal (tree_at a root) path entry (entry_of (capacity_at a) (nodes_at a) z)) called
 
-  pub target_look : (e : Device) (t : State) (moves : Bool) (fault : Fault) → (is_path_fault fault ≡ true → look_up (node_of d) root path ≡ Err fault)
-      → (is_path_fault fault ≡ false → WorkCause (seen_on d s) fault (seen_on e t)) → IsLookupFault fault → TargetRefused d s e t path moves fault
-  target_look e t moves fault refused why lookup = elim (cases_Bool (is_path_fault fault)) [
-    | inl tells ↦ inl (λ entry kind. target_at entry ∙ ap (λ o. option_or o (replace_refusal (tree_on d root) path entry (tree (capacity_of d) (node_of d) root path))) (refused_is (capacity_of d) (node_of d) root path fault rooted (refused tells)))
-    | inr other ↦ inr (read_cause (seen_on d s) (seen_on e t) fault other lookup (why other))
+  pub target_look : (b : Moment) (moves : Bool) (fault : Fault) → (is_path_fault fault ≡ true → look_up (nodes_at a) root path ≡ Err fault)
+      → (is_path_fault fault ≡ false → WorkCause (seen_at a) fault (seen_at b)) → IsLookupFault fault → TargetRefused a b path moves fault
+  target_look b moves fault refused why lookup = elim (cases_Bool (is_path_fault fault)) [
+    | inl tells ↦ inl (λ entry kind. target_at entry ∙ ap (λ o. option_or o (replace_refusal (tree_at a root) path entry (tree (capacity_at a) (nodes_at a) root path))) (refused_is (capacity_at a) (nodes_at a) root path fault rooted (refused tells)))
+    | inr other ↦ inr (read_cause (seen_at a) (seen_at b) fault other lookup (why other))
   ]
 
-  pub target_read : (e : Device) (t : State) (f : Device) (u : State) (block : ℕ) (x : Found) (moves : Bool) (fault : Fault) → IsLooked d s e t → node_of e ≡ node_of d → look_up (node_of d) root path ≡ Ok x → x ≡ found.Dir block
-      → (fault ≡ Damaged → entries_in (node_of e) block ≡ None) → (is_path_fault fault ≡ false → WorkCause (seen_on e t) fault (seen_on f u)) → IsReadFault fault → TargetRefused d s f u path moves fault
-  target_read e t f u block x moves fault l nodes led called damaged why reads =
-      let dir : look_up (node_of d) root path ≡ Ok (found.Dir block) = subst (λ z. look_up (node_of d) root path ≡ Ok z) called led in
-      let whole = (rooted path (Dir block) (found_leads (node_of d) root path block dir)).0 in
+  pub target_read : (b c : Moment) (block : ℕ) (x : Found) (moves : Bool) (fault : Fault) → IsLooked a b → nodes_at b ≡ nodes_at a → look_up (nodes_at a) root path ≡ Ok x → x ≡ found.Dir block
+      → (fault ≡ Damaged → entries_in (nodes_at b) block ≡ None) → (is_path_fault fault ≡ false → WorkCause (seen_at b) fault (seen_at c)) → IsReadFault fault → TargetRefused a c path moves fault
+  target_read b c block x moves fault l nodes led called damaged why reads =
+      let dir : look_up (nodes_at a) root path ≡ Ok (found.Dir block) = subst (λ z. look_up (nodes_at a) root path ≡ Ok z) called led in
+      let whole = (rooted path (Dir block) (found_leads (nodes_at a) root path block dir)).0 in
       let other = not_path fault reads (λ is. None≢Some (sym (damaged is) ∙ ap (λ (g : Blocks). entries_in g block) nodes ∙ whole.1)) in
-      inr (read_later (seen_on d s) (seen_on e t) (seen_on f u) fault (worked_later d s e t (looked_worked d s e t l)) (read_cause (seen_on e t) (seen_on f u) fault other (read_lookup fault reads) (why other)))
+      inr (read_later (seen_at a) (seen_at b) (seen_at c) fault (worked_later a b (looked_worked a b l)) (read_cause (seen_at b) (seen_at c) fault other (read_lookup fault reads) (why other)))
 
-  pub target_missing : (x : Found) (full : Bool) → look_up (node_of d) root path ≡ Ok x → x ≡ found.Missing full → (entry : Entry) → target_refusal (present_tree (machine_on d s)) path entry ≡ None
-  target_missing x full led called entry = target_by x (found.Missing full) led called entry ∙ missing_fits (tree_on d root) path entry
+  pub target_missing : (x : Found) (full : Bool) → look_up (nodes_at a) root path ≡ Ok x → x ≡ found.Missing full → (entry : Entry) → target_refusal (present_tree (machine_at a)) path entry ≡ None
+  target_missing x full led called entry = target_by x (found.Missing full) led called entry ∙ missing_fits (tree_at a root) path entry
 
-  pub target_file : (x : Found) (head size : ℕ) → look_up (node_of d) root path ≡ Ok x → x ≡ found.File head size → (entry : Entry) → is_dir entry ≡ false → target_refusal (present_tree (machine_on d s)) path entry ≡ None
-  target_file x head size led called entry kind = target_by x (found.File head size) led called entry ∙ file_fits (tree_on d root) path entry (body (capacity_of d) (node_of d) head size) kind
+  pub target_file : (x : Found) (head size : ℕ) → look_up (nodes_at a) root path ≡ Ok x → x ≡ found.File head size → (entry : Entry) → is_dir entry ≡ false → target_refusal (present_tree (machine_at a)) path entry ≡ None
+  target_file x head size led called entry kind = target_by x (found.File head size) led called entry ∙ file_fits (tree_at a root) path entry (body (capacity_at a) (nodes_at a) head size) kind
 
-  pub target_no_directory : (x : Found) (head size : ℕ) → look_up (node_of d) root path ≡ Ok x → x ≡ found.File head size → (entry : Entry) → is_dir entry ≡ true → target_refusal (present_tree (machine_on d s)) path entry ≡ Some NotDirectory
-  target_no_directory x head size led called entry kind = target_by x (found.File head size) led called entry ∙ file_refuses (tree_on d root) path entry (body (capacity_of d) (node_of d) head size) kind
+  pub target_no_directory : (x : Found) (head size : ℕ) → look_up (nodes_at a) root path ≡ Ok x → x ≡ found.File head size → (entry : Entry) → is_dir entry ≡ true → target_refusal (present_tree (machine_at a)) path entry ≡ Some NotDirectory
+  target_no_directory x head size led called entry kind = target_by x (found.File head size) led called entry ∙ file_refuses (tree_at a root) path entry (body (capacity_at a) (nodes_at a) head size) kind
 
-  pub target_directory : (x : Found) (block : ℕ) → look_up (node_of d) root path ≡ Ok x → x ≡ found.Dir block → (entry : Entry) → is_dir entry ≡ false → target_refusal (present_tree (machine_on d s)) path entry ≡ Some IsDirectory
-  target_directory x block led called entry kind = target_by x (found.Dir block) led called entry ∙ dir_refuses (tree_on d root) path entry kind
+  pub target_directory : (x : Found) (block : ℕ) → look_up (nodes_at a) root path ≡ Ok x → x ≡ found.Dir block → (entry : Entry) → is_dir entry ≡ false → target_refusal (present_tree (machine_at a)) path entry ≡ Some IsDirectory
+  target_directory x block led called entry kind = target_by x (found.Dir block) led called entry ∙ dir_refuses (tree_at a root) path entry kind
 
-  pub target_counted : (e : Device) (x : Found) (block : ℕ) (items : List Item) → node_of e ≡ node_of d → look_up (node_of d) root path ≡ Ok x → x ≡ found.Dir block → entries_in (node_of e) block ≡ Some items → (entry : Entry) → is_dir entry ≡ true
-      → target_refusal (present_tree (machine_on d s)) path entry ≡ (if nat_lt 0 (length items) then Some NotEmpty else None)
+  pub target_counted : (e : Device) (x : Found) (block : ℕ) (items : List Item) → node_of e ≡ nodes_at a → look_up (nodes_at a) root path ≡ Ok x → x ≡ found.Dir block → entries_in (node_of e) block ≡ Some items → (entry : Entry) → is_dir entry ≡ true
+      → target_refusal (present_tree (machine_at a)) path entry ≡ (if nat_lt 0 (length items) then Some NotEmpty else None)
   target_counted e x block items nodes led called spelled entry kind =
-      let dir : look_up (node_of d) root path ≡ Ok (found.Dir block) = subst (λ z. look_up (node_of d) root path ≡ Ok z) called led in
-      let here : entries_in (node_of d) block ≡ Some items = ap (λ (g : Blocks). entries_in g block) (sym nodes) ∙ spelled in
+      let dir : look_up (nodes_at a) root path ≡ Ok (found.Dir block) = subst (λ z. look_up (nodes_at a) root path ≡ Ok z) called led in
+      let here : entries_in (nodes_at a) block ≡ Some items = ap (λ (g : Blocks). entries_in g block) (sym nodes) ∙ spelled in
       target_by x (found.Dir block) led called entry
-      ∙ dir_counted (tree_on d root) path entry kind
-      ∙ ap (λ n. if nat_lt 0 n then Some NotEmpty else None) (rmdir_count d s path root block items m is dir here)
+      ∙ dir_counted (tree_at a root) path entry kind
+      ∙ ap (λ n. if nat_lt 0 n then Some NotEmpty else None) (rmdir_count a path root block items m is dir here)
 
-  lacks_by : (x y : Found) → look_up (node_of d) root path ≡ Ok x → x ≡ y → lacks_room (present_tree (machine_on d s)) path ≡ (is_none (entry_of (capacity_of d) (node_of d) y) && is_full (tree_on d root) (parent_of path))
+  lacks_by : (x y : Found) → look_up (nodes_at a) root path ≡ Ok x → x ≡ y → lacks_room (present_tree (machine_at a)) path ≡ (is_none (entry_of (capacity_at a) (nodes_at a) y) && is_full (tree_at a root) (parent_of path))
   lacks_by x y led called =
-      ap (λ t. lacks_room t path) (present_tree_is d s root is)
-      ∙ ap (λ (t : Contents). is_none (t path) && is_full (tree_on d root) (parent_of path)) same
-      ∙ ap (λ o. is_none o && is_full (tree_on d root) (parent_of path)) (found_is (capacity_of d) (node_of d) root path x led).1
-      ∙ ap (λ z. is_none (entry_of (capacity_of d) (node_of d) z) && is_full (tree_on d root) (parent_of path)) called
+      ap (λ t. lacks_room t path) (present_tree_is a root is)
+      ∙ ap (λ (t : Contents). is_none (t path) && is_full (tree_at a root) (parent_of path)) same
+      ∙ ap (λ o. is_none o && is_full (tree_at a root) (parent_of path)) (found_is (capacity_at a) (nodes_at a) root path x led).1
+      ∙ ap (λ z. is_none (entry_of (capacity_at a) (nodes_at a) z) && is_full (tree_at a root) (parent_of path)) called
 
-  pub lacks_missing : (x : Found) (full : Bool) → look_up (node_of d) root path ≡ Ok x → x ≡ found.Missing full → full ≡ lacks_room (present_tree (machine_on d s)) path
+  pub lacks_missing : (x : Found) (full : Bool) → look_up (nodes_at a) root path ≡ Ok x → x ≡ found.Missing full → full ≡ lacks_room (present_tree (machine_at a)) path
   lacks_missing x full led called =
-      let missing : look_up (node_of d) root path ≡ Ok (found.Missing full) = subst (λ z. look_up (node_of d) root path ≡ Ok z) called led in
-      let parent = missing_parent (node_of d) root path full missing in
-      sym (lacks_by x (found.Missing full) led called ∙ full_directory (capacity_of d) (node_of d) root (parent_of path) parent.0 rooted parent.1 ∙ sym parent.2)
+      let missing : look_up (nodes_at a) root path ≡ Ok (found.Missing full) = subst (λ z. look_up (nodes_at a) root path ≡ Ok z) called led in
+      let parent = missing_parent (nodes_at a) root path full missing in
+      sym (lacks_by x (found.Missing full) led called ∙ full_directory (capacity_at a) (nodes_at a) root (parent_of path) parent.0 rooted parent.1 ∙ sym parent.2)
 
-  pub lacks_file : (x : Found) (head size : ℕ) → look_up (node_of d) root path ≡ Ok x → x ≡ found.File head size → false ≡ lacks_room (present_tree (machine_on d s)) path
+  pub lacks_file : (x : Found) (head size : ℕ) → look_up (nodes_at a) root path ≡ Ok x → x ≡ found.File head size → false ≡ lacks_room (present_tree (machine_at a)) path
   lacks_file x head size led called = sym (lacks_by x (found.File head size) led called)
 
-  pub lacks_dir : (x : Found) (block : ℕ) → look_up (node_of d) root path ≡ Ok x → x ≡ found.Dir block → false ≡ lacks_room (present_tree (machine_on d s)) path
+  pub lacks_dir : (x : Found) (block : ℕ) → look_up (nodes_at a) root path ≡ Ok x → x ≡ found.Dir block → false ≡ lacks_room (present_tree (machine_at a)) path
   lacks_dir x block led called = sym (lacks_by x (found.Dir block) led called)
 
 -- so many entries, and some or none
@@ -262,8 +262,8 @@ too_deep capacity f root old new place has led lawful (path, there, long) = elim
 
 -- What is refused of a move to another path.
 
-abbrev pub MoveRefused : Device → State → Device → State → Path → Path → Place → Fault → Type 0
-MoveRefused d s e t old new place fault = ((entry : Entry) → is_dir entry ≡ is_dir_place place → rename_refusal (machine_on d s) old new entry ≡ Some fault) ⊎ ReadCause (seen_on d s) fault (seen_on e t)
+abbrev pub MoveRefused : Moment → Moment → Path → Path → Place → Fault → Type 0
+MoveRefused a b old new place fault = ((entry : Entry) → is_dir entry ≡ is_dir_place place → rename_refusal (machine_at a) old new entry ≡ Some fault) ⊎ ReadCause (seen_at a) fault (seen_at b)
 
 -- so many checks passed
 pub below_refuses : (m : Machine) (old new : Path) (entry : Entry) → same_path old new ≡ false → (is_dir entry && begins old new) ≡ true → rename_refusal m old new entry ≡ Some Invalid
@@ -333,31 +333,31 @@ move_room f root old new full capacity fits other = fits (go (same_path (parent_
     go false true capacity other = absurd (true≢false capacity)
     go true true capacity other = absurd (true≢false other)
 
-module _ (d : Device) (s : State) (old new : Path) (place : Place) (dir : Bool) (differ : same_path old new ≡ false) (dirs : dir ≡ is_dir_place place) where
-  pub move_below : (e : Device) (t : State) (fault : Fault) → (fault ≡ Invalid) × ((dir && begins old new) ≡ true) → MoveRefused d s e t old new place fault
-  move_below e t fault told = inl (λ entry kind. below_refuses (machine_on d s) old new entry differ (kind_below entry dir old new true (kind ∙ sym dirs) told.1) ∙ ap Some (sym told.0))
+module _ (a : Moment) (old new : Path) (place : Place) (dir : Bool) (differ : same_path old new ≡ false) (dirs : dir ≡ is_dir_place place) where
+  pub move_below : (b : Moment) (fault : Fault) → (fault ≡ Invalid) × ((dir && begins old new) ≡ true) → MoveRefused a b old new place fault
+  move_below b fault told = inl (λ entry kind. below_refuses (machine_at a) old new entry differ (kind_below entry dir old new true (kind ∙ sym dirs) told.1) ∙ ap Some (sym told.0))
 
-  pub move_target : (e : Device) (t : State) (fault : Fault) → (dir && begins old new) ≡ false → TargetRefused d s e t new dir fault → MoveRefused d s e t old new place fault
-  move_target e t fault beyond (inl told) =
-      inl (λ entry kind. target_refuses (machine_on d s) old new entry fault differ (kind_below entry dir old new false (kind ∙ sym dirs) beyond) (told entry (kind ∙ sym dirs)))
-  move_target e t fault beyond (inr why) = inr why
+  pub move_target : (b : Moment) (fault : Fault) → (dir && begins old new) ≡ false → TargetRefused a b new dir fault → MoveRefused a b old new place fault
+  move_target b fault beyond (inl told) =
+      inl (λ entry kind. target_refuses (machine_at a) old new entry fault differ (kind_below entry dir old new false (kind ∙ sym dirs) beyond) (told entry (kind ∙ sym dirs)))
+  move_target b fault beyond (inr why) = inr why
 
   -- what is refused or not after what stands at the new path
-  pub move_then : (o : Option Fault) → (dir && begins old new) ≡ false → ((entry : Entry) → is_dir entry ≡ dir → target_refusal (present_tree (machine_on d s)) new entry ≡ None) → move_refusal (machine_on d s) old new ≡ o
-      → (entry : Entry) → is_dir entry ≡ is_dir_place place → rename_refusal (machine_on d s) old new entry ≡ o
+  pub move_then : (o : Option Fault) → (dir && begins old new) ≡ false → ((entry : Entry) → is_dir entry ≡ dir → target_refusal (present_tree (machine_at a)) new entry ≡ None) → move_refusal (machine_at a) old new ≡ o
+      → (entry : Entry) → is_dir entry ≡ is_dir_place place → rename_refusal (machine_at a) old new entry ≡ o
   move_then o beyond allowed is entry kind =
-      then_moves (machine_on d s) old new entry differ (kind_below entry dir old new false (kind ∙ sym dirs) beyond) (allowed entry (kind ∙ sym dirs)) ∙ is
+      then_moves (machine_at a) old new entry differ (kind_below entry dir old new false (kind ∙ sym dirs) beyond) (allowed entry (kind ∙ sym dirs)) ∙ is
 
 -- the depth of what a path leads to, in the present tree
-module _ (d : Device) (s : State) (root : ℕ) (old new : Path) (place : Place) (m : IsMounted d s) (is : present_root s.history ≡ Some root) (led : leads (node_of d) (Dir root) old ≡ Some place) (short : length new ≤ 16) where
-  depth_is : (deep : Bool) → is_too_deep (tree_on d root) old new ≡ deep → is_too_deep (present_tree (machine_on d s)) old new ≡ deep
-  depth_is deep told = ap (λ t. is_too_deep t old new) (present_tree_is d s root is) ∙ told
+module _ (a : Moment) (root : ℕ) (old new : Path) (place : Place) (m : IsMountedAt a) (is : present_root a.state.history ≡ Some root) (led : leads (nodes_at a) (Dir root) old ≡ Some place) (short : length new ≤ 16) where
+  depth_is : (deep : Bool) → is_too_deep (tree_at a root) old new ≡ deep → is_too_deep (present_tree (machine_at a)) old new ≡ deep
+  depth_is deep told = ap (λ t. is_too_deep t old new) (present_tree_is a root is) ∙ told
 
-  pub is_deep : IsDeeper (node_of d) place (16 - length new) → is_too_deep (present_tree (machine_on d s)) old new ≡ true
-  is_deep deeper = depth_is true (too_deep (capacity_of d) (node_of d) root old new place (present_stands d s root m is).rooted led short deeper)
+  pub is_deep : IsDeeper (nodes_at a) place (16 - length new) → is_too_deep (present_tree (machine_at a)) old new ≡ true
+  is_deep deeper = depth_is true (too_deep (capacity_at a) (nodes_at a) root old new place (present_stands a root m is).rooted led short deeper)
 
-  pub is_shallow : IsShallow (node_of d) place (16 - length new) → is_too_deep (present_tree (machine_on d s)) old new ≡ false
-  is_shallow shallow = depth_is false ((depth_law (capacity_of d) (node_of d) root old new place (present_stands d s root m is).rooted led short).1 shallow)
+  pub is_shallow : IsShallow (nodes_at a) place (16 - length new) → is_too_deep (present_tree (machine_at a)) old new ≡ false
+  is_shallow shallow = depth_is false ((depth_law (capacity_at a) (nodes_at a) root old new place (present_stands a root m is).rooted led short).1 shallow)
 
 -- a depth of the nodes before
 pub deeper_before : (f g : Blocks) (place : Place) (most : ℕ) → g ≡ f → IsDeeper g place most → IsDeeper f place most
@@ -366,8 +366,8 @@ deeper_before f g place most same deeper = subst (λ h. IsDeeper h place most) s
 pub shallow_before : (f g : Blocks) (place : Place) (most : ℕ) → g ≡ f → IsShallow g place most → IsShallow f place most
 shallow_before f g place most same shallow = subst (λ h. IsShallow h place most) same shallow
 
-abbrev pub DepthRefused : Device → State → Device → State → Path → Place → Fault → Type 0
-DepthRefused d s e t new place fault = ((fault ≡ NameTooLong) × IsDeeper (node_of d) place (16 - length new)) ⊎ ReadCause (seen_on d s) fault (seen_on e t)
+abbrev pub DepthRefused : Moment → Moment → Path → Place → Fault → Type 0
+DepthRefused a b new place fault = ((fault ≡ NameTooLong) × IsDeeper (nodes_at a) place (16 - length new)) ⊎ ReadCause (seen_at a) fault (seen_at b)
 
 -- open files are the same after reads
 pub busy_before : (s t : State) (old new : Path) (busy : Bool) → t.files ≡ s.files → (is_open_within t.files old || is_open t.files new) ≡ busy → (is_open_within s.files old || is_open s.files new) ≡ busy

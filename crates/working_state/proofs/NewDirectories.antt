@@ -13,8 +13,6 @@ use Rattle.fs_types.specs.declared.calls.Call.{Call}
 use Rattle.fs_types.specs.declared.calls.Reply.{Reply}
 use Rattle.fs_types.specs.declared.faults.Fault.{Fault}
 use Rattle.fs_types.specs.declared.faults.Fault.TheVariants.{Exists, DirectoryFull}
-use Rattle.flash_model.specs.Device.{Device}
-use Rattle.node_store.specs.NodePages.{node_of}
 use Rattle.block_trees.specs.Bodies.{Blocks, body}
 use Rattle.block_trees.specs.Trees.{tree, root_tree, IsRoot}
 use Rattle.block_trees.proofs.RootMaps.{map_law, full_directory}
@@ -22,11 +20,8 @@ use Rattle.directory.specs.declared.lookups.Found.{Found}
 use Rattle.directory.specs.declared.lookups.Found.TheVariants as found
 use Rattle.directory.specs.Lookups.{look_up, entry_of, is_path_fault, IsLookupFault}
 use Rattle.directory.proofs.LookupLaws.{found_is, missing_parent, refused_is}
-use Rattle.working_state.specs.Seen.{capacity_of, tree_on, seen_on, machine_on}
-use Rattle.working_state.specs.Steps.{Refuses}
-use Rattle.working_state.specs.Mounted.{IsMounted}
+use Rattle.working_state.specs.Moments.{Moment, machine_at, seen_at, IsMountedAt, IsRefused, nodes_at, capacity_at, tree_at}
 use Rattle.working_state.specs.Worked.{IsLooked, WorkCause}
-use Rattle.working_state.specs.declared.state.State.{State}
 use Rattle.working_state.proofs.ChangeSteps.{later_tree}
 use Rattle.working_state.proofs.ChangedCalls.{IsChangeBy}
 use Rattle.working_state.proofs.PathCalls.{present_tree_is, present_stands}
@@ -41,13 +36,13 @@ below_refusal refused there full = option_or refused (if is_some there then Some
 abbrev path_refusal : Path → Option Fault → Option Entry → Bool → Option Fault
 path_refusal path refused there full = if length path == 0 then Some Exists else below_refusal refused there full
 
-mkdir_at : (d : Device) (s : State) (path : Path) (root : ℕ) → IsMounted d s → present_root s.history ≡ Some root
-    → refusal (machine_on d s) (Call.Mkdir path)
-    ≡ path_refusal path (lookup_refusal (tree (capacity_of d) (node_of d) root) path) (tree (capacity_of d) (node_of d) root path) (is_full (tree_on d root) (parent_of path))
-mkdir_at d s path root m is =
-    ap (λ t. path_refusal path (lookup_refusal (get t) path) (get t path) (is_full t (parent_of path))) (present_tree_is d s root is)
-    ∙ ap (λ (t : Contents). path_refusal path (lookup_refusal t path) (t path) (is_full (tree_on d root) (parent_of path)))
-    (map_law (capacity_of d) (node_of d) root (present_stands d s root m is).rooted).same
+mkdir_at : (a : Moment) (path : Path) (root : ℕ) → IsMountedAt a → present_root a.state.history ≡ Some root
+    → refusal (machine_at a) (Call.Mkdir path)
+    ≡ path_refusal path (lookup_refusal (tree (capacity_at a) (nodes_at a) root) path) (tree (capacity_at a) (nodes_at a) root path) (is_full (tree_at a root) (parent_of path))
+mkdir_at a path root m is =
+    ap (λ t. path_refusal path (lookup_refusal (get t) path) (get t path) (is_full t (parent_of path))) (present_tree_is a root is)
+    ∙ ap (λ (t : Contents). path_refusal path (lookup_refusal t path) (t path) (is_full (tree_at a root) (parent_of path)))
+    (map_law (capacity_at a) (nodes_at a) root (present_stands a root m is).rooted).same
 
 -- why no directory is made where a look up found this
 abbrev pub found_refuses : Found → Option Fault
@@ -73,60 +68,60 @@ missing_refuses capacity f root (n ∷ path) full is e =
     ap (λ b. if b then Some Exists else below_refusal None None (is_full (root_tree capacity f root) (parent_of (n ∷ path)))) (some_names n path)
     ∙ ap (λ b. if b then Some DirectoryFull else None) (full_directory capacity f root (parent_of (n ∷ path)) parent.0 is parent.1 ∙ sym parent.2)
 
-mkdir_found : (d : Device) (s : State) (path : Path) (root : ℕ) (x : Found) → IsMounted d s → present_root s.history ≡ Some root → look_up (node_of d) root path ≡ Ok x
-    → refusal (machine_on d s) (Call.Mkdir path) ≡ found_refuses x
-mkdir_found d s path root x m is e =
-    let law = found_is (capacity_of d) (node_of d) root path x e in
-    mkdir_at d s path root m is
-    ∙ ap (λ o. path_refusal path o (tree (capacity_of d) (node_of d) root path) (is_full (tree_on d root) (parent_of path))) law.0
-    ∙ ap (λ o. path_refusal path None o (is_full (tree_on d root) (parent_of path))) law.1
+mkdir_found : (a : Moment) (path : Path) (root : ℕ) (x : Found) → IsMountedAt a → present_root a.state.history ≡ Some root → look_up (nodes_at a) root path ≡ Ok x
+    → refusal (machine_at a) (Call.Mkdir path) ≡ found_refuses x
+mkdir_found a path root x m is e =
+    let law = found_is (capacity_at a) (nodes_at a) root path x e in
+    mkdir_at a path root m is
+    ∙ ap (λ o. path_refusal path o (tree (capacity_at a) (nodes_at a) root path) (is_full (tree_at a root) (parent_of path))) law.0
+    ∙ ap (λ o. path_refusal path None o (is_full (tree_at a root) (parent_of path))) law.1
     ∙ go x e
   where
-    go : (x : Found) → look_up (node_of d) root path ≡ Ok x → path_refusal path None (entry_of (capacity_of d) (node_of d) x) (is_full (tree_on d root) (parent_of path)) ≡ found_refuses x
-    go (found.Missing full) e = missing_refuses (capacity_of d) (node_of d) root path full (present_stands d s root m is).rooted e
-    go (found.File head size) e = same_when_there path (Entry.File (body (capacity_of d) (node_of d) head size)) (is_full (tree_on d root) (parent_of path))
-    go (found.Dir block) e = same_when_there path Entry.Dir (is_full (tree_on d root) (parent_of path))
+    go : (x : Found) → look_up (nodes_at a) root path ≡ Ok x → path_refusal path None (entry_of (capacity_at a) (nodes_at a) x) (is_full (tree_at a root) (parent_of path)) ≡ found_refuses x
+    go (found.Missing full) e = missing_refuses (capacity_at a) (nodes_at a) root path full (present_stands a root m is).rooted e
+    go (found.File head size) e = same_when_there path (Entry.File (body (capacity_at a) (nodes_at a) head size)) (is_full (tree_at a root) (parent_of path))
+    go (found.Dir block) e = same_when_there path Entry.Dir (is_full (tree_at a root) (parent_of path))
 
 told_refuses : (f : Blocks) (root : ℕ) (path : Path) (fault : Fault) (there : Option Entry) (full : Bool) → look_up f root path ≡ Err fault → path_refusal path (Some fault) there full ≡ Some fault
 told_refuses f root [] fault there full e = absurd cc
 told_refuses f root (n ∷ path) fault there full e = ap (λ b. if b then Some Exists else Some fault) (some_names n path)
 
-mkdir_told : (d : Device) (s : State) (path : Path) (root : ℕ) (fault : Fault) → IsMounted d s → present_root s.history ≡ Some root → look_up (node_of d) root path ≡ Err fault
-    → refusal (machine_on d s) (Call.Mkdir path) ≡ Some fault
-mkdir_told d s path root fault m is e =
-    let there = tree (capacity_of d) (node_of d) root path in
-    let full = is_full (tree_on d root) (parent_of path) in
-    mkdir_at d s path root m is
-    ∙ ap (λ o. path_refusal path o there full) (refused_is (capacity_of d) (node_of d) root path fault (present_stands d s root m is).rooted e)
-    ∙ told_refuses (node_of d) root path fault there full e
+mkdir_told : (a : Moment) (path : Path) (root : ℕ) (fault : Fault) → IsMountedAt a → present_root a.state.history ≡ Some root → look_up (nodes_at a) root path ≡ Err fault
+    → refusal (machine_at a) (Call.Mkdir path) ≡ Some fault
+mkdir_told a path root fault m is e =
+    let there = tree (capacity_at a) (nodes_at a) root path in
+    let full = is_full (tree_at a root) (parent_of path) in
+    mkdir_at a path root m is
+    ∙ ap (λ o. path_refusal path o there full) (refused_is (capacity_at a) (nodes_at a) root path fault (present_stands a root m is).rooted e)
+    ∙ told_refuses (nodes_at a) root path fault there full e
 
 -- a look up that was refused, by whether the nodes tell of it
-pub mkdir_fault : (d : Device) (s : State) (e : Device) (t : State) (path : Path) (root : ℕ) (fault : Fault) → IsMounted d s → present_root s.history ≡ Some root
-    → (is_path_fault fault ≡ true → look_up (node_of d) root path ≡ Err fault)
-    → (is_path_fault fault ≡ false → WorkCause (seen_on d s) fault (seen_on e t)) → IsLookupFault fault
-    → Refuses (seen_on d s) (machine_on d s) (Call.Mkdir path) fault (seen_on e t)
-mkdir_fault d s e t path root fault m is refused why lookup = elim (cases_Bool (is_path_fault fault)) [
-  | inl told ↦ inl (mkdir_told d s path root fault m is (refused told))
-  | inr other ↦ inr (read_refuses (seen_on d s) (seen_on e t) (machine_on d s) (Call.Mkdir path) fault refl other lookup (why other))
+pub mkdir_fault : (a b : Moment) (path : Path) (root : ℕ) (fault : Fault) → IsMountedAt a → present_root a.state.history ≡ Some root
+    → (is_path_fault fault ≡ true → look_up (nodes_at a) root path ≡ Err fault)
+    → (is_path_fault fault ≡ false → WorkCause (seen_at a) fault (seen_at b)) → IsLookupFault fault
+    → IsRefused a (Call.Mkdir path) fault b
+mkdir_fault a b path root fault m is refused why lookup = elim (cases_Bool (is_path_fault fault)) [
+  | inl told ↦ inl (mkdir_told a path root fault m is (refused told))
+  | inr other ↦ inr (read_refuses (seen_at a) (seen_at b) (machine_at a) (Call.Mkdir path) fault refl other lookup (why other))
 ]
 
 -- what is refused or not for what was found, which is also called `y`
-pub mkdir_by : (d : Device) (s : State) (path : Path) (root : ℕ) (x y : Found) → IsMounted d s → present_root s.history ≡ Some root → look_up (node_of d) root path ≡ Ok x → x ≡ y
-    → refusal (machine_on d s) (Call.Mkdir path) ≡ found_refuses y
-mkdir_by d s path root x y m is e same = mkdir_found d s path root x m is e ∙ ap found_refuses same
+pub mkdir_by : (a : Moment) (path : Path) (root : ℕ) (x y : Found) → IsMountedAt a → present_root a.state.history ≡ Some root → look_up (nodes_at a) root path ≡ Ok x → x ≡ y
+    → refusal (machine_at a) (Call.Mkdir path) ≡ found_refuses y
+mkdir_by a path root x y m is e same = mkdir_found a path root x m is e ∙ ap found_refuses same
 
-pub mkdir_refuses : (d : Device) (s : State) (e : Device) (t : State) (path : Path) (root : ℕ) (x y : Found) (fault : Fault) → IsMounted d s → present_root s.history ≡ Some root
-    → look_up (node_of d) root path ≡ Ok x → x ≡ y → found_refuses y ≡ Some fault
-    → Refuses (seen_on d s) (machine_on d s) (Call.Mkdir path) fault (seen_on e t)
-mkdir_refuses d s e t path root x y fault m is led same refused = inl (mkdir_by d s path root x y m is led same ∙ refused)
+pub mkdir_refuses : (a b : Moment) (path : Path) (root : ℕ) (x y : Found) (fault : Fault) → IsMountedAt a → present_root a.state.history ≡ Some root
+    → look_up (nodes_at a) root path ≡ Ok x → x ≡ y → found_refuses y ≡ Some fault
+    → IsRefused a (Call.Mkdir path) fault b
+mkdir_refuses a b path root x y fault m is led same refused = inl (mkdir_by a path root x y m is led same ∙ refused)
 
 -- A directory that is made.
 
-pub mkdir_change : (d : Device) (s : State) (e : Device) (t : State) (path : Path) → IsMounted d s → IsLooked d s e t → refusal (machine_on d s) (Call.Mkdir path) ≡ None → is_path path ≡ true
-    → IsChangeBy d s (Call.Mkdir path) (λ root. put (tree_on e root) path Entry.Dir) Reply.Empty
-mkdir_change d s e t path m l fine lawful = record {
+pub mkdir_change : (a b : Moment) (path : Path) → IsMountedAt a → IsLooked a b → refusal (machine_at a) (Call.Mkdir path) ≡ None → is_path path ≡ true
+    → IsChangeBy a (Call.Mkdir path) (λ root. put (tree_at b root) path Entry.Dir) Reply.Empty
+mkdir_change a b path m l fine lawful = record {
   fine = fine;
-  after = λ root is. ap (λ (x : Tree). Some (put x path Entry.Dir)) (later_tree d s e t root m is l);
+  after = λ root is. ap (λ (x : Tree). Some (put x path Entry.Dir)) (later_tree a b root m is l);
   heavy = refl;
   moves = refl;
   paths = lawful;

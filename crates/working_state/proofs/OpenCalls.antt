@@ -16,9 +16,7 @@ use Rattle.fs_types.specs.declared.calls.Reply.{Reply}
 use Rattle.fs_types.specs.declared.faults.Fault.{Fault}
 use Rattle.fs_types.specs.declared.faults.Fault.TheVariants.{NoEntry, IsDirectory, Exists, Invalid, DirectoryFull, TooManyOpen}
 use Rattle.fs_types.specs.declared.flags.OpenFlags.{OpenFlags}
-use Rattle.flash_model.specs.Device.{Device}
 use Rattle.node_format.specs.declared.places.Place.TheVariants as place
-use Rattle.node_store.specs.NodePages.{node_of}
 use Rattle.block_trees.specs.Bodies.{Blocks, body, head_index, data_to, IsBody}
 use Rattle.block_trees.specs.Trees.{tree}
 use Rattle.block_trees.proofs.RootMaps.{map_law, full_directory}
@@ -26,33 +24,32 @@ use Rattle.directory.specs.declared.lookups.Found.{Found}
 use Rattle.directory.specs.declared.lookups.Found.TheVariants as found
 use Rattle.directory.specs.Lookups.{look_up, entry_of, is_path_fault, IsLookupFault}
 use Rattle.directory.proofs.LookupLaws.{found_is, found_leads_file, missing_parent, refused_is}
+use Rattle.working_state.proofs.Roots.{at_history}
+use Rattle.working_state.specs.Moments.{Moment, moment, machine_at, seen_at, IsMountedAt, IsRefused, nodes_at, capacity_at}
 use Rattle.working_state.specs.Leaves.{is_still, Leaves}
-use Rattle.working_state.specs.Seen.{capacity_of, seen_on, machine_on}
-use Rattle.working_state.specs.Steps.{replied, is_cut, is_cut_answer, Refuses, CallStep}
-use Rattle.working_state.specs.Mounted.{IsMounted}
+use Rattle.working_state.specs.Steps.{replied, is_cut, is_cut_answer, CallStep}
 use Rattle.working_state.specs.Opening.{found_refusal, changes_found, IsAnswered}
 use Rattle.working_state.specs.Worked.{IsWorked, IsLooked, WorkCause}
-use Rattle.working_state.specs.declared.state.State.{State}
 use Rattle.working_state.proofs.PathCalls.{present_tree_is, present_stands}
 use Rattle.working_state.proofs.Refusals.{read_refuses, refused_step, never}
-use Rattle.working_state.proofs.Standing.{all_stand, AllStand, worked_machine, worked_later, worked_mounted, worked_pages, looked_worked, looked_leaves}
+use Rattle.working_state.proofs.Standing.{AllStand, worked_machine, worked_later, worked_mounted, worked_pages, looked_worked, looked_leaves}
 use Rattle.working_state.proofs.Steps.{still_machine}
 
 -- ---- refusals
 
 -- what stands at each path of the present tree
-pub present_is : (d : Device) (s : State) (root : ℕ) → IsMounted d s → present_root s.history ≡ Some root → get (present_tree (machine_on d s)) ≡ tree (capacity_of d) (node_of d) root
-present_is d s root m is = ap (λ (t : Tree). get t) (present_tree_is d s root is) ∙ (map_law (capacity_of d) (node_of d) root (present_stands d s root m is).rooted).same
+pub present_is : (a : Moment) (root : ℕ) → IsMountedAt a → present_root a.state.history ≡ Some root → get (present_tree (machine_at a)) ≡ tree (capacity_at a) (nodes_at a) root
+present_is a root m is = ap (λ (t : Tree). get t) (present_tree_is a root is) ∙ (map_law (capacity_at a) (nodes_at a) root (present_stands a root m is).rooted).same
 
 -- the refusal of lawful flags, by what stands at each path
 abbrev refusal_by : Machine → Path → OpenFlags → Contents → Option Fault
 refusal_by m path flags t = option_or (lookup_refusal t path) (open_refusal m path flags (t path))
 
-open_at : (d : Device) (s : State) (path : Path) (flags : OpenFlags) (root : ℕ) → IsMounted d s → present_root s.history ≡ Some root → are_lawful flags ≡ true
-    → refusal (machine_on d s) (Call.Open path flags) ≡ refusal_by (machine_on d s) path flags (tree (capacity_of d) (node_of d) root)
-open_at d s path flags root m is lawful =
-    ap (λ b. cond (not b) (Some Invalid) (refusal_by (machine_on d s) path flags (get (present_tree (machine_on d s))))) lawful
-    ∙ ap (refusal_by (machine_on d s) path flags) (present_is d s root m is)
+open_at : (a : Moment) (path : Path) (flags : OpenFlags) (root : ℕ) → IsMountedAt a → present_root a.state.history ≡ Some root → are_lawful flags ≡ true
+    → refusal (machine_at a) (Call.Open path flags) ≡ refusal_by (machine_at a) path flags (tree (capacity_at a) (nodes_at a) root)
+open_at a path flags root m is lawful =
+    ap (λ b. cond (not b) (Some Invalid) (refusal_by (machine_at a) path flags (get (present_tree (machine_at a))))) lawful
+    ∙ ap (refusal_by (machine_at a) path flags) (present_is a root m is)
 
 pub open_unlawful : (m : Machine) (path : Path) (flags : OpenFlags) → are_lawful flags ≡ false → refusal m (Call.Open path flags) ≡ Some Invalid
 open_unlawful m path flags wrong = ap (λ b. cond (not b) (Some Invalid) (refusal_by m path flags (get (present_tree m)))) wrong
@@ -71,63 +68,63 @@ directory true table = refl
 directory false table = refl
 
 -- the refusal of what was found, and then that of the table
-open_found : (d : Device) (s : State) (path : Path) (flags : OpenFlags) (root : ℕ) (x : Found) → IsMounted d s → present_root s.history ≡ Some root → are_lawful flags ≡ true → look_up (node_of d) root path ≡ Ok x
-    → refusal (machine_on d s) (Call.Open path flags) ≡ option_or (found_refusal flags x) (full_table_refusal (machine_on d s))
-open_found d s path flags root x m is lawful e =
-    let n = machine_on d s in
-    let law = found_is (capacity_of d) (node_of d) root path x e in
-    open_at d s path flags root m is lawful
-    ∙ ap (λ o. option_or o (open_refusal n path flags (tree (capacity_of d) (node_of d) root path))) law.0
+open_found : (a : Moment) (path : Path) (flags : OpenFlags) (root : ℕ) (x : Found) → IsMountedAt a → present_root a.state.history ≡ Some root → are_lawful flags ≡ true → look_up (nodes_at a) root path ≡ Ok x
+    → refusal (machine_at a) (Call.Open path flags) ≡ option_or (found_refusal flags x) (full_table_refusal (machine_at a))
+open_found a path flags root x m is lawful e =
+    let n = machine_at a in
+    let law = found_is (capacity_at a) (nodes_at a) root path x e in
+    open_at a path flags root m is lawful
+    ∙ ap (λ o. option_or o (open_refusal n path flags (tree (capacity_at a) (nodes_at a) root path))) law.0
     ∙ ap (open_refusal n path flags) law.1
     ∙ go x e
   where
     table : Option Fault
-    table = full_table_refusal (machine_on d s)
+    table = full_table_refusal (machine_at a)
 
-    go : (x : Found) → look_up (node_of d) root path ≡ Ok x → open_refusal (machine_on d s) path flags (entry_of (capacity_of d) (node_of d) x) ≡ option_or (found_refusal flags x) table
+    go : (x : Found) → look_up (nodes_at a) root path ≡ Ok x → open_refusal (machine_at a) path flags (entry_of (capacity_at a) (nodes_at a) x) ≡ option_or (found_refusal flags x) table
     go (found.Missing full) e =
-        let parent = missing_parent (node_of d) root path full e in
-        let same : is_full (present_tree (machine_on d s)) (parent_of path) ≡ full =
-        ap (λ (t : Tree). is_full t (parent_of path)) (present_tree_is d s root is)
-        ∙ full_directory (capacity_of d) (node_of d) root (parent_of path) parent.0 (present_stands d s root m is).rooted parent.1 ∙ sym parent.2 in
+        let parent = missing_parent (nodes_at a) root path full e in
+        let same : is_full (present_tree (machine_at a)) (parent_of path) ≡ full =
+        ap (λ (t : Tree). is_full t (parent_of path)) (present_tree_is a root is)
+        ∙ full_directory (capacity_at a) (nodes_at a) root (parent_of path) parent.0 (present_stands a root m is).rooted parent.1 ∙ sym parent.2 in
         ap (λ b. cond (not (creates flags)) (Some NoEntry) (cond b (Some DirectoryFull) table)) same ∙ creation (creates flags) full table
     go (found.File head size) e = reopening (creates flags && is_exclusive flags) table
     go (found.Dir block) e = directory (creates flags && is_exclusive flags) table
 
-open_told : (d : Device) (s : State) (path : Path) (flags : OpenFlags) (root : ℕ) (fault : Fault) → IsMounted d s → present_root s.history ≡ Some root → are_lawful flags ≡ true → look_up (node_of d) root path ≡ Err fault
-    → refusal (machine_on d s) (Call.Open path flags) ≡ Some fault
-open_told d s path flags root fault m is lawful e =
-    open_at d s path flags root m is lawful
-    ∙ ap (λ o. option_or o (open_refusal (machine_on d s) path flags (tree (capacity_of d) (node_of d) root path))) (refused_is (capacity_of d) (node_of d) root path fault (present_stands d s root m is).rooted e)
+open_told : (a : Moment) (path : Path) (flags : OpenFlags) (root : ℕ) (fault : Fault) → IsMountedAt a → present_root a.state.history ≡ Some root → are_lawful flags ≡ true → look_up (nodes_at a) root path ≡ Err fault
+    → refusal (machine_at a) (Call.Open path flags) ≡ Some fault
+open_told a path flags root fault m is lawful e =
+    open_at a path flags root m is lawful
+    ∙ ap (λ o. option_or o (open_refusal (machine_at a) path flags (tree (capacity_at a) (nodes_at a) root path))) (refused_is (capacity_at a) (nodes_at a) root path fault (present_stands a root m is).rooted e)
 
 -- a look up that was refused, by whether the nodes tell of it
-pub open_fault : (d : Device) (s : State) (e : Device) (t : State) (path : Path) (flags : OpenFlags) (root : ℕ) (fault : Fault) → IsMounted d s → present_root s.history ≡ Some root → are_lawful flags ≡ true
-    → (is_path_fault fault ≡ true → look_up (node_of d) root path ≡ Err fault)
-    → (is_path_fault fault ≡ false → WorkCause (seen_on d s) fault (seen_on e t)) → IsLookupFault fault
-    → Refuses (seen_on d s) (machine_on d s) (Call.Open path flags) fault (seen_on e t)
-open_fault d s e t path flags root fault m is lawful refused why lookup = elim (cases_Bool (is_path_fault fault)) [
-  | inl told ↦ inl (open_told d s path flags root fault m is lawful (refused told))
-  | inr other ↦ inr (read_refuses (seen_on d s) (seen_on e t) (machine_on d s) (Call.Open path flags) fault refl other lookup (why other))
+pub open_fault : (a b : Moment) (path : Path) (flags : OpenFlags) (root : ℕ) (fault : Fault) → IsMountedAt a → present_root a.state.history ≡ Some root → are_lawful flags ≡ true
+    → (is_path_fault fault ≡ true → look_up (nodes_at a) root path ≡ Err fault)
+    → (is_path_fault fault ≡ false → WorkCause (seen_at a) fault (seen_at b)) → IsLookupFault fault
+    → IsRefused a (Call.Open path flags) fault b
+open_fault a b path flags root fault m is lawful refused why lookup = elim (cases_Bool (is_path_fault fault)) [
+  | inl told ↦ inl (open_told a path flags root fault m is lawful (refused told))
+  | inr other ↦ inr (read_refuses (seen_at a) (seen_at b) (machine_at a) (Call.Open path flags) fault refl other lookup (why other))
 ]
 
 -- what was found is refused
-pub found_refuses : (d : Device) (s : State) (e : Device) (t : State) (path : Path) (flags : OpenFlags) (root : ℕ) (x : Found) (fault : Fault) → IsMounted d s → present_root s.history ≡ Some root → are_lawful flags ≡ true
-    → look_up (node_of d) root path ≡ Ok x → found_refusal flags x ≡ Some fault → Refuses (seen_on d s) (machine_on d s) (Call.Open path flags) fault (seen_on e t)
-found_refuses d s e t path flags root x fault m is lawful led refused =
-    inl (open_found d s path flags root x m is lawful led ∙ ap (λ o. option_or o (full_table_refusal (machine_on d s))) refused)
+pub found_refuses : (a b : Moment) (path : Path) (flags : OpenFlags) (root : ℕ) (x : Found) (fault : Fault) → IsMountedAt a → present_root a.state.history ≡ Some root → are_lawful flags ≡ true
+    → look_up (nodes_at a) root path ≡ Ok x → found_refusal flags x ≡ Some fault → IsRefused a (Call.Open path flags) fault b
+found_refuses a b path flags root x fault m is lawful led refused =
+    inl (open_found a path flags root x m is lawful led ∙ ap (λ o. option_or o (full_table_refusal (machine_at a))) refused)
 
 -- no descriptor is free
-pub number_refuses : (d : Device) (s : State) (e : Device) (t : State) (path : Path) (flags : OpenFlags) (root : ℕ) (x : Found) → IsMounted d s → present_root s.history ≡ Some root → are_lawful flags ≡ true
-    → look_up (node_of d) root path ≡ Ok x → found_refusal flags x ≡ None → least_free s.files ≡ None → Refuses (seen_on d s) (machine_on d s) (Call.Open path flags) TooManyOpen (seen_on e t)
-number_refuses d s e t path flags root x m is lawful led fits none =
-    inl (open_found d s path flags root x m is lawful led
-    ∙ ap (λ o. option_or o (full_table_refusal (machine_on d s))) fits ∙ ap (λ o. cond (is_none o) (Some TooManyOpen) None) none)
+pub number_refuses : (a b : Moment) (path : Path) (flags : OpenFlags) (root : ℕ) (x : Found) → IsMountedAt a → present_root a.state.history ≡ Some root → are_lawful flags ≡ true
+    → look_up (nodes_at a) root path ≡ Ok x → found_refusal flags x ≡ None → least_free a.state.files ≡ None → IsRefused a (Call.Open path flags) TooManyOpen b
+number_refuses a b path flags root x m is lawful led fits none =
+    inl (open_found a path flags root x m is lawful led
+    ∙ ap (λ o. option_or o (full_table_refusal (machine_at a))) fits ∙ ap (λ o. cond (is_none o) (Some TooManyOpen) None) none)
 
-pub open_accepted : (d : Device) (s : State) (path : Path) (flags : OpenFlags) (root descriptor : ℕ) (x : Found) → IsMounted d s → present_root s.history ≡ Some root → are_lawful flags ≡ true
-    → look_up (node_of d) root path ≡ Ok x → found_refusal flags x ≡ None → least_free s.files ≡ Some descriptor → refusal (machine_on d s) (Call.Open path flags) ≡ None
-open_accepted d s path flags root descriptor x m is lawful led fits free =
-    open_found d s path flags root x m is lawful led
-    ∙ ap (λ o. option_or o (full_table_refusal (machine_on d s))) fits ∙ ap (λ o. cond (is_none o) (Some TooManyOpen) None) free
+pub open_accepted : (a : Moment) (path : Path) (flags : OpenFlags) (root descriptor : ℕ) (x : Found) → IsMountedAt a → present_root a.state.history ≡ Some root → are_lawful flags ≡ true
+    → look_up (nodes_at a) root path ≡ Ok x → found_refusal flags x ≡ None → least_free a.state.files ≡ Some descriptor → refusal (machine_at a) (Call.Open path flags) ≡ None
+open_accepted a path flags root descriptor x m is lawful led fits free =
+    open_found a path flags root x m is lawful led
+    ∙ ap (λ o. option_or o (full_table_refusal (machine_at a))) fits ∙ ap (λ o. cond (is_none o) (Some TooManyOpen) None) free
 
 -- ---- changes
 
@@ -143,18 +140,18 @@ long_body capacity f head (suc n) is =
 abbrev changes_at : OpenFlags → Option Entry → Bool
 changes_at flags o = is_none o || (truncates flags && nat_lt 0 (length (bytes_of o)))
 
-pub changes_is : (d : Device) (s : State) (path : Path) (flags : OpenFlags) (root : ℕ) (x : Found) → IsMounted d s → present_root s.history ≡ Some root → look_up (node_of d) root path ≡ Ok x → found_refusal flags x ≡ None
-    → open_changes (present_tree (machine_on d s)) path flags ≡ changes_found flags x
-changes_is d s path flags root x m is led fits =
-    ap (λ (t : Contents). changes_at flags (t path)) (present_is d s root m is)
-    ∙ ap (changes_at flags) (found_is (capacity_of d) (node_of d) root path x led).1
+pub changes_is : (a : Moment) (path : Path) (flags : OpenFlags) (root : ℕ) (x : Found) → IsMountedAt a → present_root a.state.history ≡ Some root → look_up (nodes_at a) root path ≡ Ok x → found_refusal flags x ≡ None
+    → open_changes (present_tree (machine_at a)) path flags ≡ changes_found flags x
+changes_is a path flags root x m is led fits =
+    ap (λ (t : Contents). changes_at flags (t path)) (present_is a root m is)
+    ∙ ap (changes_at flags) (found_is (capacity_at a) (nodes_at a) root path x led).1
     ∙ go x led fits
   where
-    go : (x : Found) → look_up (node_of d) root path ≡ Ok x → found_refusal flags x ≡ None → changes_at flags (entry_of (capacity_of d) (node_of d) x) ≡ changes_found flags x
+    go : (x : Found) → look_up (nodes_at a) root path ≡ Ok x → found_refusal flags x ≡ None → changes_at flags (entry_of (capacity_at a) (nodes_at a) x) ≡ changes_found flags x
     go (found.Missing full) led fits = refl
     go (found.File head size) led fits =
-        let whole = ((present_stands d s root m is).rooted path (place.File head size) (found_leads_file (node_of d) root path head size led)).0 in
-        ap (λ b. truncates flags && b) (long_body (capacity_of d) (node_of d) head size whole)
+        let whole = ((present_stands a root m is).rooted path (place.File head size) (found_leads_file (nodes_at a) root path head size led)).0 in
+        ap (λ b. truncates flags && b) (long_body (capacity_at a) (nodes_at a) head size whole)
     go (found.Dir block) led fits = absurd (no_directory (creates flags && is_exclusive flags) fits)
       where
         no_directory : (b : Bool) → cond b (Some Exists) (Some IsDirectory) ≡ None → ⊥
@@ -164,35 +161,34 @@ changes_is d s path flags root x m is led fits =
 -- ---- steps of what is opened
 
 -- a refused call
-pub refused_work : (d : Device) (s : State) (e : Device) (t : State) (call : Call) (fault : Fault) → IsMounted d s → IsWorked d s e t → Leaves (machine_on d s) call d s.storage e t.storage → Refuses (seen_on d s) (machine_on d s) call fault (seen_on e t)
-    → IsAnswered d s call (Err fault) e t (is_cut fault)
-refused_work d s e t call fault m w leaves refuses = record {
-  mounted = worked_mounted d s e t m w;
-  step = refused_step d s e t call fault m w refuses;
+pub refused_work : (a b : Moment) (call : Call) (fault : Fault) → IsMountedAt a → IsWorked a b → Leaves (machine_at a) call a.device a.state.storage b.device b.state.storage → IsRefused a call fault b
+    → IsAnswered a call (Err fault) b (is_cut fault)
+refused_work a b call fault m w leaves refuses = record {
+  mounted = worked_mounted a b m w;
+  step = refused_step a b call fault m w refuses;
   leaves = leaves;
   is_off = w.rest.is_off;
-  pages = worked_pages d s e t m w;
+  pages = worked_pages a b m w;
 }
 
 -- one that was refused before anything was written
-pub refused_answer : (d : Device) (s : State) (e : Device) (t : State) (call : Call) (fault : Fault) → IsMounted d s → IsLooked d s e t → is_still call ≡ false → Refuses (seen_on d s) (machine_on d s) call fault (seen_on e t)
-    → IsAnswered d s call (Err fault) e t (is_cut fault)
-refused_answer d s e t call fault m l moves refuses = refused_work d s e t call fault m (looked_worked d s e t l) (looked_leaves d s e t call l moves) refuses
+pub refused_answer : (a b : Moment) (call : Call) (fault : Fault) → IsMountedAt a → IsLooked a b → is_still call ≡ false → IsRefused a call fault b
+    → IsAnswered a call (Err fault) b (is_cut fault)
+refused_answer a b call fault m l moves refuses = refused_work a b call fault m (looked_worked a b l) (looked_leaves a b call l moves) refuses
 
 -- where what was answered is a fault
-pub at_answer : {T : Type 0} (f : T → Reply) (d : Device) (s : State) (e : Device) (t : State) (call : Call) (fault : Fault) (result : Result T Fault) → result ≡ Err fault
-    → IsAnswered d s call (Err fault) e t (is_cut fault) → IsAnswered d s call (replied f result) e t (is_cut_answer result)
-at_answer f d s e t call fault result is answered = subst (λ r. IsAnswered d s call (replied f r) e t (is_cut_answer r)) (sym is) answered
+pub at_answer : {T : Type 0} (f : T → Reply) (a b : Moment) (call : Call) (fault : Fault) (result : Result T Fault) → result ≡ Err fault
+    → IsAnswered a call (Err fault) b (is_cut fault) → IsAnswered a call (replied f result) b (is_cut_answer result)
+at_answer f a b call fault result is answered = subst (λ r. IsAnswered a call (replied f r) b (is_cut_answer r)) (sym is) answered
 
 -- the same but for the history and the open files
-mounted_at : (e : Device) (t : State) (h : Past ℕ) (files : Descriptors) → IsMounted e t → AllStand e t.storage.ring h → IsMachine (machine_on e (record t { history = h; files = files })) → IsMounted e (record t { history = h; files = files })
-mounted_at e t h files m all machine = record {
+mounted_at : (b : Moment) (h : Past ℕ) (files : Descriptors) → IsMountedAt b → AllStand (at_history b h) → IsMachine (machine_at (moment b.device (record b.state { history = h; files = files }))) → IsMountedAt (moment b.device (record b.state { history = h; files = files }))
+mounted_at b h files m all machine = record {
   lawful = m.lawful;
   ring_blocks = m.ring_blocks;
   page_len = m.page_len;
   node_room = m.node_room;
-  versions = all.versions;
-  checkpoints = all.checkpoints;
+  roots = all;
   machine = machine;
   off = m.off;
 }
@@ -218,41 +214,42 @@ answers_descriptor : (space : Space) (m : Machine) (path : Path) (flags : OpenFl
 answers_descriptor space m path flags descriptor fine free = ap (answer_of space m (Call.Open path flags)) fine ∙ ap (λ o. Ok (Reply.Fd (unwrap_or o 0))) free
 
 -- a file that is there, and stays as it is
-pub opened_answer : (d : Device) (s : State) (e : Device) (t : State) (path : Path) (flags : OpenFlags) (descriptor : ℕ) (files : Descriptors) → IsMounted d s → IsLooked d s e t → is_path path ≡ true
-    → refusal (machine_on d s) (Call.Open path flags) ≡ None → open_changes (present_tree (machine_on d s)) path flags ≡ false → least_free s.files ≡ Some descriptor
-    → files ≡ opened t.files descriptor (record { path = path; flags = flags })
-    → IsAnswered d s (Call.Open path flags) (Ok (Reply.Fd descriptor)) e (record t { files = files }) false
-opened_answer d s e t path flags descriptor files m l lawful fine same free is =
-    record { mounted = mounted_at e t t.history files mid (all_stand e t mid) machine; step = step; leaves = looked_leaves d s e t call l refl; is_off = l.rest.is_off; pages = worked_pages d s e t m w }
+pub opened_answer : (a b : Moment) (path : Path) (flags : OpenFlags) (descriptor : ℕ) (files : Descriptors) → IsMountedAt a → IsLooked a b → is_path path ≡ true
+    → refusal (machine_at a) (Call.Open path flags) ≡ None → open_changes (present_tree (machine_at a)) path flags ≡ false → least_free a.state.files ≡ Some descriptor
+    → files ≡ opened b.state.files descriptor (record { path = path; flags = flags })
+    → IsAnswered a (Call.Open path flags) (Ok (Reply.Fd descriptor)) (moment b.device (record b.state { files = files })) false
+opened_answer a b path flags descriptor files m l lawful fine same free is =
+    record { mounted = mounted_at b b.state.history files mid mid.roots machine; step = step; leaves = looked_leaves a b call l refl; is_off = l.rest.is_off; pages = worked_pages a b m w }
   where
     call : Call
     call = Call.Open path flags
 
     n : Machine
-    n = machine_on d s
+    n = machine_at a
 
-    w : IsWorked d s e t
-    w = looked_worked d s e t l
+    w : IsWorked a b
+    w = looked_worked a b l
 
-    mid : IsMounted e t
-    mid = worked_mounted d s e t m w
+    mid : IsMountedAt b
+    mid = worked_mounted a b m w
 
     none : tree_after n call ≡ None
     none = made_by n path flags false same
 
-    leaves : machine_on e (record t { files = files }) ≡ machine_of n call (refusal n call)
+    leaves : machine_at (moment b.device (record b.state { files = files })) ≡ machine_of n call (refusal n call)
     leaves =
-        let history = ap (λ (x : Machine). x.history) (worked_machine d s e t m w) in
+        let history = ap (λ (x : Machine). x.history) (worked_machine a b m w) in
         let descriptors = is ∙ ap (λ (fs : Descriptors). opened fs descriptor (record { path = path; flags = flags })) l.rest.files in
         (λ i. machine_with (history i) (descriptors i)) ∙ sym (next_is n path flags descriptor None fine none free)
 
-    step : CallStep (seen_on d s) n false call (Ok (Reply.Fd descriptor)) (seen_on e t) (machine_on e (record t { files = files })) false
+    step : CallStep (seen_at a) n false call (Ok (Reply.Fd descriptor)) (seen_at b) (machine_at (moment b.device (record b.state { files = files }))) false
     step = record {
-      later = worked_later d s e t w;
+      later = worked_later a b w;
       answers = (
         refl,
         record {
-          answered = answers_descriptor (seen_on e t).space n path flags descriptor fine free;
+          accepted = fine;
+          answered = λ space _. answers_descriptor space n path flags descriptor fine free;
           leaves = leaves;
           writable = λ writes. never (is_none (refusal n call)) (sym (ap (λ o. is_none (refusal n call) && (is_some o || false)) none) ∙ writes);
           serial_left = λ makes. never (is_none (refusal n call)) (sym (ap (λ o. is_none (refusal n call) && is_some o) none) ∙ makes);
@@ -261,8 +258,8 @@ opened_answer d s e t path flags descriptor files m l lawful fine same free is =
       );
     }
 
-    machine : IsMachine (machine_on e (record t { files = files }))
-    machine = still_machine (seen_on d s) (seen_on e t) n (machine_on e (record t { files = files })) false false call (Ok (Reply.Fd descriptor)) m.machine lawful step
+    machine : IsMachine (machine_at (moment b.device (record b.state { files = files })))
+    machine = still_machine (seen_at a) (seen_at b) n (machine_at (moment b.device (record b.state { files = files }))) false false call (Ok (Reply.Fd descriptor)) m.machine lawful step
 
 -- ---- a file that is made or cut
 

@@ -10,15 +10,12 @@ use Rattle.fs_types.specs.declared.calls.Call.{Call}
 use Rattle.fs_types.specs.declared.calls.Reply.{Reply}
 use Rattle.fs_types.specs.declared.faults.Fault.TheVariants.{NoEntry, IsDirectory, Exists, DirectoryFull}
 use Rattle.fs_types.specs.declared.flags.OpenFlags.{OpenFlags}
-use Rattle.flash_model.specs.Device.{Device}
 use Rattle.directory.specs.declared.lookups.Found.{Found}
 use Rattle.directory.specs.declared.lookups.Found.TheVariants as found
 use Rattle.tree_edits.specs.Edits.{TakesFile}
-use Rattle.working_state.specs.Mounted.{IsMounted}
+use Rattle.working_state.specs.Moments.{Moment, machine_at, IsMountedAt, tree_at}
 use Rattle.working_state.specs.Opening.{found_refusal}
-use Rattle.working_state.specs.Seen.{tree_on, machine_on}
 use Rattle.working_state.specs.Worked.{IsLooked}
-use Rattle.working_state.specs.declared.state.State.{State}
 use Rattle.working_state.proofs.ChangeSteps.{later_tree}
 use Rattle.working_state.proofs.ChangedCalls.{IsChangeBy}
 use Rattle.working_state.proofs.OpenCalls.{files_after, made_by}
@@ -38,12 +35,12 @@ found_takes flags (found.Dir block) fits = absurd (go (creates flags && is_exclu
     go true e = cc
     go false e = cc
 
-pub open_change : (d : Device) (s : State) (e : Device) (t : State) (path : Path) (flags : OpenFlags) (descriptor : ℕ) → IsMounted d s → IsLooked d s e t → refusal (machine_on d s) (Call.Open path flags) ≡ None → is_path path ≡ true
-    → open_changes (present_tree (machine_on d s)) path flags ≡ true → least_free s.files ≡ Some descriptor → 0 < length path
-    → IsChangeBy d s (Call.Open path flags) (λ root. put (tree_on e root) path (Entry.File [])) (Reply.Fd descriptor)
-open_change d s e t path flags descriptor m l fine lawful changes free below = record {
+pub open_change : (a b : Moment) (path : Path) (flags : OpenFlags) (descriptor : ℕ) → IsMountedAt a → IsLooked a b → refusal (machine_at a) (Call.Open path flags) ≡ None → is_path path ≡ true
+    → open_changes (present_tree (machine_at a)) path flags ≡ true → least_free a.state.files ≡ Some descriptor → 0 < length path
+    → IsChangeBy a (Call.Open path flags) (λ root. put (tree_at b root) path (Entry.File [])) (Reply.Fd descriptor)
+open_change a b path flags descriptor m l fine lawful changes free below = record {
   fine = fine;
-  after = λ root is. made_by (machine_on d s) path flags true changes ∙ ap (λ (x : Tree). Some (file_put x path [])) (later_tree d s e t root m is l);
+  after = λ root is. made_by (machine_at a) path flags true changes ∙ ap (λ (x : Tree). Some (file_put x path [])) (later_tree a b root m is l);
   heavy = refl;
   moves = refl;
   paths = lawful;
@@ -52,7 +49,7 @@ open_change d s e t path flags descriptor m l fine lawful changes free below = r
 }
 
 -- the open files with the one more
-pub open_descriptors : (d : Device) (s : State) (e : Device) (t : State) (path : Path) (flags : OpenFlags) (descriptor : ℕ) (files : Descriptors) → IsLooked d s e t → least_free s.files ≡ Some descriptor
-    → files ≡ opened t.files descriptor (record { path = path; flags = flags }) → files ≡ descriptors_after (machine_on d s) (Call.Open path flags)
-open_descriptors d s e t path flags descriptor files l free opens =
-    opens ∙ ap (λ (fs : Descriptors). opened fs descriptor (record { path = path; flags = flags })) l.rest.files ∙ sym (files_after (machine_on d s) path flags descriptor free)
+pub open_descriptors : (a b : Moment) (path : Path) (flags : OpenFlags) (descriptor : ℕ) (files : Descriptors) → IsLooked a b → least_free a.state.files ≡ Some descriptor
+    → files ≡ opened b.state.files descriptor (record { path = path; flags = flags }) → files ≡ descriptors_after (machine_at a) (Call.Open path flags)
+open_descriptors a b path flags descriptor files l free opens =
+    opens ∙ ap (λ (fs : Descriptors). opened fs descriptor (record { path = path; flags = flags })) l.rest.files ∙ sym (files_after (machine_at a) path flags descriptor free)

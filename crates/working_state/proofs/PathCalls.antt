@@ -9,17 +9,15 @@ use Rattle.plain_trees.specs.Contents.{Contents, Entry, lookup_refusal}
 use Rattle.plain_trees.specs.Trees.{bare}
 use Rattle.history_machine.specs.History.{present_root}
 use Rattle.history_machine.specs.HistoryMaps.{present_root-map}
-use Rattle.history_machine.specs.Machine.{Machine, present_tree, refusal, found_refusal, answer_of, machine_of, reply_of, tree_after, is_accepted}
+use Rattle.history_machine.specs.Machine.{Machine, Space, present_tree, refusal, found_refusal, answer_of, machine_of, reply_of, tree_after, is_accepted}
 use Rattle.fs_types.specs.declared.calls.Call.{Call}
 use Rattle.fs_types.specs.declared.calls.Reply.{Reply}
 use Rattle.fs_types.specs.declared.faults.Fault.{Fault}
 use Rattle.fs_types.specs.declared.faults.Fault.TheVariants.{NoEntry, NotDirectory, Damaged}
 use Rattle.plain_trees.proofs.Beneath.{None≢Some}
 use Rattle.history_machine.proofs.Kept.{present-file_tree}
-use Rattle.flash_model.specs.Device.{Device}
 use Rattle.node_format.specs.declared.places.Place.TheVariants.{Dir}
 use Rattle.node_store.specs.Faults.{IsReadFault}
-use Rattle.node_store.specs.NodePages.{node_of}
 use Rattle.block_trees.specs.Bodies.{Blocks}
 use Rattle.block_trees.specs.Trees.{entries_in, tree, root_tree, IsRoot}
 use Rattle.block_trees.proofs.RootMaps.{map_law}
@@ -27,34 +25,33 @@ use Rattle.directory.specs.declared.lookups.Found.{Found}
 use Rattle.directory.specs.declared.lookups.Found.TheVariants as found
 use Rattle.directory.specs.Lookups.{look_up, entry_of, is_path_fault, IsLookupFault}
 use Rattle.directory.proofs.LookupLaws.{found_is, found_leads, refused_is}
-use Rattle.working_state.specs.Seen.{capacity_of, tree_on, seen_on, machine_on}
-use Rattle.working_state.specs.Steps.{is_light, is_for_record, Refuses, CallStep}
-use Rattle.working_state.specs.Mounted.{IsStanding, IsMounted}
+use Rattle.working_state.specs.Moments.{Moment, machine_at, seen_at, IsMountedAt, IsRefused, IsStep, nodes_at, capacity_at, tree_at}
+use Rattle.working_state.specs.Steps.{is_light, is_for_record}
+use Rattle.working_state.specs.Mounted.{IsStanding}
 use Rattle.working_state.specs.Worked.{IsLooked, WorkCause}
-use Rattle.working_state.specs.declared.state.State.{State}
 use Rattle.working_state.proofs.Roots.{of_present}
 use Rattle.working_state.proofs.Standing.{looked_worked, worked_machine, worked_later}
 use Rattle.working_state.proofs.Refusals.{read_refuses, cause_later}
 
 -- The present tree.
 
-pub present_tree_is : (d : Device) (s : State) (root : ℕ) → present_root s.history ≡ Some root → present_tree (machine_on d s) ≡ tree_on d root
-present_tree_is d s root is = ap (λ o. unwrap_or o bare) (present_root-map (tree_on d) s.history ∙ ap (option_map (tree_on d)) is)
+pub present_tree_is : (a : Moment) (root : ℕ) → present_root a.state.history ≡ Some root → present_tree (machine_at a) ≡ tree_at a root
+present_tree_is a root is = ap (λ o. unwrap_or o bare) (present_root-map (tree_at a) a.state.history ∙ ap (option_map (tree_at a)) is)
 
-pub present_stands : (d : Device) (s : State) (root : ℕ) → IsMounted d s → present_root s.history ≡ Some root → IsStanding d s.storage.ring root
-present_stands d s root m is = of_present (IsStanding d s.storage.ring) s.history root m.versions is
+pub present_stands : (a : Moment) (root : ℕ) → IsMountedAt a → present_root a.state.history ≡ Some root → IsStanding a.device a.state.storage.ring root
+present_stands a root m is = of_present (IsStanding a.device a.state.storage.ring) a.state root m.roots is
 
 -- what stands in the present tree stands at a lawful path
-pub found_lawful : (d : Device) (s : State) (root : ℕ) (path : Path) (x : Found) (entry : Entry) → IsMounted d s → present_root s.history ≡ Some root → look_up (node_of d) root path ≡ Ok x → entry_of (capacity_of d) (node_of d) x ≡ Some entry
+pub found_lawful : (a : Moment) (root : ℕ) (path : Path) (x : Found) (entry : Entry) → IsMountedAt a → present_root a.state.history ≡ Some root → look_up (nodes_at a) root path ≡ Ok x → entry_of (capacity_at a) (nodes_at a) x ≡ Some entry
     → is_path path ≡ true
-found_lawful d s root path x entry m is led there =
-    let law = map_law (capacity_of d) (node_of d) root (present_stands d s root m is).rooted in
-    let stands : get (present_tree (machine_on d s)) path ≡ Some entry =
-    ap (λ t. get t path) (present_tree_is d s root is)
+found_lawful a root path x entry m is led there =
+    let law = map_law (capacity_at a) (nodes_at a) root (present_stands a root m is).rooted in
+    let stands : get (present_tree (machine_at a)) path ≡ Some entry =
+    ap (λ t. get t path) (present_tree_is a root is)
     ∙ ap (λ (t : Contents). t path) law.same
-    ∙ (found_is (capacity_of d) (node_of d) root path x led).1
+    ∙ (found_is (capacity_at a) (nodes_at a) root path x led).1
     ∙ there in
-    (present-file_tree (machine_on d s) m.machine).paths path (subst IsSome (sym stands) refl)
+    (present-file_tree (machine_at a) m.machine).paths path (subst IsSome (sym stands) refl)
 
 -- The refusal of what stands at a path, or of nothing.
 
@@ -79,61 +76,61 @@ refused_tells capacity f root path refuse is fault e =
     ∙ ap (λ o. option_or o (option_map_or refuse (tree capacity f root path) (Some NoEntry))) (refused_is capacity f root path fault is e)
 
 -- a call looks a path up in the tree of a root, and refuses what stands there
-pub record LooksUp (d : Device) (s : State) (call : Call) (root : ℕ) (path : Path) (refuse : Entry → Option Fault) : Type 0 where
-  pub rooted : IsRoot (capacity_of d) (node_of d) root
+pub record LooksUp (a : Moment) (call : Call) (root : ℕ) (path : Path) (refuse : Entry → Option Fault) : Type 0 where
+  pub rooted : IsRoot (capacity_at a) (nodes_at a) root
   pub heavy : is_light call ≡ false
-  pub by_path : refusal (machine_on d s) call ≡ found_refusal (tree_on d root) path refuse
+  pub by_path : refusal (machine_at a) call ≡ found_refusal (tree_at a root) path refuse
 
-module _ (d : Device) (s : State) (call : Call) (root : ℕ) (path : Path) (refuse : Entry → Option Fault) (looks : LooksUp d s call root path refuse) where
+module _ (a : Moment) (call : Call) (root : ℕ) (path : Path) (refuse : Entry → Option Fault) (looks : LooksUp a call root path refuse) where
   -- what was found is refused or not for what it is
-  pub found_refuses : (x : Found) → look_up (node_of d) root path ≡ Ok x → refusal (machine_on d s) call ≡ option_map_or refuse (entry_of (capacity_of d) (node_of d) x) (Some NoEntry)
-  found_refuses x e = looks.by_path ∙ found_tells (capacity_of d) (node_of d) root path refuse looks.rooted x e
+  pub found_refuses : (x : Found) → look_up (nodes_at a) root path ≡ Ok x → refusal (machine_at a) call ≡ option_map_or refuse (entry_of (capacity_at a) (nodes_at a) x) (Some NoEntry)
+  found_refuses x e = looks.by_path ∙ found_tells (capacity_at a) (nodes_at a) root path refuse looks.rooted x e
 
   -- the same of what is also called `y`
-  pub found_by : (x y : Found) → look_up (node_of d) root path ≡ Ok x → x ≡ y → refusal (machine_on d s) call ≡ option_map_or refuse (entry_of (capacity_of d) (node_of d) y) (Some NoEntry)
-  found_by x y e is = found_refuses y (subst (λ z. look_up (node_of d) root path ≡ Ok z) is e)
+  pub found_by : (x y : Found) → look_up (nodes_at a) root path ≡ Ok x → x ≡ y → refusal (machine_at a) call ≡ option_map_or refuse (entry_of (capacity_at a) (nodes_at a) y) (Some NoEntry)
+  found_by x y e is = found_refuses y (subst (λ z. look_up (nodes_at a) root path ≡ Ok z) is e)
 
-  pub found_refused : (e : Device) (t : State) (x y : Found) (fault : Fault) → look_up (node_of d) root path ≡ Ok x → x ≡ y → option_map_or refuse (entry_of (capacity_of d) (node_of d) y) (Some NoEntry) ≡ Some fault
-      → Refuses (seen_on d s) (machine_on d s) call fault (seen_on e t)
-  found_refused e t x y fault led is refused = inl (found_by x y led is ∙ refused)
+  pub found_refused : (b : Moment) (x y : Found) (fault : Fault) → look_up (nodes_at a) root path ≡ Ok x → x ≡ y → option_map_or refuse (entry_of (capacity_at a) (nodes_at a) y) (Some NoEntry) ≡ Some fault
+      → IsRefused a call fault b
+  found_refused b x y fault led is refused = inl (found_by x y led is ∙ refused)
 
-  told : (fault : Fault) → look_up (node_of d) root path ≡ Err fault → refusal (machine_on d s) call ≡ Some fault
-  told fault e = looks.by_path ∙ refused_tells (capacity_of d) (node_of d) root path refuse looks.rooted fault e
+  told : (fault : Fault) → look_up (nodes_at a) root path ≡ Err fault → refusal (machine_at a) call ≡ Some fault
+  told fault e = looks.by_path ∙ refused_tells (capacity_at a) (nodes_at a) root path refuse looks.rooted fault e
 
   -- a look up that was refused, by whether the nodes tell of it
-  pub look_refused : (e : Device) (t : State) (fault : Fault)
-      → (is_path_fault fault ≡ true → look_up (node_of d) root path ≡ Err fault)
-      → (is_path_fault fault ≡ false → WorkCause (seen_on d s) fault (seen_on e t)) → IsLookupFault fault
-      → Refuses (seen_on d s) (machine_on d s) call fault (seen_on e t)
-  look_refused e t fault refused why is = elim (cases_Bool (is_path_fault fault)) [
+  pub look_refused : (b : Moment) (fault : Fault)
+      → (is_path_fault fault ≡ true → look_up (nodes_at a) root path ≡ Err fault)
+      → (is_path_fault fault ≡ false → WorkCause (seen_at a) fault (seen_at b)) → IsLookupFault fault
+      → IsRefused a call fault b
+  look_refused b fault refused why is = elim (cases_Bool (is_path_fault fault)) [
     | inl tells ↦ inl (told fault (refused tells))
-    | inr other ↦ inr (read_refuses (seen_on d s) (seen_on e t) (machine_on d s) call fault looks.heavy other is (why other))
+    | inr other ↦ inr (read_refuses (seen_at a) (seen_at b) (machine_at a) call fault looks.heavy other is (why other))
   ]
 
   -- a directory that was found is one
-  is_directory : (block : ℕ) → look_up (node_of d) root path ≡ Ok (found.Dir block) → entries_in (node_of d) block ≡ None → ⊥
+  is_directory : (block : ℕ) → look_up (nodes_at a) root path ≡ Ok (found.Dir block) → entries_in (nodes_at a) block ≡ None → ⊥
   is_directory block led none =
-      let whole = (looks.rooted path (Dir block) (found_leads (node_of d) root path block led)).0 in
+      let whole = (looks.rooted path (Dir block) (found_leads (nodes_at a) root path block led)).0 in
       None≢Some (sym none ∙ whole.1)
 
   -- a read of the directory that was found
-  pub read_refused : (e : Device) (t : State) (f : Device) (u : State) (block : ℕ) (x : Found) (fault : Fault) → IsLooked d s e t → node_of e ≡ node_of d
-      → look_up (node_of d) root path ≡ Ok x → x ≡ found.Dir block
-      → (fault ≡ Damaged → entries_in (node_of e) block ≡ None) → (is_path_fault fault ≡ false → WorkCause (seen_on e t) fault (seen_on f u)) → IsReadFault fault
-      → Refuses (seen_on d s) (machine_on d s) call fault (seen_on f u)
-  read_refused e t f u block x fault l same called is damaged why reads =
-      look_refused f u fault (tells fault damaged reads)
-      (λ other. cause_later (seen_on d s) (seen_on e t) (seen_on f u) fault (worked_later d s e t (looked_worked d s e t l)) (why other)) (is_lookup fault reads)
+  pub read_refused : (b c : Moment) (block : ℕ) (x : Found) (fault : Fault) → IsLooked a b → nodes_at b ≡ nodes_at a
+      → look_up (nodes_at a) root path ≡ Ok x → x ≡ found.Dir block
+      → (fault ≡ Damaged → entries_in (nodes_at b) block ≡ None) → (is_path_fault fault ≡ false → WorkCause (seen_at b) fault (seen_at c)) → IsReadFault fault
+      → IsRefused a call fault c
+  read_refused b c block x fault l same called is damaged why reads =
+      look_refused c fault (tells fault damaged reads)
+      (λ other. cause_later (seen_at a) (seen_at b) (seen_at c) fault (worked_later a b (looked_worked a b l)) (why other)) (is_lookup fault reads)
     where
-      led : look_up (node_of d) root path ≡ Ok (found.Dir block)
-      led = subst (λ z. look_up (node_of d) root path ≡ Ok z) is called
+      led : look_up (nodes_at a) root path ≡ Ok (found.Dir block)
+      led = subst (λ z. look_up (nodes_at a) root path ≡ Ok z) is called
 
       is_lookup : (fault : Fault) → IsReadFault fault → IsLookupFault fault
       is_lookup NoEntry reads = refl
       is_lookup NotDirectory reads = refl
       is_lookup _ reads = reads
 
-      tells : (fault : Fault) → (fault ≡ Damaged → entries_in (node_of e) block ≡ None) → IsReadFault fault → is_path_fault fault ≡ true → look_up (node_of d) root path ≡ Err fault
+      tells : (fault : Fault) → (fault ≡ Damaged → entries_in (nodes_at b) block ≡ None) → IsReadFault fault → is_path_fault fault ≡ true → look_up (nodes_at a) root path ≡ Err fault
       tells Damaged damaged reads path_fault = absurd (is_directory block led (ap (λ (g : Blocks). entries_in g block) (sym same) ∙ damaged refl))
       tells NoEntry damaged reads path_fault = absurd (true≢false (sym reads))
       tells NotDirectory damaged reads path_fault = absurd (true≢false (sym reads))
@@ -150,19 +147,20 @@ pub record OnlyReads (m : Machine) (call : Call) : Type 0 where
   pub no_version : tree_after m call ≡ None
   pub no_record : is_for_record call ≡ false
 
-pub read_done : (d : Device) (s : State) (e : Device) (t : State) (call : Call) (reply : Reply) → IsMounted d s → IsLooked d s e t → OnlyReads (machine_on d s) call
-    → refusal (machine_on d s) call ≡ None → reply_of (seen_on e t).space (machine_on d s) call ≡ reply
-    → CallStep (seen_on d s) (machine_on d s) false call (Ok reply) (seen_on e t) (machine_on e t) false
-read_done d s e t call reply m l reads fine replies =
-    let w = looked_worked d s e t l in
-    let before = machine_on d s in
+pub read_done : (a b : Moment) (call : Call) (reply : Reply) → IsMountedAt a → IsLooked a b → OnlyReads (machine_at a) call
+    → refusal (machine_at a) call ≡ None → ((space : Space) → reply_of space (machine_at a) call ≡ reply)
+    → IsStep a call (Ok reply) b false
+read_done a b call reply m l reads fine replies =
+    let w = looked_worked a b l in
+    let before = machine_at a in
     record {
-      later = worked_later d s e t w;
+      later = worked_later a b w;
       answers = (
         refl,
         record {
-          answered = ap (answer_of (seen_on e t).space before call) fine ∙ ap Ok replies;
-          leaves = worked_machine d s e t m w ∙ sym reads.stays ∙ sym (ap (machine_of before call) fine);
+          accepted = fine;
+          answered = λ space _. ap (answer_of space before call) fine ∙ ap Ok (replies space);
+          leaves = worked_machine a b m w ∙ sym reads.stays ∙ sym (ap (machine_of before call) fine);
           writable = λ writes. absurd (nothing ((and_parts (is_accepted before call) (is_some (tree_after before call) || is_for_record call) writes).1));
           serial_left = λ makes. absurd (no_tree ((and_parts (is_accepted before call) (is_some (tree_after before call)) makes).1));
         },
@@ -170,8 +168,8 @@ read_done d s e t call reply m l reads fine replies =
       );
     }
   where
-    no_tree : is_some (tree_after (machine_on d s) call) ≡ true → ⊥
+    no_tree : is_some (tree_after (machine_at a) call) ≡ true → ⊥
     no_tree makes = true≢false (sym makes ∙ ap is_some reads.no_version)
 
-    nothing : is_some (tree_after (machine_on d s) call) || is_for_record call ≡ true → ⊥
+    nothing : is_some (tree_after (machine_at a) call) || is_for_record call ≡ true → ⊥
     nothing writes = true≢false (sym writes ∙ ap (λ o. is_some o || is_for_record call) reads.no_version ∙ reads.no_record)

@@ -7,13 +7,13 @@ use Rattle.fs_types.specs.declared.calls.Call.{Call}
 use Rattle.fs_types.specs.declared.calls.Reply.{Reply}
 use Rattle.fs_types.specs.declared.faults.Fault.{Fault}
 use Rattle.fs_types.specs.declared.faults.Fault.TheVariants.{NoEntry, NotDirectory, FlashFull, ReadOnly, ReadFailed, PowerCut, NoMemory, Damaged}
-use Rattle.flash_model.specs.Device.{Device}
 use Rattle.directory.specs.Lookups.{is_path_fault, IsLookupFault}
 use Rattle.directory.specs.Trails.{IsChangeFault}
+use Rattle.working_state.specs.Moments.{Moment, machine_at, seen_at, IsMountedAt, Steps, IsRefused, IsStep, moment}
 use Rattle.working_state.specs.Leaves.{Leaves}
-use Rattle.working_state.specs.Seen.{Seen, seen_on, machine_on}
-use Rattle.working_state.specs.Steps.{last_serial, replied, is_light, is_writing, is_cut, is_cut_answer, MayRefuse, Refuses, IsLater, CallStep}
-use Rattle.working_state.specs.Mounted.{IsMounted, StateStep}
+use Rattle.working_state.specs.Seen.{Seen}
+use Rattle.working_state.specs.Steps.{last_serial, replied, is_light, is_writing, is_cut, is_cut_answer, MayRefuse, IsLater, CallStep, tells_space}
+use Rattle.working_state.specs.Mounted.{IsMounted}
 use Rattle.working_state.specs.Worked.{IsWorked, WorkCause}
 use Rattle.working_state.specs.declared.state.State.{State}
 use Rattle.working_state.proofs.CutCalls.{answered_off}
@@ -36,7 +36,7 @@ read_refuses old new m call _ heavy other is why = absurd (not_so is)
 
 -- a refusal of the nodes of a version, where read-only mode was off and a serial was left
 pub write_refuses : (old new : Seen) (m : Machine) (call : Call) (fault : Fault) → is_light call ≡ false → 0 < need old.capacity m call → is_writing m call ≡ true → old.read_only ≡ false → m.history.next < last_serial → IsChangeFault fault
-    → (fault ≡ FlashFull → old.space.free + old.listed < new.listed + need old.capacity m call) → WorkCause old fault new → MayRefuse old m call fault new
+    → (fault ≡ FlashFull → old.free + old.listed < new.listed + need old.capacity m call) → WorkCause old fault new → MayRefuse old m call fault new
 write_refuses old new m call FlashFull heavy needs writes off left is few why = (needs, off, left, record { none_free = why; few_free = few refl })
 write_refuses old new m call ReadOnly heavy needs writes off left is few why = (writes, why, λ _ _. left)
 write_refuses old new m call ReadFailed heavy needs writes off left is few why = (heavy, why)
@@ -56,13 +56,13 @@ cause_later old mid new _ later why = absurd why
 -- Steps.
 
 -- a refusal of what was answered
-pub at_refusal : {T : Type 0} (d : Device) (s : State) (e : Device) (t : State) (call : Call) (fault : Fault) (result : Result T Fault) → result ≡ Err fault
-    → Refuses (seen_on d s) (machine_on d s) call fault (seen_on e t) → IfErr result (λ x. Refuses (seen_on d s) (machine_on d s) call x (seen_on e t))
-at_refusal d s e t call fault result is refuses = subst (λ r. IfErr r (λ x. Refuses (seen_on d s) (machine_on d s) call x (seen_on e t))) (sym is) refuses
+pub at_refusal : {T : Type 0} (a b : Moment) (call : Call) (fault : Fault) (result : Result T Fault) → result ≡ Err fault
+    → IsRefused a call fault b → IfErr result (λ x. IsRefused a call x b)
+at_refusal a b call fault result is refuses = subst (λ r. IfErr r (λ x. IsRefused a call x b)) (sym is) refuses
 
-pub refused_step : (d : Device) (s : State) (e : Device) (t : State) (call : Call) (fault : Fault) → IsMounted d s → IsWorked d s e t → Refuses (seen_on d s) (machine_on d s) call fault (seen_on e t)
-    → CallStep (seen_on d s) (machine_on d s) false call (Err fault) (seen_on e t) (machine_on e t) (is_cut fault)
-refused_step d s e t call fault m w refuses = record { later = worked_later d s e t w; answers = (refuses, worked_machine d s e t m w, refl) }
+pub refused_step : (a b : Moment) (call : Call) (fault : Fault) → IsMountedAt a → IsWorked a b → IsRefused a call fault b
+    → IsStep a call (Err fault) b (is_cut fault)
+refused_step a b call fault m w refuses = record { later = worked_later a b w; answers = (refuses, worked_machine a b m w, refl) }
 
 -- a step, where what was answered is a fault
 pub at_fault : {T : Type 0} (f : T → Reply) (old new : Seen) (m n : Machine) (call : Call) (fault : Fault) (result : Result T Fault) → result ≡ Err fault
@@ -73,36 +73,36 @@ at_fault f old new m n call fault result is step = subst (λ r. CallStep old m f
 abbrev pub remembering : {T : Type 0} → State → Result T Fault → State
 remembering t result = record t { is_off = t.is_off || is_cut_answer result }
 
-abbrev Step : Device → State → Call → Result Reply Fault → Device → State → Bool → Bool → Type 0
-Step d s call result e t off off' = CallStep (seen_on d s) (machine_on d s) off call result (seen_on e t) (machine_on e t) off'
-
-pub remembered_step : {T : Type 0} (f : T → Reply) (d : Device) (s : State) (e : Device) (t u : State) (call : Call) (result again : Result T Fault)
-    → again ≡ result → s.is_off ≡ false → t.is_off ≡ s.is_off → u ≡ remembering t result
-    → CallStep (seen_on d s) (machine_on d s) false call (replied f result) (seen_on e t) (machine_on e t) (is_cut_answer result)
-    → Leaves (machine_on d s) call d s.storage e t.storage → StateStep d s call (replied f again) e u
-remembered_step f d s e t u call result again told on same is step leaves =
-    subst (λ r. StateStep d s call (replied f r) e u) (sym told)
-    (subst (λ v. StateStep d s call (replied f result) e v) (sym is) (record {
-      step = subst (λ o. Step d s call (replied f result) e t o (t.is_off || is_cut_answer result)) (sym on)
-          (subst (λ o. Step d s call (replied f result) e t false (o || is_cut_answer result)) (sym (same ∙ on)) step);
+pub remembered_step : {T : Type 0} (f : T → Reply) (a b : Moment) (u : State) (call : Call) (result again : Result T Fault)
+    → again ≡ result → a.state.is_off ≡ false → b.state.is_off ≡ a.state.is_off → u ≡ remembering b.state result
+    → IsStep a call (replied f result) b (is_cut_answer result)
+    → Leaves (machine_at a) call a.device a.state.storage b.device b.state.storage → tells_space call ≡ false → Steps a call (replied f again) (moment b.device u)
+remembered_step f a b u call result again told on same is step leaves plain =
+    subst (λ r. Steps a call (replied f r) (moment b.device u)) (sym told)
+    (subst (λ v. Steps a call (replied f result) (moment b.device v)) (sym is) (record {
+      step = subst (λ o. StepFrom o (b.state.is_off || is_cut_answer result)) (sym on)
+          (subst (λ o. StepFrom false (o || is_cut_answer result)) (sym (same ∙ on)) step);
       leaves = leaves;
-      stopped = λ off. absurd (both_ways s.is_off on off);
+      told = λ space. absurd (both_ways (tells_space call) plain space);
+      stopped = λ off. absurd (both_ways a.state.is_off on off);
     }))
+  where
+    StepFrom : Bool → Bool → Type 0
+    StepFrom off off' = CallStep (seen_at a) (machine_at a) off call (replied f result) (seen_at b) (machine_at b) off'
 
 -- the system stays mounted: where the answer is that the power is off, it is
-pub remembered_mounted : {T : Type 0} (f : T → Reply) (d : Device) (s : State) (e : Device) (t u : State) (call : Call) (result : Result T Fault) → u ≡ remembering t result → IsMounted e t
-    → CallStep (seen_on d s) (machine_on d s) false call (replied f result) (seen_on e t) (machine_on e t) (is_cut_answer result) → IsMounted e u
-remembered_mounted f d s e t u call result is m step = subst (IsMounted e) (sym is) (record {
+pub remembered_mounted : {T : Type 0} (f : T → Reply) (a b : Moment) (u : State) (call : Call) (result : Result T Fault) → u ≡ remembering b.state result → IsMountedAt b
+    → IsStep a call (replied f result) b (is_cut_answer result) → IsMounted b.device u
+remembered_mounted f a b u call result is m step = subst (IsMounted b.device) (sym is) (record {
   lawful = m.lawful;
   ring_blocks = m.ring_blocks;
   page_len = m.page_len;
   node_room = m.node_room;
-  versions = m.versions;
-  checkpoints = m.checkpoints;
+  roots = m.roots;
   machine = m.machine;
-  off = λ off. elim (or_cases t.is_off (is_cut_answer result) off) [
+  off = λ off. elim (or_cases b.state.is_off (is_cut_answer result) off) [
     | inl was ↦ m.off was
-    | inr cut ↦ answered_off (seen_on d s) (machine_on d s) false call (replied f result) (seen_on e t) (machine_on e t) (is_cut_answer result) step.answers (λ wrong. absurd (true≢false (sym wrong))) cut
+    | inr cut ↦ answered_off (seen_at a) (machine_at a) false call (replied f result) (seen_at b) (machine_at b) (is_cut_answer result) step.answers (λ wrong. absurd (true≢false (sym wrong))) cut
   ];
 })
 

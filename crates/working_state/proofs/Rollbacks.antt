@@ -11,63 +11,60 @@ use Rattle.history_machine.specs.HistoryMaps.{changed-map}
 use Rattle.flash_model.specs.Device.{Device}
 use Rattle.node_store.specs.declared.storage.Storage.{Storage}
 use Rattle.tree_edits.specs.declared.edits.Edit.TheVariants.{Restore}
+use Rattle.working_state.specs.Moments.{Moment, moment, machine_at, IsMountedAt, Steps, tree_at}
 use Rattle.working_state.specs.Changes.{IsReadOnly, ChangeEnds, ChangeCause, IsChanged}
-use Rattle.working_state.specs.Mounted.{IsStanding, IsMounted, StateStep}
-use Rattle.working_state.specs.Seen.{tree_on, machine_on}
+use Rattle.working_state.specs.Mounted.{IsStanding}
+use Rattle.working_state.specs.Seen.{tree_on}
 use Rattle.working_state.specs.Steps.{replied, empty}
-use Rattle.working_state.specs.declared.state.State.{State}
-use Rattle.working_state.proofs.Roots.{all_changed, kept_changed}
-use Rattle.working_state.proofs.Standing.{AllStand, all_stand}
-use Rattle.working_state.proofs.Steps.{with_history, mounted_by, done, refused_change, rollback-accepted, rollback-makes, rollback-leaves}
+use Rattle.working_state.proofs.Roots.{after_change, at_history}
+use Rattle.working_state.proofs.Standing.{AllStand}
+use Rattle.working_state.proofs.Steps.{mounted_by, done, refused_change, rollback-accepted, rollback-makes, rollback-leaves}
 use Rattle.history_machine.specs.Machine.{machine_with}
 
-module _ (d : Device) (s : State) (f : Device) (st : Storage) (h : Past ℕ) (name : Name) (root : ℕ) where
+module _ (a : Moment) (f : Device) (st : Storage) (h : Past ℕ) (name : Name) (root : ℕ) where
   abbrev call : Call
   call = Call.Rollback name
 
   -- a root with the tree of the checkpoint's
-  same_machine : (to : ℕ) → tree_on d to ≡ tree_on d root → machine_on d (with_history s (changed s.history root)) ≡ machine_on d (with_history s (changed s.history to))
+  same_machine : (to : ℕ) → tree_at a to ≡ tree_at a root → machine_at (at_history a (changed a.state.history root)) ≡ machine_at (at_history a (changed a.state.history to))
   same_machine to same =
-      ap (λ (x : Past Tree). machine_with x s.files)
-      (sym (changed-map (tree_on d) s.history root) ∙ ap (changed (map_roots (tree_on d) s.history)) (sym same) ∙ changed-map (tree_on d) s.history to)
+      ap (λ (x : Past Tree). machine_with x a.state.files)
+      (sym (changed-map (tree_at a) a.state.history root) ∙ ap (changed (map_roots (tree_at a) a.state.history)) (sym same) ∙ changed-map (tree_at a) a.state.history to)
 
-  rolled_step : (result : Result (Unit {0}) Fault) → s.is_off ≡ false → any_open s.files ≡ false → checkpoint_root s.history name ≡ Some root → f ≡ d → st ≡ s.storage → ChangeEnds d s.history s.storage (Restore root) result f h st
-      → StateStep d s call (replied empty result) d (with_history s h)
+  rolled_step : (result : Result (Unit {0}) Fault) → a.state.is_off ≡ false → any_open a.state.files ≡ false → checkpoint_root a.state.history name ≡ Some root → f ≡ a.device → st ≡ a.state.storage → ChangeEnds a.device a.state.history a.state.storage (Restore root) result f h st
+      → Steps a call (replied empty result) (at_history a h)
   rolled_step (Ok x) on none there same kept pushed =
-      let shows : tree_on d pushed.to ≡ tree_on d root = subst (λ (e : Device). tree_on e pushed.to ≡ tree_on d root) same pushed.shows in
-      subst (λ (p : Past ℕ). StateStep d s call (Ok Reply.Empty) d (with_history s p)) (sym pushed.pushed)
-      (done d s call (changed s.history pushed.to) Reply.Empty on (rollback-accepted d s name root none there) refl (rollback-leaves d s name root none there ∙ same_machine pushed.to shows) (λ _. pushed.writable) (λ _. pushed.serial_left))
-  rolled_step (Err fault) on none there same kept ends = subst (λ (p : Past ℕ). StateStep d s call (Err fault) d (with_history s p)) (sym ends.0) (by ends.1)
+      let shows : tree_at a pushed.to ≡ tree_at a root = subst (λ (e : Device). tree_on e pushed.to ≡ tree_at a root) same pushed.shows in
+      subst (λ (p : Past ℕ). Steps a call (Ok Reply.Empty) (at_history a p)) (sym pushed.pushed)
+      (done a call (changed a.state.history pushed.to) Reply.Empty on refl (rollback-accepted a name root none there) (λ _. refl) (rollback-leaves a name root none there ∙ same_machine pushed.to shows) (λ _. pushed.writable) (λ _. pushed.serial_left))
+  rolled_step (Err fault) on none there same kept ends = subst (λ (p : Past ℕ). Steps a call (Err fault) (at_history a p)) (sym ends.0) (by ends.1)
     where
-      by : ChangeCause d s.history s.storage (Restore root) fault f st → StateStep d s call (Err fault) d s
-      by (inl (inl why)) = refused_change d s call fault on (rollback-makes d s name root none there) (inl (why.0, subst (λ (t : Storage). IsReadOnly s.history s.storage t) kept why.1))
-      by (inl (inr why)) = refused_change d s call fault on (rollback-makes d s name root none there) (inr why)
+      by : ChangeCause a.device a.state.history a.state.storage (Restore root) fault f st → Steps a call (Err fault) a
+      by (inl (inl why)) = refused_change a call fault on (rollback-makes a name root none there) (inl (why.0, subst (λ (t : Storage). IsReadOnly a.state.history a.state.storage t) kept why.1))
+      by (inl (inr why)) = refused_change a call fault on (rollback-makes a name root none there) (inr why)
       by (inr work) = absurd (let some : 0 < 0 = work.why.needs in omega arith)
 
-  rolled_stand : (result : Result (Unit {0}) Fault) → IsMounted d s → f ≡ d → st ≡ s.storage → ChangeEnds d s.history s.storage (Restore root) result f h st → AllStand d s.storage.ring h
+  rolled_stand : (result : Result (Unit {0}) Fault) → IsMountedAt a → f ≡ a.device → st ≡ a.state.storage → ChangeEnds a.device a.state.history a.state.storage (Restore root) result f h st → AllStand (at_history a h)
   rolled_stand (Ok x) m same kept pushed =
-      let stands : IsStanding d s.storage.ring pushed.to = subst (λ (e : Device). IsStanding e s.storage.ring pushed.to) same (subst (λ (t : Storage). IsStanding f t.ring pushed.to) kept pushed.stands) in
-      subst (AllStand d s.storage.ring) (sym pushed.pushed) (record {
-        versions = all_changed (IsStanding d s.storage.ring) s.history pushed.to m.versions stands;
-        checkpoints = kept_changed (IsStanding d s.storage.ring) s.history pushed.to m.checkpoints;
-      })
-  rolled_stand (Err fault) m same kept ends = subst (AllStand d s.storage.ring) (sym ends.0) (all_stand d s m)
+      let stands : IsStanding a.device a.state.storage.ring pushed.to = subst (λ (e : Device). IsStanding e a.state.storage.ring pushed.to) same (subst (λ (t : Storage). IsStanding f t.ring pushed.to) kept pushed.stands) in
+      subst (λ p. AllStand (at_history a p)) (sym pushed.pushed) (after_change (IsStanding a.device a.state.storage.ring) a.state pushed.to m.roots stands)
+  rolled_stand (Err fault) m same kept ends = subst (λ p. AllStand (at_history a p)) (sym ends.0) m.roots
 
   -- the flash and what nodes are kept with are as they were
-  at_same : (P : Device → State → Type 0) → f ≡ d → st ≡ s.storage → P d (with_history s h) → P f (record s { storage = st; history = h })
+  at_same : (P : Moment → Type 0) → f ≡ a.device → st ≡ a.state.storage → P (at_history a h) → P (moment f (record a.state { storage = st; history = h }))
   at_same P same kept here =
-      subst (λ (e : Device). P e (record s { storage = st; history = h })) (sym same)
-      (subst (λ (t : Storage). P d (record s { storage = t; history = h })) (sym kept) here)
+      subst (λ (e : Device). P (moment e (record a.state { storage = st; history = h }))) (sym same)
+      (subst (λ (t : Storage). P (moment a.device (record a.state { storage = t; history = h }))) (sym kept) here)
 
-  pub rollback_step : (result : Result (Unit {0}) Fault) → s.is_off ≡ false → any_open s.files ≡ false → checkpoint_root s.history name ≡ Some root → IsChanged d s.history s.storage (Restore root) result f h st
-      → StateStep d s call (replied empty result) f (record s { storage = st; history = h })
+  pub rollback_step : (result : Result (Unit {0}) Fault) → a.state.is_off ≡ false → any_open a.state.files ≡ false → checkpoint_root a.state.history name ≡ Some root → IsChanged a.device a.state.history a.state.storage (Restore root) result f h st
+      → Steps a call (replied empty result) (moment f (record a.state { storage = st; history = h }))
   rollback_step result on none there changes =
       let same = changes.still refl in
-      at_same (StateStep d s call (replied empty result)) same.0 same.1 (rolled_step result on none there same.0 same.1 changes.ends)
+      at_same (Steps a call (replied empty result)) same.0 same.1 (rolled_step result on none there same.0 same.1 changes.ends)
 
-  pub rollback_mounted : (result : Result (Unit {0}) Fault) → IsMounted d s → s.is_off ≡ false → any_open s.files ≡ false → checkpoint_root s.history name ≡ Some root → IsChanged d s.history s.storage (Restore root) result f h st
-      → IsMounted f (record s { storage = st; history = h })
+  pub rollback_mounted : (result : Result (Unit {0}) Fault) → IsMountedAt a → a.state.is_off ≡ false → any_open a.state.files ≡ false → checkpoint_root a.state.history name ≡ Some root → IsChanged a.device a.state.history a.state.storage (Restore root) result f h st
+      → IsMountedAt (moment f (record a.state { storage = st; history = h }))
   rollback_mounted result m on none there changes =
       let same = changes.still refl in
-      at_same IsMounted same.0 same.1
-      (mounted_by d s call (replied empty result) h m refl (rolled_step result on none there same.0 same.1 changes.ends) (rolled_stand result m same.0 same.1 changes.ends))
+      at_same IsMountedAt same.0 same.1
+      (mounted_by a call (replied empty result) h m refl (rolled_step result on none there same.0 same.1 changes.ends) (rolled_stand result m same.0 same.1 changes.ends))

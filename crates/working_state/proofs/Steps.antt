@@ -1,5 +1,5 @@
 -- What a call that does no device operation has to show for its step, and what stays of the invariant.
-use Rattle.std.proofs.Common.{◌≡◌, ◌⊎◌, inl, inr, ℕ, ◌+◌, ◌<◌, ◌≤◌, Bool, true, false, cond, ◌&&◌, Option, Some, None, List, [], ◌∷◌, map, Result, Ok, Err, OnOk, OnErr, IfErr, length, sym, ap, refl, ◌∙◌, subst, arith}
+use Rattle.std.proofs.Common.{◌≡◌, ◌⊎◌, inl, inr, ℕ, ◌+◌, ◌<◌, ◌≤◌, Bool, true, false, cond, ◌&&◌, Option, Some, None, List, [], ◌∷◌, map, Result, Ok, Err, OnOk, OnErr, IfOk, IfErr, length, sym, ap, refl, ◌∙◌, subst, arith}
 use Rattle.std.proofs.lemmas.Bool.{true≢false, both_ways, and_parts, and_from, le-leb, lt-leb}
 use Rattle.std.specs.Prelude.{◌==◌, ◌||◌, nat_lt, nat_le, unwrap_or}
 use Rattle.std.specs.Option.{option_map, option_map_or, is_some, is_none}
@@ -8,53 +8,56 @@ use Rattle.plain_trees.specs.Trees.{Tree}
 use Rattle.history_machine.specs.History.{Past, map_roots, changed, checkpoint_root, first_serial, place_of, undo_refusal, redo_refusal, serial_refusal, forget_refusal, name_refusal, checkpoint_refusal, with_checkpoint}
 use Rattle.history_machine.specs.HistoryMaps.{checkpoint_root-map, changed-map, checkpoint_refusal-map, with_checkpoint-map}
 use Rattle.history_machine.specs.Descriptors.{any_open}
-use Rattle.history_machine.specs.Machine.{Machine, IsMachine, has_paths, travel_refusal, log_of, refusal, answer_of, machine_of, reply_of, is_accepted, makes_version, tree_after, machine_with}
+use Rattle.history_machine.specs.Machine.{Machine, IsMachine, Space, has_paths, travel_refusal, log_of, refusal, answer_of, machine_of, reply_of, is_accepted, makes_version, tree_after, machine_with}
 use Rattle.history_machine.proofs.Kept.{machine_law}
 use Rattle.fs_types.specs.declared.calls.Call.{Call}
 use Rattle.fs_types.specs.declared.calls.Reply.{Reply}
 use Rattle.fs_types.specs.declared.calls.Version.{Version}
 use Rattle.fs_types.specs.declared.faults.Fault.{Fault}
 use Rattle.fs_types.specs.declared.faults.Fault.TheVariants.{PowerCut}
-use Rattle.flash_model.specs.Device.{Device}
 use Rattle.node_store.specs.declared.storage.Storage.{Storage}
 use Rattle.history.specs.Answers.{answer}
+use Rattle.working_state.specs.Moments.{Moment, machine_at, seen_at, IsMountedAt, Steps, tree_at, moment}
 use Rattle.working_state.specs.Changes.{IsReadOnly, IsOverflow}
 use Rattle.working_state.specs.Leaves.{Leaves}
-use Rattle.working_state.specs.Seen.{Seen, seen_on, machine_on, tree_on}
+use Rattle.working_state.specs.Roots.{IsSpace}
+use Rattle.working_state.specs.Seen.{Seen}
 use Rattle.read_only.specs.Modes.{is_read_only}
-use Rattle.working_state.specs.Steps.{last_serial, replied, empty, is_cut, is_writing, is_for_record, MayRefuse, Answers, IsLater, CallStep}
-use Rattle.working_state.specs.Mounted.{IsMounted, StateStep}
+use Rattle.working_state.specs.Steps.{last_serial, replied, empty, is_cut, is_writing, is_for_record, tells_space, MayRefuse, Answers, IsLater, CallStep}
 use Rattle.working_state.specs.declared.state.State.{State}
+use Rattle.working_state.proofs.Roots.{with_history, at_history}
 use Rattle.working_state.proofs.Standing.{AllStand, still_leaves}
-
--- the state with another history
-abbrev pub with_history : State → Past ℕ → State
-with_history s p = record s { history = p }
 
 same-later : (old : Seen) → IsLater old old
 same-later old = record { capacity = refl; failed_reads = omega arith; failures = refl; listed = omega arith; taken = refl; cuts = omega arith; was_on = λ e. e; stays_read_only = λ e. e }
 
-module _ (d : Device) (s : State) (call : Call) where
+module _ (a : Moment) (call : Call) where
   abbrev before : Machine
-  before = machine_on d s
+  before = machine_at a
+
+  -- the space that is left is told
+  abbrev TellsSpace : Result Reply Fault → State → Type 0
+  TellsSpace result t = IfOk result (λ reply. (space : Space) × IsSpace a.device t space × (answer_of space before call (refusal before call) ≡ Ok reply))
 
   -- a call that does no device operation, and is answered so
-  pub still_step : (t : State) (result : Result Reply Fault) → t.storage ≡ s.storage → (s.is_off ≡ true → t ≡ s) → CallStep (seen_on d s) before s.is_off call result (seen_on d t) (machine_on d t) t.is_off → StateStep d s call result d t
-  still_step t result same stopped step = record {
+  pub still_step : (t : State) (result : Result Reply Fault) → t.storage ≡ a.state.storage → (a.state.is_off ≡ true → t ≡ a.state) → (tells_space call ≡ true → TellsSpace result t) → CallStep (seen_at a) before a.state.is_off call result (seen_at (moment a.device t)) (machine_at (moment a.device t)) t.is_off → Steps a call result (moment a.device t)
+  still_step t result same stopped told step = record {
     step = step;
-    leaves = subst (λ (x : Storage). Leaves before call d s.storage d x) (sym same) (still_leaves before d s.storage call);
+    told = told;
+    leaves = subst (λ (x : Storage). Leaves before call a.device a.state.storage a.device x) (sym same) (still_leaves before a.device a.state.storage call);
     stopped = λ off. (refl, stopped off);
   }
 
   -- a call that was carried out
-  pub done : (p : Past ℕ) (reply : Reply) → s.is_off ≡ false → refusal before call ≡ None → reply_of (seen_on d s).space before call ≡ reply → machine_of before call None ≡ machine_on d (with_history s p)
-      → (is_writing before call ≡ true → is_read_only s.storage.bad ≡ false) → (makes_version before call ≡ true → s.history.next < last_serial) → StateStep d s call (Ok reply) d (with_history s p)
-  done p reply on ok tells leaves writable serial = still_step (with_history s p) (Ok reply) refl (λ off. absurd (both_ways s.is_off on off)) (record {
-    later = same-later (seen_on d s);
+  pub done : (p : Past ℕ) (reply : Reply) → a.state.is_off ≡ false → tells_space call ≡ false → refusal before call ≡ None → ((space : Space) → reply_of space before call ≡ reply) → machine_of before call None ≡ machine_at (at_history a p)
+      → (is_writing before call ≡ true → is_read_only a.state.storage.bad ≡ false) → (makes_version before call ≡ true → a.state.history.next < last_serial) → Steps a call (Ok reply) (at_history a p)
+  done p reply on plain ok tells leaves writable serial = still_step (with_history a.state p) (Ok reply) refl (λ off. absurd (both_ways a.state.is_off on off)) (λ space. absurd (both_ways (tells_space call) plain space)) (record {
+    later = same-later (seen_at a);
     answers = (
       on,
       record {
-        answered = ap (answer_of (seen_on d s).space before call) ok ∙ ap Ok tells;
+        accepted = ok;
+        answered = λ space _. ap (answer_of space before call) ok ∙ ap Ok (tells space);
         leaves = sym (ap (machine_of before call) ok ∙ leaves);
         writable = λ writes. (writable writes, writable writes);
         serial_left = serial;
@@ -64,31 +67,31 @@ module _ (d : Device) (s : State) (call : Call) where
   })
 
   -- a call that was refused
-  pub refused : (fault : Fault) → s.is_off ≡ false → is_cut fault ≡ false → (refusal before call ≡ Some fault) ⊎ MayRefuse (seen_on d s) before call fault (seen_on d s) → StateStep d s call (Err fault) d s
-  refused fault on no_cut why = still_step s (Err fault) refl (λ _. refl) (record {
-    later = same-later (seen_on d s);
-    answers = subst (λ off. Answers (seen_on d s) before off call (Err fault) (seen_on d s) before off) (sym on) (why, refl, sym no_cut);
+  pub refused : (fault : Fault) → a.state.is_off ≡ false → is_cut fault ≡ false → (refusal before call ≡ Some fault) ⊎ MayRefuse (seen_at a) before call fault (seen_at a) → Steps a call (Err fault) a
+  refused fault on no_cut why = still_step a.state (Err fault) refl (λ _. refl) (λ _. tt) (record {
+    later = same-later (seen_at a);
+    answers = subst (λ off. Answers (seen_at a) before off call (Err fault) (seen_at a) before off) (sym on) (why, refl, sym no_cut);
   })
 
   -- a call where an earlier one answered that the power is off
-  pub off_step : (fault : Fault) → (fault ≡ PowerCut) × (s.is_off ≡ true) → StateStep d s call (Err fault) d s
-  off_step fault why = still_step s (Err fault) refl (λ _. refl) (record {
-    later = same-later (seen_on d s);
-    answers = subst (λ off. Answers (seen_on d s) before off call (Err fault) (seen_on d s) before off) (sym why.1) (why.0, refl, refl, refl);
+  pub off_step : (fault : Fault) → (fault ≡ PowerCut) × (a.state.is_off ≡ true) → Steps a call (Err fault) a
+  off_step fault why = still_step a.state (Err fault) refl (λ _. refl) (λ _. tt) (record {
+    later = same-later (seen_at a);
+    answers = subst (λ off. Answers (seen_at a) before off call (Err fault) (seen_at a) before off) (sym why.1) (why.0, refl, refl, refl);
   })
 
-  pub refused_off : {T : Type 0} (f : T → Reply) (fault : Fault) (result : Result T Fault) → result ≡ Err fault → (fault ≡ PowerCut) × (s.is_off ≡ true) → StateStep d s call (replied f result) d s
-  refused_off f fault result is why = subst (λ r. StateStep d s call (replied f r) d s) (sym is) (off_step fault why)
+  pub refused_off : {T : Type 0} (f : T → Reply) (fault : Fault) (result : Result T Fault) → result ≡ Err fault → (fault ≡ PowerCut) × (a.state.is_off ≡ true) → Steps a call (replied f result) a
+  refused_off f fault result is why = subst (λ r. Steps a call (replied f r) a) (sym is) (off_step fault why)
 
   -- a call that the history answers
-  pub answered : (r : Option Fault) (result : Result (Unit {0}) Fault) (after p : Past ℕ) → result ≡ answer r → OnOk result (p ≡ after) → OnErr result (p ≡ s.history)
-      → (r ≡ None → StateStep d s call (Ok Reply.Empty) d (with_history s after)) → ((fault : Fault) → r ≡ Some fault → StateStep d s call (Err fault) d s) → StateStep d s call (replied empty result) d (with_history s p)
-  answered r (Ok x) after p is ok err accepts refuses = subst (λ q. StateStep d s call (Ok Reply.Empty) d (with_history s q)) (sym ok) (accepts (go r is))
+  pub answered : (r : Option Fault) (result : Result (Unit {0}) Fault) (after p : Past ℕ) → result ≡ answer r → OnOk result (p ≡ after) → OnErr result (p ≡ a.state.history)
+      → (r ≡ None → Steps a call (Ok Reply.Empty) (at_history a after)) → ((fault : Fault) → r ≡ Some fault → Steps a call (Err fault) a) → Steps a call (replied empty result) (at_history a p)
+  answered r (Ok x) after p is ok err accepts refuses = subst (λ q. Steps a call (Ok Reply.Empty) (at_history a q)) (sym ok) (accepts (go r is))
     where
       go : (r : Option Fault) → Ok x ≡ answer r → r ≡ None
       go None e = refl
       go (Some fault) e = cc
-  answered r (Err fault) after p is ok err accepts refuses = subst (λ q. StateStep d s call (Err fault) d (with_history s q)) (sym err) (refuses fault (go r is))
+  answered r (Err fault) after p is ok err accepts refuses = subst (λ q. Steps a call (Err fault) (at_history a q)) (sym err) (refuses fault (go r is))
     where
       go : (r : Option Fault) → Err fault ≡ answer r → r ≡ Some fault
       go None e = cc
@@ -113,15 +116,15 @@ writes-record m call ok e = and_from (is_accepted m call) _ (ap is_none ok) (ap 
     go false = refl
 
 -- what refuses a change that the machine accepts, and that needs no node
-pub refused_change : (d : Device) (s : State) (call : Call) (fault : Fault) → s.is_off ≡ false → makes_version (machine_on d s) call ≡ true
-    → ((fault ≡ Fault.ReadOnly) × IsReadOnly s.history s.storage s.storage) ⊎ ((fault ≡ Fault.Overflow) × IsOverflow s.history s.storage) → StateStep d s call (Err fault) d s
-refused_change d s call fault on makes (inl why) = subst (λ f. StateStep d s call (Err f) d s) (sym why.0) (refused d s call Fault.ReadOnly on refl (inr (writes-version (machine_on d s) call makes, why.1.on, λ off made. why.1.serial_left off)))
-refused_change d s call fault on makes (inr why) = subst (λ f. StateStep d s call (Err f) d s) (sym why.0) (refused d s call Fault.Overflow on refl (inr (makes, why.1.writable, why.1.last)))
+pub refused_change : (a : Moment) (call : Call) (fault : Fault) → a.state.is_off ≡ false → makes_version (machine_at a) call ≡ true
+    → ((fault ≡ Fault.ReadOnly) × IsReadOnly a.state.history a.state.storage a.state.storage) ⊎ ((fault ≡ Fault.Overflow) × IsOverflow a.state.history a.state.storage) → Steps a call (Err fault) a
+refused_change a call fault on makes (inl why) = subst (λ f. Steps a call (Err f) a) (sym why.0) (refused a call Fault.ReadOnly on refl (inr (writes-version (machine_at a) call makes, why.1.on, λ off made. why.1.serial_left off)))
+refused_change a call fault on makes (inr why) = subst (λ f. Steps a call (Err f) a) (sym why.0) (refused a call Fault.Overflow on refl (inr (makes, why.1.writable, why.1.last)))
 
 -- what refuses another call that the record has to take
-pub refused_record : (d : Device) (s : State) (call : Call) (fault : Fault) → s.is_off ≡ false → refusal (machine_on d s) call ≡ None → is_for_record call ≡ true
-    → (fault ≡ Fault.ReadOnly) × (is_read_only s.storage.bad ≡ true) → StateStep d s call (Err fault) d s
-refused_record d s call fault on ok record_call why = subst (λ f. StateStep d s call (Err f) d s) (sym why.0) (refused d s call Fault.ReadOnly on refl (inr (writes-record (machine_on d s) call ok record_call, why.1, λ off. absurd (both_ways (is_read_only s.storage.bad) off why.1))))
+pub refused_record : (a : Moment) (call : Call) (fault : Fault) → a.state.is_off ≡ false → refusal (machine_at a) call ≡ None → is_for_record call ≡ true
+    → (fault ≡ Fault.ReadOnly) × (is_read_only a.state.storage.bad ≡ true) → Steps a call (Err fault) a
+refused_record a call fault on ok record_call why = subst (λ f. Steps a call (Err f) a) (sym why.0) (refused a call Fault.ReadOnly on refl (inr (writes-record (machine_at a) call ok record_call, why.1, λ off. absurd (both_ways (is_read_only a.state.storage.bad) off why.1))))
 
 -- no file is open, so that the present version may move
 pub may_travel : (m : Machine) (refused : Option Fault) → any_open m.descriptors ≡ false → travel_refusal m refused ≡ refused
@@ -131,27 +134,27 @@ pub may_not_travel : (m : Machine) (refused : Option Fault) → any_open m.descr
 may_not_travel m refused some = ap (λ b. cond b (Some Fault.Busy) refused) some
 
 -- a call that would move the present version, where a file is open
-pub refused_open : (d : Device) (s : State) (call : Call) (fault : Fault) (other : Option Fault) → s.is_off ≡ false → refusal (machine_on d s) call ≡ travel_refusal (machine_on d s) other
-    → (fault ≡ Fault.Busy) × (any_open s.files ≡ true) → StateStep d s call (Err fault) d s
-refused_open d s call fault other on travels why =
-    subst (λ f. StateStep d s call (Err f) d s) (sym why.0) (refused d s call Fault.Busy on refl (inl (travels ∙ may_not_travel (machine_on d s) other why.1)))
+pub refused_open : (a : Moment) (call : Call) (fault : Fault) (other : Option Fault) → a.state.is_off ≡ false → refusal (machine_at a) call ≡ travel_refusal (machine_at a) other
+    → (fault ≡ Fault.Busy) × (any_open a.state.files ≡ true) → Steps a call (Err fault) a
+refused_open a call fault other on travels why =
+    subst (λ f. Steps a call (Err f) a) (sym why.0) (refused a call Fault.Busy on refl (inl (travels ∙ may_not_travel (machine_at a) other why.1)))
 
 -- Rollback to a checkpoint that is there.
 
-module _ (d : Device) (s : State) (name : Name) (root : ℕ) (none : any_open s.files ≡ false) (there : checkpoint_root s.history name ≡ Some root) where
-  seen_there : checkpoint_root (map_roots (tree_on d) s.history) name ≡ Some (tree_on d root)
-  seen_there = checkpoint_root-map (tree_on d) s.history name ∙ ap (option_map (tree_on d)) there
+module _ (a : Moment) (name : Name) (root : ℕ) (none : any_open a.state.files ≡ false) (there : checkpoint_root a.state.history name ≡ Some root) where
+  seen_there : checkpoint_root (map_roots (tree_at a) a.state.history) name ≡ Some (tree_at a root)
+  seen_there = checkpoint_root-map (tree_at a) a.state.history name ∙ ap (option_map (tree_at a)) there
 
-  pub rollback-accepted : refusal (machine_on d s) (Call.Rollback name) ≡ None
-  rollback-accepted = may_travel (machine_on d s) _ none ∙ ap (λ o. cond (is_none o) (Some Fault.NoSuchVersion) None) seen_there
+  pub rollback-accepted : refusal (machine_at a) (Call.Rollback name) ≡ None
+  rollback-accepted = may_travel (machine_at a) _ none ∙ ap (λ o. cond (is_none o) (Some Fault.NoSuchVersion) None) seen_there
 
-  pub rollback-makes : makes_version (machine_on d s) (Call.Rollback name) ≡ true
-  rollback-makes = and_from (is_accepted (machine_on d s) (Call.Rollback name)) _ (ap is_none rollback-accepted) (ap is_some seen_there)
+  pub rollback-makes : makes_version (machine_at a) (Call.Rollback name) ≡ true
+  rollback-makes = and_from (is_accepted (machine_at a) (Call.Rollback name)) _ (ap is_none rollback-accepted) (ap is_some seen_there)
 
-  pub rollback-leaves : machine_of (machine_on d s) (Call.Rollback name) None ≡ machine_on d (with_history s (changed s.history root))
+  pub rollback-leaves : machine_of (machine_at a) (Call.Rollback name) None ≡ machine_at (at_history a (changed a.state.history root))
   rollback-leaves =
-      let h = map_roots (tree_on d) s.history in
-      ap (λ (x : Past Tree). machine_with x s.files) (ap (λ o. option_map_or (changed h) o h) seen_there ∙ changed-map (tree_on d) s.history root)
+      let h = map_roots (tree_at a) a.state.history in
+      ap (λ (x : Past Tree). machine_with x a.state.files) (ap (λ o. option_map_or (changed h) o h) seen_there ∙ changed-map (tree_at a) a.state.history root)
 
 -- A checkpoint.
 
@@ -166,16 +169,16 @@ module _ {R : Type 0} (p : Past R) (name : Name) where
   checkpoint-free new few = (λ i. cond (new i) (Some Fault.Exists) (cond (lt-leb 16 (length p.checkpoints) few i) (Some Fault.CheckpointsFull) None))
 
 -- a checkpoint that the machine accepts, which may want memory
-pub checkpointed : (d : Device) (s : State) (name : Name) (result : Result (Unit {0}) Fault) (p : Past ℕ) → s.is_off ≡ false → is_read_only s.storage.bad ≡ false → checkpoint_refusal s.history name ≡ None
-    → OnOk result (p ≡ with_checkpoint s.history name) → IfErr result (λ fault. fault ≡ unwrap_or (checkpoint_refusal s.history name) Fault.NoMemory) → OnErr result (p ≡ s.history)
-    → StateStep d s (Call.Checkpoint name) (replied empty result) d (with_history s p)
-checkpointed d s name (Ok x) p on writable free ok why err =
-    subst (λ q. StateStep d s (Call.Checkpoint name) (Ok Reply.Empty) d (with_history s q)) (sym ok)
-    (done d s (Call.Checkpoint name) (with_checkpoint s.history name) Reply.Empty on (checkpoint_refusal-map (tree_on d) s.history name ∙ free) refl (ap (λ (h : Past Tree). machine_with h s.files) (with_checkpoint-map (tree_on d) s.history name)) (λ _. writable) (λ e. absurd (never _ e)))
-checkpointed d s name (Err fault) p on writable free ok why err =
+pub checkpointed : (a : Moment) (name : Name) (result : Result (Unit {0}) Fault) (p : Past ℕ) → a.state.is_off ≡ false → is_read_only a.state.storage.bad ≡ false → checkpoint_refusal a.state.history name ≡ None
+    → OnOk result (p ≡ with_checkpoint a.state.history name) → IfErr result (λ fault. fault ≡ unwrap_or (checkpoint_refusal a.state.history name) Fault.NoMemory) → OnErr result (p ≡ a.state.history)
+    → Steps a (Call.Checkpoint name) (replied empty result) (at_history a p)
+checkpointed a name (Ok x) p on writable free ok why err =
+    subst (λ q. Steps a (Call.Checkpoint name) (Ok Reply.Empty) (at_history a q)) (sym ok)
+    (done a (Call.Checkpoint name) (with_checkpoint a.state.history name) Reply.Empty on refl (checkpoint_refusal-map (tree_at a) a.state.history name ∙ free) (λ _. refl) (ap (λ (h : Past Tree). machine_with h a.state.files) (with_checkpoint-map (tree_at a) a.state.history name)) (λ _. writable) (λ e. absurd (never _ e)))
+checkpointed a name (Err fault) p on writable free ok why err =
     let want : fault ≡ Fault.NoMemory = why ∙ ap (λ o. unwrap_or o Fault.NoMemory) free in
-    subst (λ q. StateStep d s (Call.Checkpoint name) (Err fault) d (with_history s q)) (sym err)
-    (subst (λ f. StateStep d s (Call.Checkpoint name) (Err f) d s) (sym want) (refused d s (Call.Checkpoint name) Fault.NoMemory on refl (inr refl)))
+    subst (λ q. Steps a (Call.Checkpoint name) (Err fault) (at_history a q)) (sym err)
+    (subst (λ f. Steps a (Call.Checkpoint name) (Err f) a) (sym want) (refused a (Call.Checkpoint name) Fault.NoMemory on refl (inr refl)))
 
 -- Log tells nothing of roots.
 
@@ -202,23 +205,22 @@ still_machine s t m n true off' call (Err fault) is paths step = subst IsMachine
 still_machine s t m n false off' call (Err fault) is paths step = subst IsMachine (sym step.answers.1) is
 
 -- a call that leaves another history, on roots that stand
-pub mounted_by : (d : Device) (s : State) (call : Call) (result : Result Reply Fault) (p : Past ℕ) → IsMounted d s → has_paths call ≡ true → StateStep d s call result d (with_history s p) → AllStand d s.storage.ring p → IsMounted d (with_history s p)
-mounted_by d s call result p is paths step all = record {
+pub mounted_by : (a : Moment) (call : Call) (result : Result Reply Fault) (p : Past ℕ) → IsMountedAt a → has_paths call ≡ true → Steps a call result (at_history a p) → AllStand (at_history a p) → IsMountedAt (at_history a p)
+mounted_by a call result p is paths step all = record {
   lawful = is.lawful;
   ring_blocks = is.ring_blocks;
   page_len = is.page_len;
   node_room = is.node_room;
-  versions = all.versions;
-  checkpoints = all.checkpoints;
-  machine = still_machine (seen_on d s) (seen_on d s) (machine_on d s) (machine_on d (with_history s p)) s.is_off s.is_off call result is.machine paths step.step;
+  roots = all;
+  machine = still_machine (seen_at a) (seen_at a) (machine_at a) (machine_at (at_history a p)) a.state.is_off a.state.is_off call result is.machine paths step.step;
   off = is.off;
 }
 
 -- a call that the history answers
-pub mounted_after : (d : Device) (s : State) (call : Call) (result : Result (Unit {0}) Fault) (after p : Past ℕ) → OnOk result (p ≡ after) → OnErr result (p ≡ s.history)
-    → IsMounted d s → has_paths call ≡ true → StateStep d s call (replied empty result) d (with_history s p) → AllStand d s.storage.ring after → IsMounted d (with_history s p)
-mounted_after d s call result after p ok err is paths step all =
-    mounted_by d s call (replied empty result) p is paths step (by_result result (AllStand d s.storage.ring) after s.history p ok err all (record { versions = is.versions; checkpoints = is.checkpoints }))
+pub mounted_after : (a : Moment) (call : Call) (result : Result (Unit {0}) Fault) (after p : Past ℕ) → OnOk result (p ≡ after) → OnErr result (p ≡ a.state.history)
+    → IsMountedAt a → has_paths call ≡ true → Steps a call (replied empty result) (at_history a p) → AllStand (at_history a after) → IsMountedAt (at_history a p)
+mounted_after a call result after p ok err is paths step all =
+    mounted_by a call (replied empty result) p is paths step (by_result result (λ h. AllStand (at_history a h)) after a.state.history p ok err all is.roots)
 
 -- No refusal of the history is a cut of power.
 

@@ -21,49 +21,46 @@ use Rattle.directory.specs.declared.lookups.Found.{Found}
 use Rattle.directory.specs.declared.lookups.Found.TheVariants as found
 use Rattle.directory.specs.Lookups.{look_up}
 use Rattle.directory.proofs.LookupLaws.{found_leads}
-use Rattle.working_state.specs.Seen.{capacity_of, tree_on, seen_on, machine_on}
-use Rattle.working_state.specs.Steps.{Refuses}
-use Rattle.working_state.specs.Mounted.{IsMounted}
+use Rattle.working_state.specs.Moments.{Moment, machine_at, seen_at, IsMountedAt, IsRefused, nodes_at, capacity_at, tree_at}
 use Rattle.working_state.specs.Worked.{IsLooked}
-use Rattle.working_state.specs.declared.state.State.{State}
 use Rattle.working_state.proofs.ChangeSteps.{later_tree}
 use Rattle.working_state.proofs.ChangedCalls.{IsChangeBy}
 use Rattle.working_state.proofs.PathCalls.{present_tree_is, present_stands, LooksUp, found_by}
 
 -- An empty directory.
 
-pub rmdir_looks : (d : Device) (s : State) (path : Path) (root : ℕ) → IsMounted d s → present_root s.history ≡ Some root → (length path == 0) ≡ false → LooksUp d s (Call.Rmdir path) root path (rmdir_refusal (tree_on d root) path)
-rmdir_looks d s path root m is below = record {
-  rooted = (present_stands d s root m is).rooted;
+pub rmdir_looks : (a : Moment) (path : Path) (root : ℕ) → IsMountedAt a → present_root a.state.history ≡ Some root → (length path == 0) ≡ false → LooksUp a (Call.Rmdir path) root path (rmdir_refusal (tree_at a root) path)
+rmdir_looks a path root m is below = record {
+  rooted = (present_stands a root m is).rooted;
   heavy = refl;
-  by_path = ap (λ (t : Tree). if length path == 0 then Some Busy else found_refusal t path (rmdir_refusal t path)) (present_tree_is d s root is)
-      ∙ ap (λ b. if b then Some Busy else found_refusal (tree_on d root) path (rmdir_refusal (tree_on d root) path)) below;
+  by_path = ap (λ (t : Tree). if length path == 0 then Some Busy else found_refusal t path (rmdir_refusal t path)) (present_tree_is a root is)
+      ∙ ap (λ b. if b then Some Busy else found_refusal (tree_at a root) path (rmdir_refusal (tree_at a root) path)) below;
 }
 
 -- the number of entries that was read
-pub rmdir_count : (d : Device) (s : State) (path : Path) (root block : ℕ) (items : List Item) → IsMounted d s → present_root s.history ≡ Some root → look_up (node_of d) root path ≡ Ok (found.Dir block) → entries_in (node_of d) block ≡ Some items
-    → entry_count (tree_on d root) path ≡ length items
-rmdir_count d s path root block items m is led spelled =
-    ap length ((map_law (capacity_of d) (node_of d) root (present_stands d s root m is).rooted).lists path block (found_leads (node_of d) root path block led))
-    ∙ length-map (unwrap_or (entries_in (node_of d) block) []) (λ (item : Item). (item.name, is_dir_place item.place))
+pub rmdir_count : (a : Moment) (path : Path) (root block : ℕ) (items : List Item) → IsMountedAt a → present_root a.state.history ≡ Some root → look_up (nodes_at a) root path ≡ Ok (found.Dir block) → entries_in (nodes_at a) block ≡ Some items
+    → entry_count (tree_at a root) path ≡ length items
+rmdir_count a path root block items m is led spelled =
+    ap length ((map_law (capacity_at a) (nodes_at a) root (present_stands a root m is).rooted).lists path block (found_leads (nodes_at a) root path block led))
+    ∙ length-map (unwrap_or (entries_in (nodes_at a) block) []) (λ (item : Item). (item.name, is_dir_place item.place))
     ∙ ap (λ (o : Option (List Item)). length (unwrap_or o [])) spelled
 
 -- what is refused for a directory of so many entries
-pub rmdir_counted : (d : Device) (s : State) (e : Device) (path : Path) (root block : ℕ) (items : List Item) (x : Found) → IsMounted d s → present_root s.history ≡ Some root → (length path == 0) ≡ false → node_of e ≡ node_of d
-    → look_up (node_of d) root path ≡ Ok x → x ≡ found.Dir block → entries_in (node_of e) block ≡ Some items
-    → refusal (machine_on d s) (Call.Rmdir path) ≡ (if nat_lt 0 (length items) then Some NotEmpty else None)
-rmdir_counted d s e path root block items x m is below same led called spelled =
-    let dir : look_up (node_of d) root path ≡ Ok (found.Dir block) = subst (λ z. look_up (node_of d) root path ≡ Ok z) called led in
-    let here : entries_in (node_of d) block ≡ Some items = ap (λ (g : Blocks). entries_in g block) (sym same) ∙ spelled in
-    found_by d s (Call.Rmdir path) root path (rmdir_refusal (tree_on d root) path) (rmdir_looks d s path root m is below) x (found.Dir block) led called
-    ∙ ap (λ n. if nat_lt 0 n then Some NotEmpty else None) (rmdir_count d s path root block items m is dir here)
+pub rmdir_counted : (a : Moment) (e : Device) (path : Path) (root block : ℕ) (items : List Item) (x : Found) → IsMountedAt a → present_root a.state.history ≡ Some root → (length path == 0) ≡ false → node_of e ≡ nodes_at a
+    → look_up (nodes_at a) root path ≡ Ok x → x ≡ found.Dir block → entries_in (node_of e) block ≡ Some items
+    → refusal (machine_at a) (Call.Rmdir path) ≡ (if nat_lt 0 (length items) then Some NotEmpty else None)
+rmdir_counted a e path root block items x m is below same led called spelled =
+    let dir : look_up (nodes_at a) root path ≡ Ok (found.Dir block) = subst (λ z. look_up (nodes_at a) root path ≡ Ok z) called led in
+    let here : entries_in (nodes_at a) block ≡ Some items = ap (λ (g : Blocks). entries_in g block) (sym same) ∙ spelled in
+    found_by a (Call.Rmdir path) root path (rmdir_refusal (tree_at a root) path) (rmdir_looks a path root m is below) x (found.Dir block) led called
+    ∙ ap (λ n. if nat_lt 0 n then Some NotEmpty else None) (rmdir_count a path root block items m is dir here)
 
 -- a directory with entries
-pub rmdir_refuses : (d : Device) (s : State) (e : Device) (f : Device) (u : State) (path : Path) (root block count : ℕ) (items : List Item) (x : Found) → IsMounted d s → present_root s.history ≡ Some root → (length path == 0) ≡ false → node_of e ≡ node_of d
-    → look_up (node_of d) root path ≡ Ok x → x ≡ found.Dir block → entries_in (node_of e) block ≡ Some items → count ≡ length items → 0 < count
-    → Refuses (seen_on d s) (machine_on d s) (Call.Rmdir path) NotEmpty (seen_on f u)
-rmdir_refuses d s e f u path root block count items x m is below same led called spelled counts some =
-    inl (rmdir_counted d s e path root block items x m is below same led called spelled
+pub rmdir_refuses : (a : Moment) (e : Device) (c : Moment) (path : Path) (root block count : ℕ) (items : List Item) (x : Found) → IsMountedAt a → present_root a.state.history ≡ Some root → (length path == 0) ≡ false → node_of e ≡ nodes_at a
+    → look_up (nodes_at a) root path ≡ Ok x → x ≡ found.Dir block → entries_in (node_of e) block ≡ Some items → count ≡ length items → 0 < count
+    → IsRefused a (Call.Rmdir path) NotEmpty c
+rmdir_refuses a e c path root block count items x m is below same led called spelled counts some =
+    inl (rmdir_counted a e path root block items x m is below same led called spelled
     ∙ ap (λ b. if b then Some NotEmpty else None) (lt-ltb 0 (length items) (omega arith)))
 
 -- no entries were counted
@@ -80,18 +77,18 @@ emptied f g h path root block count items x same again led called spelled counts
   ap (λ (k : Blocks). entries_in k block) again ∙ spelled ∙ ap Some (none_counted count items counts few),
 )
 
-pub rmdir_accepts : (d : Device) (s : State) (e : Device) (path : Path) (root block count : ℕ) (items : List Item) (x : Found) → IsMounted d s → present_root s.history ≡ Some root → (length path == 0) ≡ false → node_of e ≡ node_of d
-    → look_up (node_of d) root path ≡ Ok x → x ≡ found.Dir block → entries_in (node_of e) block ≡ Some items → count ≡ length items → count ≤ 0
-    → refusal (machine_on d s) (Call.Rmdir path) ≡ None
-rmdir_accepts d s e path root block count items x m is below same led called spelled counts few =
-    rmdir_counted d s e path root block items x m is below same led called spelled
+pub rmdir_accepts : (a : Moment) (e : Device) (path : Path) (root block count : ℕ) (items : List Item) (x : Found) → IsMountedAt a → present_root a.state.history ≡ Some root → (length path == 0) ≡ false → node_of e ≡ nodes_at a
+    → look_up (nodes_at a) root path ≡ Ok x → x ≡ found.Dir block → entries_in (node_of e) block ≡ Some items → count ≡ length items → count ≤ 0
+    → refusal (machine_at a) (Call.Rmdir path) ≡ None
+rmdir_accepts a e path root block count items x m is below same led called spelled counts few =
+    rmdir_counted a e path root block items x m is below same led called spelled
     ∙ ap (λ (all : List Item). if nat_lt 0 (length all) then Some NotEmpty else None) (none_counted count items counts few)
 
-pub rmdir_change : (d : Device) (s : State) (e : Device) (t : State) (path : Path) → IsMounted d s → IsLooked d s e t → refusal (machine_on d s) (Call.Rmdir path) ≡ None → is_path path ≡ true → 0 < length path
-    → IsChangeBy d s (Call.Rmdir path) (λ root. remove (tree_on e root) path) Reply.Empty
-rmdir_change d s e t path m l fine lawful below = record {
+pub rmdir_change : (a b : Moment) (path : Path) → IsMountedAt a → IsLooked a b → refusal (machine_at a) (Call.Rmdir path) ≡ None → is_path path ≡ true → 0 < length path
+    → IsChangeBy a (Call.Rmdir path) (λ root. remove (tree_at b root) path) Reply.Empty
+rmdir_change a b path m l fine lawful below = record {
   fine = fine;
-  after = λ root is. ap (λ (x : Tree). Some (remove x path)) (later_tree d s e t root m is l);
+  after = λ root is. ap (λ (x : Tree). Some (remove x path)) (later_tree a b root m is l);
   heavy = refl;
   moves = refl;
   paths = lawful;
@@ -105,25 +102,25 @@ pub file_below : (f : Blocks) (root : ℕ) (path : Path) (head size : ℕ) → l
 file_below f root [] head size e = absurd cc
 file_below f root (n ∷ path) head size e = omega arith
 
-pub unlink_looks : (d : Device) (s : State) (path : Path) (root : ℕ) → IsMounted d s → present_root s.history ≡ Some root → LooksUp d s (Call.Unlink path) root path (unlink_refusal (machine_on d s) path)
-unlink_looks d s path root m is = record {
-  rooted = (present_stands d s root m is).rooted;
+pub unlink_looks : (a : Moment) (path : Path) (root : ℕ) → IsMountedAt a → present_root a.state.history ≡ Some root → LooksUp a (Call.Unlink path) root path (unlink_refusal (machine_at a) path)
+unlink_looks a path root m is = record {
+  rooted = (present_stands a root m is).rooted;
   heavy = refl;
-  by_path = ap (λ (t : Tree). found_refusal t path (unlink_refusal (machine_on d s) path)) (present_tree_is d s root is);
+  by_path = ap (λ (t : Tree). found_refusal t path (unlink_refusal (machine_at a) path)) (present_tree_is a root is);
 }
 
 -- a file that is open or not
-pub unlink_found : (d : Device) (s : State) (files : Descriptors) (path : Path) (root head size : ℕ) (x : Found) (busy : Bool) → IsMounted d s → present_root s.history ≡ Some root → files ≡ s.files → look_up (node_of d) root path ≡ Ok x → x ≡ found.File head size
-    → is_open files path ≡ busy → refusal (machine_on d s) (Call.Unlink path) ≡ (if busy then Some Busy else None)
-unlink_found d s files path root head size x busy m is same led called told =
-    found_by d s (Call.Unlink path) root path (unlink_refusal (machine_on d s) path) (unlink_looks d s path root m is) x (found.File head size) led called
+pub unlink_found : (a : Moment) (files : Descriptors) (path : Path) (root head size : ℕ) (x : Found) (busy : Bool) → IsMountedAt a → present_root a.state.history ≡ Some root → files ≡ a.state.files → look_up (nodes_at a) root path ≡ Ok x → x ≡ found.File head size
+    → is_open files path ≡ busy → refusal (machine_at a) (Call.Unlink path) ≡ (if busy then Some Busy else None)
+unlink_found a files path root head size x busy m is same led called told =
+    found_by a (Call.Unlink path) root path (unlink_refusal (machine_at a) path) (unlink_looks a path root m is) x (found.File head size) led called
     ∙ ap (λ b. if b then Some Busy else None) (ap (λ (ds : Descriptors). is_open ds path) (sym same) ∙ told)
 
-pub unlink_change : (d : Device) (s : State) (e : Device) (t : State) (path : Path) → IsMounted d s → IsLooked d s e t → refusal (machine_on d s) (Call.Unlink path) ≡ None → is_path path ≡ true → 0 < length path
-    → IsChangeBy d s (Call.Unlink path) (λ root. remove (tree_on e root) path) Reply.Empty
-unlink_change d s e t path m l fine lawful below = record {
+pub unlink_change : (a b : Moment) (path : Path) → IsMountedAt a → IsLooked a b → refusal (machine_at a) (Call.Unlink path) ≡ None → is_path path ≡ true → 0 < length path
+    → IsChangeBy a (Call.Unlink path) (λ root. remove (tree_at b root) path) Reply.Empty
+unlink_change a b path m l fine lawful below = record {
   fine = fine;
-  after = λ root is. ap (λ (x : Tree). Some (remove x path)) (later_tree d s e t root m is l);
+  after = λ root is. ap (λ (x : Tree). Some (remove x path)) (later_tree a b root m is l);
   heavy = refl;
   moves = refl;
   paths = lawful;

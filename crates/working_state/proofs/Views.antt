@@ -1,5 +1,5 @@
 -- Calls with a path in the tree that a view shows.
-use Rattle.std.proofs.Common.{◌≡◌, ℕ, false, Option, Some, None, refl, ap, subst, ◌∙◌, inl}
+use Rattle.std.proofs.Common.{◌≡◌, ℕ, false, Option, Some, None, List, refl, ap, subst, ◌∙◌, inl}
 use Rattle.std.proofs.lemmas.Option.{get_or_from_slice_get, slice_get_within}
 use Rattle.std.specs.Prelude.{slice_get, unwrap_or}
 use Rattle.std.specs.Option.{option_or, option_map, option_and_then}
@@ -15,52 +15,54 @@ use Rattle.fs_types.specs.declared.calls.View.{View}
 use Rattle.fs_types.specs.declared.calls.View.TheVariants.{Present, Serial, Checkpoint}
 use Rattle.fs_types.specs.declared.faults.Fault.{Fault}
 use Rattle.plain_trees.proofs.Beneath.{None≢Some, same_Some}
-use Rattle.flash_model.specs.Device.{Device}
-use Rattle.working_state.specs.Seen.{tree_on, seen_on, machine_on}
-use Rattle.working_state.specs.Steps.{is_light, Refuses}
-use Rattle.working_state.specs.Mounted.{IsStanding, IsMounted}
+use Rattle.working_state.specs.Moments.{Moment, machine_at, seen_at, IsMountedAt, IsRefused, tree_at}
+use Rattle.working_state.specs.Steps.{is_light}
+use Rattle.working_state.specs.Mounted.{IsStanding}
 use Rattle.working_state.specs.declared.state.State.{State}
-use Rattle.working_state.proofs.Roots.{AllVersions, AllCheckpoints, of_present, of_checkpoint}
+use Rattle.working_state.proofs.Roots.{AllRoots, of_versions, of_present, of_checkpoint}
 use Rattle.working_state.proofs.PathCalls.{LooksUp}
 
 -- the root that a view shows
-of_view : {R : Type 0} (P : R → Type 0) (p : Past R) (view : View) (root : R) → AllVersions P p → AllCheckpoints P p → view_root p view ≡ Some root → P root
-of_view P p Present root all kept e = of_present P p root all e
-of_view P p (Checkpoint name) root all kept e = of_checkpoint P p name root kept e
-of_view {R = R} P p (Serial serial) root all kept e = at (place_of p serial) e
+of_view : (P : ℕ → Type 0) (s : State) (view : View) (root : ℕ) → AllRoots P s → view_root s.history view ≡ Some root → P root
+of_view P s Present root all e = of_present P s root all e
+of_view P s (Checkpoint name) root all e = of_checkpoint P s name root all e
+of_view P s (Serial serial) root all e = at (place_of s.history serial) e
   where
-    go : (i : ℕ) (o : Option (Version R)) → slice_get p.versions i ≡ o → option_map (λ v. v.root) o ≡ Some root → P root
-    go i None is e = absurd (None≢Some e)
-    go i (Some v) is e = subst P (ap (λ w. w.root) (get_or_from_slice_get p.versions i v v is) ∙ same_Some e) (all i v (slice_get_within p.versions i v is))
+    versions : List (Version ℕ)
+    versions = s.history.versions
 
-    at : (o : Option ℕ) → option_map (λ v. v.root) (option_and_then (slice_get p.versions) o) ≡ Some root → P root
+    go : (i : ℕ) (o : Option (Version ℕ)) → slice_get versions i ≡ o → option_map (λ v. v.root) o ≡ Some root → P root
+    go i None is e = absurd (None≢Some e)
+    go i (Some v) is e = subst P (ap (λ w. w.root) (get_or_from_slice_get versions i v v is) ∙ same_Some e) (of_versions P s all i v (slice_get_within versions i v is))
+
+    at : (o : Option ℕ) → option_map (λ v. v.root) (option_and_then (slice_get versions) o) ≡ Some root → P root
     at None e = absurd (None≢Some e)
-    at (Some i) e = go i (slice_get p.versions i) refl e
+    at (Some i) e = go i (slice_get versions i) refl e
 
 -- a view that shows a root
 pub record Shows (h : Past ℕ) (view : View) (root : ℕ) : Type 0 where
   pub fine : view_refusal h view ≡ None
   pub shown : view_root h view ≡ Some root
 
-pub view_stands : (d : Device) (s : State) (view : View) (root : ℕ) → IsMounted d s → Shows s.history view root → IsStanding d s.storage.ring root
-view_stands d s view root m shows = of_view (IsStanding d s.storage.ring) s.history view root m.versions m.checkpoints shows.shown
+pub view_stands : (a : Moment) (view : View) (root : ℕ) → IsMountedAt a → Shows a.state.history view root → IsStanding a.device a.state.storage.ring root
+view_stands a view root m shows = of_view (IsStanding a.device a.state.storage.ring) a.state view root m.roots shows.shown
 
-pub view_tree_is : (d : Device) (s : State) (view : View) (root : ℕ) → Shows s.history view root → view_tree (machine_on d s) view ≡ tree_on d root
-view_tree_is d s view root shows = ap (λ o. unwrap_or o bare) (view_root-map (tree_on d) s.history view ∙ ap (option_map (tree_on d)) shows.shown)
+pub view_tree_is : (a : Moment) (view : View) (root : ℕ) → Shows a.state.history view root → view_tree (machine_at a) view ≡ tree_at a root
+view_tree_is a view root shows = ap (λ o. unwrap_or o bare) (view_root-map (tree_at a) a.state.history view ∙ ap (option_map (tree_at a)) shows.shown)
 
-view_fine : (d : Device) (s : State) (view : View) → view_refusal (machine_on d s).history view ≡ view_refusal s.history view
-view_fine d s view = view_refusal-map (tree_on d) s.history view
+view_fine : (a : Moment) (view : View) → view_refusal (machine_at a).history view ≡ view_refusal a.state.history view
+view_fine a view = view_refusal-map (tree_at a) a.state.history view
 
-module _ (d : Device) (s : State) (view : View) (path : Path) (call : Call) (refuse : Entry → Option Fault) (by_view : refusal (machine_on d s) call ≡ view_path_refusal (machine_on d s) view path refuse) where
+module _ (a : Moment) (view : View) (path : Path) (call : Call) (refuse : Entry → Option Fault) (by_view : refusal (machine_at a) call ≡ view_path_refusal (machine_at a) view path refuse) where
   -- a view that shows a root leaves the path to refuse
-  pub view_looks : (root : ℕ) → IsMounted d s → Shows s.history view root → is_light call ≡ false → LooksUp d s call root path refuse
+  pub view_looks : (root : ℕ) → IsMountedAt a → Shows a.state.history view root → is_light call ≡ false → LooksUp a call root path refuse
   view_looks root m shows heavy = record {
-    rooted = (view_stands d s view root m shows).rooted;
+    rooted = (view_stands a view root m shows).rooted;
     heavy = heavy;
     by_path = by_view
-        ∙ ap (λ o. option_or o (found_refusal (view_tree (machine_on d s) view) path refuse)) (view_fine d s view ∙ shows.fine)
-        ∙ ap (λ t. found_refusal t path refuse) (view_tree_is d s view root shows);
+        ∙ ap (λ o. option_or o (found_refusal (view_tree (machine_at a) view) path refuse)) (view_fine a view ∙ shows.fine)
+        ∙ ap (λ t. found_refusal t path refuse) (view_tree_is a view root shows);
   }
 
-  pub view_refuses : (fault : Fault) → view_refusal s.history view ≡ Some fault → Refuses (seen_on d s) (machine_on d s) call fault (seen_on d s)
-  view_refuses fault e = inl (by_view ∙ ap (λ o. option_or o (found_refusal (view_tree (machine_on d s) view) path refuse)) (view_fine d s view ∙ e))
+  pub view_refuses : (fault : Fault) → view_refusal a.state.history view ≡ Some fault → IsRefused a call fault a
+  view_refuses fault e = inl (by_view ∙ ap (λ o. option_or o (found_refusal (view_tree (machine_at a) view) path refuse)) (view_fine a view ∙ e))

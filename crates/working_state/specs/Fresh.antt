@@ -13,8 +13,7 @@ use Rattle.flash_model.specs.Geometry.{IsGeometry}
 use Rattle.allocator.specs.Ring.{Ring, free_count}
 use Rattle.node_store.specs.NodePages.{first_data}
 use Rattle.node_store.specs.Storage.{Storage, storage, Evolved}
-use Rattle.working_state.specs.Moments.{Moment, machine_at, IsMountedAt}
-use Rattle.working_state.specs.Worked.{storage_on}
+use Rattle.working_state.specs.Moments.{Moment, machine_at, IsMountedAt, storage_at}
 
 -- the ring of a flash of so many blocks that nothing was written to: no block is used, and the next one is the first data block
 abbrev pub unused_ring : ℕ → Ring
@@ -37,7 +36,7 @@ pub record IsFresh (given : Device) (limit : ℕ) (now : Moment) : Type 0 where
   pub machine : machine_at now ≡ mounted (fresh limit bare)
   pub mounted : IsMountedAt now
   pub is_on : now.state.is_off ≡ false
-  pub evolved : Evolved (unused given) (storage_on now.device now.state)
+  pub evolved : Evolved (unused given) (storage_at now)
   pub paid : now.state.storage.ring.takes ≤ set.len now.state.storage.bad + 1
   pub root_block : (root : ℕ) → present_root now.state.history ≡ Some root → IsFirstGood now.state.storage.bad root
 

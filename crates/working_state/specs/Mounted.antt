@@ -1,8 +1,7 @@
 -- What holds of a flash and the working state on it between calls.
-use Rattle.std.specs.Prelude.{◌≡◌, ◌⊎◌, ◌≤◌, ℕ, true, false, Result, vec_len, vec_capacity, All, Contains, map, [], ◌∷◌}
+use Rattle.std.specs.Prelude.{◌≡◌, ◌≤◌, ℕ, true, false, Result, Ok, vec_len, vec_capacity, IfOk}
 use Rattle.std.specs.FinSet as set
-use Rattle.history_machine.specs.History.{Past}
-use Rattle.history_machine.specs.Machine.{IsMachine}
+use Rattle.history_machine.specs.Machine.{IsMachine, Space, answer}
 use Rattle.fs_types.specs.declared.calls.Call.{Call}
 use Rattle.fs_types.specs.declared.calls.Reply.{Reply}
 use Rattle.fs_types.specs.declared.faults.Fault.{Fault}
@@ -12,10 +11,11 @@ use Rattle.allocator.specs.Ring.{Ring}
 use Rattle.node_format.specs.declared.places.Place.TheVariants.{Dir}
 use Rattle.node_store.specs.NodePages.{node_of}
 use Rattle.block_trees.specs.Trees.{IsRoot}
-use Rattle.block_trees.specs.Reached.{Reached, IsHeld}
+use Rattle.block_trees.specs.Reached.{IsHeld}
 use Rattle.working_state.specs.Leaves.{Leaves}
+use Rattle.working_state.specs.Roots.{HasRoot, IsReached, IsSpace}
 use Rattle.working_state.specs.Seen.{capacity_of, seen_on, machine_on}
-use Rattle.working_state.specs.Steps.{CallStep}
+use Rattle.working_state.specs.Steps.{tells_space, CallStep}
 use Rattle.working_state.specs.declared.state.State.{State}
 
 -- a root has a tree, and the ring has all that it reaches as used
@@ -31,22 +31,18 @@ pub record IsMounted (device : Device) (state : State) : Type 0 where
   pub ring_blocks : state.storage.ring.blocks ≡ device.geometry.blocks
   pub page_len : vec_len state.storage.page ≡ device.geometry.page
   pub node_room : block_bytes device.geometry ≤ vec_capacity state.storage.node
-  pub versions : All (λ v. IsStanding device state.storage.ring v.root) state.history.versions
-  pub checkpoints : All (λ e. IsStanding device state.storage.ring e.1) state.history.checkpoints
+  pub roots : (root : ℕ) → HasRoot state root → IsStanding device state.storage.ring root
   pub machine : IsMachine (machine_on device state)
   pub off : state.is_off ≡ true → device.powered ≡ false
 
--- a call's step, as it is seen of the flash and the state before and after, and what it leaves of them. Once a call has
--- answered that the power is off, nothing changes
+-- a call's step, as it is seen of the flash and the state before and after, and what it leaves of them. What `df` tells is
+-- the space that is left. Once a call has answered that the power is off, nothing changes
 pub record StateStep (old : Device) (s : State) (call : Call) (result : Result Reply Fault) (new : Device) (t : State) : Type 0 where
   pub step : CallStep (seen_on old s) (machine_on old s) s.is_off call result (seen_on new t) (machine_on new t) t.is_off
   pub leaves : Leaves (machine_on old s) call old s.storage new t.storage
+  pub told : tells_space call ≡ true → IfOk result (λ reply. (space : Space) × IsSpace new t space × (answer space (machine_on old s) call ≡ Ok reply))
   pub stopped : s.is_off ≡ true → (new ≡ old) × (t ≡ s)
 
--- a version or a checkpoint has this root
-abbrev pub HasRoot : Past ℕ → ℕ → Type 0
-HasRoot h root = Contains (map (λ v. v.root) h.versions) root ⊎ Contains (map (λ e. e.1) h.checkpoints) root
-
 -- no page changed of a block that a version or a checkpoint reaches
-abbrev pub KeepsPages : Device → Past ℕ → Device → Type 0
-KeepsPages old h new = (root p : ℕ) → HasRoot h root → Reached (node_of old) (root ∷ []) (block_of old p) → new.pages p ≡ old.pages p
+abbrev pub KeepsPages : Device → State → Device → Type 0
+KeepsPages old s new = (p : ℕ) → IsReached old s (block_of old p) → new.pages p ≡ old.pages p

@@ -6,14 +6,11 @@ use Rattle.fs_types.specs.declared.calls.Reply.{Reply}
 use Rattle.fs_types.specs.declared.faults.Fault.{Fault}
 use Rattle.fs_types.specs.declared.faults.Fault.TheVariants.{NoEntry, IsDirectory, Exists, DirectoryFull}
 use Rattle.fs_types.specs.declared.flags.OpenFlags.{OpenFlags}
-use Rattle.flash_model.specs.Device.{Device}
 use Rattle.directory.specs.declared.lookups.Found.{Found}
 use Rattle.directory.specs.declared.lookups.Found.TheVariants.{Missing, File, Dir}
 use Rattle.working_state.specs.Leaves.{Leaves}
-use Rattle.working_state.specs.Seen.{seen_on, machine_on}
-use Rattle.working_state.specs.Steps.{CallStep}
-use Rattle.working_state.specs.Mounted.{IsMounted, KeepsPages}
-use Rattle.working_state.specs.declared.state.State.{State}
+use Rattle.working_state.specs.Moments.{Moment, machine_at, IsMountedAt, IsStep}
+use Rattle.working_state.specs.Mounted.{KeepsPages}
 
 -- why what was found is not opened
 abbrev pub found_refusal : OpenFlags → Found → Option Fault
@@ -29,9 +26,9 @@ changes_found flags (Dir block) = false
 
 -- a call's step where no call answered before that the power is off, and what it leaves: the system stays mounted, and no
 -- page changed of a block that a version or a checkpoint reaches
-pub record IsAnswered (old : Device) (s : State) (call : Call) (result : Result Reply Fault) (new : Device) (t : State) (off : Bool) : Type 0 where
-  pub mounted : IsMounted new t
-  pub step : CallStep (seen_on old s) (machine_on old s) false call result (seen_on new t) (machine_on new t) off
-  pub leaves : Leaves (machine_on old s) call old s.storage new t.storage
-  pub is_off : t.is_off ≡ s.is_off
-  pub pages : KeepsPages old s.history new
+pub record IsAnswered (old : Moment) (call : Call) (result : Result Reply Fault) (new : Moment) (off : Bool) : Type 0 where
+  pub mounted : IsMountedAt new
+  pub step : IsStep old call result new off
+  pub leaves : Leaves (machine_at old) call old.device old.state.storage new.device new.state.storage
+  pub is_off : new.state.is_off ≡ old.state.is_off
+  pub pages : KeepsPages old.device old.state new.device

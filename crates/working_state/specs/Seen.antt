@@ -1,17 +1,16 @@
 -- What contracts see of a flash and the working state on it: the machine that they are, and what refusals depend on.
-use Rattle.std.specs.Prelude.{◌≡◌, ◌≤◌, ℕ, ◌-◌, Bool, true, count_by}
+use Rattle.std.specs.Prelude.{◌≡◌, ◌≤◌, ℕ, ◌-◌, Bool, true}
 use Rattle.std.specs.FinSet as set
-use Rattle.std.specs.Ordering.{nat_cmp}
 use Rattle.history_machine.specs.History.{map_roots}
 use Rattle.plain_trees.specs.Trees.{Tree}
-use Rattle.history_machine.specs.Machine.{Machine, Space, machine_with}
+use Rattle.history_machine.specs.Machine.{Machine, machine_with}
 use Rattle.flash_model.specs.Device.{Device}
 use Rattle.flash_model.specs.Geometry.{block_bytes}
-use Rattle.read_only.specs.Modes.{bad_anchors, is_read_only}
-use Rattle.allocator.specs.Ring.{data_blocks, free_count}
+use Rattle.read_only.specs.Modes.{is_read_only}
+use Rattle.allocator.specs.Ring.{free_count}
 use Rattle.node_format.specs.Headers.{body_front}
 use Rattle.node_store.specs.declared.storage.Storage.{Storage}
-use Rattle.node_store.specs.NodePages.{first_data, node_of}
+use Rattle.node_store.specs.NodePages.{node_of}
 use Rattle.block_trees.specs.Trees.{root_tree}
 use Rattle.working_state.specs.declared.state.State.{State}
 
@@ -27,16 +26,8 @@ tree_on d root = root_tree (capacity_of d) (node_of d) root
 abbrev pub machine_on : Device → State → Machine
 machine_on d state = machine_with (map_roots (tree_on d) state.history) state.files
 
--- how many of the data blocks of a flash of so many blocks are bad
-abbrev pub bad_data : ℕ → set.FinSet nat_cmp → ℕ
-bad_data blocks bad = count_by (set.contains bad) (data_blocks blocks)
-
--- what is used of a flash: free blocks are those that the ring has as neither used nor bad
-abbrev pub space_of : Device → Storage → Space
-space_of d storage = record { blocks = d.geometry.blocks - first_data; bad = bad_data d.geometry.blocks storage.bad; free = free_count storage.ring storage.bad; anchors = first_data - bad_anchors storage.bad }
-
 -- what the refusals of a call depend on: the power, and how often it went; how many reads and how many other operations
--- failed; how many blocks the bad list has, and how many were taken
+-- failed; how many blocks the bad list has, how many were taken, and how many the ring has free, neither used nor bad
 pub record Seen : Type 0 where
   pub powered : Bool
   pub cuts : ℕ
@@ -44,9 +35,9 @@ pub record Seen : Type 0 where
   pub failures : ℕ
   pub listed : ℕ
   pub takes : ℕ
+  pub free : ℕ
   pub read_only : Bool
   pub capacity : ℕ
-  pub space : Space
 
 abbrev pub seen_of : Device → Storage → Seen
 seen_of d storage = record {
@@ -56,9 +47,9 @@ seen_of d storage = record {
   failures = d.failures;
   listed = set.len storage.bad;
   takes = storage.ring.takes;
+  free = free_count storage.ring storage.bad;
   read_only = is_read_only storage.bad;
   capacity = capacity_of d;
-  space = space_of d storage;
 }
 
 abbrev pub seen_on : Device → State → Seen

@@ -1,6 +1,6 @@
 -- What a call on a mounted system answers and leaves: the step of the machine, or a further refusal with its cause.
-use Rattle.std.specs.Prelude.{◌≡◌, ◌⊎◌, ℕ, ◌+◌, ◌-◌, ◌^◌, ◌<◌, ◌≤◌, Bool, true, false, ◌&&◌, ◌||◌, is_some, Some, Result, Ok, Err}
-use Rattle.history_machine.specs.Machine.{Machine, refusal, answer, next, is_accepted, makes_version, need, tree_after}
+use Rattle.std.specs.Prelude.{◌≡◌, ◌⊎◌, ℕ, ◌+◌, ◌-◌, ◌^◌, ◌<◌, ◌≤◌, Bool, true, false, ◌&&◌, ◌||◌, is_some, Some, None, Result, Ok, Err}
+use Rattle.history_machine.specs.Machine.{Machine, Space, refusal, answer, next, is_accepted, makes_version, need, tree_after}
 use Rattle.fs_types.specs.declared.calls.Call.{Call}
 use Rattle.fs_types.specs.declared.calls.Reply.{Reply}
 use Rattle.fs_types.specs.declared.faults.Fault.{Fault}
@@ -36,14 +36,19 @@ is_for_record (Call.Checkpoint name) = true
 is_for_record (Call.RemoveCheckpoint name) = true
 is_for_record _ = false
 
+-- what `df` tells is no fact of the machine: it is the space that is left of the flash
+abbrev pub tells_space : Call → Bool
+tells_space Call.Df = true
+tells_space _ = false
+
 -- an accepted call that read-only mode refuses
 abbrev pub is_writing : Machine → Call → Bool
 is_writing m call = is_accepted m call && (is_some (tree_after m call) || is_for_record call)
 
 -- no block is free, and those that were free were fewer than the nodes to be written and the blocks that went bad since
 pub record IsFull (old : Seen) (nodes : ℕ) (new : Seen) : Type 0 where
-  pub none_free : new.space.free ≡ 0
-  pub few_free : old.space.free + old.listed < new.listed + nodes
+  pub none_free : new.free ≡ 0
+  pub few_free : old.free + old.listed < new.listed + nodes
 
 -- a refusal that the machine does not give, with its cause. The checks before the work are in order: read-only mode (16),
 -- and for a version the serials (22). So where no block is left for the nodes of a version, neither had refused it; and
@@ -79,10 +84,11 @@ abbrev pub is_cut_answer : {T : Type 0} → Result T Fault → Bool
 is_cut_answer (Ok x) = false
 is_cut_answer (Err fault) = is_cut fault
 
--- a call that was carried out: it is the machine's; where read-only mode refuses it, that was off and is; and for a version
--- a serial was left
+-- a call that was carried out: it is accepted, and what it answers is the machine's, whatever space is left, if it does not
+-- tell that; where read-only mode refuses it, that was off and is; and for a version a serial was left
 pub record IsDone (old : Seen) (m : Machine) (call : Call) (reply : Reply) (new : Seen) (n : Machine) : Type 0 where
-  pub answered : answer new.space m call ≡ Ok reply
+  pub accepted : refusal m call ≡ None
+  pub answered : (space : Space) → tells_space call ≡ false → answer space m call ≡ Ok reply
   pub leaves : n ≡ next m call
   pub writable : is_writing m call ≡ true → (old.read_only ≡ false) × (new.read_only ≡ false)
   pub serial_left : makes_version m call ≡ true → m.history.next < last_serial
@@ -100,7 +106,7 @@ pub record IsLater (old new : Seen) : Type 0 where
   pub failed_reads : old.failed_reads ≤ new.failed_reads
   pub failures : new.failures + old.listed ≡ old.failures + new.listed
   pub listed : old.listed ≤ new.listed
-  pub taken : new.space.free + new.takes ≡ old.space.free + old.takes
+  pub taken : new.free + new.takes ≡ old.free + old.takes
   pub cuts : old.cuts ≤ new.cuts
   pub was_on : new.powered ≡ true → old.powered ≡ true
   pub stays_read_only : old.read_only ≡ true → new.read_only ≡ true

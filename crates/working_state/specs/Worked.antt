@@ -2,14 +2,10 @@
 use Rattle.std.specs.Prelude.{◌≡◌, ◌<◌, ◌≤◌, true, false, vec_len, vec_capacity}
 use Rattle.fs_types.specs.declared.faults.Fault.{Fault}
 use Rattle.fs_types.specs.declared.faults.Fault.TheVariants.{FlashFull, ReadOnly, ReadFailed, PowerCut, NoMemory}
-use Rattle.flash_model.specs.Device.{Device}
-use Rattle.node_store.specs.Storage.{Storage, storage, Evolved, IsUntouched}
+use Rattle.node_store.specs.Storage.{Evolved, IsUntouched}
+use Rattle.working_state.specs.Moments.{Moment, storage_at}
 use Rattle.working_state.specs.Seen.{Seen}
 use Rattle.working_state.specs.declared.state.State.{State}
-
--- the parts that nodes are kept in
-abbrev pub storage_on : Device → State → Storage
-storage_on d state = storage d state.storage.bad state.storage.ring
 
 -- the room for a page and for a node is kept, and the history and the open files are the same
 pub record IsSameBut (s t : State) : Type 0 where
@@ -20,18 +16,18 @@ pub record IsSameBut (s t : State) : Type 0 where
   pub is_off : t.is_off ≡ s.is_off
 
 -- nodes were read and written
-pub record IsWorked (old : Device) (s : State) (new : Device) (t : State) : Type 0 where
-  pub evolved : Evolved (storage_on old s) (storage_on new t)
-  pub rest : IsSameBut s t
+pub record IsWorked (old new : Moment) : Type 0 where
+  pub evolved : Evolved (storage_at old) (storage_at new)
+  pub rest : IsSameBut old.state new.state
 
 -- nodes were read
-pub record IsLooked (old : Device) (s : State) (new : Device) (t : State) : Type 0 where
-  pub untouched : IsUntouched (storage_on old s) (storage_on new t)
-  pub rest : IsSameBut s t
+pub record IsLooked (old new : Moment) : Type 0 where
+  pub untouched : IsUntouched (storage_at old) (storage_at new)
+  pub rest : IsSameBut old.state new.state
 
 -- why reads and writes of nodes are refused
 abbrev pub WorkCause : Seen → Fault → Seen → Type 0
-WorkCause old FlashFull new = new.space.free ≡ 0
+WorkCause old FlashFull new = new.free ≡ 0
 WorkCause old ReadOnly new = new.read_only ≡ true
 WorkCause old ReadFailed new = old.failed_reads < new.failed_reads
 WorkCause old PowerCut new = new.powered ≡ false

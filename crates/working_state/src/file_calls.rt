@@ -14,9 +14,9 @@ ghost use Rattle.directory.specs.Lookups.{look_up};
 ghost use Rattle.directory.specs.Trails.{IsTrail};
 ghost use Rattle.working_state.specs.Mounted.{IsMounted, StateStep, KeepsPages};
 ghost use Rattle.working_state.specs.Opening.{found_refusal, changes_found, IsAnswered};
-ghost use Rattle.working_state.specs.Seen.{seen_on, machine_on};
 ghost use Rattle.working_state.specs.Steps.{replied, empty, is_cut_answer, Refuses};
 ghost use Rattle.working_state.specs.Worked.{IsLooked};
+ghost use Rattle.working_state.specs.Moments.{IsRefused, moment, machine_at};
 
 use crate::changes::change;
 use crate::lookups::find_path;
@@ -54,7 +54,7 @@ impl State {
         requires { IsMounted (F.device flash.old) self.old }
         ensures mounted { IsMounted (F.device flash.new) self.new }
         ensures step { StateStep (F.device flash.old) self.old (Call.Open path.now flags) (replied Reply.Fd result) (F.device flash.new) self.new }
-        ensures pages { KeepsPages (F.device flash.old) self.old.history (F.device flash.new) }
+        ensures pages { KeepsPages (F.device flash.old) self.old (F.device flash.new) }
     {
         self.check_power()?;
         let opened = self.open_file(alloc, flash, path, flags);
@@ -71,7 +71,7 @@ impl State {
         flags: OpenFlags,
     ) -> Result<u8, Fault>
         requires { IsMounted (F.device flash.old) self.old }
-        ensures { IsAnswered (F.device flash.old) self.old (Call.Open path.now flags) (replied Reply.Fd result) (F.device flash.new) self.new (is_cut_answer result) }
+        ensures { IsAnswered (moment (F.device flash.old) self.old) (Call.Open path.now flags) (replied Reply.Fd result) (moment (F.device flash.new) self.new) (is_cut_answer result) }
     {
         let root = self.root();
         let (found, trail, descriptor) = self.check_open(flash, root, path, flags)?;
@@ -100,15 +100,15 @@ impl State {
     ) -> Result<(Found, Trail, u8), Fault>
         requires mounted { IsMounted (F.device flash.old) self.old }
         requires present { present_root self.old.history ≡ Some root }
-        ensures looked { IsLooked (F.device flash.old) self.old (F.device flash.new) self.new }
+        ensures looked { IsLooked (moment (F.device flash.old) self.old) (moment (F.device flash.new) self.new) }
         ensures lawful { OnOk result (is_path path.now ≡ true) }
         ensures nodes { node_of (F.device flash.new) ≡ node_of (F.device flash.old) }
         ensures found { IfOk result (λ r. look_up (node_of (F.device flash.old)) root path.now ≡ Ok r.0) }
         ensures fits { IfOk result (λ r. found_refusal flags r.0 ≡ None) }
         ensures way { IfOk result (λ r. IsTrail (node_of (F.device flash.old)) root path.now r.1) }
         ensures descriptor { IfOk result (λ r. least_free self.old.files ≡ Some r.2) }
-        ensures accepted { OnOk result (refusal (machine_on (F.device flash.old) self.old) (Call.Open path.now flags) ≡ None) }
-        ensures refused { IfErr result (λ fault. Refuses (seen_on (F.device flash.old) self.old) (machine_on (F.device flash.old) self.old) (Call.Open path.now flags) fault (seen_on (F.device flash.new) self.new)) }
+        ensures accepted { OnOk result (refusal (machine_at (moment (F.device flash.old) self.old)) (Call.Open path.now flags) ≡ None) }
+        ensures refused { IfErr result (λ fault. IsRefused (moment (F.device flash.old) self.old) (Call.Open path.now flags) fault (moment (F.device flash.new) self.new)) }
     {
         if !flags.are_lawful() {
             return Err(Fault::Invalid);

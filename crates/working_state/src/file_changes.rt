@@ -18,9 +18,10 @@ ghost use Rattle.working_state.specs.Leaves.{HasLooked};
 ghost use Rattle.working_state.specs.Changing.{IsPathOf};
 ghost use Rattle.working_state.specs.Mounted.{IsMounted, StateStep, KeepsPages};
 ghost use Rattle.working_state.specs.Opening.{IsAnswered};
-ghost use Rattle.working_state.specs.Seen.{seen_of, seen_on, machine_on};
+ghost use Rattle.working_state.specs.Seen.{seen_of};
 ghost use Rattle.working_state.specs.Steps.{replied, empty, is_cut_answer};
 ghost use Rattle.working_state.specs.Worked.{ReadCause};
+ghost use Rattle.working_state.specs.Moments.{moment};
 
 use crate::changes::change;
 use crate::lookups::find_path;
@@ -51,7 +52,7 @@ impl State {
         requires { IsMounted (F.device flash.old) self.old }
         ensures mounted { IsMounted (F.device flash.new) self.new }
         ensures step { StateStep (F.device flash.old) self.old (Call.Pwrite descriptor offset bytes.now) (replied Reply.Count result) (F.device flash.new) self.new }
-        ensures pages { KeepsPages (F.device flash.old) self.old.history (F.device flash.new) }
+        ensures pages { KeepsPages (F.device flash.old) self.old (F.device flash.new) }
     {
         self.check_power()?;
         let written = self.write_file(alloc, flash, descriptor, offset, bytes);
@@ -68,7 +69,7 @@ impl State {
         bytes: &[u8],
     ) -> Result<u64, Fault>
         requires { IsMounted (F.device flash.old) self.old }
-        ensures { IsAnswered (F.device flash.old) self.old (Call.Pwrite descriptor offset bytes.now) (replied Reply.Count result) (F.device flash.new) self.new (is_cut_answer result) }
+        ensures { IsAnswered (moment (F.device flash.old) self.old) (Call.Pwrite descriptor offset bytes.now) (replied Reply.Count result) (moment (F.device flash.new) self.new) (is_cut_answer result) }
     {
         let root = self.root();
         let path = check_write(&self.files, descriptor, offset, bytes)?;
@@ -98,7 +99,7 @@ impl State {
         requires { IsMounted (F.device flash.old) self.old }
         ensures mounted { IsMounted (F.device flash.new) self.new }
         ensures step { StateStep (F.device flash.old) self.old (Call.Ftruncate descriptor size) (replied empty result) (F.device flash.new) self.new }
-        ensures pages { KeepsPages (F.device flash.old) self.old.history (F.device flash.new) }
+        ensures pages { KeepsPages (F.device flash.old) self.old (F.device flash.new) }
     {
         self.check_power()?;
         let resized = self.resize_file(alloc, flash, descriptor, size);
@@ -114,7 +115,7 @@ impl State {
         size: u64,
     ) -> Result<(), Fault>
         requires { IsMounted (F.device flash.old) self.old }
-        ensures { IsAnswered (F.device flash.old) self.old (Call.Ftruncate descriptor size) (replied empty result) (F.device flash.new) self.new (is_cut_answer result) }
+        ensures { IsAnswered (moment (F.device flash.old) self.old) (Call.Ftruncate descriptor size) (replied empty result) (moment (F.device flash.new) self.new) (is_cut_answer result) }
     {
         let root = self.root();
         let path = check_resize(&self.files, descriptor, size)?;

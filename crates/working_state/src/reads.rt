@@ -14,9 +14,10 @@ ghost use Rattle.working_state.specs.Changes.{IsReady};
 ghost use Rattle.working_state.specs.Leaves.{HasLooked};
 ghost use Rattle.working_state.specs.Mounted.{IsMounted, StateStep};
 ghost use Rattle.working_state.specs.Reading.{file_refusal, IsRead};
-ghost use Rattle.working_state.specs.Seen.{capacity_of, tree_on, seen_of, seen_on, machine_on};
-ghost use Rattle.working_state.specs.Steps.{replied, is_cut_answer, CallStep};
+ghost use Rattle.working_state.specs.Seen.{capacity_of, tree_on, seen_of};
+ghost use Rattle.working_state.specs.Steps.{replied, is_cut_answer};
 ghost use Rattle.working_state.specs.Worked.{IsLooked, WorkCause};
+ghost use Rattle.working_state.specs.Moments.{IsStep, moment};
 
 use crate::state::State;
 use bitflags::Flags;
@@ -60,8 +61,8 @@ impl State {
         count: u64,
     ) -> Result<Bytes, Fault>
         requires { IsMounted (F.device flash.old) self.old }
-        ensures looked { IsLooked (F.device flash.old) self.old (F.device flash.new) self.new }
-        ensures step { CallStep (seen_on (F.device flash.old) self.old) (machine_on (F.device flash.old) self.old) false (Call.ReadAt view.now path.now offset count) (replied Reply.Bytes result) (seen_on (F.device flash.new) self.new) (machine_on (F.device flash.new) self.new) (is_cut_answer result) }
+        ensures looked { IsLooked (moment (F.device flash.old) self.old) (moment (F.device flash.new) self.new) }
+        ensures step { IsStep (moment (F.device flash.old) self.old) (Call.ReadAt view.now path.now offset count) (replied Reply.Bytes result) (moment (F.device flash.new) self.new) (is_cut_answer result) }
     {
         let root = *self.history.find(view)?;
         read_below(alloc, flash, &mut self.storage, root, path, offset, count)
@@ -96,8 +97,8 @@ impl State {
         count: u64,
     ) -> Result<Bytes, Fault>
         requires { IsMounted (F.device flash.old) self.old }
-        ensures looked { IsLooked (F.device flash.old) self.old (F.device flash.new) self.new }
-        ensures step { CallStep (seen_on (F.device flash.old) self.old) (machine_on (F.device flash.old) self.old) false (Call.Pread descriptor offset count) (replied Reply.Bytes result) (seen_on (F.device flash.new) self.new) (machine_on (F.device flash.new) self.new) (is_cut_answer result) }
+        ensures looked { IsLooked (moment (F.device flash.old) self.old) (moment (F.device flash.new) self.new) }
+        ensures step { IsStep (moment (F.device flash.old) self.old) (Call.Pread descriptor offset count) (replied Reply.Bytes result) (moment (F.device flash.new) self.new) (is_cut_answer result) }
     {
         let root = self.root();
         let path = readable(&self.files, descriptor)?;

@@ -13,9 +13,9 @@ ghost use Rattle.directory.specs.Lookups.{look_up};
 ghost use Rattle.directory.specs.Trails.{IsTrail};
 ghost use Rattle.working_state.specs.Mounted.{IsMounted, StateStep, KeepsPages};
 ghost use Rattle.working_state.specs.Opening.{IsAnswered};
-ghost use Rattle.working_state.specs.Seen.{seen_on, machine_on};
 ghost use Rattle.working_state.specs.Steps.{replied, empty, is_cut_answer, Refuses};
 ghost use Rattle.working_state.specs.Worked.{IsLooked};
+ghost use Rattle.working_state.specs.Moments.{IsRefused, moment, machine_at};
 
 use crate::changes::change;
 use crate::lookups::find_path;
@@ -37,7 +37,7 @@ impl State {
         requires { IsMounted (F.device flash.old) self.old }
         ensures mounted { IsMounted (F.device flash.new) self.new }
         ensures step { StateStep (F.device flash.old) self.old (Call.Rmdir path.now) (replied empty result) (F.device flash.new) self.new }
-        ensures pages { KeepsPages (F.device flash.old) self.old.history (F.device flash.new) }
+        ensures pages { KeepsPages (F.device flash.old) self.old (F.device flash.new) }
     {
         self.check_power()?;
         let removed = self.remove_directory(alloc, flash, path);
@@ -52,7 +52,7 @@ impl State {
         path: &Path,
     ) -> Result<(), Fault>
         requires { IsMounted (F.device flash.old) self.old }
-        ensures { IsAnswered (F.device flash.old) self.old (Call.Rmdir path.now) (replied empty result) (F.device flash.new) self.new (is_cut_answer result) }
+        ensures { IsAnswered (moment (F.device flash.old) self.old) (Call.Rmdir path.now) (replied empty result) (moment (F.device flash.new) self.new) (is_cut_answer result) }
     {
         let root = self.root();
         let trail = self.check_empty(flash, root, path)?;
@@ -73,13 +73,13 @@ impl State {
     ) -> Result<Trail, Fault>
         requires mounted { IsMounted (F.device flash.old) self.old }
         requires present { present_root self.old.history ≡ Some root }
-        ensures looked { IsLooked (F.device flash.old) self.old (F.device flash.new) self.new }
+        ensures looked { IsLooked (moment (F.device flash.old) self.old) (moment (F.device flash.new) self.new) }
         ensures lawful { OnOk result (is_path path.now ≡ true) }
         ensures below { OnOk result (0 < length path.now) }
         ensures way { IfOk result (IsTrail (node_of (F.device flash.new)) root path.now) }
         ensures empty { OnOk result ((block : ℕ) × (look_up (node_of (F.device flash.new)) root path.now ≡ Ok (found.Dir block)) × (entries_in (node_of (F.device flash.new)) block ≡ Some [])) }
-        ensures accepted { OnOk result (refusal (machine_on (F.device flash.old) self.old) (Call.Rmdir path.now) ≡ None) }
-        ensures refused { IfErr result (λ fault. Refuses (seen_on (F.device flash.old) self.old) (machine_on (F.device flash.old) self.old) (Call.Rmdir path.now) fault (seen_on (F.device flash.new) self.new)) }
+        ensures accepted { OnOk result (refusal (machine_at (moment (F.device flash.old) self.old)) (Call.Rmdir path.now) ≡ None) }
+        ensures refused { IfErr result (λ fault. IsRefused (moment (F.device flash.old) self.old) (Call.Rmdir path.now) fault (moment (F.device flash.new) self.new)) }
     {
         if path.names().is_empty() {
             return Err(Fault::Busy);
@@ -107,7 +107,7 @@ impl State {
         requires { IsMounted (F.device flash.old) self.old }
         ensures mounted { IsMounted (F.device flash.new) self.new }
         ensures step { StateStep (F.device flash.old) self.old (Call.Unlink path.now) (replied empty result) (F.device flash.new) self.new }
-        ensures pages { KeepsPages (F.device flash.old) self.old.history (F.device flash.new) }
+        ensures pages { KeepsPages (F.device flash.old) self.old (F.device flash.new) }
     {
         self.check_power()?;
         let removed = self.remove_file(alloc, flash, path);
@@ -122,7 +122,7 @@ impl State {
         path: &Path,
     ) -> Result<(), Fault>
         requires { IsMounted (F.device flash.old) self.old }
-        ensures { IsAnswered (F.device flash.old) self.old (Call.Unlink path.now) (replied empty result) (F.device flash.new) self.new (is_cut_answer result) }
+        ensures { IsAnswered (moment (F.device flash.old) self.old) (Call.Unlink path.now) (replied empty result) (moment (F.device flash.new) self.new) (is_cut_answer result) }
     {
         let root = self.root();
         let trail = self.check_file(flash, root, path)?;
@@ -143,12 +143,12 @@ impl State {
     ) -> Result<Trail, Fault>
         requires mounted { IsMounted (F.device flash.old) self.old }
         requires present { present_root self.old.history ≡ Some root }
-        ensures looked { IsLooked (F.device flash.old) self.old (F.device flash.new) self.new }
+        ensures looked { IsLooked (moment (F.device flash.old) self.old) (moment (F.device flash.new) self.new) }
         ensures lawful { OnOk result (is_path path.now ≡ true) }
         ensures way { IfOk result (IsTrail (node_of (F.device flash.new)) root path.now) }
         ensures found { OnOk result ((head size : ℕ) × (look_up (node_of (F.device flash.new)) root path.now ≡ Ok (found.File head size))) }
-        ensures accepted { OnOk result (refusal (machine_on (F.device flash.old) self.old) (Call.Unlink path.now) ≡ None) }
-        ensures refused { IfErr result (λ fault. Refuses (seen_on (F.device flash.old) self.old) (machine_on (F.device flash.old) self.old) (Call.Unlink path.now) fault (seen_on (F.device flash.new) self.new)) }
+        ensures accepted { OnOk result (refusal (machine_at (moment (F.device flash.old) self.old)) (Call.Unlink path.now) ≡ None) }
+        ensures refused { IfErr result (λ fault. IsRefused (moment (F.device flash.old) self.old) (Call.Unlink path.now) fault (moment (F.device flash.new) self.new)) }
     {
         let (found, trail) = find_path(flash, &mut self.storage, root, path)?;
         match found {

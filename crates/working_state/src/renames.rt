@@ -22,9 +22,9 @@ ghost use Rattle.directory.specs.Trails.{IsTrail, has_room};
 ghost use Rattle.working_state.specs.Mounted.{IsMounted, StateStep, KeepsPages};
 ghost use Rattle.working_state.specs.Opening.{IsAnswered};
 ghost use Rattle.working_state.specs.Renames.{IsToMove, target_refusal, lacks_room};
-ghost use Rattle.working_state.specs.Seen.{seen_on, machine_on};
 ghost use Rattle.working_state.specs.Steps.{replied, empty, is_cut_answer, Refuses};
 ghost use Rattle.working_state.specs.Worked.{IsLooked, WorkCause, ReadCause};
+ghost use Rattle.working_state.specs.Moments.{IsRefused, moment, seen_at, machine_at};
 
 use crate::changes::change;
 use crate::lookups::find_path;
@@ -58,7 +58,7 @@ impl State {
         requires { IsMounted (F.device flash.old) self.old }
         ensures mounted { IsMounted (F.device flash.new) self.new }
         ensures step { StateStep (F.device flash.old) self.old (Call.Rename old.now new.now) (replied empty result) (F.device flash.new) self.new }
-        ensures pages { KeepsPages (F.device flash.old) self.old.history (F.device flash.new) }
+        ensures pages { KeepsPages (F.device flash.old) self.old (F.device flash.new) }
     {
         self.check_power()?;
         let moved = self.move_entry(alloc, flash, old, new);
@@ -74,7 +74,7 @@ impl State {
         new: &Path,
     ) -> Result<(), Fault>
         requires { IsMounted (F.device flash.old) self.old }
-        ensures { IsAnswered (F.device flash.old) self.old (Call.Rename old.now new.now) (replied empty result) (F.device flash.new) self.new (is_cut_answer result) }
+        ensures { IsAnswered (moment (F.device flash.old) self.old) (Call.Rename old.now new.now) (replied empty result) (moment (F.device flash.new) self.new) (is_cut_answer result) }
     {
         let root = self.root();
         let Some(moves) = self.check_rename(alloc, flash, root, old, new)? else {
@@ -101,10 +101,10 @@ impl State {
     ) -> Result<Option<ToMove>, Fault>
         requires mounted { IsMounted (F.device flash.old) self.old }
         requires present { present_root self.old.history ≡ Some root }
-        ensures looked { IsLooked (F.device flash.old) self.old (F.device flash.new) self.new }
+        ensures looked { IsLooked (moment (F.device flash.old) self.old) (moment (F.device flash.new) self.new) }
         ensures movable { IfOk result (IsToMove (node_of (F.device flash.new)) root old.now new.now) }
-        ensures accepted { OnOk result (refusal (machine_on (F.device flash.old) self.old) (Call.Rename old.now new.now) ≡ None) }
-        ensures refused { IfErr result (λ fault. Refuses (seen_on (F.device flash.old) self.old) (machine_on (F.device flash.old) self.old) (Call.Rename old.now new.now) fault (seen_on (F.device flash.new) self.new)) }
+        ensures accepted { OnOk result (refusal (machine_at (moment (F.device flash.old) self.old)) (Call.Rename old.now new.now) ≡ None) }
+        ensures refused { IfErr result (λ fault. IsRefused (moment (F.device flash.old) self.old) (Call.Rename old.now new.now) fault (moment (F.device flash.new) self.new)) }
     {
         let (place, old_trail) = self.find_place(flash, root, old)?;
         if old == new {
@@ -128,13 +128,13 @@ impl State {
     ) -> Result<(Place, Trail), Fault>
         requires mounted { IsMounted (F.device flash.old) self.old }
         requires present { present_root self.old.history ≡ Some root }
-        ensures looked { IsLooked (F.device flash.old) self.old (F.device flash.new) self.new }
+        ensures looked { IsLooked (moment (F.device flash.old) self.old) (moment (F.device flash.new) self.new) }
         ensures nodes { node_of (F.device flash.new) ≡ node_of (F.device flash.old) }
         ensures stands { IfOk result (λ r. leads (node_of (F.device flash.old)) (Dir root) path.now ≡ Some r.0) }
         ensures way { IfOk result (λ r. IsTrail (node_of (F.device flash.old)) root path.now r.1) }
         ensures place { IfOk result (λ r. is_place r.0 ≡ true) }
-        ensures found { IfOk result (λ r. (entry : Entry) × (is_dir entry ≡ is_dir_place r.0) × ((refuse : Entry → Option Fault) → found_refusal (present_tree (machine_on (F.device flash.old) self.old)) path.now refuse ≡ refuse entry)) }
-        ensures refused { IfErr result (λ fault. ((refuse : Entry → Option Fault) → found_refusal (present_tree (machine_on (F.device flash.old) self.old)) path.now refuse ≡ Some fault) ⊎ ReadCause (seen_on (F.device flash.old) self.old) fault (seen_on (F.device flash.new) self.new)) }
+        ensures found { IfOk result (λ r. (entry : Entry) × (is_dir entry ≡ is_dir_place r.0) × ((refuse : Entry → Option Fault) → found_refusal (present_tree (machine_at (moment (F.device flash.old) self.old))) path.now refuse ≡ refuse entry)) }
+        ensures refused { IfErr result (λ fault. ((refuse : Entry → Option Fault) → found_refusal (present_tree (machine_at (moment (F.device flash.old) self.old))) path.now refuse ≡ Some fault) ⊎ ReadCause (seen_at (moment (F.device flash.old) self.old)) fault (seen_at (moment (F.device flash.new) self.new))) }
     {
         let (found, trail) = find_path(flash, &mut self.storage, root, path)?;
         match found {
@@ -159,14 +159,14 @@ impl State {
         requires present { present_root self.old.history ≡ Some root }
         requires differ { same_path old.now new.now ≡ false }
         requires stands { leads (node_of (F.device flash.old)) (Dir root) old.now ≡ Some place }
-        ensures looked { IsLooked (F.device flash.old) self.old (F.device flash.new) self.new }
+        ensures looked { IsLooked (moment (F.device flash.old) self.old) (moment (F.device flash.new) self.new) }
         ensures nodes { node_of (F.device flash.new) ≡ node_of (F.device flash.old) }
         ensures lawful { OnOk result (is_path old.now && is_path new.now ≡ true) }
         ensures way { IfOk result (IsTrail (node_of (F.device flash.old)) root new.now) }
         ensures shallow { OnOk result (IsShallow (node_of (F.device flash.old)) place (MAX_NAMES - length new.now)) }
         ensures capacity { OnOk result (same_path (parent_of old.now) (parent_of new.now) ≡ false → has_room (look_up (node_of (F.device flash.old)) root new.now) ≡ true) }
-        ensures accepted { OnOk result ((entry : Entry) → is_dir entry ≡ is_dir_place place → rename_refusal (machine_on (F.device flash.old) self.old) old.now new.now entry ≡ None) }
-        ensures refused { IfErr result (λ fault. ((entry : Entry) → is_dir entry ≡ is_dir_place place → rename_refusal (machine_on (F.device flash.old) self.old) old.now new.now entry ≡ Some fault) ⊎ ReadCause (seen_on (F.device flash.old) self.old) fault (seen_on (F.device flash.new) self.new)) }
+        ensures accepted { OnOk result ((entry : Entry) → is_dir entry ≡ is_dir_place place → rename_refusal (machine_at (moment (F.device flash.old) self.old)) old.now new.now entry ≡ None) }
+        ensures refused { IfErr result (λ fault. ((entry : Entry) → is_dir entry ≡ is_dir_place place → rename_refusal (machine_at (moment (F.device flash.old) self.old)) old.now new.now entry ≡ Some fault) ⊎ ReadCause (seen_at (moment (F.device flash.old) self.old)) fault (seen_at (moment (F.device flash.new) self.new))) }
     {
         let moves_directory = place.is_dir();
         check_beyond(old, new, moves_directory)?;
@@ -188,13 +188,13 @@ impl State {
     ) -> Result<(bool, Trail), Fault>
         requires mounted { IsMounted (F.device flash.old) self.old }
         requires present { present_root self.old.history ≡ Some root }
-        ensures looked { IsLooked (F.device flash.old) self.old (F.device flash.new) self.new }
+        ensures looked { IsLooked (moment (F.device flash.old) self.old) (moment (F.device flash.new) self.new) }
         ensures nodes { node_of (F.device flash.new) ≡ node_of (F.device flash.old) }
-        ensures capacity { IfOk result (λ r. r.0 ≡ lacks_room (present_tree (machine_on (F.device flash.old) self.old)) path.now) }
+        ensures capacity { IfOk result (λ r. r.0 ≡ lacks_room (present_tree (machine_at (moment (F.device flash.old) self.old))) path.now) }
         ensures fits { IfOk result (λ r. r.0 ≡ false → has_room (look_up (node_of (F.device flash.old)) root path.now) ≡ true) }
         ensures way { IfOk result (λ r. IsTrail (node_of (F.device flash.old)) root path.now r.1) }
-        ensures allowed { OnOk result ((entry : Entry) → is_dir entry ≡ moves_directory → target_refusal (present_tree (machine_on (F.device flash.old) self.old)) path.now entry ≡ None) }
-        ensures refused { IfErr result (λ fault. ((entry : Entry) → is_dir entry ≡ moves_directory → target_refusal (present_tree (machine_on (F.device flash.old) self.old)) path.now entry ≡ Some fault) ⊎ ReadCause (seen_on (F.device flash.old) self.old) fault (seen_on (F.device flash.new) self.new)) }
+        ensures allowed { OnOk result ((entry : Entry) → is_dir entry ≡ moves_directory → target_refusal (present_tree (machine_at (moment (F.device flash.old) self.old))) path.now entry ≡ None) }
+        ensures refused { IfErr result (λ fault. ((entry : Entry) → is_dir entry ≡ moves_directory → target_refusal (present_tree (machine_at (moment (F.device flash.old) self.old))) path.now entry ≡ Some fault) ⊎ ReadCause (seen_at (moment (F.device flash.old) self.old)) fault (seen_at (moment (F.device flash.new) self.new))) }
     {
         let (found, trail) = find_path(flash, &mut self.storage, root, path)?;
         match found {
@@ -232,10 +232,10 @@ impl State {
         requires mounted { IsMounted (F.device flash.old) self.old }
         requires present { present_root self.old.history ≡ Some root }
         requires stands { leads (node_of (F.device flash.old)) (Dir root) old.now ≡ Some place }
-        ensures looked { IsLooked (F.device flash.old) self.old (F.device flash.new) self.new }
+        ensures looked { IsLooked (moment (F.device flash.old) self.old) (moment (F.device flash.new) self.new) }
         ensures nodes { node_of (F.device flash.new) ≡ node_of (F.device flash.old) }
         ensures shallow { OnOk result (IsShallow (node_of (F.device flash.old)) place (MAX_NAMES - length new.now)) }
-        ensures refused { IfErr result (λ fault. ((fault ≡ faults.NameTooLong) × IsDeeper (node_of (F.device flash.old)) place (MAX_NAMES - length new.now)) ⊎ ReadCause (seen_on (F.device flash.old) self.old) fault (seen_on (F.device flash.new) self.new)) }
+        ensures refused { IfErr result (λ fault. ((fault ≡ faults.NameTooLong) × IsDeeper (node_of (F.device flash.old)) place (MAX_NAMES - length new.now)) ⊎ ReadCause (seen_at (moment (F.device flash.old) self.old)) fault (seen_at (moment (F.device flash.new) self.new))) }
     {
         let before = old.names().len();
         let after = new.names().len();
@@ -276,11 +276,11 @@ impl State {
     ) -> Result<bool, Fault>
         requires mounted { IsMounted (F.device flash.old) self.old }
         requires most { most ≤ MAX_NAMES }
-        ensures looked { IsLooked (F.device flash.old) self.old (F.device flash.new) self.new }
+        ensures looked { IsLooked (moment (F.device flash.old) self.old) (moment (F.device flash.new) self.new) }
         ensures nodes { node_of (F.device flash.new) ≡ node_of (F.device flash.old) }
         ensures deeper { IfOk result (λ deep. deep ≡ true → IsDeeper (node_of (F.device flash.old)) (Dir block) most) }
         ensures shallow { IfOk result (λ deep. deep ≡ false → IsShallow (node_of (F.device flash.old)) (Dir block) most) }
-        ensures why { IfErr result (λ fault. WorkCause (seen_on (F.device flash.old) self.old) fault (seen_on (F.device flash.new) self.new)) }
+        ensures why { IfErr result (λ fault. WorkCause (seen_at (moment (F.device flash.old) self.old)) fault (seen_at (moment (F.device flash.new) self.new))) }
         ensures faults { IfErr result IsDepthFault }
     {
         let mut store = Store::new(flash, &mut self.storage);

@@ -10,9 +10,9 @@ ghost use Rattle.node_store.specs.NodePages.{node_of};
 ghost use Rattle.block_trees.specs.Trees.{entries_in};
 ghost use Rattle.directory.specs.Lookups.{is_path_fault};
 ghost use Rattle.working_state.specs.Mounted.{IsMounted, StateStep};
-ghost use Rattle.working_state.specs.Seen.{seen_on, machine_on};
-ghost use Rattle.working_state.specs.Steps.{replied, is_cut_answer, CallStep};
+ghost use Rattle.working_state.specs.Steps.{replied, is_cut_answer};
 ghost use Rattle.working_state.specs.Worked.{IsLooked, WorkCause};
+ghost use Rattle.working_state.specs.Moments.{IsStep, moment, seen_at};
 
 use crate::lookups::find_path;
 use crate::state::State;
@@ -42,8 +42,8 @@ impl State {
         path: &Path,
     ) -> Result<Stat, Fault>
         requires { IsMounted (F.device flash.old) self.old }
-        ensures looked { IsLooked (F.device flash.old) self.old (F.device flash.new) self.new }
-        ensures step { CallStep (seen_on (F.device flash.old) self.old) (machine_on (F.device flash.old) self.old) false (Call.Stat view.now path.now) (replied Reply.Stat result) (seen_on (F.device flash.new) self.new) (machine_on (F.device flash.new) self.new) (is_cut_answer result) }
+        ensures looked { IsLooked (moment (F.device flash.old) self.old) (moment (F.device flash.new) self.new) }
+        ensures step { IsStep (moment (F.device flash.old) self.old) (Call.Stat view.now path.now) (replied Reply.Stat result) (moment (F.device flash.new) self.new) (is_cut_answer result) }
     {
         let root = *self.history.find(view)?;
         let (found, _trail) = find_path(flash, &mut self.storage, root, path)?;
@@ -57,11 +57,11 @@ impl State {
     /// The number of entries in the directory of a block.
     pub(crate) fn count_in<F: Flash>(&mut self, flash: &mut F, block: u32) -> Result<usize, Fault>
         requires { IsMounted (F.device flash.old) self.old }
-        ensures looked { IsLooked (F.device flash.old) self.old (F.device flash.new) self.new }
+        ensures looked { IsLooked (moment (F.device flash.old) self.old) (moment (F.device flash.new) self.new) }
         ensures nodes { node_of (F.device flash.new) ≡ node_of (F.device flash.old) }
         ensures count { IfOk result (λ count. (items : List Item) × (entries_in (node_of (F.device flash.old)) block ≡ Some items) × (count ≡ length items)) }
         ensures damaged { IsErrOf result Damaged → entries_in (node_of (F.device flash.old)) block ≡ None }
-        ensures why { IfErr result (λ fault. is_path_fault fault ≡ false → WorkCause (seen_on (F.device flash.old) self.old) fault (seen_on (F.device flash.new) self.new)) }
+        ensures why { IfErr result (λ fault. is_path_fault fault ≡ false → WorkCause (seen_at (moment (F.device flash.old) self.old)) fault (seen_at (moment (F.device flash.new) self.new))) }
         ensures faults { IfErr result IsReadFault }
     {
         let mut store = Store::new(flash, &mut self.storage);

@@ -17,9 +17,9 @@ ghost use Rattle.directory.specs.Lookups.{look_up, is_path_fault};
 ghost use Rattle.directory.specs.Trails.{IsTrail};
 ghost use Rattle.working_state.specs.Mounted.{IsMounted, StateStep, KeepsPages};
 ghost use Rattle.working_state.specs.Opening.{IsAnswered};
-ghost use Rattle.working_state.specs.Seen.{seen_on, machine_on};
-ghost use Rattle.working_state.specs.Steps.{replied, empty, is_cut_answer, Refuses, CallStep};
+ghost use Rattle.working_state.specs.Steps.{replied, empty, is_cut_answer, Refuses};
 ghost use Rattle.working_state.specs.Worked.{IsLooked, WorkCause};
+ghost use Rattle.working_state.specs.Moments.{IsStep, IsRefused, moment, seen_at, machine_at};
 
 use crate::changes::change;
 use crate::lookups::find_path;
@@ -59,8 +59,8 @@ impl State {
         path: &Path,
     ) -> Result<Sequence<(Name, bool)>, Fault>
         requires { IsMounted (F.device flash.old) self.old }
-        ensures looked { IsLooked (F.device flash.old) self.old (F.device flash.new) self.new }
-        ensures step { CallStep (seen_on (F.device flash.old) self.old) (machine_on (F.device flash.old) self.old) false (Call.List view.now path.now) (replied Reply.Names result) (seen_on (F.device flash.new) self.new) (machine_on (F.device flash.new) self.new) (is_cut_answer result) }
+        ensures looked { IsLooked (moment (F.device flash.old) self.old) (moment (F.device flash.new) self.new) }
+        ensures step { IsStep (moment (F.device flash.old) self.old) (Call.List view.now path.now) (replied Reply.Names result) (moment (F.device flash.new) self.new) (is_cut_answer result) }
     {
         let root = *self.history.find(view)?;
         let (found, _trail) = find_path(flash, &mut self.storage, root, path)?;
@@ -81,7 +81,7 @@ impl State {
         requires { IsMounted (F.device flash.old) self.old }
         ensures mounted { IsMounted (F.device flash.new) self.new }
         ensures step { StateStep (F.device flash.old) self.old (Call.Mkdir path.now) (replied empty result) (F.device flash.new) self.new }
-        ensures pages { KeepsPages (F.device flash.old) self.old.history (F.device flash.new) }
+        ensures pages { KeepsPages (F.device flash.old) self.old (F.device flash.new) }
     {
         self.check_power()?;
         let made = self.add_directory(alloc, flash, path);
@@ -96,7 +96,7 @@ impl State {
         path: &Path,
     ) -> Result<(), Fault>
         requires { IsMounted (F.device flash.old) self.old }
-        ensures { IsAnswered (F.device flash.old) self.old (Call.Mkdir path.now) (replied empty result) (F.device flash.new) self.new (is_cut_answer result) }
+        ensures { IsAnswered (moment (F.device flash.old) self.old) (Call.Mkdir path.now) (replied empty result) (moment (F.device flash.new) self.new) (is_cut_answer result) }
     {
         let root = self.root();
         let trail = self.check_missing(flash, root, path)?;
@@ -117,12 +117,12 @@ impl State {
     ) -> Result<Trail, Fault>
         requires mounted { IsMounted (F.device flash.old) self.old }
         requires present { present_root self.old.history ≡ Some root }
-        ensures looked { IsLooked (F.device flash.old) self.old (F.device flash.new) self.new }
+        ensures looked { IsLooked (moment (F.device flash.old) self.old) (moment (F.device flash.new) self.new) }
         ensures lawful { OnOk result (is_path path.now ≡ true) }
         ensures way { IfOk result (IsTrail (node_of (F.device flash.new)) root path.now) }
         ensures missing { OnOk result (look_up (node_of (F.device flash.new)) root path.now ≡ Ok (Missing false)) }
-        ensures accepted { OnOk result (refusal (machine_on (F.device flash.old) self.old) (Call.Mkdir path.now) ≡ None) }
-        ensures refused { IfErr result (λ fault. Refuses (seen_on (F.device flash.old) self.old) (machine_on (F.device flash.old) self.old) (Call.Mkdir path.now) fault (seen_on (F.device flash.new) self.new)) }
+        ensures accepted { OnOk result (refusal (machine_at (moment (F.device flash.old) self.old)) (Call.Mkdir path.now) ≡ None) }
+        ensures refused { IfErr result (λ fault. IsRefused (moment (F.device flash.old) self.old) (Call.Mkdir path.now) fault (moment (F.device flash.new) self.new)) }
     {
         if path.names().is_empty() {
             return Err(Fault::Exists);
@@ -144,10 +144,10 @@ impl State {
         block: u32,
     ) -> Result<Sequence<(Name, bool)>, Fault>
         requires { IsMounted (F.device flash.old) self.old }
-        ensures looked { IsLooked (F.device flash.old) self.old (F.device flash.new) self.new }
+        ensures looked { IsLooked (moment (F.device flash.old) self.old) (moment (F.device flash.new) self.new) }
         ensures names { IfOk result (λ names. (items : List Item) × (entries_in (node_of (F.device flash.old)) block ≡ Some items) × (names ≡ names_of items)) }
         ensures damaged { IsErrOf result Damaged → entries_in (node_of (F.device flash.old)) block ≡ None }
-        ensures why { IfErr result (λ fault. is_path_fault fault ≡ false → WorkCause (seen_on (F.device flash.old) self.old) fault (seen_on (F.device flash.new) self.new)) }
+        ensures why { IfErr result (λ fault. is_path_fault fault ≡ false → WorkCause (seen_at (moment (F.device flash.old) self.old)) fault (seen_at (moment (F.device flash.new) self.new))) }
         ensures faults { IfErr result IsReadFault }
     {
         let mut store = Store::new(flash, &mut self.storage);

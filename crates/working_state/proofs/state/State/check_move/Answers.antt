@@ -8,7 +8,7 @@ use Rattle.node_format.specs.declared.places.Place.TheVariants.{Dir}
 use Rattle.node_store.specs.NodePages.{node_of}
 use Rattle.block_trees.specs.Bodies.{Blocks}
 use Rattle.block_trees.specs.Trees.{leads}
-use Rattle.working_state.specs.Seen.{seen_on, machine_on}
+use Rattle.working_state.specs.Moments.{moment, machine_at, seen_at}
 use Rattle.working_state.proofs.ChangeSteps.{path_within}
 use Rattle.working_state.proofs.MovedEntries.{of_fault, MoveRefused, move_below, move_target, move_then, is_deep, is_shallow, deeper_before, shallow_before, busy_before, deep_refuses, busy_refuses, moves_by, move_room, capacity_is, read_later}
 use Rattle.working_state.proofs.Standing.{looked_worked, worked_mounted, worked_later}
@@ -17,18 +17,18 @@ use Rattle.working_state.proofs.state.State.check_move.Goals as goal
 pub returns-in_err-check_beyond-clause-refused : goal.returns-in_err-check_beyond-clause-refused
 returns-in_err-check_beyond-clause-refused g c =
     let p = err_from_is_err_and c.from_residual.result c.from_residual.ensures.1 in
-    of_fault (MoveRefused (g.F.Flash.device c.args.flash.now) c.args.self.now (g.F.Flash.device c.args.flash.now) c.args.self.now c.args.old.now c.args.new.now c.args.place) c.in_err-check_beyond.field-0.0 c.from_residual.result (p.1 ∙ ap Err p.2)
-    (move_below (g.F.Flash.device c.args.flash.now) c.args.self.now c.args.old.now c.args.new.now c.args.place _ c.requires.differ c.is_dir-moves_directory.ensures (g.F.Flash.device c.args.flash.now) c.args.self.now c.in_err-check_beyond.field-0.0 c.in_err-check_beyond.ensures.err)
+    of_fault (MoveRefused (moment (g.F.Flash.device c.args.flash.now) c.args.self.now) (moment (g.F.Flash.device c.args.flash.now) c.args.self.now) c.args.old.now c.args.new.now c.args.place) c.in_err-check_beyond.field-0.0 c.from_residual.result (p.1 ∙ ap Err p.2)
+    (move_below (moment (g.F.Flash.device c.args.flash.now) c.args.self.now) c.args.old.now c.args.new.now c.args.place _ c.requires.differ c.is_dir-moves_directory.ensures (moment (g.F.Flash.device c.args.flash.now) c.args.self.now) c.in_err-check_beyond.field-0.0 c.in_err-check_beyond.ensures.err)
 
 pub returns-in_err-lacks_room-clause-refused : goal.returns-in_err-lacks_room-clause-refused
 returns-in_err-lacks_room-clause-refused g c =
     let p = err_from_is_err_and c.from_residual-in_err-lacks_room.result c.from_residual-in_err-lacks_room.ensures.1 in
-    of_fault (MoveRefused (g.F.Flash.device c.args.flash.now) c.args.self.now (g.F.Flash.device c.check_target.new.flash) c.check_target.new.self c.args.old.now c.args.new.now c.args.place) c.in_err-lacks_room.field-0.0 c.from_residual-in_err-lacks_room.result (p.1 ∙ ap Err p.2)
-    (move_target (g.F.Flash.device c.args.flash.now) c.args.self.now c.args.old.now c.args.new.now c.args.place _ c.requires.differ c.is_dir-moves_directory.ensures (g.F.Flash.device c.check_target.new.flash) c.check_target.new.self c.in_err-lacks_room.field-0.0
+    of_fault (MoveRefused (moment (g.F.Flash.device c.args.flash.now) c.args.self.now) (moment (g.F.Flash.device c.check_target.new.flash) c.check_target.new.self) c.args.old.now c.args.new.now c.args.place) c.in_err-lacks_room.field-0.0 c.from_residual-in_err-lacks_room.result (p.1 ∙ ap Err p.2)
+    (move_target (moment (g.F.Flash.device c.args.flash.now) c.args.self.now) c.args.old.now c.args.new.now c.args.place _ c.requires.differ c.is_dir-moves_directory.ensures (moment (g.F.Flash.device c.check_target.new.flash) c.check_target.new.self) c.in_err-lacks_room.field-0.0
     c.in_ok-check_beyond.ensures.ok c.in_err-lacks_room.ensures.refused)
 
 pub check_depth-requires-clause-mounted : goal.check_depth-requires-clause-mounted
-check_depth-requires-clause-mounted g c = worked_mounted _ _ _ _ c.requires.mounted (looked_worked _ _ _ _ c.check_target.ensures.looked)
+check_depth-requires-clause-mounted g c = worked_mounted _ _ c.requires.mounted (looked_worked _ _ c.check_target.ensures.looked)
 
 pub check_depth-requires-clause-present : goal.check_depth-requires-clause-present
 check_depth-requires-clause-present g c = ap present_root c.check_target.ensures.looked.rest.history ∙ c.requires.present
@@ -41,15 +41,15 @@ returns-in_err-check_depth-clause-refused g c =
     let p = err_from_is_err_and c.from_residual-in_err-check_depth.result c.from_residual-in_err-check_depth.ensures.1 in
     let lawful = and_parts (is_path c.args.old.now) (is_path c.args.new.now) c.in_ok-check_beyond.ensures.lawful in
     let fault = c.in_err-check_depth.field-0.0 in
-    of_fault (MoveRefused (g.F.Flash.device c.args.flash.now) c.args.self.now (g.F.Flash.device c.check_depth.new.flash) c.check_depth.new.self c.args.old.now c.args.new.now c.args.place) c.in_err-check_depth.field-0.0 c.from_residual-in_err-check_depth.result (p.1 ∙ ap Err p.2)
+    of_fault (MoveRefused (moment (g.F.Flash.device c.args.flash.now) c.args.self.now) (moment (g.F.Flash.device c.check_depth.new.flash) c.check_depth.new.self) c.args.old.now c.args.new.now c.args.place) c.in_err-check_depth.field-0.0 c.from_residual-in_err-check_depth.result (p.1 ∙ ap Err p.2)
     (elim c.in_err-check_depth.ensures.refused [
-      | inl told ↦ inl (λ entry kind. move_then (g.F.Flash.device c.args.flash.now) c.args.self.now c.args.old.now c.args.new.now c.args.place _ c.requires.differ c.is_dir-moves_directory.ensures (Some fault) c.in_ok-check_beyond.ensures.ok c.in_ok-lacks_room.ensures.allowed
-          (deep_refuses (machine_on (g.F.Flash.device c.args.flash.now) c.args.self.now) c.args.old.now c.args.new.now
-          (is_deep (g.F.Flash.device c.args.flash.now) c.args.self.now c.args.root c.args.old.now c.args.new.now c.args.place c.requires.mounted c.requires.present c.requires.stands (path_within c.args.new.now lawful.1)
+      | inl told ↦ inl (λ entry kind. move_then (moment (g.F.Flash.device c.args.flash.now) c.args.self.now) c.args.old.now c.args.new.now c.args.place _ c.requires.differ c.is_dir-moves_directory.ensures (Some fault) c.in_ok-check_beyond.ensures.ok c.in_ok-lacks_room.ensures.allowed
+          (deep_refuses (machine_at (moment (g.F.Flash.device c.args.flash.now) c.args.self.now)) c.args.old.now c.args.new.now
+          (is_deep (moment (g.F.Flash.device c.args.flash.now) c.args.self.now) c.args.root c.args.old.now c.args.new.now c.args.place c.requires.mounted c.requires.present c.requires.stands (path_within c.args.new.now lawful.1)
           (deeper_before (node_of (g.F.Flash.device c.args.flash.now)) (node_of (g.F.Flash.device c.check_target.new.flash)) c.args.place _ c.check_target.ensures.nodes told.1))
           ∙ ap Some (sym told.0)) entry kind)
-      | inr why ↦ inr (read_later (seen_on (g.F.Flash.device c.args.flash.now) c.args.self.now) (seen_on (g.F.Flash.device c.check_target.new.flash) c.check_target.new.self) (seen_on (g.F.Flash.device c.check_depth.new.flash) c.check_depth.new.self) fault
-          (worked_later _ _ _ _ (looked_worked _ _ _ _ c.check_target.ensures.looked)) why)
+      | inr why ↦ inr (read_later (seen_at (moment (g.F.Flash.device c.args.flash.now) c.args.self.now)) (seen_at (moment (g.F.Flash.device c.check_target.new.flash) c.check_target.new.self)) (seen_at (moment (g.F.Flash.device c.check_depth.new.flash) c.check_depth.new.self)) fault
+          (worked_later _ _ (looked_worked _ _ c.check_target.ensures.looked)) why)
     ])
 
 pub returns-in_err-check_closed-clause-refused : goal.returns-in_err-check_closed-clause-refused
@@ -57,10 +57,10 @@ returns-in_err-check_closed-clause-refused g c =
     let p = err_from_is_err_and c.from_residual-in_err-check_closed.result c.from_residual-in_err-check_closed.ensures.1 in
     let lawful = and_parts (is_path c.args.old.now) (is_path c.args.new.now) c.in_ok-check_beyond.ensures.lawful in
     let told = c.in_err-check_closed.ensures.err in
-    of_fault (MoveRefused (g.F.Flash.device c.args.flash.now) c.args.self.now (g.F.Flash.device c.check_depth.new.flash) c.check_depth.new.self c.args.old.now c.args.new.now c.args.place) c.in_err-check_closed.field-0.0 c.from_residual-in_err-check_closed.result (p.1 ∙ ap Err p.2)
-    (inl (move_then (g.F.Flash.device c.args.flash.now) c.args.self.now c.args.old.now c.args.new.now c.args.place _ c.requires.differ c.is_dir-moves_directory.ensures (Some c.in_err-check_closed.field-0.0) c.in_ok-check_beyond.ensures.ok c.in_ok-lacks_room.ensures.allowed
-    (busy_refuses (machine_on (g.F.Flash.device c.args.flash.now) c.args.self.now) c.args.old.now c.args.new.now
-    (is_shallow (g.F.Flash.device c.args.flash.now) c.args.self.now c.args.root c.args.old.now c.args.new.now c.args.place c.requires.mounted c.requires.present c.requires.stands (path_within c.args.new.now lawful.1)
+    of_fault (MoveRefused (moment (g.F.Flash.device c.args.flash.now) c.args.self.now) (moment (g.F.Flash.device c.check_depth.new.flash) c.check_depth.new.self) c.args.old.now c.args.new.now c.args.place) c.in_err-check_closed.field-0.0 c.from_residual-in_err-check_closed.result (p.1 ∙ ap Err p.2)
+    (inl (move_then (moment (g.F.Flash.device c.args.flash.now) c.args.self.now) c.args.old.now c.args.new.now c.args.place _ c.requires.differ c.is_dir-moves_directory.ensures (Some c.in_err-check_closed.field-0.0) c.in_ok-check_beyond.ensures.ok c.in_ok-lacks_room.ensures.allowed
+    (busy_refuses (machine_at (moment (g.F.Flash.device c.args.flash.now) c.args.self.now)) c.args.old.now c.args.new.now
+    (is_shallow (moment (g.F.Flash.device c.args.flash.now) c.args.self.now) c.args.root c.args.old.now c.args.new.now c.args.place c.requires.mounted c.requires.present c.requires.stands (path_within c.args.new.now lawful.1)
     (shallow_before (node_of (g.F.Flash.device c.args.flash.now)) (node_of (g.F.Flash.device c.check_target.new.flash)) c.args.place _ c.check_target.ensures.nodes c.in_ok-check_depth.ensures.shallow))
     (busy_before c.args.self.now c.check_depth.new.self c.args.old.now c.args.new.now true (c.check_depth.ensures.looked.rest.files ∙ c.check_target.ensures.looked.rest.files) told.1)
     ∙ ap Some (sym told.0))))
@@ -70,24 +70,24 @@ returns-in_err-check_room-clause-refused g c =
     let p = err_from_is_err_and c.from_residual-in_err-check_room.result c.from_residual-in_err-check_room.ensures.1 in
     let lawful = and_parts (is_path c.args.old.now) (is_path c.args.new.now) c.in_ok-check_beyond.ensures.lawful in
     let told = c.in_err-check_room.ensures.err in
-    of_fault (MoveRefused (g.F.Flash.device c.args.flash.now) c.args.self.now (g.F.Flash.device c.check_depth.new.flash) c.check_depth.new.self c.args.old.now c.args.new.now c.args.place) c.in_err-check_room.field-0.0 c.from_residual-in_err-check_room.result (p.1 ∙ ap Err p.2)
-    (inl (move_then (g.F.Flash.device c.args.flash.now) c.args.self.now c.args.old.now c.args.new.now c.args.place _ c.requires.differ c.is_dir-moves_directory.ensures (Some c.in_err-check_room.field-0.0) c.in_ok-check_beyond.ensures.ok c.in_ok-lacks_room.ensures.allowed
-    (moves_by (machine_on (g.F.Flash.device c.args.flash.now) c.args.self.now) c.args.old.now c.args.new.now false false true
-    (is_shallow (g.F.Flash.device c.args.flash.now) c.args.self.now c.args.root c.args.old.now c.args.new.now c.args.place c.requires.mounted c.requires.present c.requires.stands (path_within c.args.new.now lawful.1)
+    of_fault (MoveRefused (moment (g.F.Flash.device c.args.flash.now) c.args.self.now) (moment (g.F.Flash.device c.check_depth.new.flash) c.check_depth.new.self) c.args.old.now c.args.new.now c.args.place) c.in_err-check_room.field-0.0 c.from_residual-in_err-check_room.result (p.1 ∙ ap Err p.2)
+    (inl (move_then (moment (g.F.Flash.device c.args.flash.now) c.args.self.now) c.args.old.now c.args.new.now c.args.place _ c.requires.differ c.is_dir-moves_directory.ensures (Some c.in_err-check_room.field-0.0) c.in_ok-check_beyond.ensures.ok c.in_ok-lacks_room.ensures.allowed
+    (moves_by (machine_at (moment (g.F.Flash.device c.args.flash.now) c.args.self.now)) c.args.old.now c.args.new.now false false true
+    (is_shallow (moment (g.F.Flash.device c.args.flash.now) c.args.self.now) c.args.root c.args.old.now c.args.new.now c.args.place c.requires.mounted c.requires.present c.requires.stands (path_within c.args.new.now lawful.1)
     (shallow_before (node_of (g.F.Flash.device c.args.flash.now)) (node_of (g.F.Flash.device c.check_target.new.flash)) c.args.place _ c.check_target.ensures.nodes c.in_ok-check_depth.ensures.shallow))
     (busy_before c.args.self.now c.check_depth.new.self c.args.old.now c.args.new.now false (c.check_depth.ensures.looked.rest.files ∙ c.check_target.ensures.looked.rest.files) c.in_ok-check_closed.ensures.ok)
-    (capacity_is (present_tree (machine_on (g.F.Flash.device c.args.flash.now) c.args.self.now)) c.args.old.now c.args.new.now _ _ c.in_ok-lacks_room.ensures.capacity told.1)
+    (capacity_is (present_tree (machine_at (moment (g.F.Flash.device c.args.flash.now) c.args.self.now))) c.args.old.now c.args.new.now _ _ c.in_ok-lacks_room.ensures.capacity told.1)
     ∙ ap Some (sym told.0))))
 
 pub returns-clause-accepted : goal.returns-clause-accepted
 returns-clause-accepted g c =
     let lawful = and_parts (is_path c.args.old.now) (is_path c.args.new.now) c.in_ok-check_beyond.ensures.lawful in
-    move_then (g.F.Flash.device c.args.flash.now) c.args.self.now c.args.old.now c.args.new.now c.args.place _ c.requires.differ c.is_dir-moves_directory.ensures None c.in_ok-check_beyond.ensures.ok c.in_ok-lacks_room.ensures.allowed
-    (moves_by (machine_on (g.F.Flash.device c.args.flash.now) c.args.self.now) c.args.old.now c.args.new.now false false false
-    (is_shallow (g.F.Flash.device c.args.flash.now) c.args.self.now c.args.root c.args.old.now c.args.new.now c.args.place c.requires.mounted c.requires.present c.requires.stands (path_within c.args.new.now lawful.1)
+    move_then (moment (g.F.Flash.device c.args.flash.now) c.args.self.now) c.args.old.now c.args.new.now c.args.place _ c.requires.differ c.is_dir-moves_directory.ensures None c.in_ok-check_beyond.ensures.ok c.in_ok-lacks_room.ensures.allowed
+    (moves_by (machine_at (moment (g.F.Flash.device c.args.flash.now) c.args.self.now)) c.args.old.now c.args.new.now false false false
+    (is_shallow (moment (g.F.Flash.device c.args.flash.now) c.args.self.now) c.args.root c.args.old.now c.args.new.now c.args.place c.requires.mounted c.requires.present c.requires.stands (path_within c.args.new.now lawful.1)
     (shallow_before (node_of (g.F.Flash.device c.args.flash.now)) (node_of (g.F.Flash.device c.check_target.new.flash)) c.args.place _ c.check_target.ensures.nodes c.in_ok-check_depth.ensures.shallow))
     (busy_before c.args.self.now c.check_depth.new.self c.args.old.now c.args.new.now false (c.check_depth.ensures.looked.rest.files ∙ c.check_target.ensures.looked.rest.files) c.in_ok-check_closed.ensures.ok)
-    (capacity_is (present_tree (machine_on (g.F.Flash.device c.args.flash.now) c.args.self.now)) c.args.old.now c.args.new.now _ _ c.in_ok-lacks_room.ensures.capacity c.in_ok-check_room.ensures.ok))
+    (capacity_is (present_tree (machine_at (moment (g.F.Flash.device c.args.flash.now) c.args.self.now))) c.args.old.now c.args.new.now _ _ c.in_ok-lacks_room.ensures.capacity c.in_ok-check_room.ensures.ok))
 
 pub returns-clause-shallow : goal.returns-clause-shallow
 returns-clause-shallow g c =

@@ -7,6 +7,7 @@ use Rattle.block_trees.specs.Trees.{leads}
 use Rattle.node_store.specs.NodePages.{node_of}
 use Rattle.directory.specs.Trails.{IsTrail}
 use Rattle.tree_edits.specs.Edits.{IsMovable}
+use Rattle.working_state.specs.Moments.{moment}
 use Rattle.working_state.proofs.Refusals.{at_refusal}
 use Rattle.working_state.proofs.RenameSteps.{place_refuses, same_accepts, move_accepts, move_refuses}
 use Rattle.working_state.proofs.Standing.{looked_worked, looked_on, worked_mounted}
@@ -15,17 +16,17 @@ use Rattle.working_state.proofs.state.State.check_rename.Goals as goal
 pub returns-in_err-place-clause-refused : goal.returns-in_err-place-clause-refused
 returns-in_err-place-clause-refused g c =
     let p = err_from_is_err_and c.from_residual.result c.from_residual.ensures.1 in
-    at_refusal (g.F.Flash.device c.args.flash.now) c.args.self.now (g.F.Flash.device c.find_place.new.flash) c.find_place.new.self (Call.Rename c.args.old.now c.args.new.now) c.in_err-place.field-0.0 c.from_residual.result (p.1 ∙ ap Err p.2)
-    (place_refuses (g.F.Flash.device c.args.flash.now) c.args.self.now (g.F.Flash.device c.find_place.new.flash) c.find_place.new.self c.args.old.now c.args.new.now c.in_err-place.field-0.0 c.in_err-place.ensures.refused)
+    at_refusal (moment (g.F.Flash.device c.args.flash.now) c.args.self.now) (moment (g.F.Flash.device c.find_place.new.flash) c.find_place.new.self) (Call.Rename c.args.old.now c.args.new.now) c.in_err-place.field-0.0 c.from_residual.result (p.1 ∙ ap Err p.2)
+    (place_refuses (moment (g.F.Flash.device c.args.flash.now) c.args.self.now) (moment (g.F.Flash.device c.find_place.new.flash) c.find_place.new.self) c.args.old.now c.args.new.now c.in_err-place.field-0.0 c.in_err-place.ensures.refused)
 
 pub returns-then-eq-clause-movable : goal.returns-then-eq-clause-movable
 returns-then-eq-clause-movable g c = sym c.eq.ensures ∙ c.if-eq.true
 
 pub returns-then-eq-clause-accepted : goal.returns-then-eq-clause-accepted
-returns-then-eq-clause-accepted g c = same_accepts (g.F.Flash.device c.args.flash.now) c.args.self.now c.args.old.now c.args.new.now c.in_ok-place.place c.in_ok-place.ensures.found (sym c.eq.ensures ∙ c.if-eq.true)
+returns-then-eq-clause-accepted g c = same_accepts (moment (g.F.Flash.device c.args.flash.now) c.args.self.now) c.args.old.now c.args.new.now c.in_ok-place.place c.in_ok-place.ensures.found (sym c.eq.ensures ∙ c.if-eq.true)
 
 pub check_move-requires-clause-mounted : goal.check_move-requires-clause-mounted
-check_move-requires-clause-mounted g c = worked_mounted _ _ _ _ c.requires.mounted (looked_worked _ _ _ _ c.find_place.ensures.looked)
+check_move-requires-clause-mounted g c = worked_mounted _ _ c.requires.mounted (looked_worked _ _ c.find_place.ensures.looked)
 
 pub check_move-requires-clause-present : goal.check_move-requires-clause-present
 check_move-requires-clause-present g c = ap (λ (h : Past ℕ). present_root h) c.find_place.ensures.looked.rest.history ∙ c.requires.present
@@ -37,17 +38,17 @@ pub check_move-requires-clause-stands : goal.check_move-requires-clause-stands
 check_move-requires-clause-stands g c = subst (λ f. leads f (Dir c.args.root) c.args.old.now ≡ Some c.in_ok-place.place) (sym c.find_place.ensures.nodes) c.in_ok-place.ensures.stands
 
 pub returns-in_err-new_trail-clause-looked : goal.returns-in_err-new_trail-clause-looked
-returns-in_err-new_trail-clause-looked g c = looked_on _ _ _ _ _ _ c.find_place.ensures.looked c.check_move.ensures.looked
+returns-in_err-new_trail-clause-looked g c = looked_on _ _ _ c.find_place.ensures.looked c.check_move.ensures.looked
 
 pub returns-in_err-new_trail-clause-refused : goal.returns-in_err-new_trail-clause-refused
 returns-in_err-new_trail-clause-refused g c =
     let p = err_from_is_err_and c.from_residual-in_err-new_trail.result c.from_residual-in_err-new_trail.ensures.1 in
-    at_refusal (g.F.Flash.device c.args.flash.now) c.args.self.now (g.F.Flash.device c.check_move.new.flash) c.check_move.new.self (Call.Rename c.args.old.now c.args.new.now) c.in_err-new_trail.field-0.0 c.from_residual-in_err-new_trail.result (p.1 ∙ ap Err p.2)
-    (move_refuses (g.F.Flash.device c.args.flash.now) c.args.self.now (g.F.Flash.device c.find_place.new.flash) c.find_place.new.self c.args.old.now c.args.new.now c.in_ok-place.place c.requires.mounted c.find_place.ensures.looked c.in_ok-place.ensures.found
-    (g.F.Flash.device c.check_move.new.flash) c.check_move.new.self c.in_err-new_trail.field-0.0 c.in_err-new_trail.ensures.refused)
+    at_refusal (moment (g.F.Flash.device c.args.flash.now) c.args.self.now) (moment (g.F.Flash.device c.check_move.new.flash) c.check_move.new.self) (Call.Rename c.args.old.now c.args.new.now) c.in_err-new_trail.field-0.0 c.from_residual-in_err-new_trail.result (p.1 ∙ ap Err p.2)
+    (move_refuses (moment (g.F.Flash.device c.args.flash.now) c.args.self.now) (moment (g.F.Flash.device c.find_place.new.flash) c.find_place.new.self) c.args.old.now c.args.new.now c.in_ok-place.place c.requires.mounted c.find_place.ensures.looked c.in_ok-place.ensures.found
+    (moment (g.F.Flash.device c.check_move.new.flash) c.check_move.new.self) c.in_err-new_trail.field-0.0 c.in_err-new_trail.ensures.refused)
 
 pub returns-clause-looked : goal.returns-clause-looked
-returns-clause-looked g c = looked_on _ _ _ _ _ _ c.find_place.ensures.looked c.check_move.ensures.looked
+returns-clause-looked g c = looked_on _ _ _ c.find_place.ensures.looked c.check_move.ensures.looked
 
 pub returns-clause-movable : goal.returns-clause-movable
 returns-clause-movable g c =
@@ -69,5 +70,5 @@ returns-clause-movable g c =
 
 pub returns-clause-accepted : goal.returns-clause-accepted
 returns-clause-accepted g c =
-    move_accepts (g.F.Flash.device c.args.flash.now) c.args.self.now (g.F.Flash.device c.find_place.new.flash) c.find_place.new.self c.args.old.now c.args.new.now c.in_ok-place.place c.requires.mounted c.find_place.ensures.looked c.in_ok-place.ensures.found
+    move_accepts (moment (g.F.Flash.device c.args.flash.now) c.args.self.now) (moment (g.F.Flash.device c.find_place.new.flash) c.find_place.new.self) c.args.old.now c.args.new.now c.in_ok-place.place c.requires.mounted c.find_place.ensures.looked c.in_ok-place.ensures.found
     c.in_ok-new_trail.ensures.accepted

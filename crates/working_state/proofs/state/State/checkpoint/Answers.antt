@@ -10,9 +10,10 @@ use Rattle.history_machine.specs.History.{checkpoint_root, checkpoint_refusal, w
 use Rattle.history_machine.specs.HistoryMaps.{checkpoint_refusal-map}
 use Rattle.fs_types.specs.declared.calls.Call.{Call}
 use Rattle.fs_types.specs.declared.faults.Fault.{Fault}
+use Rattle.working_state.specs.Moments.{moment}
 use Rattle.working_state.specs.Mounted.{IsStanding}
 use Rattle.working_state.specs.Seen.{tree_on}
-use Rattle.working_state.proofs.Roots.{all_with_checkpoint, kept_with_checkpoint}
+use Rattle.working_state.proofs.Roots.{after_checkpoint}
 use Rattle.working_state.specs.Steps.{empty}
 use Rattle.working_state.proofs.Steps.{refused_off, mounted_after, refused, refused_record, checkpointed, checkpoint-exists, checkpoint-full, checkpoint-free}
 use Rattle.working_state.proofs.state.State.checkpoint.Goals as goal
@@ -24,14 +25,14 @@ is_there name es = is_some (lookup (is_at (name_cmp name)) es)
 pub returns-in_err-check_power-clause-step : goal.returns-in_err-check_power-clause-step
 returns-in_err-check_power-clause-step c = λ device.
     let p = err_from_is_err_and c.from_residual.result c.from_residual.ensures.1 in
-    refused_off device c.args.self.now (Call.Checkpoint c.args.name.now) empty _ c.from_residual.result (p.1 ∙ ap Err p.2) c.in_err-check_power.ensures.off
+    refused_off (moment device c.args.self.now) (Call.Checkpoint c.args.name.now) empty _ c.from_residual.result (p.1 ∙ ap Err p.2) c.in_err-check_power.ensures.off
 
 pub returns-then-contains_key-clause-step : goal.returns-then-contains_key-clause-step
 returns-then-contains_key-clause-step c = λ device.
     let s = c.args.self.now in
     let name = c.args.name.now in
     let there : is_some (checkpoint_root s.history name) ≡ true = ap (is_there name) (sym c.checkpoints.ensures) ∙ sym c.if-contains_key.ensures in
-    refused device s (Call.Checkpoint name) Fault.Exists c.in_ok-check_power.ensures.ok refl (inl (checkpoint_refusal-map (tree_on device) s.history name ∙ checkpoint-exists s.history name there))
+    refused (moment device s) (Call.Checkpoint name) Fault.Exists c.in_ok-check_power.ensures.ok refl (inl (checkpoint_refusal-map (tree_on device) s.history name ∙ checkpoint-exists s.history name there))
 
 pub returns-then-len-ge-MAX_CHECKPOINTS-clause-step : goal.returns-then-len-ge-MAX_CHECKPOINTS-clause-step
 returns-then-len-ge-MAX_CHECKPOINTS-clause-step c = λ device.
@@ -39,7 +40,7 @@ returns-then-len-ge-MAX_CHECKPOINTS-clause-step c = λ device.
     let name = c.args.name.now in
     let new : is_some (checkpoint_root s.history name) ≡ false = ap (is_there name) (sym c.checkpoints.ensures) ∙ sym c.if-contains_key.ensures in
     let many : 16 ≤ length s.history.checkpoints = subst (λ n. 16 ≤ n) (c.len.ensures.len ∙ ap length c.checkpoints-2.ensures) c.if-len-ge-MAX_CHECKPOINTS.true in
-    refused device s (Call.Checkpoint name) Fault.CheckpointsFull c.in_ok-check_power.ensures.ok refl (inl (checkpoint_refusal-map (tree_on device) s.history name ∙ checkpoint-full s.history name new many))
+    refused (moment device s) (Call.Checkpoint name) Fault.CheckpointsFull c.in_ok-check_power.ensures.ok refl (inl (checkpoint_refusal-map (tree_on device) s.history name ∙ checkpoint-full s.history name new many))
 
 pub returns-in_err-check_writable-clause-step : goal.returns-in_err-check_writable-clause-step
 returns-in_err-check_writable-clause-step c = λ device.
@@ -48,7 +49,7 @@ returns-in_err-check_writable-clause-step c = λ device.
     let new : is_some (checkpoint_root s.history name) ≡ false = ap (is_there name) (sym c.checkpoints.ensures) ∙ sym c.if-contains_key.ensures in
     let few : length s.history.checkpoints < 16 = subst (λ n. n < 16) (c.len.ensures.len ∙ ap length c.checkpoints-2.ensures) c.if-len-ge-MAX_CHECKPOINTS.false in
     let p = err_from_is_err_and c.from_residual-in_err-check_writable.result c.from_residual-in_err-check_writable.ensures.1 in
-    rw (p.1, p.2) (refused_record device s (Call.Checkpoint name) c.in_err-check_writable.field-0.0 c.in_ok-check_power.ensures.ok (checkpoint_refusal-map (tree_on device) s.history name ∙ checkpoint-free s.history name new few) refl c.in_err-check_writable.ensures.err)
+    rw (p.1, p.2) (refused_record (moment device s) (Call.Checkpoint name) c.in_err-check_writable.field-0.0 c.in_ok-check_power.ensures.ok (checkpoint_refusal-map (tree_on device) s.history name ∙ checkpoint-free s.history name new few) refl c.in_err-check_writable.ensures.err)
 
 -- the history's answer, at the name that was passed and not its copy
 module _ (c : After-checkpoint) where
@@ -64,11 +65,11 @@ returns-clause-step c = λ device.
     let name = c.args.name.now in
     let new : is_some (checkpoint_root s.history name) ≡ false = ap (is_there name) (sym c.checkpoints.ensures) ∙ sym c.if-contains_key.ensures in
     let few : length s.history.checkpoints < 16 = subst (λ n. n < 16) (c.len.ensures.len ∙ ap length c.checkpoints-2.ensures) c.if-len-ge-MAX_CHECKPOINTS.false in
-    checkpointed device s name c.checkpoint.result c.checkpoint.new.self c.in_ok-check_power.ensures.ok c.in_ok-check_writable.ensures.ok (checkpoint-free s.history name new few) (made c) (why c) c.checkpoint.ensures.err
+    checkpointed (moment device s) name c.checkpoint.result c.checkpoint.new.self c.in_ok-check_power.ensures.ok c.in_ok-check_writable.ensures.ok (checkpoint-free s.history name new few) (made c) (why c) c.checkpoint.ensures.err
 
 pub returns-clause-mounted : goal.returns-clause-mounted
 returns-clause-mounted c = λ device is.
     let s = c.args.self.now in
     let name = c.args.name.now in
-    mounted_after device s (Call.Checkpoint name) c.checkpoint.result (with_checkpoint s.history name) c.checkpoint.new.self (made c) c.checkpoint.ensures.err is refl (returns-clause-step c device)
-    (record { versions = all_with_checkpoint (IsStanding device s.storage.ring) s.history name is.versions; checkpoints = kept_with_checkpoint (IsStanding device s.storage.ring) s.history name is.versions is.checkpoints })
+    mounted_after (moment device s) (Call.Checkpoint name) c.checkpoint.result (with_checkpoint s.history name) c.checkpoint.new.self (made c) c.checkpoint.ensures.err is refl (returns-clause-step c device)
+    (after_checkpoint (IsStanding device s.storage.ring) s name is.roots)

@@ -1,6 +1,7 @@
-use Rattle.std.proofs.Common.{Err, ap, ◌∙◌}
+use Rattle.std.proofs.Common.{Err, ap, refl, ◌∙◌}
 use Rattle.std.proofs.lemmas.Result.{err_from_is_err_and}
 use Rattle.fs_types.specs.declared.calls.Call.{Call}
+use Rattle.working_state.specs.Moments.{moment}
 use Rattle.working_state.specs.Steps.{empty}
 use Rattle.working_state.proofs.Refusals.{remembered_mounted, remembered_step}
 use Rattle.working_state.proofs.Steps.{refused_off}
@@ -9,14 +10,14 @@ use Rattle.working_state.proofs.state.State.ftruncate.Goals as goal
 pub returns-in_err-check_power-clause-step : goal.returns-in_err-check_power-clause-step
 returns-in_err-check_power-clause-step g c =
     let p = err_from_is_err_and c.from_residual.result c.from_residual.ensures.1 in
-    refused_off (g.F.Flash.device c.args.flash.now) c.args.self.now (Call.Ftruncate c.args.descriptor c.args.size) empty _ c.from_residual.result (p.1 ∙ ap Err p.2) c.in_err-check_power.ensures.off
+    refused_off (moment (g.F.Flash.device c.args.flash.now) c.args.self.now) (Call.Ftruncate c.args.descriptor c.args.size) empty _ c.from_residual.result (p.1 ∙ ap Err p.2) c.in_err-check_power.ensures.off
 
 pub returns-clause-mounted : goal.returns-clause-mounted
 returns-clause-mounted g c =
-    remembered_mounted empty (g.F.Flash.device c.args.flash.now) c.args.self.now (g.F.Flash.device c.resize_file-resized.new.flash) c.resize_file-resized.new.self c.remember_cut.new.self (Call.Ftruncate c.args.descriptor c.args.size)
+    remembered_mounted empty (moment (g.F.Flash.device c.args.flash.now) c.args.self.now) (moment (g.F.Flash.device c.resize_file-resized.new.flash) c.resize_file-resized.new.self) c.remember_cut.new.self (Call.Ftruncate c.args.descriptor c.args.size)
     c.resize_file-resized.result c.remember_cut.ensures.off c.resize_file-resized.ensures.mounted c.resize_file-resized.ensures.step
 
 pub returns-clause-step : goal.returns-clause-step
 returns-clause-step g c =
-    remembered_step empty (g.F.Flash.device c.args.flash.now) c.args.self.now (g.F.Flash.device c.resize_file-resized.new.flash) c.resize_file-resized.new.self c.remember_cut.new.self (Call.Ftruncate c.args.descriptor c.args.size)
-    c.resize_file-resized.result c.remember_cut.result c.remember_cut.ensures.same c.in_ok-check_power.ensures.ok c.resize_file-resized.ensures.is_off c.remember_cut.ensures.off c.resize_file-resized.ensures.step c.resize_file-resized.ensures.leaves
+    remembered_step empty (moment (g.F.Flash.device c.args.flash.now) c.args.self.now) (moment (g.F.Flash.device c.resize_file-resized.new.flash) c.resize_file-resized.new.self) c.remember_cut.new.self (Call.Ftruncate c.args.descriptor c.args.size)
+    c.resize_file-resized.result c.remember_cut.result c.remember_cut.ensures.same c.in_ok-check_power.ensures.ok c.resize_file-resized.ensures.is_off c.remember_cut.ensures.off c.resize_file-resized.ensures.step c.resize_file-resized.ensures.leaves refl

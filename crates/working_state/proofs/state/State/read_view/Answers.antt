@@ -2,6 +2,7 @@ use Rattle.std.proofs.Common.{Err, refl, ap, ◌∙◌}
 use Rattle.std.proofs.lemmas.Result.{err_from_is_err_and}
 use Rattle.fs_types.specs.declared.calls.Call.{Call}
 use Rattle.fs_types.specs.declared.calls.Reply.{Reply}
+use Rattle.working_state.specs.Moments.{moment}
 use Rattle.working_state.specs.Reading.{refuse_directory}
 use Rattle.working_state.proofs.ChangedCalls.{mounted_ready}
 use Rattle.working_state.proofs.FileReads.{view_reads, read_step}
@@ -14,24 +15,24 @@ pub returns-in_err-root-clause-step : goal.returns-in_err-root-clause-step
 returns-in_err-root-clause-step g c =
     let p = err_from_is_err_and c.from_residual.result c.from_residual.ensures.1 in
     at_fault Reply.Bytes _ _ _ _ _ c.in_err-root.field-0.0 c.from_residual.result (p.1 ∙ ap Err p.2)
-    (refused_step _ _ _ _ _ _ c.requires (worked_itself _ _)
-    (view_refuses (g.F.Flash.device c.args.flash.now) c.args.self.now c.args.view.now c.args.path.now (Call.ReadAt c.args.view.now c.args.path.now c.args.offset c.args.count) refuse_directory refl _ c.in_err-root.ensures))
+    (refused_step _ _ _ _ c.requires (worked_itself _)
+    (view_refuses (moment (g.F.Flash.device c.args.flash.now) c.args.self.now) c.args.view.now c.args.path.now (Call.ReadAt c.args.view.now c.args.path.now c.args.offset c.args.count) refuse_directory refl _ c.in_err-root.ensures))
 
 pub read_below-requires-clause-ready : goal.read_below-requires-clause-ready
-read_below-requires-clause-ready g c = mounted_ready (g.F.Flash.device c.args.flash.now) c.args.self.now c.requires
+read_below-requires-clause-ready g c = mounted_ready (moment (g.F.Flash.device c.args.flash.now) c.args.self.now) c.requires
 
 pub read_below-requires-clause-rooted : goal.read_below-requires-clause-rooted
 read_below-requires-clause-rooted g c =
     let shown = c.in_ok-root.ensures in
-    (view_stands (g.F.Flash.device c.args.flash.now) c.args.self.now c.args.view.now c.in_ok-root.field-0.now c.requires (record { fine = shown.0; shown = shown.1 })).rooted
+    (view_stands (moment (g.F.Flash.device c.args.flash.now) c.args.self.now) c.args.view.now c.in_ok-root.field-0.now c.requires (record { fine = shown.0; shown = shown.1 })).rooted
 
 pub returns-clause-looked : goal.returns-clause-looked
-returns-clause-looked g c = looked_at _ c.args.self.now _ _ c.read_below.ensures.looked
+returns-clause-looked g c = looked_at (moment _ c.args.self.now) _ _ c.read_below.ensures.looked
 
 pub returns-clause-step : goal.returns-clause-step
 returns-clause-step g c =
     let shown = c.in_ok-root.ensures in
     let read = c.read_below.ensures in
-    read_step _ _ _ _ _ _ _ _ _ c.read_below.result c.requires (looked_at _ c.args.self.now _ _ read.looked)
-    (view_reads (g.F.Flash.device c.args.flash.now) c.args.self.now c.args.view.now c.args.path.now c.args.offset c.args.count c.in_ok-root.field-0.now c.requires (record { fine = shown.0; shown = shown.1 }))
+    read_step _ _ _ _ _ _ _ c.read_below.result c.requires (looked_at (moment _ c.args.self.now) _ _ read.looked)
+    (view_reads (moment (g.F.Flash.device c.args.flash.now) c.args.self.now) c.args.view.now c.args.path.now c.args.offset c.args.count c.in_ok-root.field-0.now c.requires (record { fine = shown.0; shown = shown.1 }))
     read.read read.refused read.why

@@ -6,6 +6,7 @@ use Rattle.directory.specs.declared.lookups.Found.{Found}
 use Rattle.directory.specs.Lookups.{look_up}
 use Rattle.directory.specs.Trails.{IsTrail}
 use Rattle.tree_edits.specs.Edits.{IsRemovable}
+use Rattle.working_state.specs.Moments.{Moment, moment, nodes_at}
 use Rattle.working_state.specs.Steps.{empty}
 use Rattle.working_state.proofs.ChangedCalls.{looked_ready, looked_stands, at_present, change_by}
 use Rattle.working_state.proofs.OpenCalls.{at_answer, refused_answer}
@@ -20,31 +21,28 @@ returns-in_err-trail g c =
     let d = g.F.Flash.device c.args.flash.now in
     let e = g.F.Flash.device c.check_file.new.flash in
     let call = Call.Unlink c.args.path.now in
-    at_answer empty d c.args.self.now e c.check_file.new.self call c.in_err-trail.field-0.0 c.from_residual.result (p.1 ∙ ap Err p.2)
-    (refused_answer d c.args.self.now e c.check_file.new.self call c.in_err-trail.field-0.0 c.requires c.check_file.ensures.looked refl c.in_err-trail.ensures.refused)
+    at_answer empty (moment d c.args.self.now) (moment e c.check_file.new.self) call c.in_err-trail.field-0.0 c.from_residual.result (p.1 ∙ ap Err p.2)
+    (refused_answer (moment d c.args.self.now) (moment e c.check_file.new.self) call c.in_err-trail.field-0.0 c.requires c.check_file.ensures.looked refl c.in_err-trail.ensures.refused)
 
 pub change-requires-clause-ready : goal.change-requires-clause-ready
-change-requires-clause-ready g c = looked_ready _ _ _ _ c.requires c.check_file.ensures.looked
+change-requires-clause-ready g c = looked_ready _ _ c.requires c.check_file.ensures.looked
 
 pub change-requires-clause-stands : goal.change-requires-clause-stands
-change-requires-clause-stands g c = looked_stands _ _ _ _ c.root-root.result c.requires c.root-root.ensures c.check_file.ensures.looked
+change-requires-clause-stands g c = looked_stands _ _ c.root-root.result c.requires c.root-root.ensures c.check_file.ensures.looked
 
 pub change-requires-clause-editable : goal.change-requires-clause-editable
 change-requires-clause-editable g c =
-    let e = g.F.Flash.device c.check_file.new.flash in
-    let t = c.check_file.new.self in
+    let b : Moment = moment (g.F.Flash.device c.check_file.new.flash) c.check_file.new.self in
     let ok = c.in_ok-trail.ensures in
     let path = c.args.path.now in
-    at_present (λ root. (is_path path ≡ true) × IsTrail (node_of e) root path c.in_ok-trail.trail × (0 < length path) × (x : Found) × (look_up (node_of e) root path ≡ Ok x) × IsRemovable (node_of e) x) (g.F.Flash.device c.args.flash.now) c.args.self.now e t c.root-root.result c.root-root.ensures c.check_file.ensures.looked
+    at_present (λ root. (is_path path ≡ true) × IsTrail (nodes_at b) root path c.in_ok-trail.trail × (0 < length path) × (x : Found) × (look_up (nodes_at b) root path ≡ Ok x) × IsRemovable (nodes_at b) x) (moment (g.F.Flash.device c.args.flash.now) c.args.self.now) b c.root-root.result c.root-root.ensures c.check_file.ensures.looked
     (ok.lawful, ok.way, file_below (node_of (g.F.Flash.device c.check_file.new.flash)) c.root-root.result c.args.path.now c.in_ok-trail.ensures.found.0 c.in_ok-trail.ensures.found.1 c.in_ok-trail.ensures.found.2, found.File ok.found.0 ok.found.1, ok.found.2, tt)
 
 pub returns : goal.returns
 returns g c =
-    let d = g.F.Flash.device c.args.flash.now in
-    let s = c.args.self.now in
-    let e = g.F.Flash.device c.check_file.new.flash in
-    let t = c.check_file.new.self in
+    let a : Moment = moment (g.F.Flash.device c.args.flash.now) c.args.self.now in
+    let b : Moment = moment (g.F.Flash.device c.check_file.new.flash) c.check_file.new.self in
     let looked = c.check_file.ensures.looked in
-    change_by d s e t (g.F.Flash.device c.change.new.flash) c.change.new.storage c.change.new.history c.root-root.result (Call.Unlink c.args.path.now) c.change.result c.change.ensures
-    (unlink_change d s e t c.args.path.now c.requires looked c.in_ok-trail.ensures.accepted c.in_ok-trail.ensures.lawful
+    change_by a b (g.F.Flash.device c.change.new.flash) c.change.new.storage c.change.new.history c.root-root.result (Call.Unlink c.args.path.now) c.change.result c.change.ensures
+    (unlink_change a b c.args.path.now c.requires looked c.in_ok-trail.ensures.accepted c.in_ok-trail.ensures.lawful
     (file_below (node_of (g.F.Flash.device c.check_file.new.flash)) c.root-root.result c.args.path.now c.in_ok-trail.ensures.found.0 c.in_ok-trail.ensures.found.1 c.in_ok-trail.ensures.found.2)) (omega arith) c.requires c.root-root.ensures looked refl

@@ -4,12 +4,10 @@ use Rattle.std.proofs.lemmas.Result.{err_from_is_err_and}
 use Rattle.plain_trees.specs.Contents.{overwritten}
 use Rattle.fs_types.specs.declared.calls.Call.{Call}
 use Rattle.fs_types.specs.declared.calls.Reply.{Reply}
-use Rattle.node_store.specs.NodePages.{node_of}
 use Rattle.directory.specs.declared.lookups.Found.TheVariants as found
 use Rattle.directory.specs.Lookups.{look_up}
 use Rattle.directory.specs.Trails.{IsTrail}
-use Rattle.working_state.specs.Seen.{seen_on, machine_on}
-use Rattle.working_state.specs.declared.state.State.{State}
+use Rattle.working_state.specs.Moments.{Moment, moment, machine_at, seen_at, nodes_at}
 use Rattle.working_state.proofs.ChangedCalls.{looked_ready, looked_stands, same_root, refused_change, pushed_by}
 use Rattle.working_state.proofs.FileChanges as changes
 use Rattle.working_state.proofs.MovedEntries.{read_may}
@@ -20,105 +18,92 @@ use Rattle.working_state.proofs.state.State.write_file.Goals as goal
 pub returns-in_err-path : goal.returns-in_err-path
 returns-in_err-path g c =
     let p = err_from_is_err_and c.from_residual.result c.from_residual.ensures.1 in
-    let d = g.F.Flash.device c.args.flash.now in
-    let s = c.args.self.now in
+    let a : Moment = moment (g.F.Flash.device c.args.flash.now) c.args.self.now in
     let call = Call.Pwrite c.args.descriptor c.args.offset c.args.bytes.now in
-    at_answer Reply.Count d s d s call c.in_err-path.field-0.0 c.from_residual.result (p.1 ∙ ap Err p.2)
-    (refused_answer d s d s call c.in_err-path.field-0.0 c.requires (changes.looked_itself d s) refl (inl c.in_err-path.ensures.err))
+    at_answer Reply.Count a a call c.in_err-path.field-0.0 c.from_residual.result (p.1 ∙ ap Err p.2)
+    (refused_answer a a call c.in_err-path.field-0.0 c.requires (changes.looked_itself a) refl (inl c.in_err-path.ensures.err))
 
 pub returns-then-is_empty : goal.returns-then-is_empty
 returns-then-is_empty g c =
-    let d = g.F.Flash.device c.args.flash.now in
-    let s = c.args.self.now in
+    let a : Moment = moment (g.F.Flash.device c.args.flash.now) c.args.self.now in
     let none : length c.args.bytes.now ≡ 0 = eqb-true (length c.args.bytes.now) 0 (sym c.is_empty.ensures ∙ c.if-is_empty.true) in
-    changes.same_answer d s d s (Call.Pwrite c.args.descriptor c.args.offset c.args.bytes.now) (Reply.Count 0) c.requires (changes.looked_itself d s)
-    (changes.pwrite_nothing (machine_on d s) c.args.descriptor c.args.offset c.args.bytes.now none) c.in_ok-path.ensures.ok (ap Reply.Count none) refl
+    changes.same_answer a a (Call.Pwrite c.args.descriptor c.args.offset c.args.bytes.now) (Reply.Count 0) c.requires (changes.looked_itself a)
+    (changes.pwrite_nothing (machine_at a) c.args.descriptor c.args.offset c.args.bytes.now none) c.in_ok-path.ensures.ok (λ _. ap Reply.Count none) refl
 
 pub returns-in_err-body : goal.returns-in_err-body
 returns-in_err-body g c =
     let p = err_from_is_err_and c.from_residual-in_err-body.result c.from_residual-in_err-body.ensures.1 in
-    let d = g.F.Flash.device c.args.flash.now in
-    let s = c.args.self.now in
-    let e = g.F.Flash.device c.find_body.new.flash in
-    let t : State = record s { storage = c.find_body.new.storage } in
+    let a : Moment = moment (g.F.Flash.device c.args.flash.now) c.args.self.now in
+    let b : Moment = moment (g.F.Flash.device c.find_body.new.flash) (record a.state { storage = c.find_body.new.storage }) in
     let call = Call.Pwrite c.args.descriptor c.args.offset c.args.bytes.now in
     let path = c.in_ok-path.path.now in
-    let looked = looked_at d s e c.find_body.new.storage c.find_body.ensures.looked in
-    at_answer Reply.Count d s e t call c.in_err-body.field-0.0 c.from_residual-in_err-body.result (p.1 ∙ ap Err p.2)
-    (refused_answer d s e t call c.in_err-body.field-0.0 c.requires looked refl (inr (read_may (seen_on d s) (seen_on e t) (machine_on d s) call c.in_err-body.field-0.0 refl c.in_err-body.ensures.why)))
+    let looked = looked_at a b.device c.find_body.new.storage c.find_body.ensures.looked in
+    at_answer Reply.Count a b call c.in_err-body.field-0.0 c.from_residual-in_err-body.result (p.1 ∙ ap Err p.2)
+    (refused_answer a b call c.in_err-body.field-0.0 c.requires looked refl (inr (read_may (seen_at a) (seen_at b) (machine_at a) call c.in_err-body.field-0.0 refl c.in_err-body.ensures.why)))
 
 pub find_body-requires-clause-file : goal.find_body-requires-clause-file
 find_body-requires-clause-file g c =
-    let d = g.F.Flash.device c.args.flash.now in
-    let s = c.args.self.now in
+    let a : Moment = moment (g.F.Flash.device c.args.flash.now) c.args.self.now in
     let path = c.in_ok-path.path.now in
-    changes.present_file d s c.root-root.result path c.requires c.root-root.ensures (changes.open_file d s c.args.descriptor path c.requires c.in_ok-path.ensures.path)
+    changes.present_file a c.root-root.result path c.requires c.root-root.ensures (changes.open_file a c.args.descriptor path c.requires c.in_ok-path.ensures.path)
 
 pub change-requires-clause-ready : goal.change-requires-clause-ready
 change-requires-clause-ready g c =
-    let d = g.F.Flash.device c.args.flash.now in
-    let s = c.args.self.now in
+    let a : Moment = moment (g.F.Flash.device c.args.flash.now) c.args.self.now in
     let e = g.F.Flash.device c.find_body.new.flash in
-    looked_ready d s e (record s { storage = c.find_body.new.storage }) c.requires (looked_at d s e c.find_body.new.storage c.find_body.ensures.looked)
+    looked_ready a (moment e (record a.state { storage = c.find_body.new.storage })) c.requires (looked_at a e c.find_body.new.storage c.find_body.ensures.looked)
 
 pub change-requires-clause-stands : goal.change-requires-clause-stands
 change-requires-clause-stands g c =
-    let d = g.F.Flash.device c.args.flash.now in
-    let s = c.args.self.now in
+    let a : Moment = moment (g.F.Flash.device c.args.flash.now) c.args.self.now in
     let e = g.F.Flash.device c.find_body.new.flash in
-    looked_stands d s e (record s { storage = c.find_body.new.storage }) c.root-root.result c.requires c.root-root.ensures (looked_at d s e c.find_body.new.storage c.find_body.ensures.looked)
+    looked_stands a (moment e (record a.state { storage = c.find_body.new.storage })) c.root-root.result c.requires c.root-root.ensures (looked_at a e c.find_body.new.storage c.find_body.ensures.looked)
 
 pub change-requires-clause-editable : goal.change-requires-clause-editable
 change-requires-clause-editable g c = λ other present.
-    let d = g.F.Flash.device c.args.flash.now in
-    let s = c.args.self.now in
-    let e = g.F.Flash.device c.find_body.new.flash in
-    let t : State = record s { storage = c.find_body.new.storage } in
+    let a : Moment = moment (g.F.Flash.device c.args.flash.now) c.args.self.now in
+    let b : Moment = moment (g.F.Flash.device c.find_body.new.flash) (record a.state { storage = c.find_body.new.storage }) in
     let path = c.in_ok-path.path.now in
-    let looked = looked_at d s e c.find_body.new.storage c.find_body.ensures.looked in
-    let file = changes.open_file d s c.args.descriptor path c.requires c.in_ok-path.ensures.path in
+    let looked = looked_at a b.device c.find_body.new.storage c.find_body.ensures.looked in
+    let file = changes.open_file a c.args.descriptor path c.requires c.in_ok-path.ensures.path in
     let body = c.in_ok-body.body in
-    let there = changes.later_body d s e t c.root-root.result path body.head body.length c.requires c.root-root.ensures (looked_worked d s e t looked) c.in_ok-body.ensures.found in
-    let led : look_up (node_of e) other path ≡ Ok (found.File body.head body.length) =
-    subst (λ (r : ℕ). look_up (node_of e) r path ≡ Ok (found.File body.head body.length)) (same_root c.root-root.result other s.history t.history looked.rest.history c.root-root.ensures present) c.in_ok-body.ensures.found in
-    let way : IsTrail (node_of e) other path c.in_ok-body.trail =
-    subst (λ (r : ℕ). IsTrail (node_of e) r path c.in_ok-body.trail) (same_root c.root-root.result other s.history t.history looked.rest.history c.root-root.ensures present) c.in_ok-body.ensures.way in
-    (changes.file_lawful d s path c.requires file, way, led, there.short, changes.some_length (length c.args.bytes.now) (sym c.is_empty.ensures ∙ c.if-is_empty.false), c.in_ok-path.ensures.fits (changes.some_length (length c.args.bytes.now) (sym c.is_empty.ensures ∙ c.if-is_empty.false)))
+    let there = changes.later_body a b c.root-root.result path body.head body.length c.requires c.root-root.ensures (looked_worked a b looked) c.in_ok-body.ensures.found in
+    let led : look_up (nodes_at b) other path ≡ Ok (found.File body.head body.length) =
+    subst (λ (r : ℕ). look_up (nodes_at b) r path ≡ Ok (found.File body.head body.length)) (same_root c.root-root.result other a.state.history b.state.history looked.rest.history c.root-root.ensures present) c.in_ok-body.ensures.found in
+    let way : IsTrail (nodes_at b) other path c.in_ok-body.trail =
+    subst (λ (r : ℕ). IsTrail (nodes_at b) r path c.in_ok-body.trail) (same_root c.root-root.result other a.state.history b.state.history looked.rest.history c.root-root.ensures present) c.in_ok-body.ensures.way in
+    (changes.file_lawful a path c.requires file, way, led, there.short, changes.some_length (length c.args.bytes.now) (sym c.is_empty.ensures ∙ c.if-is_empty.false), c.in_ok-path.ensures.fits (changes.some_length (length c.args.bytes.now) (sym c.is_empty.ensures ∙ c.if-is_empty.false)))
 
 pub returns-in_err-change : goal.returns-in_err-change
 returns-in_err-change g c =
     let p = err_from_is_err_and c.from_residual-in_err-change.result c.from_residual-in_err-change.ensures.1 in
-    let d = g.F.Flash.device c.args.flash.now in
-    let s = c.args.self.now in
-    let e = g.F.Flash.device c.find_body.new.flash in
-    let t : State = record s { storage = c.find_body.new.storage } in
+    let a : Moment = moment (g.F.Flash.device c.args.flash.now) c.args.self.now in
+    let b : Moment = moment (g.F.Flash.device c.find_body.new.flash) (record a.state { storage = c.find_body.new.storage }) in
     let path = c.in_ok-path.path.now in
-    let looked = looked_at d s e c.find_body.new.storage c.find_body.ensures.looked in
-    let file = changes.open_file d s c.args.descriptor path c.requires c.in_ok-path.ensures.path in
-    let change = changes.pwrite_change (machine_on d s) c.args.descriptor c.args.offset c.args.bytes.now path c.in_ok-path.ensures.path c.in_ok-path.ensures.ok (sym c.is_empty.ensures ∙ c.if-is_empty.false) (changes.below_root d s path c.requires file) in
+    let looked = looked_at a b.device c.find_body.new.storage c.find_body.ensures.looked in
+    let file = changes.open_file a c.args.descriptor path c.requires c.in_ok-path.ensures.path in
+    let change = changes.pwrite_change (machine_at a) c.args.descriptor c.args.offset c.args.bytes.now path c.in_ok-path.ensures.path c.in_ok-path.ensures.ok (sym c.is_empty.ensures ∙ c.if-is_empty.false) (changes.below_root a path c.requires file) in
     let call = Call.Pwrite c.args.descriptor c.args.offset c.args.bytes.now in
     let f = g.F.Flash.device c.change.new.flash in
-    let by = changes.file_change d s e t call path (λ old. overwritten old c.args.offset c.args.bytes.now) (Reply.Count (length c.args.bytes.now)) c.requires looked change (λ space. refl) in
+    let by = changes.file_change a b call path (λ old. overwritten old c.args.offset c.args.bytes.now) (Reply.Count (length c.args.bytes.now)) c.requires looked change (λ space. refl) in
     let body = c.in_ok-body.body in
-    let there = changes.later_body d s e t c.root-root.result path body.head body.length c.requires c.root-root.ensures (looked_worked d s e t looked) c.in_ok-body.ensures.found in
-    let few = changes.pwrite_few d s e t c.args.descriptor c.args.offset c.args.bytes.now path body.head body.length c.requires looked c.in_ok-path.ensures.path there in
-    at_answer Reply.Count d s f (record t { storage = c.change.new.storage; history = c.change.new.history }) call c.in_err-change.field-0.0 c.from_residual-in_err-change.result (p.1 ∙ ap Err p.2)
-    (refused_change d s e t f c.change.new.storage c.change.new.history c.root-root.result call _ (Reply.Count (length c.args.bytes.now)) c.in_err-change.field-0.0 c.requires c.root-root.ensures looked by few c.in_err-change.ensures.written c.in_err-change.ensures.ends)
+    let there = changes.later_body a b c.root-root.result path body.head body.length c.requires c.root-root.ensures (looked_worked a b looked) c.in_ok-body.ensures.found in
+    let few = changes.pwrite_few a b c.args.descriptor c.args.offset c.args.bytes.now path body.head body.length c.requires looked c.in_ok-path.ensures.path there in
+    at_answer Reply.Count a (moment f (record b.state { storage = c.change.new.storage; history = c.change.new.history })) call c.in_err-change.field-0.0 c.from_residual-in_err-change.result (p.1 ∙ ap Err p.2)
+    (refused_change a b f c.change.new.storage c.change.new.history c.root-root.result call _ (Reply.Count (length c.args.bytes.now)) c.in_err-change.field-0.0 c.requires c.root-root.ensures looked by few c.in_err-change.ensures.written c.in_err-change.ensures.ends)
 
 pub returns : goal.returns
 returns g c =
-    let d = g.F.Flash.device c.args.flash.now in
-    let s = c.args.self.now in
-    let e = g.F.Flash.device c.find_body.new.flash in
-    let t : State = record s { storage = c.find_body.new.storage } in
+    let a : Moment = moment (g.F.Flash.device c.args.flash.now) c.args.self.now in
+    let b : Moment = moment (g.F.Flash.device c.find_body.new.flash) (record a.state { storage = c.find_body.new.storage }) in
     let path = c.in_ok-path.path.now in
-    let looked = looked_at d s e c.find_body.new.storage c.find_body.ensures.looked in
-    let file = changes.open_file d s c.args.descriptor path c.requires c.in_ok-path.ensures.path in
-    let change = changes.pwrite_change (machine_on d s) c.args.descriptor c.args.offset c.args.bytes.now path c.in_ok-path.ensures.path c.in_ok-path.ensures.ok (sym c.is_empty.ensures ∙ c.if-is_empty.false) (changes.below_root d s path c.requires file) in
+    let looked = looked_at a b.device c.find_body.new.storage c.find_body.ensures.looked in
+    let file = changes.open_file a c.args.descriptor path c.requires c.in_ok-path.ensures.path in
+    let change = changes.pwrite_change (machine_at a) c.args.descriptor c.args.offset c.args.bytes.now path c.in_ok-path.ensures.path c.in_ok-path.ensures.ok (sym c.is_empty.ensures ∙ c.if-is_empty.false) (changes.below_root a path c.requires file) in
     let call = Call.Pwrite c.args.descriptor c.args.offset c.args.bytes.now in
     let f = g.F.Flash.device c.change.new.flash in
-    let by = changes.file_change d s e t call path (λ old. overwritten old c.args.offset c.args.bytes.now) (Reply.Count (length c.args.bytes.now)) c.requires looked change (λ space. refl) in
+    let by = changes.file_change a b call path (λ old. overwritten old c.args.offset c.args.bytes.now) (Reply.Count (length c.args.bytes.now)) c.requires looked change (λ space. refl) in
     let body = c.in_ok-body.body in
-    let there = changes.later_body d s e t c.root-root.result path body.head body.length c.requires c.root-root.ensures (looked_worked d s e t looked) c.in_ok-body.ensures.found in
-    let few = changes.pwrite_few d s e t c.args.descriptor c.args.offset c.args.bytes.now path body.head body.length c.requires looked c.in_ok-path.ensures.path there in
-    pushed_by d s e t f c.change.new.storage c.change.new.history t.files call (Reply.Count (length c.args.bytes.now)) c.in_ok-change.ensures.ends by few c.in_ok-change.ensures.written c.requires looked looked.rest.files
+    let there = changes.later_body a b c.root-root.result path body.head body.length c.requires c.root-root.ensures (looked_worked a b looked) c.in_ok-body.ensures.found in
+    let few = changes.pwrite_few a b c.args.descriptor c.args.offset c.args.bytes.now path body.head body.length c.requires looked c.in_ok-path.ensures.path there in
+    pushed_by a b f c.change.new.storage c.change.new.history b.state.files call (Reply.Count (length c.args.bytes.now)) c.in_ok-change.ensures.ends by few c.in_ok-change.ensures.written c.requires looked looked.rest.files

@@ -1,1 +1,3 @@
 pub mod LawfulContents
+pub mod Mounting
+pub mod Restored

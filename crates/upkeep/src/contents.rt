@@ -28,7 +28,7 @@ pub fn record_of(
     ensures lawful { OnOk result (is_record (spec.record_of geometry history.now last) ≡ true) }
 {
     let versions = Sequence::from_slice(alloc, history.versions())?;
-    let checkpoints = checkpoints_of(alloc, history.checkpoints())?;
+    let checkpoints = list_checkpoints(alloc, history.checkpoints())?;
     Ok(Record {
         sequence: 0,
         geometry,
@@ -43,7 +43,7 @@ pub fn record_of(
     })
 }
 
-fn checkpoints_of(
+fn list_checkpoints(
     alloc: Global,
     checkpoints: &BTreeMap<CpName, u32>,
 ) -> Result<Sequence<Checkpoint>, AllocError>

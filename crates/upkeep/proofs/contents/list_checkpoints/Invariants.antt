@@ -2,7 +2,7 @@ use Rattle.std.proofs.Common.{◌≡◌, ◌++◌, map}
 use Rattle.std.specs.List.{list_all}
 use Rattle.fs_types.specs.Names.{is_checkpoint_name}
 use Rattle.upkeep.specs.Contents.{checkpoint_of}
-use Rattle.upkeep.proofs.contents.checkpoints_of.Given as goal
+use Rattle.upkeep.proofs.contents.list_checkpoints.Given as goal
 
 abbrev pub invariant-loop-name : goal.invariant-loop-name
 invariant-loop-name l =

@@ -1,0 +1,294 @@
+-- What a mount has found: the working state that it makes, and why it makes none.
+use Rattle.std.proofs.Common.{◌≡◌, ◌≢◌, replicate, inl, inr, ℕ, zero, suc, ◌-◌, ◌/◌, ◌<◌, ◌≤◌, Bool, true, false, ◌||◌, Option, Some, None, Result, Ok, List, [], ◌∷◌, ◌++◌, length, map, refl, sym, ap, subst, ◌∙◌, arith}
+use Rattle.std.proofs.lemmas.Bool.{true≢false}
+use Rattle.std.proofs.lemmas.List.Elements.{All-map, Contains-append_left, Contains-append_right}
+use Rattle.std.proofs.lemmas.Cmp.{nat_cmp_total}
+use Rattle.std.specs.Prelude.{◌↔◌, Contains, vec_len, vec_capacity, slice_index_or}
+use Rattle.std.specs.FinSet as set
+use Rattle.std.specs.List.Sorted.{IsStrictlySortedBy}
+use Rattle.std.specs.Option.{option_map}
+use Rattle.std.specs.Ordering.{nat_cmp}
+use Rattle.fs_types.specs.Names.{Name, name_cmp}
+use Rattle.fs_types.specs.declared.calls.Version.{Version}
+use Rattle.fs_types.specs.declared.faults.Fault.{Fault}
+use Rattle.fs_types.specs.declared.faults.Fault.TheVariants.{Damaged, BadGeometry, ReadFailed, PowerCut, NoMemory}
+use Rattle.history_machine.specs.Descriptors.{Descriptor, Descriptors, none_open, descriptor_at}
+use Rattle.history_machine.specs.History.{Past, IsLawful, map_roots}
+use Rattle.history_machine.specs.HistoryMaps.{lawful-map}
+use Rattle.history_machine.specs.Machine.{IsMachine, machine_with}
+use Rattle.plain_trees.specs.Trees.{Tree, IsFileTree}
+use Rattle.flash_model.specs.declared.sizes.Geometry.{Geometry}
+use Rattle.flash_model.specs.Device.{Device, Page}
+use Rattle.flash_model.specs.Geometry.{IsGeometry, block_bytes}
+use Rattle.flash_model.specs.Reading.{OnlyReads}
+use Rattle.node_format.specs.Headers.{body_front}
+use Rattle.node_store.specs.NodePages.{node_of}
+use Rattle.node_store.specs.ReadingLaws.{OnlyReads_nodes}
+use Rattle.node_store.specs.Faults.{IsReadFault}
+use Rattle.node_store.specs.declared.stores.Store.{Store}
+use Rattle.node_store.specs.Stores.{Causes}
+use Rattle.block_trees.specs.Bodies.{Blocks}
+use Rattle.block_trees.specs.Reached.{Reached, IsFirst, IsNamed}
+use Rattle.block_trees.specs.Trees.{IsRoot}
+use Rattle.block_trees.proofs.FileTrees.{all_file_trees}
+use Rattle.reclaim.specs.Verified.{AreRoots}
+use Rattle.record_format.specs.declared.records.Record.{Record}
+use Rattle.record_format.specs.Payloads.{is_record, payload_at}
+use Rattle.record_format.proofs.ItsFlash.{means_its_flash}
+use Rattle.commit_pair.specs.declared.anchors.Anchors.{Anchors}
+use Rattle.commit_pair.specs.declared.best.Found.{Found}
+use Rattle.commit_pair.specs.Parts.{Entry, parts_on, newest_at, newest_on, payload_of}
+use Rattle.commit_pair.specs.Laws.{HasNone}
+use Rattle.commit_pair.specs.Newest.{IsUncleared, committed_on, NewestCause}
+use Rattle.commit_pair.specs.Reading as anchors
+use Rattle.commit_pair.specs.Reading.{IsEnd}
+use Rattle.commit_pair.specs.Remembering.{MayCommit, KnowsNewest}
+use Rattle.commit_pair.proofs.NewestLaws.{found_is_newest}
+use Rattle.working_state.specs.Seen.{capacity_of, tree_on, machine_on}
+use Rattle.working_state.specs.Mounted.{IsStanding, IsMounted}
+use Rattle.working_state.specs.Roots.{HasRoot}
+use Rattle.working_state.specs.declared.state.State.{State}
+use Rattle.upkeep.specs.Mounts.{history_of, roots_of, IsLoaded, IsMountOf, RootsCause, MountCause}
+use Rattle.upkeep.specs.declared.mounts.Mounted.{Mounted}
+
+-- ---- why roots are refused
+
+pub roots_why : {F : Type 0} (device : F → Device) (s t : Store F) (roots : List ℕ) (fault : Fault) → IsReadFault fault
+    → (fault ≡ Damaged → AreRoots (block_bytes (device s.flash.now).geometry) (node_of (device s.flash.now)) roots → ⊥) → (fault ≢ Damaged → Causes device s t fault)
+    → RootsCause (device s.flash.now) roots (device t.flash.now) fault
+roots_why device s t roots Damaged is damaged why = damaged refl
+roots_why device s t roots ReadFailed is damaged why = (why (λ e. cc)).reason
+roots_why device s t roots PowerCut is damaged why = (why (λ e. cc)).reason
+roots_why device s t roots NoMemory is damaged why = tt
+roots_why device s t roots _ is damaged why = absurd (true≢false (sym is))
+
+-- ---- used blocks
+
+-- with no note exactly the marked blocks are used
+pub installed : (marks note used : set.FinSet nat_cmp) (f : Blocks) (roots : List ℕ) → note ≡ set.empty → used ≡ set.union marks note
+    → ((b : ℕ) → (set.contains marks b ≡ true) ↔ Reached f roots b) → (b : ℕ) → (set.contains used b ≡ true) ↔ Reached f roots b
+installed marks note used f roots none is exact b =
+    let same : set.contains used b ≡ set.contains marks b =
+    ap (λ (s : set.FinSet nat_cmp). set.contains s b) (is ∙ ap (set.union marks) none)
+    ∙ set.contains-union nat_cmp_total marks set.empty b
+    ∙ ap (λ (x : Bool). set.contains marks b || x) (set.contains-empty nat_cmp b)
+    ∙ or_false (set.contains marks b) in
+    (λ has. (exact b).0 (sym same ∙ has), λ reached. same ∙ (exact b).1 reached)
+  where
+    or_false : (x : Bool) → (x || false) ≡ x
+    or_false true = refl
+    or_false false = refl
+
+-- ---- roots
+
+contains_front : {X : Type 0} (f : X → ℕ) (xs : List X) (rest : List ℕ) (k : ℕ) (d : X) → k < length xs → Contains (map f xs ++ rest) (f (slice_index_or xs k d))
+contains_front f [] rest k d within = absurd (omega arith)
+contains_front f (x ∷ xs) rest zero d within = (0, omega arith, refl)
+contains_front f (x ∷ xs) rest (suc k) d within =
+    let there = contains_front f xs rest k d (omega arith) in
+    (suc there.0, let l : there.0 < length (map f xs ++ rest) = there.1 in omega arith, there.2)
+
+contains_back : {X : Type 0} (f : X → ℕ) (front : List ℕ) (xs : List X) (k : ℕ) (d : X) → k < length xs → Contains (front ++ map f xs) (f (slice_index_or xs k d))
+contains_back f [] [] k d within = absurd (omega arith)
+contains_back f [] (x ∷ xs) zero d within = (0, omega arith, refl)
+contains_back f [] (x ∷ xs) (suc k) d within =
+    let there = contains_back f [] xs k d (omega arith) in
+    (suc there.0, let l : there.0 < length (map f xs) = there.1 in omega arith, there.2)
+contains_back f (r ∷ front) xs k d within =
+    let there = contains_back f front xs k d within in
+    (suc there.0, let l : there.0 < length (front ++ map f xs) = there.1 in omega arith, there.2)
+
+-- what one of the roots reaches they all reach
+reached_with : (f : Blocks) (root : ℕ) (roots : List ℕ) → Contains roots root → (b : ℕ) → Reached f (root ∷ []) b → Reached f roots b
+reached_with f root roots has b (IsFirst (zero, below, is)) = subst (Reached f roots) is (IsFirst has)
+reached_with f root roots has b (IsFirst (suc k, below, is)) = absurd (omega arith)
+reached_with f root roots has b (IsNamed {block = c} reached names) = IsNamed (reached_with f root roots has c reached) names
+
+none-at : (n descriptor : ℕ) (d : Descriptor) → descriptor_at (replicate n None) descriptor ≡ Some d → ⊥
+none-at zero descriptor d e = absurd cc
+none-at (suc n) zero d e = absurd cc
+none-at (suc n) (suc descriptor) d e = none-at n descriptor d e
+
+map-names : {R T : Type 0} (f : R → T) (es : List (Name × R)) → map (λ (e : Name × T). e.0) (map (λ (e : Name × R). (e.0, f e.1)) es) ≡ map (λ (e : Name × R). e.0) es
+map-names f [] = refl
+map-names f (e ∷ es) = ap (λ (rest : List Name). e.0 ∷ rest) (map-names f es)
+
+-- ---- the working state
+
+-- what was found before a working state is made: after reads alone
+pub record IsBuilt (d e : Device) (r : Record) (s : State) : Type 0 where
+  pub lawful : IsGeometry d.geometry
+  pub only_reads : OnlyReads d e
+  pub history : s.history ≡ history_of r
+  pub sound : IsLawful s.history
+  pub named : IsStrictlySortedBy name_cmp (map (λ (x : Name × ℕ). x.0) s.history.checkpoints)
+  pub trees : AreRoots (block_bytes d.geometry) (node_of d) (roots_of (history_of r))
+  pub used : (b : ℕ) → (set.contains s.storage.ring.used b ≡ true) ↔ Reached (node_of d) (roots_of (history_of r)) b
+  pub ring_blocks : s.storage.ring.blocks ≡ d.geometry.blocks
+  pub bad : s.storage.bad ≡ set.from_list r.bad
+  pub last : s.storage.ring.last ≡ r.last
+  pub page_len : vec_len s.storage.page ≡ d.geometry.page
+  pub node_room : block_bytes d.geometry ≤ vec_capacity s.storage.node
+  pub files : s.files ≡ none_open
+  pub is_on : s.is_off ≡ false
+
+module _ (d e : Device) (r : Record) (s : State) (built : IsBuilt d e r s) where
+  same_nodes : node_of e ≡ node_of d
+  same_nodes = OnlyReads_nodes d e built.lawful built.only_reads
+
+  same_sizes : e.geometry ≡ d.geometry
+  same_sizes = built.only_reads.geometry
+
+  used_there : (b : ℕ) → (set.contains s.storage.ring.used b ≡ true) ↔ Reached (node_of e) (roots_of (history_of r)) b
+  used_there = subst (λ (f : Blocks). (b : ℕ) → (set.contains s.storage.ring.used b ≡ true) ↔ Reached f (roots_of (history_of r)) b) (sym same_nodes) built.used
+
+  trees_there : (root : ℕ) → Contains (roots_of s.history) root → IsRoot (capacity_of e) (node_of e) root
+  trees_there root has =
+      let there : IsRoot (capacity_of d) (node_of d) root = built.trees root (subst (λ (h : Past ℕ). Contains (roots_of h) root) built.history has) in
+      let nodes : IsRoot (capacity_of d) (node_of e) root = subst (λ (f : Blocks). IsRoot (capacity_of d) f root) (sym same_nodes) there in
+      subst (λ (g : Geometry). IsRoot (block_bytes g - body_front) (node_of e) root) (sym same_sizes) nodes
+
+  stands : (root : ℕ) → Contains (roots_of s.history) root → IsStanding e s.storage.ring root
+  stands root has = record {
+    held = λ first named b reached. (used_there b).1 (reached_with (node_of e) root (roots_of (history_of r)) (subst (λ (h : Past ℕ). Contains (roots_of h) root) built.history has) b
+        (subst (λ (x : ℕ). Reached (node_of e) (x ∷ []) b) (sym named) reached));
+    rooted = trees_there root has;
+  }
+
+  version_root : (k : ℕ) (v : Version ℕ) → k < length s.history.versions → Contains (roots_of s.history) (slice_index_or s.history.versions k v).root
+  version_root k v below = contains_front (λ (x : Version ℕ). x.root) s.history.versions (map (λ (x : Name × ℕ). x.1) s.history.checkpoints) k v below
+
+  checkpoint_root : (k : ℕ) (x : Name × ℕ) → k < length s.history.checkpoints → Contains (roots_of s.history) (slice_index_or s.history.checkpoints k x).1
+  checkpoint_root k x below = contains_back (λ (y : Name × ℕ). y.1) (map (λ (v : Version ℕ). v.root) s.history.versions) s.history.checkpoints k x below
+
+  is_tree : (root : ℕ) → Contains (roots_of s.history) root → IsFileTree (tree_on e root)
+  is_tree root has = all_file_trees (capacity_of e) (node_of e) root (trees_there root has)
+
+  is_named : (root : ℕ) → HasRoot s root → Contains (roots_of s.history) root
+  is_named root (inl has) = Contains-append_left _ (map (λ (x : Name × ℕ). x.1) s.history.checkpoints) root has
+  is_named root (inr has) = Contains-append_right (map (λ (v : Version ℕ). v.root) s.history.versions) _ root has
+
+  is_machine : IsMachine (machine_on e s)
+  is_machine = record {
+    lawful = lawful-map (tree_on e) s.history built.sound;
+    trees = All-map (λ (v : Version Tree). IsFileTree v.root) (λ (v : Version ℕ). record { serial = v.serial; root = tree_on e v.root }) s.history.versions (λ k v below. is_tree _ (version_root k v below));
+    kept = All-map (λ (x : Name × Tree). IsFileTree x.1) (λ (x : Name × ℕ). (x.0, tree_on e x.1)) s.history.checkpoints (λ k x below. is_tree _ (checkpoint_root k x below));
+    named = subst (IsStrictlySortedBy name_cmp) (sym (map-names (tree_on e) s.history.checkpoints)) built.named;
+    places = ap length built.files;
+    files = λ descriptor x is. absurd (none-at 16 descriptor x (ap (λ (places : Descriptors). descriptor_at places descriptor) (sym built.files) ∙ is));
+  }
+
+  is_mounted : IsMounted e s
+  is_mounted = record {
+    lawful = subst IsGeometry (sym same_sizes) built.lawful;
+    ring_blocks = built.ring_blocks ∙ ap (λ (g : Geometry). g.blocks) (sym same_sizes);
+    page_len = built.page_len ∙ ap (λ (g : Geometry). g.page) (sym same_sizes);
+    node_room = subst (λ (g : Geometry). block_bytes g ≤ vec_capacity s.storage.node) (sym same_sizes) built.node_room;
+    roots = λ root has. stands root (is_named root has);
+    machine = is_machine;
+    off = λ off. absurd (true≢false (sym off ∙ built.is_on));
+  }
+
+  pub built_loaded : IsLoaded e r s
+  built_loaded = record {
+    mounted = is_mounted;
+    is_on = built.is_on;
+    machine = λ i. machine_with (map_roots (tree_on e) (built.history i)) (built.files i);
+    bad = built.bad;
+    last = built.last;
+    used = used_there;
+  }
+
+-- ---- the newest record
+
+abbrev some_meaning : Result Record Fault → Option (Result Record Fault)
+some_meaning x = Some x
+
+meaning_is : (x y : Result Record Fault) → some_meaning x ≡ some_meaning y → x ≡ y
+meaning_is x y e = cc
+
+-- what the newest record means is a lawful record of the flash's sizes
+pub newest_fits : (d : Device) (r : Record) → committed_on d ≡ Some (Ok r) → (r.geometry ≡ d.geometry) × (is_record r ≡ true)
+newest_fits d r is = on (newest_on d.geometry d.pages) is
+  where
+    on : (o : Option Entry) → option_map (λ (entry : Entry). payload_at d.geometry entry.sequence entry.payload) o ≡ Some (Ok r) → (r.geometry ≡ d.geometry) × (is_record r ≡ true)
+    on None e = absurd cc
+    on (Some entry) e = means_its_flash d.geometry entry.sequence entry.payload r (meaning_is (payload_at d.geometry entry.sequence entry.payload) (Ok r) e)
+
+meaning_at : Device → Option Found → Option (Result Record Fault)
+meaning_at d o = option_map (λ (entry : Entry). payload_at d.geometry entry.sequence entry.payload) (option_map (λ (found : Found). record { sequence = found.head.sequence; payload = payload_of d.geometry (parts_on d.geometry d.pages) found }) o)
+
+-- where no record is valid none is the newest
+pub none_committed : (d : Device) → HasNone d.geometry (parts_on d.geometry d.pages) → committed_on d ≡ None
+unfolding meaning_at
+none_committed d none = ap (meaning_at d) (on (newest_at d.geometry (parts_on d.geometry d.pages)) refl)
+  where
+    on : (o : Option Found) → newest_at d.geometry (parts_on d.geometry d.pages) ≡ o → o ≡ None
+    on None is = refl
+    on (Some found) is = let newest = found_is_newest d.geometry (parts_on d.geometry d.pages) found is in absurd (none found.page found.head newest.within newest.valid)
+
+-- ---- what is remembered
+
+pub as_reads : (d e : Device) → anchors.OnlyReads d e → OnlyReads d e
+as_reads d e reads = record {
+  geometry = reads.geometry;
+  pages = λ p i. reads.pages i p;
+  worn = reads.worn;
+  failures = reads.failures;
+  failed_reads = reads.failed_reads;
+  cuts = reads.cuts;
+  was_on = reads.was_on;
+  stays_off = reads.stays_off;
+}
+
+-- anchors that were read are not cleared ones
+knows : (d : Device) (bad : set.FinSet nat_cmp) (known : Anchors) → IsUncleared known → MayCommit d bad known → KnowsNewest d bad known
+knows d bad known uncleared (inl k) = k
+knows d bad known uncleared (inr k) = absurd (true≢false (sym k.cleared ∙ uncleared))
+
+knows_on : (d e : Device) (bad : set.FinSet nat_cmp) (known : Anchors) → OnlyReads d e → KnowsNewest d bad known → KnowsNewest e bad known
+knows_on d e bad known reads k =
+    let sizes = reads.geometry in
+    let pages : e.pages ≡ d.pages = λ i p. reads.pages p i in
+    record {
+      found = k.found;
+      here = k.here;
+      place = (λ i. newest_at (sizes i) (parts_on (sizes i) (pages i))) ∙ k.place;
+      end = subst (λ (x : Geometry × (ℕ → Page)). set.contains bad (k.found.page / x.0.pages) ≡ false → IsEnd x.0 x.1 (k.found.page / x.0.pages) x.0.pages known.end) (λ i. (sym sizes i, sym pages i)) k.end;
+    }
+
+pub not_none : (o : Option Record) (r : Record) → o ≡ Some r → o ≢ None
+not_none o r is none = absurd cc
+
+pub mounts : (d e f : Device) (r : Record) (m : Mounted) → committed_on d ≡ Some (Ok r) → OnlyReads e f → IsUncleared m.anchors
+    → ((bad : set.FinSet nat_cmp) → MayCommit e bad m.anchors) → IsLoaded f r m.state → IsMountOf d f m
+mounts d e f r m is reads uncleared may loaded = record {
+  newest = r;
+  holds = is;
+  loaded = loaded;
+  remembers = knows_on e f m.state.storage.bad m.anchors reads (knows e m.state.storage.bad m.anchors uncleared (may m.state.storage.bad));
+}
+
+-- ---- why a mount is refused
+
+pub newest_why : (old new : Device) (fault : Fault) → NewestCause old new fault → MountCause old new fault
+newest_why old new Damaged (inl tie) = inl tie
+newest_why old new Damaged (inr unread) = inr (inl unread)
+newest_why old new BadGeometry why = inr why
+newest_why old new ReadFailed why = why
+newest_why old new PowerCut why = why
+newest_why old new NoMemory why = tt
+newest_why old new _ why = absurd why
+
+pub load_why : (old mid new : Device) (r : Record) (fault : Fault) → IsGeometry old.geometry → committed_on old ≡ Some (Ok r) → OnlyReads old mid → RootsCause mid (roots_of (history_of r)) new fault → MountCause old new fault
+load_why old mid new r Damaged lawful is reads why =
+    inr (inr (
+      r,
+      is,
+      λ trees. why (subst (λ (x : ℕ × Blocks). AreRoots x.0 x.1 (roots_of (history_of r)))
+          (λ i. (block_bytes (sym reads.geometry i), sym (OnlyReads_nodes old mid lawful reads) i)) trees),
+    ))
+load_why old mid new r ReadFailed lawful is reads why = let l = reads.failed_reads in omega arith
+load_why old mid new r PowerCut lawful is reads why = why
+load_why old mid new r NoMemory lawful is reads why = tt
+load_why old mid new r _ lawful is reads why = absurd why

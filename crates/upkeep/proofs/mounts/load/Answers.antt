@@ -1,0 +1,40 @@
+use Rattle.std.proofs.Common.{◌≡◌, true, false, refl, subst, ap, ◌∙◌, ◌≤◌, List, ℕ, arith, vec_capacity}
+use Rattle.std.specs.FinSet as set
+use Rattle.std.specs.Prelude.{◌↔◌}
+use Rattle.allocator.specs.Ring.{Ring}
+use Rattle.flash_model.specs.declared.sizes.Geometry.{Geometry}
+use Rattle.flash_model.specs.Geometry.{block_bytes}
+use Rattle.node_store.specs.NodePages.{node_of}
+use Rattle.block_trees.specs.Reached.{Reached}
+use Rattle.reclaim.specs.Verified.{AreRoots}
+use Rattle.upkeep.specs.Mounts.{history_of, roots_of}
+use Rattle.upkeep.proofs.Mounting.{built_loaded}
+use Rattle.upkeep.proofs.mounts.load.Goals as goal
+
+pub returns-clause-loaded : goal.returns-clause-loaded
+returns-clause-loaded g c =
+    let d = g.F.Flash.device c.args.flash.now in
+    let e = g.F.Flash.device c.use_reached.new.flash in
+    let ring = c.use_reached.ensures.ring in
+    let begun = c.in_ok-storage.ensures.ring in
+    let roots : c.deref.result.now ≡ roots_of (history_of c.args.saved.now) = c.deref.ensures.value ∙ c.in_ok-roots.ensures in
+    built_loaded d e c.args.saved.now (record { history = c.in_ok-history.history; storage = c.use_reached.new.storage; files = c.new.result; is_off = false })
+    (record {
+      lawful = c.requires.lawful;
+      only_reads = c.use_reached.ensures.only_reads;
+      history = c.in_ok-history.ensures.history;
+      sound = c.in_ok-history.ensures.lawful;
+      named = c.in_ok-history.ensures.named;
+      trees = subst (AreRoots (block_bytes d.geometry) (node_of d)) roots c.in_ok-use_reached.ensures.trees;
+      used = subst (λ (all : List ℕ). (b : ℕ) → (set.contains c.use_reached.new.storage.ring.used b ≡ true) ↔ Reached (node_of d) all b) roots c.in_ok-use_reached.ensures.used;
+      ring_blocks = ap (λ (r : Ring). r.blocks) ring ∙ ap (λ (r : Ring). r.blocks) begun ∙ ap (λ (x : Geometry). x.blocks) c.requires.same;
+      bad = c.use_reached.ensures.bad ∙ c.in_ok-storage.ensures.bad;
+      last = ap (λ (r : Ring). r.last) ring ∙ ap (λ (r : Ring). r.last) begun;
+      page_len = c.use_reached.ensures.page_len ∙ c.in_ok-storage.ensures.page_len ∙ ap (λ (x : Geometry). x.page) c.requires.same;
+      node_room =
+          let before : block_bytes d.geometry ≤ vec_capacity c.in_ok-storage.storage.node = subst (λ (x : Geometry). block_bytes x ≤ vec_capacity c.in_ok-storage.storage.node) c.requires.same c.in_ok-storage.ensures.node_room in
+          let after = c.use_reached.ensures.node_room in
+          omega (arith, before, after);
+      files = c.new.ensures;
+      is_on = refl;
+    })

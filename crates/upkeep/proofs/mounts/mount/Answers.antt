@@ -1,0 +1,40 @@
+use Rattle.std.proofs.Common.{rules, Option, sym, subst, ◌∙◌}
+use Rattle.std.proofs.lemmas.Result.{err_from_is_err_and}
+use Rattle.record_format.specs.declared.records.Record.{Record}
+use Rattle.commit_pair.specs.Newest.{IsNewestRecord}
+use Rattle.upkeep.proofs.Mounting.{newest_fits, none_committed, as_reads, mounts, not_none, load_why}
+use Rattle.upkeep.proofs.mounts.mount.Goals as goal
+
+pub returns-in_default-clause-why : goal.returns-in_default-clause-why
+returns-in_default-clause-why g c =
+    let d = g.F.Flash.device c.args.flash.now in
+    let none = subst (λ (o : Option Record). IsNewestRecord d o) c.in_default.is c.in_ok-newest.ensures.newest in
+    (none, none_committed d none)
+
+pub load-requires-clause-same : goal.load-requires-clause-same
+load-requires-clause-same g c =
+    let d = g.F.Flash.device c.args.flash.now in
+    let newest = subst (λ (o : Option Record). IsNewestRecord d o) c.in-Some.is c.in_ok-newest.ensures.newest in
+    (newest_fits d c.in-Some.newest newest).0 ∙ sym c.newest.ensures.only_reads.geometry
+
+pub load-requires-clause-is_lawful : goal.load-requires-clause-is_lawful
+load-requires-clause-is_lawful g c =
+    let d = g.F.Flash.device c.args.flash.now in
+    let newest = subst (λ (o : Option Record). IsNewestRecord d o) c.in-Some.is c.in_ok-newest.ensures.newest in
+    (newest_fits d c.in-Some.newest newest).1
+
+pub returns-in_err-state-clause-why : goal.returns-in_err-state-clause-why
+returns-in_err-state-clause-why g c =
+    let d = g.F.Flash.device c.args.flash.now in
+    let newest = subst (λ (o : Option Record). IsNewestRecord d o) c.in-Some.is c.in_ok-newest.ensures.newest in
+    let p = err_from_is_err_and c.from_residual-in_err-state.result c.from_residual-in_err-state.ensures.1 in
+    rw (p.1, p.2)
+    (load_why d (g.F.Flash.device c.newest.new.flash) (g.F.Flash.device c.load.new.flash) c.in-Some.newest c.in_err-state.field-0.0 (search rules) newest
+    (as_reads d (g.F.Flash.device c.newest.new.flash) c.newest.ensures.only_reads) c.in_err-state.ensures.why)
+
+pub returns-clause-ok : goal.returns-clause-ok
+returns-clause-ok g c =
+    let d = g.F.Flash.device c.args.flash.now in
+    let newest = subst (λ (o : Option Record). IsNewestRecord d o) c.in-Some.is c.in_ok-newest.ensures.newest in
+    mounts d (g.F.Flash.device c.newest.new.flash) (g.F.Flash.device c.load.new.flash) c.in-Some.newest (record { state = c.in_ok-state.state; anchors = c.newest.new.self }) newest
+    c.load.ensures.only_reads c.newest.ensures.uncleared (c.in_ok-newest.ensures.ready (not_none c.in_ok-newest.field-0 c.in-Some.newest c.in-Some.is)) c.in_ok-state.ensures.loaded

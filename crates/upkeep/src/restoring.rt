@@ -1,0 +1,103 @@
+//! The parts of a record, as a working state keeps them.
+ghost use Rattle.std.specs.Prelude.{◌≡◌, [], true, ◌<◌, ◌≤◌, ◌++◌, length, map, IfOk, OnOk, vec_capacity};
+ghost use Rattle.std.specs.FinSet as set;
+ghost use Rattle.std.specs.BTreeMap.{IsOrdered};
+ghost use Rattle.std.specs.List.Sorted.{IsStrictlySortedBy};
+ghost use Rattle.fs_types.specs.Names.{name_cmp};
+ghost use Rattle.fs_types.specs.declared.limits.TheConstants.{MAX_BAD_BLOCKS};
+ghost use Rattle.history_machine.specs.History.{IsLawful};
+ghost use Rattle.record_format.specs.Payloads.{is_record, names_ascend};
+ghost use Rattle.upkeep.specs.Mounts.{history_of, roots_of};
+
+use bad_blocks::BadBlocks;
+use fs_types::{CpName, Version};
+use history::History;
+use record_format::{Checkpoint, Record};
+use std::alloc::{AllocError, Global};
+use std::collections::BTreeMap;
+
+/// The versions, with room for one more than `limit`.
+fn versions_of(
+    alloc: Global,
+    limit: usize,
+    saved: &[Version<u32>],
+) -> Result<Vec<Version<u32>>, AllocError>
+    requires few { length saved.now ≤ limit }
+    requires at_most { limit ≤ 64 }
+    ensures items { IfOk result (λ versions. versions.items ≡ saved.now) }
+    ensures room { IfOk result (λ versions. limit < vec_capacity versions) }
+{
+    let mut versions = Vec::with_capacity(alloc, limit + 1)?;
+    versions.extend_from_slice(saved)?;
+    Ok(versions)
+}
+
+/// The checkpoints by their names.
+fn checkpoints_of(alloc: Global, saved: &[Checkpoint]) -> Result<BTreeMap<CpName, u32>, AllocError>
+    requires { names_ascend [] saved.now ≡ true }
+    ensures entries { IfOk result (λ checkpoints. checkpoints.entries ≡ map (λ c. (c.name, c.root)) saved.now) }
+    ensures ordered { IfOk result (λ checkpoints. IsOrdered name_cmp checkpoints) }
+{
+    let mut checkpoints = BTreeMap::new(alloc);
+    for checkpoint in saved {
+        checkpoints.insert(checkpoint.name.clone()?, checkpoint.root)?;
+    }
+    let _ = checkpoints.len();
+    Ok(checkpoints)
+}
+
+/// The history that a record holds.
+pub(crate) fn restore_history(alloc: Global, saved: &Record) -> Result<History<u32>, AllocError>
+    requires { is_record saved.now ≡ true }
+    ensures history { IfOk result (λ history. history ≡ history_of saved.now) }
+    ensures lawful { IfOk result (λ history. IsLawful history) }
+    ensures named { IfOk result (λ history. IsStrictlySortedBy name_cmp (map (λ e. e.0) history.checkpoints)) }
+{
+    let limit = saved.limit as usize;
+    let versions = versions_of(alloc, limit, saved.versions.as_slice())?;
+    let checkpoints = checkpoints_of(alloc, saved.checkpoints.as_slice())?;
+    Ok(History::restore(
+        versions,
+        saved.cursor as usize,
+        saved.dropped,
+        saved.next,
+        checkpoints,
+        limit,
+    ))
+}
+
+/// The roots of all versions and checkpoints.
+pub(crate) fn list_roots(alloc: Global, saved: &Record) -> Result<Vec<u32>, AllocError>
+    ensures { IfOk result (λ roots. roots.items ≡ roots_of (history_of saved.now)) }
+{
+    let mut roots = version_roots(alloc, saved.versions.as_slice())?;
+    push_roots(&mut roots, saved.checkpoints.as_slice())?;
+    Ok(roots)
+}
+
+fn version_roots(alloc: Global, versions: &[Version<u32>]) -> Result<Vec<u32>, AllocError>
+    ensures { IfOk result (λ roots. roots.items ≡ map (λ v. v.root) versions.now) }
+{
+    versions.iter().map(|version| version.root).collect(alloc)
+}
+
+fn push_roots(roots: &mut Vec<u32>, checkpoints: &[Checkpoint]) -> Result<(), AllocError>
+    ensures { OnOk result (roots.new.items ≡ roots.old.items ++ map (λ c. c.root) checkpoints.now) }
+{
+    for checkpoint in checkpoints {
+        roots.push(checkpoint.root)?;
+    }
+    Ok(())
+}
+
+/// The set of the bad blocks.
+pub(crate) fn list_bad(saved: &[u32]) -> BadBlocks
+    requires { length saved.now ≤ MAX_BAD_BLOCKS }
+    ensures { result ≡ set.from_list saved.now }
+{
+    let mut bad = BadBlocks::new();
+    for block in saved {
+        bad.add(*block).unwrap();
+    }
+    bad
+}

@@ -1,7 +1,7 @@
 -- The bodies of files: chains of nodes, each with pointers to nodes before it. `capacity` is the number of
 -- data bytes that a node has where it is full.
 use Rattle.std.specs.Prelude.{◌≡◌, ℕ, zero, suc, ◌+◌, ◌-◌, ◌*◌, ◌/◌, ◌^◌, ◌≤◌, ◌==◌, Option, Some, None, List, [], ◌++◌, length, take, drop, if◌then◌else◌}
-use Rattle.node_format.specs.Headers.{field, body_front, body_magic}
+use Rattle.node_format.specs.Headers.{field, body_header, body_magic}
 use Rattle.node_format.specs.BodyNodes.{HasSlot}
 
 -- the bytes of the node in each block, none where it holds none
@@ -21,7 +21,7 @@ pointer_of (Some bytes) x = field bytes (16 + 4 * x)
 -- the data bytes of a body node
 abbrev pub data_of : Option (List ℕ) → List ℕ
 data_of None = []
-data_of (Some bytes) = drop body_front bytes
+data_of (Some bytes) = drop body_header bytes
 
 -- the block that slot 0 leads to in so many steps
 abbrev pub back : Blocks → ℕ → ℕ → ℕ

@@ -52,7 +52,7 @@ pub(crate) fn place_in<N: Nodes>(
     let Some(entries) = Entries::of(nodes.lent()) else {
         return Err(Fault::Damaged);
     };
-    Ok(entries.named(name.as_bytes()))
+    Ok(entries.find(name.as_bytes()))
 }
 
 /// The directory that a place is, for a component that is not the last.
@@ -81,7 +81,7 @@ pub(crate) fn found_in<N: Nodes>(nodes: &mut N, block: u32, name: &Name) -> Resu
         return Err(Fault::Damaged);
     };
     let is_full = entries.len() >= MAX_ENTRIES;
-    Ok(Found::of(entries.named(name.as_bytes()), is_full))
+    Ok(Found::of(entries.find(name.as_bytes()), is_full))
 }
 
 /// What a path below a root leads to. Any content of the nodes is looked up, directories that reach

@@ -7,7 +7,7 @@ use Rattle.std.proofs.lemmas.Bool.{cases_lt, le-leb, lt-ltb, eqb-true, eq-eqb}
 use Rattle.std.proofs.lemmas.List.{get_or_append_left, get_or-append-add, length-append, drop_at}
 use Rattle.byteorder.specs.Endian.{little_bytes}
 use Rattle.byteorder.specs.Numbers.{little_number-reads_back}
-use Rattle.node_format.specs.Headers.{field, body_front, IsNode}
+use Rattle.node_format.specs.Headers.{field, body_header, IsNode}
 use Rattle.node_format.specs.BodyNodes.{HasSlot, IsBodySpelling}
 use Rattle.node_format.specs.declared.headers.TheConstants.{SLOTS}
 
@@ -56,13 +56,13 @@ one_place old pointers new count n has lt is = record {
         field_last new n (length old + 4 * x) lt (omega (arith, has.size)) ∙ is ∙ ap (slice_index pointers) (sym same)
 
 -- the header of a body node
-abbrev pub body_header : ℕ → ℕ → List ℕ
-body_header index used = codes "UFNB" ++ (little_bytes 4 index ++ (little_bytes 4 used ++ little_bytes 4 0))
+abbrev pub header_bytes : ℕ → ℕ → List ℕ
+header_bytes index used = codes "UFNB" ++ (little_bytes 4 index ++ (little_bytes 4 used ++ little_bytes 4 0))
 
-pub spelled : (index : ℕ) (pointers bytes placed : List ℕ) → index < 2 ^ 32 → 1 ≤ length bytes → body_front + length bytes < 2 ^ 32
-    → HasSlots (body_header index (length bytes)) pointers 16 placed → IsBodySpelling (placed ++ bytes) index pointers bytes
+pub spelled : (index : ℕ) (pointers bytes placed : List ℕ) → index < 2 ^ 32 → 1 ≤ length bytes → body_header + length bytes < 2 ^ 32
+    → HasSlots (header_bytes index (length bytes)) pointers 16 placed → IsBodySpelling (placed ++ bytes) index pointers bytes
 spelled index pointers bytes placed fits some capacity has =
-    let header = body_header index (length bytes) in
+    let header = header_bytes index (length bytes) in
     let long : length placed ≡ 80 = has.size in
     let at : (place : ℕ) → place + 4 ≤ 16 → field (placed ++ bytes) place ≡ field header place =
     λ place within. field_front placed bytes place (omega arith) ∙ has.before place within in
@@ -78,7 +78,7 @@ spelled index pointers bytes placed fits some capacity has =
       data_is = drop_at placed bytes 80 long;
     }
 
-pub spelled_node : (block index : ℕ) (pointers bytes node : List ℕ) → body_front + length bytes ≤ block → IsBodySpelling node index pointers bytes → IsNode block node
+pub spelled_node : (block index : ℕ) (pointers bytes node : List ℕ) → body_header + length bytes ≤ block → IsBodySpelling node index pointers bytes → IsNode block node
 spelled_node block index pointers bytes node capacity s =
     let some : nat_lt 0 (length bytes) ≡ true = lt-ltb _ _ (omega (arith, s.node.some, s.used)) in
     let fits : nat_le (80 + length bytes) block ≡ true = le-leb _ _ capacity in

@@ -1,13 +1,13 @@
 -- The bytes of a body node: a header, 16 slots, and data; numbers are little-endian.
 use Rattle.std.specs.Prelude.{◌≡◌, ℕ, ◌+◌, ◌*◌, ◌^◌, ◌<◌, ◌≤◌, List, length, drop, slice_index}
-use Rattle.node_format.specs.Headers.{field, body_front, body_magic}
+use Rattle.node_format.specs.Headers.{field, body_header, body_magic}
 use Rattle.node_format.specs.declared.headers.TheConstants.{SLOTS}
 
 -- the bytes are those of one body node: the magic, and as many data bytes as its header says, at least one
 pub record IsBodyNode (bytes : List ℕ) : Type 0 where
   pub magic : field bytes 0 ≡ body_magic
   pub some : 1 ≤ field bytes 8
-  pub size : length bytes ≡ body_front + field bytes 8
+  pub size : length bytes ≡ body_header + field bytes 8
 
 -- 2 to the x divides the index
 abbrev pub Divides : ℕ → ℕ → Type 0
@@ -24,5 +24,5 @@ pub record IsBodySpelling (bytes : List ℕ) (index : ℕ) (pointers data_bytes 
   pub used : field bytes 8 ≡ length data_bytes
   pub unread : field bytes 12 ≡ 0
   pub slots : (x : ℕ) → x < SLOTS → field bytes (16 + 4 * x) ≡ slice_index pointers x
-  pub size : length bytes ≡ body_front + length data_bytes
-  pub data_is : drop body_front bytes ≡ data_bytes
+  pub size : length bytes ≡ body_header + length data_bytes
+  pub data_is : drop body_header bytes ≡ data_bytes

@@ -5,7 +5,7 @@ use Rattle.std.specs.List.{flat_map}
 use Rattle.byteorder.specs.Endian.{little_number, little_bytes}
 use Rattle.fs_types.specs.declared.limits.TheConstants.{MAX_ENTRIES, MAX_FILE_BYTES}
 use Rattle.fs_types.specs.Names.{Name, is_name}
-use Rattle.node_format.specs.Headers.{field, directory_front, directory_magic}
+use Rattle.node_format.specs.Headers.{field, directory_header, directory_magic}
 use Rattle.node_format.specs.Items.{Item, is_before, are_entries}
 use Rattle.node_format.specs.declared.places.Place.{Place}
 use Rattle.node_format.specs.declared.places.Place.TheVariants.{Dir, File}
@@ -101,8 +101,8 @@ entries_at count used bytes =
 -- the entries of the directory that the bytes spell
 unfoldable pub directory_at : List ℕ → Option (List Item)
 directory_at bytes =
-    if nat_lt (length bytes) directory_front then None
-    else if field bytes 0 == directory_magic then entries_at (field bytes 4) (field bytes 8) (drop directory_front bytes)
+    if nat_lt (length bytes) directory_header then None
+    else if field bytes 0 == directory_magic then entries_at (field bytes 4) (field bytes 8) (drop directory_header bytes)
     else None
 
 -- the entries of a directory, so many, and their spelling

@@ -1,35 +1,35 @@
--- The header of a node, its first 16 bytes; numbers are little-endian.
+-- The header of a node: 16 bytes, and in a body node its slots after them; numbers are little-endian.
 use Rattle.std.specs.Prelude.{◌≡◌, ℕ, ◌+◌, ◌==◌, nat_lt, nat_le, Option, Some, None, List, length, codes, if◌then◌else◌}
 use Rattle.byteorder.specs.Endian.{little_from}
 use Rattle.fs_types.specs.declared.limits.TheConstants.{MAX_ENTRIES}
 
--- the bytes before the data of a body node: its header and 16 slots of 4 bytes
-abbrev pub body_front : ℕ
-body_front = 80
+-- how many bytes a body node has before its data: the first 16, and 16 slots of 4 bytes
+abbrev pub body_header : ℕ
+body_header = 80
 
--- the bytes before the entries of a directory node: its header
-abbrev pub directory_front : ℕ
-directory_front = 16
+-- how many bytes a directory node has before its entries
+abbrev pub directory_header : ℕ
+directory_header = 16
 
 -- the number in the four bytes from an offset
 abbrev pub field : List ℕ → ℕ → ℕ
 field bytes offset = little_from offset 4 bytes
 
--- a body node's header: magic, index, used bytes, zero
+-- a body node's first 16 bytes: magic, index, used bytes, zero
 abbrev pub body_magic : ℕ
 body_magic = little_from 0 4 (codes "UFNB")
 
--- a directory node's header: magic, count of entries, used bytes, zero
+-- a directory node's first 16 bytes: magic, count of entries, used bytes, zero
 abbrev pub directory_magic : ℕ
 directory_magic = little_from 0 4 (codes "UFND")
 
 -- a body node uses at least one byte, and fits in its block
 abbrev pub body_size : ℕ → ℕ → Option ℕ
-body_size block used = if nat_lt 0 used then (if nat_le (body_front + used) block then Some (body_front + used) else None) else None
+body_size block used = if nat_lt 0 used then (if nat_le (body_header + used) block then Some (body_header + used) else None) else None
 
 -- a directory node has at most 32 entries, and fits in its block
 abbrev pub directory_size : ℕ → ℕ → ℕ → Option ℕ
-directory_size block count used = if nat_le count MAX_ENTRIES then (if nat_le (directory_front + used) block then Some (directory_front + used) else None) else None
+directory_size block count used = if nat_le count MAX_ENTRIES then (if nat_le (directory_header + used) block then Some (directory_header + used) else None) else None
 
 -- the size of the node that begins with these bytes, in a block of so many; none where its header is not well formed
 abbrev pub node_size : ℕ → List ℕ → Option ℕ

@@ -1,11 +1,11 @@
 //! A part of a file's body, read from the bytes of its node, and the bytes of a new one.
 ghost use Rattle.std.specs.Prelude.{◌≡◌, ℕ, ◌+◌, ◌*◌, ◌^◌, ◌<◌, ◌≤◌, ◌++◌, ◌↔◌, IsTrue, length, drop, slice_index, codes, Some, IfSome, OnOk, IfOk};
 ghost use Rattle.byteorder.specs.Endian.{little_bytes};
-ghost use Rattle.node_format.specs.Headers.{field, body_front, IsNode};
+ghost use Rattle.node_format.specs.Headers.{field, body_header, IsNode};
 ghost use Rattle.node_format.specs.BodyNodes.{IsBodyNode, HasSlot, IsBodySpelling};
 ghost use Rattle.node_format.specs.declared.headers.TheConstants.{SLOTS};
 
-use crate::headers::{BODY_FRONT, SLOTS};
+use crate::headers::{BODY_HEADER, SLOTS};
 use std::alloc::{AllocError, Global};
 use std::marker::Model;
 
@@ -13,7 +13,7 @@ use std::marker::Model;
 const MAGIC: [u8; 4] = *b"UFNB";
 
 /// The bytes before the data.
-const FRONT: usize = BODY_FRONT as usize;
+const HEADER: usize = BODY_HEADER as usize;
 
 /// A node of a file's body: a part of the file's bytes, with the blocks of nodes before it, lent from
 /// the bytes of the node.
@@ -39,13 +39,13 @@ impl<'a> BodyNode<'a> {
         ensures found { IfSome result (λ node. (node ≡ bytes.now) × IsBodyNode bytes.now) }
         ensures only { IsBodyNode bytes.now → result ≡ Some bytes.now }
     {
-        if bytes.len() <= FRONT {
+        if bytes.len() <= HEADER {
             return None;
         }
         if number_at(bytes, 0) != u32::from_le_bytes(MAGIC) {
             return None;
         }
-        if number_at(bytes, 8) as usize != bytes.len() - FRONT {
+        if number_at(bytes, 8) as usize != bytes.len() - HEADER {
             return None;
         }
         Some(BodyNode { node: bytes })
@@ -62,7 +62,7 @@ impl<'a> BodyNode<'a> {
     pub fn used(&self) -> u32
         ensures used { result ≡ field self.now 8 }
         ensures some { 1 ≤ result }
-        ensures size { length self.now ≡ body_front + result }
+        ensures size { length self.now ≡ body_header + result }
     {
         number_at(self.node, 8)
     }
@@ -82,9 +82,9 @@ impl<'a> BodyNode<'a> {
 
     /// The data bytes, as many as `used`.
     pub fn bytes(&self) -> &'a [u8]
-        ensures { result.now ≡ drop body_front self.now }
+        ensures { result.now ≡ drop body_header self.now }
     {
-        &self.node[FRONT..]
+        &self.node[HEADER..]
     }
 }
 
@@ -132,7 +132,7 @@ fn push_number(out: &mut Vec<u8>, number: u32) -> Result<(), AllocError>
 fn header(alloc: Global, index: u32, used: u32) -> Result<Vec<u8>, AllocError>
     ensures { IfOk result (λ v. v.items ≡ codes "UFNB" ++ (little_bytes 4 index ++ (little_bytes 4 used ++ little_bytes 4 0))) }
 {
-    let mut out = Vec::with_capacity(alloc, FRONT + used as usize)?;
+    let mut out = Vec::with_capacity(alloc, HEADER + used as usize)?;
     out.extend_from_slice(&MAGIC)?;
     push_number(&mut out, index)?;
     push_number(&mut out, used)?;
@@ -162,9 +162,9 @@ pub fn body_node(
 ) -> Result<Vec<u8>, AllocError>
     requires slots { length pointers.now ≤ SLOTS }
     requires some { 1 ≤ length bytes.now }
-    requires capacity { body_front + length bytes.now < 2 ^ 32 }
+    requires capacity { body_header + length bytes.now < 2 ^ 32 }
     ensures spelled { IfOk result (λ node. IsBodySpelling node.items index pointers.now bytes.now) }
-    ensures node { IfOk result (λ node. (block : ℕ) → body_front + length bytes.now ≤ block → IsNode block node.items) }
+    ensures node { IfOk result (λ node. (block : ℕ) → body_header + length bytes.now ≤ block → IsNode block node.items) }
 {
     let mut out = header(alloc, index, bytes.len() as u32)?;
     push_slots(&mut out, pointers)?;

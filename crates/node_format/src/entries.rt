@@ -204,7 +204,7 @@ impl<'a> Entries<'a> {
     }
 
     /// What a name leads to.
-    pub fn named(&self, name: &[u8]) -> Option<Place>
+    pub fn find(&self, name: &[u8]) -> Option<Place>
         ensures { result ≡ named self.now name.now }
     {
         self.split(name).found

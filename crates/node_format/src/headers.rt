@@ -10,14 +10,14 @@ const BODY_MAGIC: u32 = 0x424e_4655;
 /// The magic of a directory node, `UFND`.
 pub(crate) const DIRECTORY_MAGIC: u32 = 0x444e_4655;
 
-/// The bytes before the data of a body node.
-pub const BODY_FRONT: u32 = 80;
+/// The bytes of the header of a body node, before its data.
+pub const BODY_HEADER: u32 = 80;
 
 /// The slots of a body node, each for a pointer to a node before it.
 pub const SLOTS: usize = 16;
 
-/// The bytes before the entries of a directory node.
-const DIRECTORY_FRONT: u32 = 16;
+/// The bytes of the header of a directory node, before its entries.
+const DIRECTORY_HEADER: u32 = 16;
 
 /// The most entries of a directory.
 pub(crate) const MOST_ENTRIES: u32 = MAX_ENTRIES as u32;
@@ -49,10 +49,10 @@ fn body_size(block_bytes: u32, used: u32) -> Option<u32>
     requires most { block_bytes ≤ 262144 }
     ensures { result ≡ spec.body_size block_bytes used }
 {
-    if used == 0 || used > block_bytes - BODY_FRONT {
+    if used == 0 || used > block_bytes - BODY_HEADER {
         return None;
     }
-    Some(BODY_FRONT + used)
+    Some(BODY_HEADER + used)
 }
 
 /// A directory node has at most 32 entries, and fits in its block.
@@ -61,8 +61,8 @@ fn directory_size(block_bytes: u32, count: u32, used: u32) -> Option<u32>
     requires most { block_bytes ≤ 262144 }
     ensures { result ≡ spec.directory_size block_bytes count used }
 {
-    if count > MOST_ENTRIES || used > block_bytes - DIRECTORY_FRONT {
+    if count > MOST_ENTRIES || used > block_bytes - DIRECTORY_HEADER {
         return None;
     }
-    Some(DIRECTORY_FRONT + used)
+    Some(DIRECTORY_HEADER + used)
 }

@@ -9,6 +9,6 @@ mod writing;
 
 pub use body_nodes::{BodyNode, body_node};
 pub use entries::{Entries, Entry};
-pub use headers::{BODY_FRONT, SLOTS, node_size};
+pub use headers::{BODY_HEADER, SLOTS, node_size};
 pub use places::Place;
 pub use writing::empty_directory;

@@ -4,11 +4,11 @@ use Rattle.std.specs.List.{sum_by}
 use Rattle.block_trees.specs.Bodies.{Blocks}
 use Rattle.block_trees.specs.Trees.{items_in, IsRoot}
 use Rattle.reclaim.specs.Passes.{AreReached}
-use Rattle.node_format.specs.Headers.{body_front}
+use Rattle.node_format.specs.Headers.{body_header}
 
 -- each root has a tree with linked bodies, on blocks of so many bytes
 abbrev pub AreRoots : ℕ → Blocks → List ℕ → Type 0
-AreRoots limit f roots = (root : ℕ) → Contains roots root → IsRoot (limit - body_front) f root
+AreRoots limit f roots = (root : ℕ) → Contains roots root → IsRoot (limit - body_header) f root
 
 -- 20 reads for each of these blocks, and 2 for each of their entries
 abbrev pub most_reads : Blocks → List ℕ → ℕ

@@ -12,7 +12,7 @@ ghost use Rattle.node_store.specs.Frames.{OnlyLooks};
 
 use crate::fields::{has_pointer, index_in, pointer_in};
 use fs_types::{Fault, MAX_FILE_BYTES};
-use node_format::{BODY_FRONT, Entries, Place, SLOTS};
+use node_format::{BODY_HEADER, Entries, Place, SLOTS};
 use node_store::Nodes;
 use std::alloc::{AllocError, Global};
 
@@ -67,7 +67,7 @@ fn body_at<N: Nodes>(nodes: &mut N, block: u32) -> Result<Option<(u32, usize)>, 
     let Some(index) = index_in(bytes) else {
         return Ok(None);
     };
-    Ok(Some((index, bytes.len().saturating_sub(BODY_FRONT as usize))))
+    Ok(Some((index, bytes.len().saturating_sub(BODY_HEADER as usize))))
 }
 
 /// Whether the last node of a file, whose length is not 0, has the index and bytes enough.

@@ -65,7 +65,7 @@ fn push_body(out: &mut Vec<u32>, bytes: &[u8]) -> Result<(), AllocError>
 
 /// The blocks that the node of some bytes names, by an entry or by a slot. A block may be
 /// there more than once; bytes of no node name none.
-pub fn named(alloc: Global, bytes: &[u8]) -> Result<Vec<u32>, Fault>
+pub fn list_names(alloc: Global, bytes: &[u8]) -> Result<Vec<u32>, Fault>
     ensures names { IfOk result (λ v. (b : ℕ) → Contains v.items b ↔ Names (Some bytes.now) b) }
     ensures memory { IfErr result (λ fault. fault ≡ Fault.NoMemory) }
 {

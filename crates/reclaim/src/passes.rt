@@ -8,7 +8,7 @@ ghost use Rattle.node_store.specs.Faults.{IsReadFault};
 ghost use Rattle.node_store.specs.Frames.{OnlyLooks};
 ghost use Rattle.reclaim.specs.Passes.{IsMarked, IsPass, IsFinished, HasRead, IsMarkFault, Begins};
 
-use crate::naming::named;
+use crate::naming::list_names;
 use allocator::Marks;
 use fs_types::Fault;
 use node_store::Nodes;
@@ -170,7 +170,7 @@ impl Pass {
     {
         let block = self.order[self.next];
         nodes.read(block)?;
-        let names = named(self.alloc, nodes.lent())?;
+        let names = list_names(self.alloc, nodes.lent())?;
         self.mark_all(&names)?;
         self.next += 1;
         Ok(())

@@ -20,7 +20,7 @@ use crate::looks::{is_directory, look};
 use crate::passes::{FIRST, Pass};
 use directory::any_is_deeper;
 use fs_types::{Fault, MAX_NAMES};
-use node_format::BODY_FRONT;
+use node_format::BODY_HEADER;
 use node_store::Nodes;
 use std::alloc::Global;
 
@@ -114,7 +114,7 @@ fn have_trees<N: Nodes>(
     ensures looks { OnlyLooks N.node N.kept N.writes N.follows N.is_sound N.limit N.blocks nodes.old nodes.new }
     ensures reads { N.reads nodes.new ≤ N.reads nodes.old + sum_by (λ b. 18 + 2 * length (items_in (N.node nodes.old) b)) marked.now }
 {
-    let capacity = nodes.block_bytes() - BODY_FRONT;
+    let capacity = nodes.block_bytes() - BODY_HEADER;
     let are_sound = are_sound(alloc, nodes, capacity, marked)?;
     if !are_sound {
         return Ok(false);

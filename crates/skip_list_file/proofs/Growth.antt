@@ -6,7 +6,7 @@ use Rattle.std.proofs.lemmas.Nat.{mul-le, le-div, div-add-mod', mod_below}
 use Rattle.std.proofs.Math.Seq.{take-add}
 use Rattle.fs_types.specs.Names.{Path}
 use Rattle.plain_trees.specs.Contents.{Entry, resized}
-use Rattle.node_format.specs.Headers.{field, body_front, body_magic, IsNode}
+use Rattle.node_format.specs.Headers.{field, body_header, body_magic, IsNode}
 use Rattle.node_format.specs.BodyNodes.{IsBodySpelling, HasSlot}
 use Rattle.node_format.specs.declared.places.Place.TheVariants.{Dir, File}
 use Rattle.block_trees.specs.Bodies.{Blocks, index_of, data_of, head_index, body, IsChain, IsBody, back, pointer_of}
@@ -148,7 +148,7 @@ is_full capacity f head (suc i) least is fits some =
     let h = has_head capacity f i head (suc i * capacity) (product_some capacity (suc i) least some) index is in
     omega (arith, h.long, data_length capacity f i head h.chain, suc-mul i capacity)
 
-pub head_full : (block capacity : ℕ) (f : Blocks) (head i : ℕ) → capacity ≡ block - body_front → 0 < capacity → IsBody capacity f head (i * capacity) → ((bytes : List ℕ) → f head ≡ Some bytes → IsNode block bytes) → 0 < i → length (data_of (f head)) ≡ capacity
+pub head_full : (block capacity : ℕ) (f : Blocks) (head i : ℕ) → capacity ≡ block - body_header → 0 < capacity → IsBody capacity f head (i * capacity) → ((bytes : List ℕ) → f head ≡ Some bytes → IsNode block bytes) → 0 < i → length (data_of (f head)) ≡ capacity
 head_full block capacity f head zero capacity_is least is whole some = absurd (omega arith)
 head_full block capacity f head (suc i) capacity_is least is whole some =
     let fits = data_fits block (f head) i whole (chain_node capacity i head f (are_linked capacity f head (suc i) least is).0) in

@@ -1,6 +1,6 @@
 //! The nodes of an old body of which an edit keeps bytes: listed by one walk, and read once each.
 ghost use Rattle.std.specs.Prelude.{◌≡◌, ℕ, ◌+◌, ◌-◌, ◌*◌, ◌/◌, ◌^◌, ◌<◌, ◌≤◌, ◌⊎◌, length, replicate, slice_index, OnOk, IfOk, IfErr};
-ghost use Rattle.node_format.specs.Headers.{body_front};
+ghost use Rattle.node_format.specs.Headers.{body_header};
 ghost use Rattle.block_trees.specs.Bodies as trees;
 ghost use Rattle.block_trees.specs.Bodies.{back, head_index, IsChain, IsLinked, IsBody};
 ghost use Rattle.skip_list_file.specs.Reading as spec;
@@ -24,7 +24,7 @@ pub(crate) fn list_blocks<N: Nodes>(
     from: u32,
 ) -> Result<Vec<u32>, Fault>
     requires sound { N.is_sound nodes.old }
-    requires capacity { capacity ≡ N.limit nodes.old - body_front }
+    requires capacity { capacity ≡ N.limit nodes.old - body_header }
     requires least { 0 < capacity }
     requires whole { IsBody capacity (N.node nodes.old) body.head body.length }
     ensures listed { IfOk result (λ blocks. spec.AreBlocks (N.node nodes.old) body.head blocks.items) }
@@ -57,7 +57,7 @@ fn find_listed<N: Nodes>(
     index: u32,
 ) -> Result<u32, Fault>
     requires sound { N.is_sound nodes.old }
-    requires chain { IsChain (N.limit nodes.old - body_front) (N.node nodes.old) head_index head }
+    requires chain { IsChain (N.limit nodes.old - body_header) (N.node nodes.old) head_index head }
     requires linked { IsLinked (N.node nodes.old) head_index head }
     requires before { index ≤ head_index }
     requires blocks { spec.AreBlocks (N.node nodes.old) head blocks.now }
@@ -87,7 +87,7 @@ pub(crate) fn read_kept<N: Nodes>(
     out: &mut [u8],
 ) -> Result<(), Fault>
     requires sound { N.is_sound nodes.old }
-    requires capacity { capacity ≡ N.limit nodes.old - body_front }
+    requires capacity { capacity ≡ N.limit nodes.old - body_header }
     requires least { 0 < capacity }
     requires whole { IsBody capacity (N.node nodes.old) body.head body.length }
     requires blocks { spec.AreBlocks (N.node nodes.old) body.head blocks.now }

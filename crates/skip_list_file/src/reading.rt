@@ -1,7 +1,7 @@
 //! Reading the bytes of a file.
 ghost use Rattle.std.specs.Prelude.{◌≡◌, ℕ, ◌+◌, ◌-◌, ◌*◌, ◌/◌, ◌^◌, ◌<◌, ◌≤◌, length, take, drop, Some, OnOk, IfOk, IfErr};
 ghost use Rattle.plain_trees.specs.Contents.{read_from};
-ghost use Rattle.node_format.specs.Headers.{body_front};
+ghost use Rattle.node_format.specs.Headers.{body_header};
 ghost use Rattle.node_format.specs.BodyNodes.{HasSlot};
 ghost use Rattle.block_trees.specs.Bodies.{index_of, pointer_of, data_of, back, data_to, head_index, IsChain, IsLinked, IsBody};
 ghost use Rattle.block_trees.specs.Bodies as trees;
@@ -10,7 +10,7 @@ ghost use Rattle.node_store.specs.Frames.{OnlyLooks};
 
 use crate::bodies::Body;
 use fs_types::{Bytes, Fault};
-use node_format::{BODY_FRONT, BodyNode, SLOTS};
+use node_format::{BODY_HEADER, BodyNode, SLOTS};
 use node_store::Nodes;
 use std::alloc::Global;
 
@@ -54,7 +54,7 @@ pub(crate) fn find<N: Nodes>(
     index: u32,
 ) -> Result<u32, Fault>
     requires sound { N.is_sound nodes.old }
-    requires chain { IsChain (N.limit nodes.old - body_front) (N.node nodes.old) head_index head }
+    requires chain { IsChain (N.limit nodes.old - body_header) (N.node nodes.old) head_index head }
     requires linked { IsLinked (N.node nodes.old) head_index head }
     requires before { index ≤ head_index }
     ensures found { IfOk result (λ block. block ≡ back (N.node nodes.old) head (head_index - index)) }
@@ -137,10 +137,10 @@ fn fill<N: Nodes>(
 /// The data bytes of a full node.
 pub(crate) fn capacity_in<N: Nodes>(nodes: &N) -> u32
     requires { N.is_sound nodes.now }
-    ensures capacity { result ≡ N.limit nodes.now - body_front }
+    ensures capacity { result ≡ N.limit nodes.now - body_header }
     ensures some { 0 < result }
 {
-    nodes.block_bytes() - BODY_FRONT
+    nodes.block_bytes() - BODY_HEADER
 }
 
 /// The bytes of a file from an offset on, at most `count`: fewer near its end, none at or past it.
@@ -156,10 +156,10 @@ pub fn read_range<N: Nodes>(
     count: u64,
 ) -> Result<Bytes, Fault>
     requires sound { N.is_sound nodes.old }
-    requires body { IsBody (N.limit nodes.old - body_front) (N.node nodes.old) body.head body.length }
-    ensures read { IfOk result (λ bytes. bytes ≡ read_from (trees.body (N.limit nodes.old - body_front) (N.node nodes.old) body.head body.length) offset count) }
-    ensures reads { (digits : ℕ) → spec.HasDigits (head_index (N.limit nodes.old - body_front) body.length) digits → N.reads nodes.new ≤ N.reads nodes.old + (spec.nodes_of_range (N.limit nodes.old - body_front) body.length offset count + 2 * digits) }
-    ensures unread { spec.nodes_of_range (N.limit nodes.old - body_front) body.length offset count ≡ 0 → N.reads nodes.new ≡ N.reads nodes.old }
+    requires body { IsBody (N.limit nodes.old - body_header) (N.node nodes.old) body.head body.length }
+    ensures read { IfOk result (λ bytes. bytes ≡ read_from (trees.body (N.limit nodes.old - body_header) (N.node nodes.old) body.head body.length) offset count) }
+    ensures reads { (digits : ℕ) → spec.HasDigits (head_index (N.limit nodes.old - body_header) body.length) digits → N.reads nodes.new ≤ N.reads nodes.old + (spec.nodes_of_range (N.limit nodes.old - body_header) body.length offset count + 2 * digits) }
+    ensures unread { spec.nodes_of_range (N.limit nodes.old - body_header) body.length offset count ≡ 0 → N.reads nodes.new ≡ N.reads nodes.old }
     ensures why { IfErr result (λ fault. N.causes nodes.old nodes.new fault) }
     ensures faults { IfErr result spec.IsBodyFault }
     ensures looks { OnlyLooks N.node N.kept N.writes N.follows N.is_sound N.limit N.blocks nodes.old nodes.new }

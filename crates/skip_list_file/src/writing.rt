@@ -1,7 +1,7 @@
 //! Bodies with other bytes, or of another length: the nodes from the first that differs on are written
 //! anew, and those before it are shared.
 ghost use Rattle.std.specs.Prelude.{◌≡◌, ℕ, ◌+◌, ◌-◌, ◌*◌, ◌/◌, ◌^◌, ◌<◌, ◌≤◌, min, length, replicate, slice_index, OnOk, IfOk, IfErr};
-ghost use Rattle.node_format.specs.Headers.{body_front};
+ghost use Rattle.node_format.specs.Headers.{body_header};
 ghost use Rattle.node_format.specs.declared.places.Place.TheVariants.{File};
 ghost use Rattle.plain_trees.specs.Contents.{read_from, nodes_from, pwrite_need, ftruncate_need, resized, overwritten};
 ghost use Rattle.block_trees.specs.Bodies as bodies;
@@ -18,7 +18,7 @@ use crate::old_nodes::{list_blocks, read_kept};
 use crate::reading::find;
 use crate::tables::{Table, start_table};
 use fs_types::Fault;
-use node_format::{BODY_FRONT, body_node};
+use node_format::{BODY_HEADER, body_node};
 use node_store::Nodes;
 use std::alloc::Global;
 
@@ -34,7 +34,7 @@ fn append<N: Nodes>(
     bytes: &[u8],
 ) -> Result<u32, Fault>
     requires sound { N.is_sound nodes.old }
-    requires capacity { capacity ≡ N.limit nodes.old - body_front }
+    requires capacity { capacity ≡ N.limit nodes.old - body_header }
     requires whole { IsBody capacity (N.node nodes.old) head (index * capacity) }
     requires held { IsHeld (N.node nodes.old) (N.kept nodes.old) (File head (index * capacity)) }
     requires most { capacity < 2 ^ 18 }
@@ -57,9 +57,9 @@ fn append<N: Nodes>(
 }
 
 /// The head of a body's front of so many bytes, 0 of none.
-fn front<N: Nodes>(nodes: &mut N, capacity: u32, body: Body, part: u32) -> Result<u32, Fault>
+fn find_front<N: Nodes>(nodes: &mut N, capacity: u32, body: Body, part: u32) -> Result<u32, Fault>
     requires sound { N.is_sound nodes.old }
-    requires capacity { capacity ≡ N.limit nodes.old - body_front }
+    requires capacity { capacity ≡ N.limit nodes.old - body_header }
     requires least { 0 < capacity }
     requires whole { IsBody capacity (N.node nodes.old) body.head body.length }
     requires within { part ≤ body.length }
@@ -104,7 +104,7 @@ fn edit_into<N: Nodes>(
     out: &mut [u8],
 ) -> Result<(), Fault>
     requires sound { N.is_sound nodes.old }
-    requires capacity { capacity ≡ N.limit nodes.old - body_front }
+    requires capacity { capacity ≡ N.limit nodes.old - body_header }
     requires least { 0 < capacity }
     requires whole { IsBody capacity (N.node nodes.old) body.head body.length }
     requires blocks { AreBlocks (N.node nodes.old) body.head blocks.now }
@@ -139,7 +139,7 @@ fn edited_bytes<N: Nodes>(
     count: u32,
 ) -> Result<Vec<u8>, Fault>
     requires sound { N.is_sound nodes.old }
-    requires capacity { capacity ≡ N.limit nodes.old - body_front }
+    requires capacity { capacity ≡ N.limit nodes.old - body_header }
     requires least { 0 < capacity }
     requires whole { IsBody capacity (N.node nodes.old) body.head body.length }
     requires blocks { AreBlocks (N.node nodes.old) body.head blocks.now }
@@ -184,7 +184,7 @@ fn write_node<N: Nodes>(
     index: u32,
 ) -> Result<u32, Fault>
     requires sound { N.is_sound nodes.old }
-    requires capacity { change.capacity ≡ N.limit nodes.old - body_front }
+    requires capacity { change.capacity ≡ N.limit nodes.old - body_header }
     requires least { 4016 ≤ change.capacity }
     requires small { change.capacity < 2 ^ 18 }
     requires within { index * change.capacity < change.size }
@@ -243,7 +243,7 @@ fn start_at<N: Nodes>(
     first: u32,
 ) -> Result<Start, Fault>
     requires sound { N.is_sound nodes.old }
-    requires capacity { change.capacity ≡ N.limit nodes.old - body_front }
+    requires capacity { change.capacity ≡ N.limit nodes.old - body_header }
     requires least { 0 < change.capacity }
     requires whole { IsBody change.capacity (N.node nodes.old) change.body.head change.body.length }
     requires first { first ≡ min change.offset change.body.length / change.capacity }
@@ -260,7 +260,7 @@ fn start_at<N: Nodes>(
 {
     let capacity = change.capacity;
     let last = (change.size - 1) / capacity;
-    let head = front(nodes, capacity, change.body, first * capacity)?;
+    let head = find_front(nodes, capacity, change.body, first * capacity)?;
     let table = start_table(nodes, head, first, last)?;
     let old = list_blocks(alloc, nodes, capacity, change.body, end)?;
     Ok(Start { head, table, old })
@@ -276,7 +276,7 @@ fn write_nodes<N: Nodes>(
     first: u32,
 ) -> Result<Body, Fault>
     requires sound { N.is_sound nodes.old }
-    requires capacity { change.capacity ≡ N.limit nodes.old - body_front }
+    requires capacity { change.capacity ≡ N.limit nodes.old - body_header }
     requires least { 4016 ≤ change.capacity }
     requires small { change.capacity < 2 ^ 18 }
     requires whole { IsBody change.capacity (N.node nodes.old) change.body.head change.body.length }
@@ -331,22 +331,22 @@ fn change_body<N: Nodes>(
     size: u32,
 ) -> Result<Body, Fault>
     requires sound { N.is_sound nodes.old }
-    requires whole { IsBody (N.limit nodes.old - body_front) (N.node nodes.old) body.head body.length }
+    requires whole { IsBody (N.limit nodes.old - body_header) (N.node nodes.old) body.head body.length }
     requires held { IsHeld (N.node nodes.old) (N.kept nodes.old) (File body.head body.length) }
     requires most { size ≤ MAX_FILE_BYTES }
     requires fits { offset + length bytes.now ≤ MAX_FILE_BYTES }
     requires longer { body.length ≤ size }
     requires changed { min offset body.length < size }
-    ensures written { IfOk result (λ new. spec.IsWritten (N.limit nodes.old - body_front) (N.node nodes.new) (N.kept nodes.new) new (spec.edited (bodies.body (N.limit nodes.old - body_front) (N.node nodes.old) body.head body.length) offset bytes.now size)) }
+    ensures written { IfOk result (λ new. spec.IsWritten (N.limit nodes.old - body_header) (N.node nodes.new) (N.kept nodes.new) new (spec.edited (bodies.body (N.limit nodes.old - body_header) (N.node nodes.old) body.head body.length) offset bytes.now size)) }
     ensures reaches { IfOk result (λ new. spec.OnlyReaches (N.node nodes.old) (N.node nodes.new) (N.kept nodes.old) body new) }
     ensures why { IfErr result (λ fault. N.causes nodes.old nodes.new fault) }
     ensures faults { IfErr result spec.IsWritingFault }
-    ensures reads { (digits : ℕ) → HasDigits (head_index (N.limit nodes.old - body_front) body.length) digits → N.reads nodes.new ≤ N.reads nodes.old + (2 * nodes_between (N.limit nodes.old - body_front) (offset + length bytes.now) body.length + (1 + 5 * digits)) }
-    ensures count { IfOk result (λ _. N.writes nodes.new ≡ N.writes nodes.old + nodes_from (N.limit nodes.old - body_front) (min offset body.length) size) }
-    ensures writes { N.writes nodes.new ≤ N.writes nodes.old + nodes_from (N.limit nodes.old - body_front) (min offset body.length) size }
+    ensures reads { (digits : ℕ) → HasDigits (head_index (N.limit nodes.old - body_header) body.length) digits → N.reads nodes.new ≤ N.reads nodes.old + (2 * nodes_between (N.limit nodes.old - body_header) (offset + length bytes.now) body.length + (1 + 5 * digits)) }
+    ensures count { IfOk result (λ _. N.writes nodes.new ≡ N.writes nodes.old + nodes_from (N.limit nodes.old - body_header) (min offset body.length) size) }
+    ensures writes { N.writes nodes.new ≤ N.writes nodes.old + nodes_from (N.limit nodes.old - body_header) (min offset body.length) size }
     ensures works { Works N.follows N.is_sound N.limit N.blocks nodes.old nodes.new }
 {
-    let capacity = nodes.block_bytes() - BODY_FRONT;
+    let capacity = nodes.block_bytes() - BODY_HEADER;
     let change = Change {
         capacity,
         body,
@@ -376,17 +376,17 @@ pub fn write_range<N: Nodes>(
     bytes: &[u8],
 ) -> Result<Body, Fault>
     requires sound { N.is_sound nodes.old }
-    requires whole { IsBody (N.limit nodes.old - body_front) (N.node nodes.old) body.head body.length }
+    requires whole { IsBody (N.limit nodes.old - body_header) (N.node nodes.old) body.head body.length }
     requires held { IsHeld (N.node nodes.old) (N.kept nodes.old) (File body.head body.length) }
     requires some { 0 < length bytes.now }
     requires fits { offset + length bytes.now ≤ MAX_FILE_BYTES }
     requires length { body.length ≤ MAX_FILE_BYTES }
-    ensures written { IfOk result (λ new. spec.IsWritten (N.limit nodes.old - body_front) (N.node nodes.new) (N.kept nodes.new) new (overwritten (bodies.body (N.limit nodes.old - body_front) (N.node nodes.old) body.head body.length) offset bytes.now)) }
+    ensures written { IfOk result (λ new. spec.IsWritten (N.limit nodes.old - body_header) (N.node nodes.new) (N.kept nodes.new) new (overwritten (bodies.body (N.limit nodes.old - body_header) (N.node nodes.old) body.head body.length) offset bytes.now)) }
     ensures reaches { IfOk result (λ new. spec.OnlyReaches (N.node nodes.old) (N.node nodes.new) (N.kept nodes.old) body new) }
     ensures keeps { Keeps (N.kept nodes.old) (N.node nodes.old) (N.kept nodes.new) (N.node nodes.new) }
-    ensures reads { (digits : ℕ) → HasDigits (head_index (N.limit nodes.old - body_front) body.length) digits → N.reads nodes.new ≤ N.reads nodes.old + (2 * nodes_between (N.limit nodes.old - body_front) (offset + length bytes.now) body.length + (1 + 5 * digits)) }
-    ensures count { IfOk result (λ _. N.writes nodes.new ≡ N.writes nodes.old + pwrite_need (N.limit nodes.old - body_front) body.length offset (length bytes.now)) }
-    ensures writes { N.writes nodes.new ≤ N.writes nodes.old + pwrite_need (N.limit nodes.old - body_front) body.length offset (length bytes.now) }
+    ensures reads { (digits : ℕ) → HasDigits (head_index (N.limit nodes.old - body_header) body.length) digits → N.reads nodes.new ≤ N.reads nodes.old + (2 * nodes_between (N.limit nodes.old - body_header) (offset + length bytes.now) body.length + (1 + 5 * digits)) }
+    ensures count { IfOk result (λ _. N.writes nodes.new ≡ N.writes nodes.old + pwrite_need (N.limit nodes.old - body_header) body.length offset (length bytes.now)) }
+    ensures writes { N.writes nodes.new ≤ N.writes nodes.old + pwrite_need (N.limit nodes.old - body_header) body.length offset (length bytes.now) }
     ensures why { IfErr result (λ fault. N.causes nodes.old nodes.new fault) }
     ensures faults { IfErr result spec.IsWritingFault }
     ensures works { Works N.follows N.is_sound N.limit N.blocks nodes.old nodes.new }
@@ -408,15 +408,15 @@ pub fn set_length<N: Nodes>(
     length: u32,
 ) -> Result<Body, Fault>
     requires sound { N.is_sound nodes.old }
-    requires whole { IsBody (N.limit nodes.old - body_front) (N.node nodes.old) body.head body.length }
+    requires whole { IsBody (N.limit nodes.old - body_header) (N.node nodes.old) body.head body.length }
     requires held { IsHeld (N.node nodes.old) (N.kept nodes.old) (File body.head body.length) }
     requires most { length ≤ MAX_FILE_BYTES }
-    ensures written { IfOk result (λ new. spec.IsWritten (N.limit nodes.old - body_front) (N.node nodes.new) (N.kept nodes.new) new (resized (bodies.body (N.limit nodes.old - body_front) (N.node nodes.old) body.head body.length) length)) }
+    ensures written { IfOk result (λ new. spec.IsWritten (N.limit nodes.old - body_header) (N.node nodes.new) (N.kept nodes.new) new (resized (bodies.body (N.limit nodes.old - body_header) (N.node nodes.old) body.head body.length) length)) }
     ensures reaches { IfOk result (λ new. spec.OnlyReaches (N.node nodes.old) (N.node nodes.new) (N.kept nodes.old) body new) }
     ensures keeps { Keeps (N.kept nodes.old) (N.node nodes.old) (N.kept nodes.new) (N.node nodes.new) }
-    ensures reads { (digits : ℕ) → HasDigits (head_index (N.limit nodes.old - body_front) body.length) digits → N.reads nodes.new ≤ N.reads nodes.old + (1 + 5 * digits) }
-    ensures count { IfOk result (λ _. N.writes nodes.new ≡ N.writes nodes.old + ftruncate_need (N.limit nodes.old - body_front) body.length length) }
-    ensures writes { N.writes nodes.new ≤ N.writes nodes.old + ftruncate_need (N.limit nodes.old - body_front) body.length length }
+    ensures reads { (digits : ℕ) → HasDigits (head_index (N.limit nodes.old - body_header) body.length) digits → N.reads nodes.new ≤ N.reads nodes.old + (1 + 5 * digits) }
+    ensures count { IfOk result (λ _. N.writes nodes.new ≡ N.writes nodes.old + ftruncate_need (N.limit nodes.old - body_header) body.length length) }
+    ensures writes { N.writes nodes.new ≤ N.writes nodes.old + ftruncate_need (N.limit nodes.old - body_header) body.length length }
     ensures why { IfErr result (λ fault. N.causes nodes.old nodes.new fault) }
     ensures faults { IfErr result spec.IsWritingFault }
     ensures works { Works N.follows N.is_sound N.limit N.blocks nodes.old nodes.new }
@@ -424,7 +424,7 @@ pub fn set_length<N: Nodes>(
     if length > body.length {
         return change_body(alloc, nodes, body, body.length, &[], length);
     }
-    let capacity = nodes.block_bytes() - BODY_FRONT;
-    let head = front(nodes, capacity, body, length)?;
+    let capacity = nodes.block_bytes() - BODY_HEADER;
+    let head = find_front(nodes, capacity, body, length)?;
     Ok(Body { head, length })
 }

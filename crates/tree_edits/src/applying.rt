@@ -1,6 +1,6 @@
 //! Edits carried out.
 ghost use Rattle.std.specs.Prelude.{◌≡◌, ℕ, ◌+◌, ◌-◌, ◌≤◌, Ok, IfOk, IfErr};
-ghost use Rattle.node_format.specs.Headers.{body_front};
+ghost use Rattle.node_format.specs.Headers.{body_header};
 ghost use Rattle.node_format.specs.declared.places.Place.TheVariants.{Dir};
 ghost use Rattle.block_trees.specs.Reached.{IsHeld, Keeps};
 ghost use Rattle.block_trees.specs.Trees.{IsRoot, root_tree};
@@ -29,16 +29,16 @@ pub fn apply<N: Nodes>(
 ) -> Result<u32, Fault>
     requires sound { N.is_sound nodes.old }
     requires held { IsHeld (N.node nodes.old) (N.kept nodes.old) (Dir root) }
-    requires rooted { IsRoot (N.limit nodes.old - body_front) (N.node nodes.old) root }
-    requires editable { IsEditable (N.limit nodes.old - body_front) (N.node nodes.old) (N.kept nodes.old) root edit }
-    ensures root { IfOk result (λ to. IsNewRoot (N.limit nodes.old - body_front) (N.node nodes.old) (N.kept nodes.old) (N.node nodes.new) (N.kept nodes.new) (source root edit.entry) to (effect (root_tree (N.limit nodes.old - body_front) (N.node nodes.old)) edit.entry (root_tree (N.limit nodes.old - body_front) (N.node nodes.old) root))) }
+    requires rooted { IsRoot (N.limit nodes.old - body_header) (N.node nodes.old) root }
+    requires editable { IsEditable (N.limit nodes.old - body_header) (N.node nodes.old) (N.kept nodes.old) root edit }
+    ensures root { IfOk result (λ to. IsNewRoot (N.limit nodes.old - body_header) (N.node nodes.old) (N.kept nodes.old) (N.node nodes.new) (N.kept nodes.new) (source root edit.entry) to (effect (root_tree (N.limit nodes.old - body_header) (N.node nodes.old)) edit.entry (root_tree (N.limit nodes.old - body_header) (N.node nodes.old) root))) }
     ensures keeps { Keeps (N.kept nodes.old) (N.node nodes.old) (N.kept nodes.new) (N.node nodes.new) }
     ensures why { IfErr result (λ fault. N.causes nodes.old nodes.new fault) }
     ensures faults { IfErr result IsChangeFault }
-    ensures still { need (N.limit nodes.old - body_front) edit.entry ≡ 0 → (nodes.new ≡ nodes.old) × (result ≡ Ok (source root edit.entry)) }
-    ensures written { IfOk result (λ _. N.writes nodes.new ≡ N.writes nodes.old + need (N.limit nodes.old - body_front) edit.entry) }
-    ensures writes { N.writes nodes.new ≤ N.writes nodes.old + need (N.limit nodes.old - body_front) edit.entry }
-    ensures reads { ReadsFew (N.limit nodes.old - body_front) edit.entry (N.reads nodes.old) (N.reads nodes.new) }
+    ensures still { need (N.limit nodes.old - body_header) edit.entry ≡ 0 → (nodes.new ≡ nodes.old) × (result ≡ Ok (source root edit.entry)) }
+    ensures written { IfOk result (λ _. N.writes nodes.new ≡ N.writes nodes.old + need (N.limit nodes.old - body_header) edit.entry) }
+    ensures writes { N.writes nodes.new ≤ N.writes nodes.old + need (N.limit nodes.old - body_header) edit.entry }
+    ensures reads { ReadsFew (N.limit nodes.old - body_header) edit.entry (N.reads nodes.old) (N.reads nodes.new) }
     ensures follows { N.follows nodes.old nodes.new }
 {
     match edit {

@@ -3,7 +3,7 @@ ghost use Rattle.std.specs.Prelude.{◌≡◌, ℕ, ◌+◌, ◌-◌, ◌≤◌,
 ghost use Rattle.plain_trees.specs.Contents.{Apart, Entry};
 ghost use Rattle.fs_types.specs.Names.{is_path};
 ghost use Rattle.plain_trees.specs.Trees.{put, remove, move};
-ghost use Rattle.node_format.specs.Headers.{body_front};
+ghost use Rattle.node_format.specs.Headers.{body_header};
 ghost use Rattle.node_format.specs.declared.places.Place.TheVariants.{Dir};
 ghost use Rattle.block_trees.specs.Reached.{IsHeld};
 ghost use Rattle.block_trees.specs.Trees.{IsRoot, root_tree};
@@ -31,11 +31,11 @@ pub(crate) fn make<N: Nodes>(
 ) -> Result<u32, Fault>
     requires sound { N.is_sound nodes.old }
     requires held { IsHeld (N.node nodes.old) (N.kept nodes.old) (Dir root) }
-    requires rooted { IsRoot (N.limit nodes.old - body_front) (N.node nodes.old) root }
+    requires rooted { IsRoot (N.limit nodes.old - body_header) (N.node nodes.old) root }
     requires lawful { is_path path.now ≡ true }
     requires way { IsTrail (N.node nodes.old) root path.now trail.now }
     requires missing { look_up (N.node nodes.old) root path.now ≡ Ok (Missing false) }
-    ensures root { IfOk result (λ to. IsNewRoot (N.limit nodes.old - body_front) (N.node nodes.old) (N.kept nodes.old) (N.node nodes.new) (N.kept nodes.new) root to (put (root_tree (N.limit nodes.old - body_front) (N.node nodes.old) root) path.now Entry.Dir)) }
+    ensures root { IfOk result (λ to. IsNewRoot (N.limit nodes.old - body_header) (N.node nodes.old) (N.kept nodes.old) (N.node nodes.new) (N.kept nodes.new) root to (put (root_tree (N.limit nodes.old - body_header) (N.node nodes.old) root) path.now Entry.Dir)) }
     ensures why { IfErr result (λ fault. N.causes nodes.old nodes.new fault) }
     ensures faults { IfErr result IsChangeFault }
     ensures written { IfOk result (λ _. N.writes nodes.new ≡ N.writes nodes.old + (length path.now + 1)) }
@@ -56,12 +56,12 @@ pub(crate) fn remove<N: Nodes>(
 ) -> Result<u32, Fault>
     requires sound { N.is_sound nodes.old }
     requires held { IsHeld (N.node nodes.old) (N.kept nodes.old) (Dir root) }
-    requires rooted { IsRoot (N.limit nodes.old - body_front) (N.node nodes.old) root }
+    requires rooted { IsRoot (N.limit nodes.old - body_header) (N.node nodes.old) root }
     requires lawful { is_path path.now ≡ true }
     requires way { IsTrail (N.node nodes.old) root path.now trail.now }
     requires below { 0 < length path.now }
     requires removable { (x : Found) × (look_up (N.node nodes.old) root path.now ≡ Ok x) × IsRemovable (N.node nodes.old) x }
-    ensures root { IfOk result (λ to. IsNewRoot (N.limit nodes.old - body_front) (N.node nodes.old) (N.kept nodes.old) (N.node nodes.new) (N.kept nodes.new) root to (remove (root_tree (N.limit nodes.old - body_front) (N.node nodes.old) root) path.now)) }
+    ensures root { IfOk result (λ to. IsNewRoot (N.limit nodes.old - body_header) (N.node nodes.old) (N.kept nodes.old) (N.node nodes.new) (N.kept nodes.new) root to (remove (root_tree (N.limit nodes.old - body_header) (N.node nodes.old) root) path.now)) }
     ensures why { IfErr result (λ fault. N.causes nodes.old nodes.new fault) }
     ensures faults { IfErr result IsChangeFault }
     ensures written { IfOk result (λ _. N.writes nodes.new ≡ N.writes nodes.old + length path.now) }
@@ -85,10 +85,10 @@ pub(crate) fn rename<N: Nodes>(
 ) -> Result<u32, Fault>
     requires sound { N.is_sound nodes.old }
     requires held { IsHeld (N.node nodes.old) (N.kept nodes.old) (Dir root) }
-    requires rooted { IsRoot (N.limit nodes.old - body_front) (N.node nodes.old) root }
+    requires rooted { IsRoot (N.limit nodes.old - body_header) (N.node nodes.old) root }
     requires apart { Apart old.now new.now }
     requires movable { IsMovable (N.node nodes.old) root old.now old_trail.now new.now new_trail.now place }
-    ensures root { IfOk result (λ to. IsNewRoot (N.limit nodes.old - body_front) (N.node nodes.old) (N.kept nodes.old) (N.node nodes.new) (N.kept nodes.new) root to (move (root_tree (N.limit nodes.old - body_front) (N.node nodes.old) root) old.now new.now)) }
+    ensures root { IfOk result (λ to. IsNewRoot (N.limit nodes.old - body_header) (N.node nodes.old) (N.kept nodes.old) (N.node nodes.new) (N.kept nodes.new) root to (move (root_tree (N.limit nodes.old - body_header) (N.node nodes.old) root) old.now new.now)) }
     ensures why { IfErr result (λ fault. N.causes nodes.old nodes.new fault) }
     ensures faults { IfErr result IsChangeFault }
     ensures written { IfOk result (λ _. N.writes nodes.new ≡ N.writes nodes.old + directories_along old.now new.now) }

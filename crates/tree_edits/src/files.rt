@@ -4,7 +4,7 @@ ghost use Rattle.plain_trees.specs.Contents.{Entry, overwritten, resized, pwrite
 ghost use Rattle.plain_trees.specs.Trees.{bytes_at, put};
 ghost use Rattle.fs_types.specs.declared.limits.TheConstants.{MAX_FILE_BYTES};
 ghost use Rattle.fs_types.specs.Names.{is_path};
-ghost use Rattle.node_format.specs.Headers.{body_front};
+ghost use Rattle.node_format.specs.Headers.{body_header};
 ghost use Rattle.node_format.specs.declared.places.Place.TheVariants.{Dir, File};
 ghost use Rattle.block_trees.specs.Bodies.{head_index};
 ghost use Rattle.block_trees.specs.Reached.{IsHeld, Keeps};
@@ -67,11 +67,11 @@ pub(crate) fn put_empty<N: Nodes>(
 ) -> Result<u32, Fault>
     requires sound { N.is_sound nodes.old }
     requires held { IsHeld (N.node nodes.old) (N.kept nodes.old) (Dir root) }
-    requires rooted { IsRoot (N.limit nodes.old - body_front) (N.node nodes.old) root }
+    requires rooted { IsRoot (N.limit nodes.old - body_header) (N.node nodes.old) root }
     requires lawful { is_path path.now ≡ true }
     requires way { IsTrail (N.node nodes.old) root path.now trail.now }
     requires fits { (x : Found) × (look_up (N.node nodes.old) root path.now ≡ Ok x) × TakesFile x }
-    ensures root { IfOk result (λ to. IsNewRoot (N.limit nodes.old - body_front) (N.node nodes.old) (N.kept nodes.old) (N.node nodes.new) (N.kept nodes.new) root to (put (root_tree (N.limit nodes.old - body_front) (N.node nodes.old) root) path.now (Entry.File []))) }
+    ensures root { IfOk result (λ to. IsNewRoot (N.limit nodes.old - body_header) (N.node nodes.old) (N.kept nodes.old) (N.node nodes.new) (N.kept nodes.new) root to (put (root_tree (N.limit nodes.old - body_header) (N.node nodes.old) root) path.now (Entry.File []))) }
     ensures why { IfErr result (λ fault. N.causes nodes.old nodes.new fault) }
     ensures faults { IfErr result IsChangeFault }
     ensures written { IfOk result (λ _. N.writes nodes.new ≡ N.writes nodes.old + length path.now) }
@@ -97,19 +97,19 @@ pub(crate) fn overwrite<N: Nodes>(
 ) -> Result<u32, Fault>
     requires sound { N.is_sound nodes.old }
     requires held { IsHeld (N.node nodes.old) (N.kept nodes.old) (Dir root) }
-    requires rooted { IsRoot (N.limit nodes.old - body_front) (N.node nodes.old) root }
+    requires rooted { IsRoot (N.limit nodes.old - body_header) (N.node nodes.old) root }
     requires lawful { is_path path.now ≡ true }
     requires way { IsTrail (N.node nodes.old) root path.now trail.now }
     requires found { look_up (N.node nodes.old) root path.now ≡ Ok (found.File body.head body.length) }
     requires short { body.length ≤ MAX_FILE_BYTES }
     requires some { 0 < length bytes.now }
     requires fits { offset + length bytes.now ≤ MAX_FILE_BYTES }
-    ensures root { IfOk result (λ to. IsNewRoot (N.limit nodes.old - body_front) (N.node nodes.old) (N.kept nodes.old) (N.node nodes.new) (N.kept nodes.new) root to (put (root_tree (N.limit nodes.old - body_front) (N.node nodes.old) root) path.now (Entry.File (overwritten (bytes_at (root_tree (N.limit nodes.old - body_front) (N.node nodes.old) root) path.now) offset bytes.now)))) }
+    ensures root { IfOk result (λ to. IsNewRoot (N.limit nodes.old - body_header) (N.node nodes.old) (N.kept nodes.old) (N.node nodes.new) (N.kept nodes.new) root to (put (root_tree (N.limit nodes.old - body_header) (N.node nodes.old) root) path.now (Entry.File (overwritten (bytes_at (root_tree (N.limit nodes.old - body_header) (N.node nodes.old) root) path.now) offset bytes.now)))) }
     ensures why { IfErr result (λ fault. N.causes nodes.old nodes.new fault) }
     ensures faults { IfErr result IsChangeFault }
-    ensures written { IfOk result (λ _. N.writes nodes.new ≡ N.writes nodes.old + (pwrite_need (N.limit nodes.old - body_front) body.length offset (length bytes.now) + length path.now)) }
-    ensures writes { N.writes nodes.new ≤ N.writes nodes.old + (pwrite_need (N.limit nodes.old - body_front) body.length offset (length bytes.now) + length path.now) }
-    ensures reads { (digits : ℕ) → HasDigits (head_index (N.limit nodes.old - body_front) body.length) digits → N.reads nodes.new ≤ N.reads nodes.old + (overwrite_reads (N.limit nodes.old - body_front) body.length (offset + length bytes.now) digits + length path.now) }
+    ensures written { IfOk result (λ _. N.writes nodes.new ≡ N.writes nodes.old + (pwrite_need (N.limit nodes.old - body_header) body.length offset (length bytes.now) + length path.now)) }
+    ensures writes { N.writes nodes.new ≤ N.writes nodes.old + (pwrite_need (N.limit nodes.old - body_header) body.length offset (length bytes.now) + length path.now) }
+    ensures reads { (digits : ℕ) → HasDigits (head_index (N.limit nodes.old - body_header) body.length) digits → N.reads nodes.new ≤ N.reads nodes.old + (overwrite_reads (N.limit nodes.old - body_header) body.length (offset + length bytes.now) digits + length path.now) }
     ensures follows { N.follows nodes.old nodes.new }
 {
     let new = write_range(alloc, nodes, body, offset, bytes)?;
@@ -128,17 +128,17 @@ pub(crate) fn resize<N: Nodes>(
 ) -> Result<u32, Fault>
     requires sound { N.is_sound nodes.old }
     requires held { IsHeld (N.node nodes.old) (N.kept nodes.old) (Dir root) }
-    requires rooted { IsRoot (N.limit nodes.old - body_front) (N.node nodes.old) root }
+    requires rooted { IsRoot (N.limit nodes.old - body_header) (N.node nodes.old) root }
     requires lawful { is_path path.now ≡ true }
     requires way { IsTrail (N.node nodes.old) root path.now trail.now }
     requires found { look_up (N.node nodes.old) root path.now ≡ Ok (found.File body.head body.length) }
     requires fits { size ≤ MAX_FILE_BYTES }
-    ensures root { IfOk result (λ to. IsNewRoot (N.limit nodes.old - body_front) (N.node nodes.old) (N.kept nodes.old) (N.node nodes.new) (N.kept nodes.new) root to (put (root_tree (N.limit nodes.old - body_front) (N.node nodes.old) root) path.now (Entry.File (resized (bytes_at (root_tree (N.limit nodes.old - body_front) (N.node nodes.old) root) path.now) size)))) }
+    ensures root { IfOk result (λ to. IsNewRoot (N.limit nodes.old - body_header) (N.node nodes.old) (N.kept nodes.old) (N.node nodes.new) (N.kept nodes.new) root to (put (root_tree (N.limit nodes.old - body_header) (N.node nodes.old) root) path.now (Entry.File (resized (bytes_at (root_tree (N.limit nodes.old - body_header) (N.node nodes.old) root) path.now) size)))) }
     ensures why { IfErr result (λ fault. N.causes nodes.old nodes.new fault) }
     ensures faults { IfErr result IsChangeFault }
-    ensures written { IfOk result (λ _. N.writes nodes.new ≡ N.writes nodes.old + (ftruncate_need (N.limit nodes.old - body_front) body.length size + length path.now)) }
-    ensures writes { N.writes nodes.new ≤ N.writes nodes.old + (ftruncate_need (N.limit nodes.old - body_front) body.length size + length path.now) }
-    ensures reads { (digits : ℕ) → HasDigits (head_index (N.limit nodes.old - body_front) body.length) digits → N.reads nodes.new ≤ N.reads nodes.old + (resize_reads digits + length path.now) }
+    ensures written { IfOk result (λ _. N.writes nodes.new ≡ N.writes nodes.old + (ftruncate_need (N.limit nodes.old - body_header) body.length size + length path.now)) }
+    ensures writes { N.writes nodes.new ≤ N.writes nodes.old + (ftruncate_need (N.limit nodes.old - body_header) body.length size + length path.now) }
+    ensures reads { (digits : ℕ) → HasDigits (head_index (N.limit nodes.old - body_header) body.length) digits → N.reads nodes.new ≤ N.reads nodes.old + (resize_reads digits + length path.now) }
     ensures follows { N.follows nodes.old nodes.new }
 {
     let new = set_length(alloc, nodes, body, size)?;

@@ -11,7 +11,7 @@ use Rattle.flash_model.specs.declared.sizes.Geometry.{Geometry}
 use Rattle.flash_model.specs.Device.{Device, block_of}
 use Rattle.flash_model.specs.Geometry.{IsGeometry, block_bytes}
 use Rattle.allocator.specs.Ring.{Ring}
-use Rattle.node_format.specs.Headers.{body_front}
+use Rattle.node_format.specs.Headers.{body_header}
 use Rattle.node_format.specs.declared.places.Place.TheVariants.{Dir}
 use Rattle.node_store.specs.NodePages.{node_of}
 use Rattle.node_store.specs.declared.storage.Storage as parts
@@ -39,7 +39,7 @@ pub keeps : (s t : Storage) → IsGeometry s.device.geometry → Evolved s t →
 keeps s t lawful e = record { same = λ b kept. Evolved_node s t b lawful e kept; stays = e.kept }
 
 pub same_capacity : (s t : Storage) → Evolved s t → capacity_of t.device ≡ capacity_of s.device
-same_capacity s t e = ap (λ (g : Geometry). block_bytes g - body_front) e.geometry
+same_capacity s t e = ap (λ (g : Geometry). block_bytes g - body_header) e.geometry
 
 frame : (s t : Storage) → IsGeometry s.device.geometry → Evolved s t → FrameLaw (node_of s.device) (node_of t.device) (is_kept s) (is_kept t)
 frame s t lawful e = frame_law (node_of s.device) (node_of t.device) (is_kept s) (is_kept t) (keeps s t lawful e)

@@ -8,7 +8,7 @@ use Rattle.flash_model.specs.Device.{Device}
 use Rattle.flash_model.specs.Geometry.{block_bytes}
 use Rattle.read_only.specs.Modes.{is_read_only}
 use Rattle.allocator.specs.Ring.{free_count}
-use Rattle.node_format.specs.Headers.{body_front}
+use Rattle.node_format.specs.Headers.{body_header}
 use Rattle.node_store.specs.declared.storage.Storage.{Storage}
 use Rattle.node_store.specs.NodePages.{node_of}
 use Rattle.block_trees.specs.Trees.{root_tree}
@@ -16,7 +16,7 @@ use Rattle.working_state.specs.declared.state.State.{State}
 
 -- the data bytes that a body node has room for
 abbrev pub capacity_of : Device → ℕ
-capacity_of d = block_bytes d.geometry - body_front
+capacity_of d = block_bytes d.geometry - body_header
 
 -- the tree that is read off the pages from a root
 abbrev pub tree_on : Device → ℕ → Tree

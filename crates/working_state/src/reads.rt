@@ -6,7 +6,7 @@ ghost use Rattle.history_machine.specs.Descriptors.{Descriptor, descriptor_at, c
 ghost use Rattle.fs_types.specs.declared.calls.Call.{Call};
 ghost use Rattle.fs_types.specs.declared.calls.Reply.{Reply};
 ghost use Rattle.fs_types.specs.declared.faults.Fault.TheVariants.{BadDescriptor};
-ghost use Rattle.node_format.specs.Headers.{body_front};
+ghost use Rattle.node_format.specs.Headers.{body_header};
 ghost use Rattle.node_store.specs.NodePages.{node_of};
 ghost use Rattle.block_trees.specs.Trees.{root_tree, IsRoot};
 ghost use Rattle.skip_list_file.specs.Reading.{is_body_fault};
@@ -148,9 +148,9 @@ fn read_file<N: Nodes>(
     count: u64,
 ) -> Result<Bytes, Fault>
     requires sound { N.is_sound nodes.old }
-    requires rooted { IsRoot (N.limit nodes.old - body_front) (N.node nodes.old) root }
-    ensures read { IfOk result (IsRead (root_tree (N.limit nodes.old - body_front) (N.node nodes.old) root) path.now offset count) }
-    ensures refused { IfErr result (λ fault. is_body_fault fault ≡ false → file_refusal (root_tree (N.limit nodes.old - body_front) (N.node nodes.old) root) path.now ≡ Some fault) }
+    requires rooted { IsRoot (N.limit nodes.old - body_header) (N.node nodes.old) root }
+    ensures read { IfOk result (IsRead (root_tree (N.limit nodes.old - body_header) (N.node nodes.old) root) path.now offset count) }
+    ensures refused { IfErr result (λ fault. is_body_fault fault ≡ false → file_refusal (root_tree (N.limit nodes.old - body_header) (N.node nodes.old) root) path.now ≡ Some fault) }
     ensures why { IfErr result (λ fault. is_body_fault fault ≡ true → N.causes nodes.old nodes.new fault) }
     ensures writes { N.writes nodes.new ≡ N.writes nodes.old }
     ensures follows { N.follows nodes.old nodes.new }

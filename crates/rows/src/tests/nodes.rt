@@ -39,8 +39,8 @@ fn bytes_of_directories(rt: HostRuntime) -> Result<(), Fail> {
 fn entries_of_a_directory(rt: HostRuntime) -> Result<(), Fail> {
     let mut entries = Entries::of(&WITH_DIR).ok_or("a directory")?;
     assert_eq!(rt; entries.len(), 1);
-    assert_eq!(rt; entries.named(b"a"), Some(Place::Dir { block: 9 }));
-    assert_eq!(rt; entries.named(b"b"), None);
+    assert_eq!(rt; entries.find(b"a"), Some(Place::Dir { block: 9 }));
+    assert_eq!(rt; entries.find(b"b"), None);
     let entry = entries.next().ok_or("an entry")?;
     assert_eq!(rt; entry.name(), b"a".as_slice());
     assert_eq!(rt; entry.place(), Place::Dir { block: 9 });

@@ -1,7 +1,7 @@
 use Rattle.std.proofs.Common.{◌≡◌, ◌+◌, ◌-◌, ◌/◌, length, take, drop, sym, ap, subst, ◌∙◌, arith}
 use Rattle.std.specs.Prelude.{min}
 use Rattle.std.proofs.lemmas.List.{take_at}
-use Rattle.node_format.specs.Headers.{body_front}
+use Rattle.node_format.specs.Headers.{body_header}
 use Rattle.block_trees.specs.Bodies.{Blocks, data_to, IsChain}
 use Rattle.skip_list_file.proofs.Parts.{range_found, body_read, some_nodes}
 use Rattle.skip_list_file.proofs.reading.read_range.Goals as goal
@@ -9,14 +9,14 @@ use Rattle.skip_list_file.proofs.reading.read_range.Goals as goal
 pub returns-in_err-block-clause-unread : goal.returns-in_err-block-clause-unread
 returns-in_err-block-clause-unread g c = λ none.
     let capacity = c.capacity_in-capacity.ensures in
-    let some = some_nodes (g.N.Nodes.limit c.args.nodes.now - body_front) c.args.body.length c.args.offset c.args.count (omega (arith, capacity.capacity, capacity.some)) (omega (arith, c.min-end.ensures, c.saturating_add.ensures, c.from.ensures)) in
+    let some = some_nodes (g.N.Nodes.limit c.args.nodes.now - body_header) c.args.body.length c.args.offset c.args.count (omega (arith, capacity.capacity, capacity.some)) (omega (arith, c.min-end.ensures, c.saturating_add.ensures, c.from.ensures)) in
     absurd (omega (arith, some, none))
 
 pub fill-requires-clause-chain : goal.fill-requires-clause-chain
 fill-requires-clause-chain g c =
     let f = g.N.Nodes.node c.args.nodes.now in
     let capacity = c.capacity_in-capacity.ensures in
-    let range = range_found (g.N.Nodes.limit c.args.nodes.now - body_front) c.capacity_in-capacity.result f c.args.body.head c.args.body.length c.args.offset c.min-end.result c.in_ok-block.block capacity.capacity capacity.some
+    let range = range_found (g.N.Nodes.limit c.args.nodes.now - body_header) c.capacity_in-capacity.result f c.args.body.head c.args.body.length c.args.offset c.min-end.result c.in_ok-block.block capacity.capacity capacity.some
     (omega arith) (omega (arith, c.min-end.ensures, c.from.ensures)) c.requires.body c.in_ok-block.ensures.found in
     subst (λ (blocks : Blocks). IsChain c.capacity_in-capacity.result blocks ((c.min-end.result - 1) / c.capacity_in-capacity.result) c.in_ok-block.block) (sym c.in_ok-block.ensures.looks.same_nodes) range.chain
 
@@ -24,7 +24,7 @@ pub fill-requires-clause-within : goal.fill-requires-clause-within
 fill-requires-clause-within g c =
     let f = g.N.Nodes.node c.args.nodes.now in
     let capacity = c.capacity_in-capacity.ensures in
-    let range = range_found (g.N.Nodes.limit c.args.nodes.now - body_front) c.capacity_in-capacity.result f c.args.body.head c.args.body.length c.args.offset c.min-end.result c.in_ok-block.block capacity.capacity capacity.some
+    let range = range_found (g.N.Nodes.limit c.args.nodes.now - body_header) c.capacity_in-capacity.result f c.args.body.head c.args.body.length c.args.offset c.min-end.result c.in_ok-block.block capacity.capacity capacity.some
     (omega arith) (omega (arith, c.min-end.ensures, c.from.ensures)) c.requires.body c.in_ok-block.ensures.found in
     let same = ap (λ (blocks : Blocks). length (data_to blocks ((c.min-end.result - 1) / c.capacity_in-capacity.result) c.in_ok-block.block)) c.in_ok-block.ensures.looks.same_nodes in
     omega (arith, range.within, same)
@@ -32,13 +32,13 @@ fill-requires-clause-within g c =
 pub returns-in_err-fill-clause-unread : goal.returns-in_err-fill-clause-unread
 returns-in_err-fill-clause-unread g c = λ none.
     let capacity = c.capacity_in-capacity.ensures in
-    let some = some_nodes (g.N.Nodes.limit c.args.nodes.now - body_front) c.args.body.length c.args.offset c.args.count (omega (arith, capacity.capacity, capacity.some)) (omega (arith, c.min-end.ensures, c.saturating_add.ensures, c.from.ensures)) in
+    let some = some_nodes (g.N.Nodes.limit c.args.nodes.now - body_header) c.args.body.length c.args.offset c.args.count (omega (arith, capacity.capacity, capacity.some)) (omega (arith, c.min-end.ensures, c.saturating_add.ensures, c.from.ensures)) in
     absurd (omega (arith, some, none))
 
 pub returns-clause-read : goal.returns-clause-read
 returns-clause-read g c =
     let f = g.N.Nodes.node c.args.nodes.now in
-    let limit = g.N.Nodes.limit c.args.nodes.now - body_front in
+    let limit = g.N.Nodes.limit c.args.nodes.now - body_header in
     let capacity = c.capacity_in-capacity.ensures in
     let block = c.in_ok-block.block in
     let index = (c.min-end.result - 1) / c.capacity_in-capacity.result in

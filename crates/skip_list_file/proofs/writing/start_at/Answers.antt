@@ -20,12 +20,12 @@ returns-in_err-table-clause-reads g c digits small =
 
 pub returns-in_err-old-clause-reads : goal.returns-in_err-old-clause-reads
 returns-in_err-old-clause-reads g c =
-    few_begun c.args.change.capacity c.args.change.body.length c.args.change.offset c.args.end c.args.first (g.N.Nodes.reads c.args.nodes.now) (g.N.Nodes.reads c.front.new.nodes) (g.N.Nodes.reads c.start_table.new.nodes) (g.N.Nodes.reads c.list_blocks.new.nodes)
+    few_begun c.args.change.capacity c.args.change.body.length c.args.change.offset c.args.end c.args.first (g.N.Nodes.reads c.args.nodes.now) (g.N.Nodes.reads c.find_front.new.nodes) (g.N.Nodes.reads c.start_table.new.nodes) (g.N.Nodes.reads c.list_blocks.new.nodes)
     c.requires.least c.requires.first c.in_ok-head.ensures.reads c.in_ok-table.ensures.reads c.list_blocks.ensures.reads
 
 pub returns-clause-reads : goal.returns-clause-reads
 returns-clause-reads g c =
-    few_begun c.args.change.capacity c.args.change.body.length c.args.change.offset c.args.end c.args.first (g.N.Nodes.reads c.args.nodes.now) (g.N.Nodes.reads c.front.new.nodes) (g.N.Nodes.reads c.start_table.new.nodes) (g.N.Nodes.reads c.list_blocks.new.nodes)
+    few_begun c.args.change.capacity c.args.change.body.length c.args.change.offset c.args.end c.args.first (g.N.Nodes.reads c.args.nodes.now) (g.N.Nodes.reads c.find_front.new.nodes) (g.N.Nodes.reads c.start_table.new.nodes) (g.N.Nodes.reads c.list_blocks.new.nodes)
     c.requires.least c.requires.first c.in_ok-head.ensures.reads c.in_ok-table.ensures.reads c.list_blocks.ensures.reads
 
 pub returns-clause-front : goal.returns-clause-front
@@ -40,25 +40,25 @@ returns-clause-old g c =
     subst (λ (h : Blocks). AreBlocks h c.args.change.body.head c.in_ok-old.old.items) (c.in_ok-table.ensures.looks.same_nodes ∙ c.in_ok-head.ensures.looks.same_nodes) c.in_ok-old.ensures.listed
 
 pub returns-in_err-table-clause-looks : goal.returns-in_err-table-clause-looks
-returns-in_err-table-clause-looks g c = g.met.N.Nodes.looks_on c.args.nodes.now c.front.new.nodes c.start_table.new.nodes c.front.ensures.looks c.start_table.ensures.looks
+returns-in_err-table-clause-looks g c = g.met.N.Nodes.looks_on c.args.nodes.now c.find_front.new.nodes c.start_table.new.nodes c.find_front.ensures.looks c.start_table.ensures.looks
 
 pub returns-in_err-old-clause-looks : goal.returns-in_err-old-clause-looks
 returns-in_err-old-clause-looks g c =
-    g.met.N.Nodes.looks_on c.args.nodes.now c.start_table.new.nodes c.list_blocks.new.nodes (g.met.N.Nodes.looks_on c.args.nodes.now c.front.new.nodes c.start_table.new.nodes c.front.ensures.looks c.start_table.ensures.looks) c.list_blocks.ensures.looks
+    g.met.N.Nodes.looks_on c.args.nodes.now c.start_table.new.nodes c.list_blocks.new.nodes (g.met.N.Nodes.looks_on c.args.nodes.now c.find_front.new.nodes c.start_table.new.nodes c.find_front.ensures.looks c.start_table.ensures.looks) c.list_blocks.ensures.looks
 
 pub returns-clause-looks : goal.returns-clause-looks
 returns-clause-looks g c =
-    g.met.N.Nodes.looks_on c.args.nodes.now c.start_table.new.nodes c.list_blocks.new.nodes (g.met.N.Nodes.looks_on c.args.nodes.now c.front.new.nodes c.start_table.new.nodes c.front.ensures.looks c.start_table.ensures.looks) c.list_blocks.ensures.looks
+    g.met.N.Nodes.looks_on c.args.nodes.now c.start_table.new.nodes c.list_blocks.new.nodes (g.met.N.Nodes.looks_on c.args.nodes.now c.find_front.new.nodes c.start_table.new.nodes c.find_front.ensures.looks c.start_table.ensures.looks) c.list_blocks.ensures.looks
 
 pub returns-in_err-table-clause-why : goal.returns-in_err-table-clause-why
 returns-in_err-table-clause-why g c =
     let p = err_from_is_err_and c.from_residual-in_err-table.result c.from_residual-in_err-table.ensures.1 in
-    let why = g.met.N.Nodes.causes_on c.args.nodes.now c.front.new.nodes c.start_table.new.nodes c.in_err-table.field-0.0 c.front.ensures.looks.came c.in_err-table.ensures.why in
+    let why = g.met.N.Nodes.causes_on c.args.nodes.now c.find_front.new.nodes c.start_table.new.nodes c.in_err-table.field-0.0 c.find_front.ensures.looks.came c.in_err-table.ensures.why in
     rw (p.1, p.2) why
 
 pub returns-in_err-old-clause-why : goal.returns-in_err-old-clause-why
 returns-in_err-old-clause-why g c =
     let p = err_from_is_err_and c.from_residual-in_err-old.result c.from_residual-in_err-old.ensures.1 in
-    let before = g.met.N.Nodes.follows_on c.args.nodes.now c.front.new.nodes c.start_table.new.nodes c.front.ensures.looks.came c.start_table.ensures.looks.came in
+    let before = g.met.N.Nodes.follows_on c.args.nodes.now c.find_front.new.nodes c.start_table.new.nodes c.find_front.ensures.looks.came c.start_table.ensures.looks.came in
     let why = g.met.N.Nodes.causes_on c.args.nodes.now c.start_table.new.nodes c.list_blocks.new.nodes c.in_err-old.field-0.0 before c.in_err-old.ensures.why in
     rw (p.1, p.2) why

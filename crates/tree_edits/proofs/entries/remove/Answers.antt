@@ -1,5 +1,5 @@
 use Rattle.std.proofs.Common.{◌-◌}
-use Rattle.node_format.specs.Headers.{body_front}
+use Rattle.node_format.specs.Headers.{body_header}
 use Rattle.tree_edits.proofs.Lookups.{removable_stands}
 use Rattle.tree_edits.proofs.NewRoots.{removed_result}
 use Rattle.tree_edits.proofs.entries.remove.Goals as goal
@@ -14,5 +14,5 @@ returns-clause-root g c =
     let old = c.args.nodes.now in
     let new = c.remove_entry.new.nodes in
     let there = c.requires.removable in
-    removed_result (g.N.Nodes.limit c.args.nodes.now - body_front) (g.N.Nodes.node old) (g.N.Nodes.node new) (g.N.Nodes.kept old) (g.N.Nodes.kept new) c.args.root c.args.path.now there.0 c.remove_entry.result
+    removed_result (g.N.Nodes.limit c.args.nodes.now - body_header) (g.N.Nodes.node old) (g.N.Nodes.node new) (g.N.Nodes.kept old) (g.N.Nodes.kept new) c.args.root c.args.path.now there.0 c.remove_entry.result
     c.remove_entry.ensures.keeps c.requires.held c.requires.rooted c.requires.lawful there.1 there.2 c.remove_entry.ensures.rewritten c.remove_entry.ensures.reaches

@@ -1,5 +1,5 @@
 use Rattle.std.proofs.Common.{◌-◌, [], refl}
-use Rattle.node_format.specs.Headers.{body_front}
+use Rattle.node_format.specs.Headers.{body_header}
 use Rattle.skip_list_file.specs.declared.bodies.Body.{Body}
 use Rattle.tree_edits.proofs.NewBytes.{file_result, keeps_itself, empty_written, empty_from}
 use Rattle.tree_edits.proofs.files.put_empty.Goals as goal
@@ -10,6 +10,6 @@ returns-clause-root g c =
     let new = c.put_body.new.nodes in
     let there = c.requires.fits in
     let none : Body = record { head = 0; length = 0 } in
-    file_result (g.N.Nodes.limit c.args.nodes.now - body_front) (g.N.Nodes.node old) (g.N.Nodes.node old) (g.N.Nodes.node new) (g.N.Nodes.kept old) (g.N.Nodes.kept old) (g.N.Nodes.kept new) c.args.root c.args.path.now there.0 none [] c.put_body.result
+    file_result (g.N.Nodes.limit c.args.nodes.now - body_header) (g.N.Nodes.node old) (g.N.Nodes.node old) (g.N.Nodes.node new) (g.N.Nodes.kept old) (g.N.Nodes.kept old) (g.N.Nodes.kept new) c.args.root c.args.path.now there.0 none [] c.put_body.result
     (keeps_itself (g.N.Nodes.kept old) (g.N.Nodes.node old)) c.put_body.ensures.keeps c.requires.held c.requires.rooted c.requires.lawful there.1 there.2
-    (empty_written (g.N.Nodes.limit c.args.nodes.now - body_front) (g.N.Nodes.node old) (g.N.Nodes.kept old) none refl refl) (empty_from (g.N.Nodes.node old) (g.N.Nodes.kept old) c.args.root (g.N.Nodes.node old) none refl) c.put_body.ensures.rewritten c.put_body.ensures.reaches
+    (empty_written (g.N.Nodes.limit c.args.nodes.now - body_header) (g.N.Nodes.node old) (g.N.Nodes.kept old) none refl refl) (empty_from (g.N.Nodes.node old) (g.N.Nodes.kept old) c.args.root (g.N.Nodes.node old) none refl) c.put_body.ensures.rewritten c.put_body.ensures.reaches

@@ -1,7 +1,7 @@
 use Rattle.std.proofs.Common.{◌-◌, List, ℕ, subst, ◌∙◌}
 use Rattle.plain_trees.specs.Contents.{resized}
 use Rattle.plain_trees.specs.Trees.{bytes_at}
-use Rattle.node_format.specs.Headers.{body_front}
+use Rattle.node_format.specs.Headers.{body_header}
 use Rattle.block_trees.specs.Trees.{root_tree}
 use Rattle.directory.specs.declared.lookups.Found.TheVariants as found
 use Rattle.directory.proofs.NewDirectories.{held_later}
@@ -11,7 +11,7 @@ use Rattle.tree_edits.proofs.NewBytes.{file_result, from_file, file_whole, file_
 use Rattle.tree_edits.proofs.files.resize.Goals as goal
 
 pub set_length-requires-clause-whole : goal.set_length-requires-clause-whole
-set_length-requires-clause-whole g c = file_whole (g.N.Nodes.limit c.args.nodes.now - body_front) (g.N.Nodes.node c.args.nodes.now) c.args.root c.args.path.now c.args.body.head c.args.body.length c.requires.rooted c.requires.found
+set_length-requires-clause-whole g c = file_whole (g.N.Nodes.limit c.args.nodes.now - body_header) (g.N.Nodes.node c.args.nodes.now) c.args.root c.args.path.now c.args.body.head c.args.body.length c.requires.rooted c.requires.found
 
 pub set_length-requires-clause-held : goal.set_length-requires-clause-held
 set_length-requires-clause-held g c = file_held (g.N.Nodes.node c.args.nodes.now) (g.N.Nodes.kept c.args.nodes.now) c.args.root c.args.path.now c.args.body.head c.args.body.length c.requires.held c.requires.found
@@ -40,7 +40,7 @@ returns-clause-root g c =
     let old = c.args.nodes.now in
     let mid = c.set_length.new.nodes in
     let new = c.put_body.new.nodes in
-    let capacity = (g.N.Nodes.limit c.args.nodes.now - body_front) in
+    let capacity = (g.N.Nodes.limit c.args.nodes.now - body_header) in
     let written = subst (λ (bs : List ℕ). IsWritten capacity (g.N.Nodes.node mid) (g.N.Nodes.kept mid) c.in_ok-new.new (resized bs c.args.size))
     (file_bytes capacity (g.N.Nodes.node old) c.args.root c.args.path.now c.args.body.head c.args.body.length c.requires.rooted c.requires.found) c.in_ok-new.ensures.written in
     file_result capacity (g.N.Nodes.node old) (g.N.Nodes.node mid) (g.N.Nodes.node new) (g.N.Nodes.kept old) (g.N.Nodes.kept mid) (g.N.Nodes.kept new) c.args.root c.args.path.now (found.File c.args.body.head c.args.body.length) c.in_ok-new.new

@@ -4,7 +4,7 @@ use Rattle.block_trees.specs.Bodies.{index_of, pointer_of}
 use Rattle.block_trees.specs.Trees.{items_of}
 use Rattle.reclaim.specs.Naming.{item_names, body_named}
 use Rattle.reclaim.proofs.NamedLaws.{named_all}
-use Rattle.reclaim.proofs.naming.named.Goals as goal
+use Rattle.reclaim.proofs.naming.list_names.Goals as goal
 
 pub returns-clause-names : goal.returns-clause-names
 returns-clause-names c =

@@ -3,7 +3,7 @@ use Rattle.block_trees.specs.Bodies.{back}
 use Rattle.skip_list_file.specs.Writing.{IsFront}
 use Rattle.skip_list_file.proofs.Fronts.{front_of}
 use Rattle.skip_list_file.proofs.Growth.{if_ok}
-use Rattle.skip_list_file.proofs.writing.front.Goals as goal
+use Rattle.skip_list_file.proofs.writing.find_front.Goals as goal
 
 pub returns-clause-front : goal.returns-clause-front
 returns-clause-front g c =

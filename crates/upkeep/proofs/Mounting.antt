@@ -21,7 +21,7 @@ use Rattle.flash_model.specs.declared.sizes.Geometry.{Geometry}
 use Rattle.flash_model.specs.Device.{Device, Page}
 use Rattle.flash_model.specs.Geometry.{IsGeometry, block_bytes}
 use Rattle.flash_model.specs.Reading.{OnlyReads}
-use Rattle.node_format.specs.Headers.{body_front}
+use Rattle.node_format.specs.Headers.{body_header}
 use Rattle.node_store.specs.NodePages.{node_of}
 use Rattle.node_store.specs.ReadingLaws.{OnlyReads_nodes}
 use Rattle.node_store.specs.Faults.{IsReadFault}
@@ -146,7 +146,7 @@ module _ (d e : Device) (r : Record) (s : State) (built : IsBuilt d e r s) where
   trees_there root has =
       let there : IsRoot (capacity_of d) (node_of d) root = built.trees root (subst (λ (h : Past ℕ). Contains (roots_of h) root) built.history has) in
       let nodes : IsRoot (capacity_of d) (node_of e) root = subst (λ (f : Blocks). IsRoot (capacity_of d) f root) (sym same_nodes) there in
-      subst (λ (g : Geometry). IsRoot (block_bytes g - body_front) (node_of e) root) (sym same_sizes) nodes
+      subst (λ (g : Geometry). IsRoot (block_bytes g - body_header) (node_of e) root) (sym same_sizes) nodes
 
   stands : (root : ℕ) → Contains (roots_of s.history) root → IsStanding e s.storage.ring root
   stands root has = record {

@@ -10,8 +10,10 @@ mod runs;
 mod tests;
 
 use anyhow::{Context, Result};
+use error::RowError;
 use row::{Row, Side};
 use runs::{Difference, run_on_flash, run_plain};
+use std::alloc::Global;
 use std::fs;
 use std::process::ExitCode;
 use std::rt::{Env, Files};
@@ -29,17 +31,34 @@ fn main(rt: HostRuntime) -> Result<ExitCode> {
 /// Runs the row of a file on both sides, and tells whether it gave its replies.
 fn run<R: Files + AllocGlobal + Print>(rt: &R, name: &str) -> Result<bool> {
     let text = fs::read_to_string(rt, name).context(format_args!("reading {name}"))?;
-    let plain = Row::read(rt.alloc(), text.as_str(), Side::Plain).context(format_args!("{name}"))?;
-    let flash = Row::read(rt.alloc(), text.as_str(), Side::Flash).context(format_args!("{name}"))?;
-    let on_plain = run_plain(rt.alloc(), &plain).context(format_args!("{name} plain"))?;
-    let on_flash = run_on_flash(rt.alloc(), &flash).context(format_args!("{name} flash"))?;
-    let plain_lines = plain.steps.len();
-    let flash_lines = flash.steps.len();
-    println!(rt; "{name}: plain {plain_lines}, flash {flash_lines}")?;
-    let is_right = on_plain.is_none() && on_flash.is_none();
-    tell(rt, "plain", on_plain)?;
-    tell(rt, "flash", on_flash)?;
+    let alloc = rt.alloc();
+    let plain = run_side(alloc, text.as_str(), Side::Plain).context(format_args!("{name} plain"))?;
+    let flash = run_side(alloc, text.as_str(), Side::Flash).context(format_args!("{name} flash"))?;
+    println!(rt; "{name}: plain {}, flash {}", plain.lines, flash.lines)?;
+    let is_right = plain.difference.is_none() && flash.difference.is_none();
+    tell(rt, "plain", plain.difference)?;
+    tell(rt, "flash", flash.difference)?;
     Ok(is_right)
+}
+
+/// What a side made of a row: how many lines it ran, and the first difference.
+#[derive(Drop)]
+struct Outcome {
+    lines: usize,
+    difference: Option<Difference>,
+}
+
+/// Runs the row of a text on a side.
+fn run_side(alloc: Global, text: &str, side: Side) -> Result<Outcome, RowError> {
+    let row = Row::read(alloc, text, side)?;
+    let difference = match side {
+        Side::Plain => run_plain(alloc, &row)?,
+        Side::Flash => run_on_flash(alloc, &row)?,
+    };
+    Ok(Outcome {
+        lines: row.steps.len(),
+        difference,
+    })
 }
 
 /// Tells what a side gave that was not expected.

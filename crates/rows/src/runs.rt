@@ -29,12 +29,21 @@ pub fn run_plain(alloc: Global, row: &Row<'_>) -> Result<Option<Difference>, Row
     }
     let mut machine = PlainMachine::new(alloc, history)?;
     for step in &row.steps {
-        let answer = answer_plain(alloc, &mut machine, step)?;
-        if let Some(difference) = compare_answer(alloc, step, &answer)? {
+        if let Some(difference) = compare_plain(alloc, &mut machine, step)? {
             return Ok(Some(difference));
         }
     }
     Ok(None)
+}
+
+/// Carries out a line on the plain machine, and compares its answer.
+fn compare_plain(
+    alloc: Global,
+    machine: &mut PlainMachine,
+    step: &Step<'_>,
+) -> Result<Option<Difference>, RowError> {
+    let answer = answer_plain(alloc, machine, step)?;
+    compare_answer(alloc, step, &answer)
 }
 
 /// What the plain machine knows nothing of: `df` is not run on it.
@@ -72,14 +81,32 @@ pub fn run_on_flash(alloc: Global, row: &Row<'_>) -> Result<Option<Difference>, 
     if row.history == SCRIPT_HISTORY {
         return run_as_script(alloc, row, &mut flash);
     }
-    let mut system = Fs::fresh(alloc, &mut flash, row.history)?;
+    run_calls(alloc, row, &mut flash)
+}
+
+/// Runs a row by the calls of a system with the row's history.
+fn run_calls(
+    alloc: Global,
+    row: &Row<'_>,
+    flash: &mut SimFlash,
+) -> Result<Option<Difference>, RowError> {
+    let mut system = Fs::fresh(alloc, flash, row.history)?;
     for step in &row.steps {
-        let answer = answer_call(alloc, &mut system, step)?;
-        if let Some(difference) = compare_answer(alloc, step, &answer)? {
+        if let Some(difference) = compare_call(alloc, &mut system, step)? {
             return Ok(Some(difference));
         }
     }
     Ok(None)
+}
+
+/// Carries out a line on a system, and compares its answer.
+fn compare_call(
+    alloc: Global,
+    system: &mut Fs<'_, SimFlash>,
+    step: &Step<'_>,
+) -> Result<Option<Difference>, RowError> {
+    let answer = answer_call(alloc, system, step)?;
+    compare_answer(alloc, step, &answer)
 }
 
 fn answer_call(
@@ -110,10 +137,7 @@ fn compare_answer(
     if text.trim_end() == step.reply {
         return Ok(None);
     }
-    Ok(Some(Difference {
-        line: step.line.to_string(alloc)?,
-        answer: text.trim_end().to_string(alloc)?,
-    }))
+    Ok(Some(difference_at(alloc, step, text.trim_end())?))
 }
 
 /// Runs the lines as one script, and compares all that it writes.
@@ -143,11 +167,15 @@ fn compare_lines(
     for step in &row.steps {
         let answer = answers.next().unwrap_or("");
         if answer != step.reply {
-            return Ok(Some(Difference {
-                line: step.line.to_string(alloc)?,
-                answer: answer.to_string(alloc)?,
-            }));
+            return Ok(Some(difference_at(alloc, step, answer)?));
         }
     }
     Ok(None)
+}
+
+fn difference_at(alloc: Global, step: &Step<'_>, answer: &str) -> Result<Difference, RowError> {
+    Ok(Difference {
+        line: step.line.to_string(alloc)?,
+        answer: answer.to_string(alloc)?,
+    })
 }

@@ -1,4 +1,5 @@
 use Rattle.std.proofs.Common.{◌≡◌, ℕ, ◌+◌, ◌-◌, Option, List, [], ◌∷◌, ◌++◌, length, sym, ap, subst, ◌∙◌, arith, length-append}
+use Rattle.std.proofs.lemmas.Result.{err_from_is_err_and}
 use Rattle.block_trees.specs.Bodies.{Blocks, pointer_of, back}
 use Rattle.skip_list_file.specs.Reading.{AreBlocks}
 use Rattle.skip_list_file.proofs.Places.{HasPointer}
@@ -36,3 +37,15 @@ loop-step-preserved g c =
       reads = omega (arith, now.reads, done.reads);
       looks = g.met.N.Nodes.looks_on c.args.nodes.now c.loop-step.nodes c.pointer_at.new.nodes now.looks done.looks;
     }
+
+pub pointer_at-requires-clause-sound : goal.pointer_at-requires-clause-sound
+pointer_at-requires-clause-sound g c = c.loop-step.invariant.looks.sound
+
+pub returns-in_err-block-clause-looks : goal.returns-in_err-block-clause-looks
+returns-in_err-block-clause-looks g c = g.met.N.Nodes.looks_on c.args.nodes.now c.loop-step.nodes c.pointer_at.new.nodes c.loop-step.invariant.looks c.pointer_at.ensures.looks
+
+pub returns-in_err-block-clause-why : goal.returns-in_err-block-clause-why
+returns-in_err-block-clause-why g c =
+    let p = err_from_is_err_and c.from_residual-in_err-block.result c.from_residual-in_err-block.ensures.1 in
+    let why = g.met.N.Nodes.causes_on c.args.nodes.now c.loop-step.nodes c.pointer_at.new.nodes c.in_err-block.field-0.0 c.loop-step.invariant.looks.came c.in_err-block.ensures.why in
+    rw (p.1, p.2) why

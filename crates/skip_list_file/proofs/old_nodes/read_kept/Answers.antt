@@ -1,4 +1,5 @@
 use Rattle.std.proofs.Common.{◌≡◌, ℕ, ◌-◌, ◌*◌, ◌/◌, ◌<◌, ◌++◌, inl, inr, List, length, take, drop, slice_index, ap, ◌∙◌, arith}
+use Rattle.std.proofs.lemmas.Result.{err_from_is_err_and}
 use Rattle.std.specs.Prelude.{min}
 use Rattle.std.proofs.lemmas.List.{length-take-le}
 use Rattle.block_trees.specs.Bodies.{Blocks, index_of, data_of, back, body}
@@ -58,3 +59,15 @@ returns-clause-kept g c =
     ∙ ap (λ (h : Blocks). take kept (data_of (h c.in_ok-block.block))) c.in_ok-block.ensures.looks.same_nodes in
     let all = part_kept file c.args.out.now (data_of (f c.in_ok-block.block)) start c.args.offset c.args.end kept c.requires.zeros is part.long part.bytes in
     λ i lt which. ap (λ (xs : List ℕ). slice_index (xs ++ drop kept c.args.out.now) i) copied ∙ all i lt which
+
+pub returns-in_err-copy_data-clause-why : goal.returns-in_err-copy_data-clause-why
+returns-in_err-copy_data-clause-why g c =
+    let p = err_from_is_err_and c.from_residual-in_err-copy_data.result c.from_residual-in_err-copy_data.ensures.1 in
+    let why = g.met.N.Nodes.causes_on c.args.nodes.now c.find_listed.new.nodes c.copy_data.new.nodes c.in_err-copy_data.field-0.0 c.find_listed.ensures.looks.came c.in_err-copy_data.ensures.why in
+    rw (p.1, p.2) why
+
+pub returns-in_err-copy_data-clause-looks : goal.returns-in_err-copy_data-clause-looks
+returns-in_err-copy_data-clause-looks g c = g.met.N.Nodes.looks_on c.args.nodes.now c.find_listed.new.nodes c.copy_data.new.nodes c.find_listed.ensures.looks c.copy_data.ensures.looks
+
+pub returns-clause-looks : goal.returns-clause-looks
+returns-clause-looks g c = g.met.N.Nodes.looks_on c.args.nodes.now c.find_listed.new.nodes c.copy_data.new.nodes c.find_listed.ensures.looks c.copy_data.ensures.looks

@@ -64,3 +64,9 @@ loop-end-preserved g c =
       reads = omega (arith, fewer, now.reads, done.reads);
       looks = g.met.N.Nodes.looks_on old c.loop-end.nodes c.copy_data.new.nodes now.looks done.looks;
     }
+
+pub copy_data-requires-clause-sound : goal.copy_data-requires-clause-sound
+copy_data-requires-clause-sound g c = c.loop-end.invariant.looks.sound
+
+pub returns-in_err-block-clause-looks : goal.returns-in_err-block-clause-looks
+returns-in_err-block-clause-looks g c = g.met.N.Nodes.looks_on c.args.nodes.now c.loop-end.nodes c.copy_data.new.nodes c.loop-end.invariant.looks c.copy_data.ensures.looks

@@ -1,4 +1,5 @@
 use Rattle.std.proofs.Common.{◌≡◌, ◌+◌, ◌-◌, ◌/◌, length, take, drop, sym, ap, subst, ◌∙◌, arith}
+use Rattle.std.proofs.lemmas.Result.{err_from_is_err_and}
 use Rattle.std.specs.Prelude.{min}
 use Rattle.std.proofs.lemmas.List.{take_at}
 use Rattle.node_format.specs.Headers.{body_header}
@@ -51,3 +52,15 @@ returns-clause-read g c =
     ∙ c.in_ok-fill.ensures.filled
     ∙ ap (λ (blocks : Blocks). take (c.min-end.result - c.args.offset) (drop c.args.offset (data_to blocks index block))) c.in_ok-block.ensures.looks.same_nodes
     ∙ body_read limit c.capacity_in-capacity.result f c.args.body.head c.args.body.length c.args.offset c.args.count c.min-end.result block capacity.capacity end_is (omega arith) c.requires.body range
+
+pub returns-in_err-fill-clause-why : goal.returns-in_err-fill-clause-why
+returns-in_err-fill-clause-why g c =
+    let p = err_from_is_err_and c.from_residual-in_err-fill.result c.from_residual-in_err-fill.ensures.1 in
+    let why = g.met.N.Nodes.causes_on c.args.nodes.now c.find.new.nodes c.fill.new.nodes c.in_err-fill.field-0.0 c.find.ensures.looks.came c.in_err-fill.ensures.why in
+    rw (p.1, p.2) why
+
+pub returns-in_err-fill-clause-looks : goal.returns-in_err-fill-clause-looks
+returns-in_err-fill-clause-looks g c = g.met.N.Nodes.looks_on c.args.nodes.now c.find.new.nodes c.fill.new.nodes c.find.ensures.looks c.fill.ensures.looks
+
+pub returns-clause-looks : goal.returns-clause-looks
+returns-clause-looks g c = g.met.N.Nodes.looks_on c.args.nodes.now c.find.new.nodes c.fill.new.nodes c.find.ensures.looks c.fill.ensures.looks

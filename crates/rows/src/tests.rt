@@ -4,6 +4,7 @@ mod commits;
 mod histories;
 mod images;
 mod lines;
+mod mounts;
 mod nodes;
 mod passes;
 mod paths;

@@ -1,4 +1,4 @@
-use Rattle.std.proofs.Common.{◌≡◌, Ok, Err, inl, inr, refl, ap}
+use Rattle.std.proofs.Common.{◌≡◌, Ok, Err, inl, inr, refl, sym, ap}
 use Rattle.fs_types.specs.declared.events.Answer.{Answer}
 use Rattle.fs_types.specs.declared.faults.Fault.{Fault}
 use Rattle.script.specs.declared.answers.LineAnswer.{LineAnswer}
@@ -21,3 +21,6 @@ returns-in-PlanFault-clause-does c =
     let same = c.plan_fault.ensures in
     let told = c.in-Err-plan_fault.ensures in
     rw c.in-PlanFault.is (plans c.in-PlanFault.k c.in-PlanFault.kind _ _ _ _ _ c.if-k-eq0.false (λ i. moment (same.still i) (same.state i)) (inr (ap (λ (x : Fault). LineAnswer.Told (Answer.Refused x)) told.only, told.full.0 (ap Err told.only), told.err)))
+
+pub returns-in-Call-clause-does : goal.returns-in-Call-clause-does
+returns-in-Call-clause-does c = rw c.in-Call.is (rw (sym c.if-not-is_built.ensures) c.in-Err.ensures.step)

@@ -1,21 +1,26 @@
 -- What an attempt to commit a record on an anchor leaves.
-use Rattle.std.proofs.Common.{◌≡◌, ◌≢◌, ℕ, ◌+◌, ◌*◌, ◌/◌, ◌%◌, ◌<◌, Bool, true, false, cond, List, Some, Ok, sym, ap, subst, ◌∙◌, arith}
+use Rattle.std.proofs.Common.{◌≡◌, ◌≢◌, ℕ, ◌+◌, ◌*◌, ◌/◌, ◌%◌, ◌<◌, ◌≤◌, Bool, true, false, cond, List, Option, Some, None, Result, Ok, Err, ◌⊎◌, refl, sym, ap, subst, ◌∙◌, inl, inr, arith}
+use Rattle.std.specs.Prelude.{IfOk, IfErr, OnErr}
 use Rattle.std.specs.FinSet as set
 use Rattle.std.specs.Ordering.{nat_cmp}
 use Rattle.std.proofs.lemmas.Bool.{both_ways}
 use Rattle.std.proofs.lemmas.Nat.{div-mul-add, mod-mul-add}
+use Rattle.fs_types.specs.declared.faults.Fault.{Fault}
+use Rattle.fs_types.specs.declared.faults.Fault.TheVariants.{PowerCut}
 use Rattle.flash_model.specs.declared.sizes.Geometry.{Geometry}
 use Rattle.flash_model.specs.Device.{Device, Page, block_of}
 use Rattle.record_format.specs.declared.records.Record.{Record}
 use Rattle.record_format.specs.declared.pages.PageHead.{PageHead}
 use Rattle.commit_pair.specs.declared.best.Found.{Found}
+use Rattle.commit_pair.specs.Anchored.{OnlyAnchors, Asked, Tries}
 use Rattle.commit_pair.specs.Parts.{Entry}
 use Rattle.commit_pair.specs.Payloads.{Means}
 use Rattle.commit_pair.specs.Programming.{head_for}
 use Rattle.commit_pair.specs.Reading.{IsEnd}
 use Rattle.commit_pair.specs.Keeping.{IsAt, Placed}
-use Rattle.commit_pair.specs.Committing.{IsCommitted, Stands, Untouched}
+use Rattle.commit_pair.specs.Committing.{IsCommitted, Stands, Attempts, Untouched, Attempted, IfPlaced, OnNone, answered}
 use Rattle.commit_pair.proofs.Anchoring.{listed_itself}
+use Rattle.commit_pair.proofs.Asking.{asked_done, asked_failed}
 
 if_done : (g : Geometry) (was now : ℕ → Page) (found : Found) (entry : Entry) (done : Bool) → done ≡ true → Placed g was now found entry (Ok done) → IsAt g now found entry
 if_done g was now found entry true is placed = placed
@@ -34,7 +39,7 @@ end_of g pages anchor place count found lt page same end =
     subst (λ b. IsEnd g pages b g.pages (found.page % g.pages + found.head.count)) (sym block) (subst (λ e. IsEnd g pages anchor g.pages e) (sym sum) end)
 
 -- a record that was placed is committed, and stands there
-pub commits_at : (was now : ℕ → Page) (r : Record) (sequence : ℕ) (before after : set.FinSet nat_cmp) (bytes : List ℕ) (anchor place count : ℕ) (found : Found) (done : Bool)
+commits_at : (was now : ℕ → Page) (r : Record) (sequence : ℕ) (before after : set.FinSet nat_cmp) (bytes : List ℕ) (anchor place count : ℕ) (found : Found) (done : Bool)
     → done ≡ true → place < r.geometry.pages → found.page ≡ anchor * r.geometry.pages + place → found.head ≡ head_for r.geometry sequence bytes count 0
     → Placed r.geometry was now (record { page = anchor * r.geometry.pages + place; head = head_for r.geometry sequence bytes count 0 }) (record { sequence = sequence; payload = bytes }) (Ok done)
     → (done ≡ true → IsEnd r.geometry now anchor r.geometry.pages (place + count)) → after ≡ cond done before (set.insert before anchor) → Means r sequence before bytes
@@ -50,10 +55,92 @@ commits_at was now r sequence before after bytes anchor place count found done i
     )
 
 -- an anchor that failed is in the list
-pub failed_listed : (was now : set.FinSet nat_cmp) (anchor : ℕ) (done : Bool) → done ≡ false → now ≡ cond done was (set.insert was anchor) → set.contains now anchor ≡ true
+failed_listed : (was now : set.FinSet nat_cmp) (anchor : ℕ) (done : Bool) → done ≡ false → now ≡ cond done was (set.insert was anchor) → set.contains now anchor ≡ true
 failed_listed was now anchor true is list = absurd cc
 failed_listed was now anchor false is list = ap (λ s. set.contains s anchor) list ∙ listed_itself was anchor
 
 -- only its pages may have changed
-pub failed_untouched : (old new : Device) (now : set.FinSet nat_cmp) (anchor : ℕ) → set.contains now anchor ≡ true → ((p : ℕ) → block_of old p ≢ anchor → new.pages p ≡ old.pages p) → Untouched old now new
+failed_untouched : (old new : Device) (now : set.FinSet nat_cmp) (anchor : ℕ) → set.contains now anchor ≡ true → ((p : ℕ) → block_of old p ≢ anchor → new.pages p ≡ old.pages p) → Untouched old now new
 failed_untouched old new now anchor is others p good = others p (λ here. absurd (both_ways (set.contains now anchor) (ap (set.contains now) (sym here) ∙ good) is))
+
+-- ---- attempts that were made
+
+-- where the record may stand
+placed_committed : (now : ℕ → Page) (r : Record) (sequence : ℕ) (bad : set.FinSet nat_cmp) (bytes : List ℕ) (page : ℕ) (head : PageHead) → Means r sequence bad bytes
+    → IsAt r.geometry now (record { page = page; head = head }) (record { sequence = sequence; payload = bytes }) → IsCommitted now r sequence bad
+placed_committed now r sequence bad bytes page head means at = record { bytes = bytes; newest = at.newest; means = means }
+
+attempts_cut : (was now : ℕ → Page) (r : Record) (sequence : ℕ) (bad : set.FinSet nat_cmp) (bytes : List ℕ) (page : ℕ) (head : PageHead) (fault : Fault) → fault ≡ PowerCut → Means r sequence bad bytes
+    → Placed r.geometry was now (record { page = page; head = head }) (record { sequence = sequence; payload = bytes }) (Err fault) → Attempts was now r sequence bad (Err fault)
+attempts_cut was now r sequence bad bytes page head PowerCut is means placed = elim placed [ inl kept ↦ inl kept | inr at ↦ inr (placed_committed now r sequence bad bytes page head means at) ]
+attempts_cut was now r sequence bad bytes page head _ is means placed = absurd placed
+
+pub attempted : (old new : Device) (was now : set.FinSet nat_cmp) (r : Record) (sequence : ℕ) (bytes : List ℕ) (anchor place count more operations : ℕ) (found : Found) (done : Result Bool Fault)
+    → old.geometry ≡ r.geometry → place < r.geometry.pages → operations ≡ more + count → operations ≤ r.geometry.pages + 1 → set.contains was anchor ≡ false
+    → found.page ≡ anchor * r.geometry.pages + place → found.head ≡ head_for r.geometry sequence bytes count 0 → Means r sequence was bytes
+    → Placed r.geometry old.pages new.pages (record { page = anchor * r.geometry.pages + place; head = head_for r.geometry sequence bytes count 0 }) (record { sequence = sequence; payload = bytes }) done
+    → IfOk done (λ is. is ≡ true → IsEnd r.geometry new.pages anchor r.geometry.pages (place + count)) → IfOk done (λ is. now ≡ cond is was (set.insert was anchor)) → OnErr done (now ≡ was)
+    → ((p : ℕ) → block_of old p ≢ anchor → new.pages p ≡ old.pages p) → OnlyAnchors old was new now → IfOk done (Tries old new operations)
+    → IfErr done (λ fault. (fault ≡ PowerCut) × (new.powered ≡ false)) → Attempted old was new now r sequence anchor place more (answered done found)
+attempted old new was now r sequence bytes anchor place count more operations found (Ok true) same lt sum few good page head means placed end list stays others only tries why = record {
+  attempts = commits_at old.pages new.pages r sequence was now bytes anchor place count found true refl lt page head placed end list means;
+  page = page;
+  fits = lt;
+  list = list;
+  good = good;
+  refused = tt;
+  untouched = tt;
+  asked =
+      let all : found.head.count ≡ count = ap (λ (h : PageHead). h.count) head in
+      subst (Asked old new) (sum ∙ ap (λ n. more + n) (sym all)) (asked_done old new operations true refl tries);
+  tried = tt;
+  only_anchors = only;
+  why = tt;
+}
+attempted old new was now r sequence bytes anchor place count more operations found (Ok false) same lt sum few good page head means placed end list stays others only tries why =
+    let bad = failed_listed was now anchor false refl list in
+    let pages : old.geometry.pages ≡ r.geometry.pages = ap (λ (g : Geometry). g.pages) same in
+    record {
+      attempts = placed;
+      page = tt;
+      fits = tt;
+      list = tt;
+      good = tt;
+      refused = bad;
+      untouched = failed_untouched old new now anchor bad others;
+      asked = tt;
+      tried = asked_failed old new operations false refl (omega arith) tries;
+      only_anchors = only;
+      why = tt;
+    }
+attempted old new was now r sequence bytes anchor place count more operations found (Err fault) same lt sum few good page head means placed end list stays others only tries why = record {
+  attempts =
+      attempts_cut old.pages new.pages r sequence now bytes (anchor * r.geometry.pages + place) (head_for r.geometry sequence bytes count 0) fault why.0
+      (subst (λ bad. Means r sequence bad bytes) (sym stays) means) placed;
+  page = tt;
+  fits = tt;
+  list = tt;
+  good = tt;
+  refused = tt;
+  untouched = tt;
+  asked = tt;
+  tried = tt;
+  only_anchors = only;
+  why = why;
+}
+
+-- a clause on the anchor that was refused, and one on a record that stands
+pub refused_more : (result : Result (Option Found) Fault) (A B : Type 0) → OnNone result A → OnNone result (A ⊎ B)
+refused_more (Ok (Some found)) A B is = tt
+refused_more (Ok None) A B is = inl is
+refused_more (Err fault) A B is = tt
+
+pub asked_alone : (old new : Device) (result : Result (Option Found) Fault) → IfPlaced result (λ found. Asked old new (0 + found.head.count)) → IfPlaced result (λ found. Asked old new found.head.count)
+asked_alone old new (Ok (Some found)) asked = subst (Asked old new) (let is : 0 + found.head.count ≡ found.head.count = omega arith in is) asked
+asked_alone old new (Ok None) asked = tt
+asked_alone old new (Err fault) asked = tt
+
+pub placed_there : (g : Geometry) (anchor : ℕ) (result : Result (Option Found) Fault) → IfPlaced result (λ found. found.page ≡ anchor * g.pages + 0) → IfPlaced result (λ found. found.page ≡ anchor * g.pages)
+placed_there g anchor (Ok (Some found)) page = omega arith
+placed_there g anchor (Ok None) page = tt
+placed_there g anchor (Err fault) page = tt

@@ -1,5 +1,7 @@
 -- What was read, one page after the other.
-use Rattle.std.proofs.Common.{◌≡◌, ℕ, suc, ◌+◌, ◌-◌, ◌/◌, ◌<◌, ◌≤◌, Bool, true, false, List, ◌++◌, length, Option, Some, None, refl, sym, ap, ◌∙◌, append_assoc, arith}
+use Rattle.std.proofs.Common.{◌≡◌, ℕ, suc, ◌+◌, ◌-◌, ◌/◌, ◌<◌, ◌≤◌, Bool, true, false, List, ◌++◌, length, Option, Some, None, refl, sym, ap, subst, ◌∙◌, append_assoc, arith}
+use Rattle.std.specs.FinSet as set
+use Rattle.std.specs.Ordering.{nat_cmp}
 use Rattle.std.proofs.lemmas.Bool.{lt-ltb}
 use Rattle.std.proofs.lemmas.List.{append-nil, length-append}
 use Rattle.std.specs.Prelude.{◌&&◌}
@@ -10,6 +12,7 @@ use Rattle.flash_model.specs.declared.sizes.Geometry.{Geometry}
 use Rattle.flash_model.specs.Device.{Device, Page, bytes_of}
 use Rattle.record_format.specs.Pages.{head_of, used_bytes}
 use Rattle.record_format.specs.declared.pages.PageHead.{PageHead}
+use Rattle.commit_pair.specs.Anchored.{AreErased}
 use Rattle.commit_pair.specs.Parts.{first_data, Part, parts_on, part_bytes, head_at, is_part, are_parts, record_head, considered, best_below, bytes_from, held_bytes}
 use Rattle.commit_pair.specs.declared.best.Best.{Best}
 use Rattle.commit_pair.specs.Reading.{OnlyReads, ReadCause}
@@ -33,6 +36,12 @@ pub ReadCause_on : (old mid new : Device) (fault : Fault) → OnlyReads old mid 
 ReadCause_on old mid new ReadFailed reads cause = let h = reads.failed_reads in omega arith
 ReadCause_on old mid new PowerCut reads cause = cause
 ReadCause_on old mid new _ reads cause = cause
+
+-- what is erased stays so while pages are read
+pub erased_read : (d e : Device) (bad : set.FinSet nat_cmp) (n : ℕ) → OnlyReads d e → AreErased d bad n → AreErased e bad n
+erased_read d e bad n reads is p lt good =
+    ap (λ (pages : ℕ → Page). pages p) reads.pages
+    ∙ is p (subst (λ (g : Geometry). p / g.pages < n) reads.geometry lt) (subst (λ (g : Geometry). set.contains bad (p / g.pages) ≡ false) reads.geometry good)
 
 -- one page of a record after the other
 are_parts_first : (g : Geometry) (parts : ℕ → Option Part) (p : ℕ) (first : PageHead) (n others : ℕ) → are_parts g parts p first n (suc others) ≡ (is_part g first n (head_at parts (p + n)) && are_parts g parts p first (n + 1) others)

@@ -1,5 +1,5 @@
 -- What attempts to commit a record leave, and which anchors are tried.
-use Rattle.std.specs.Prelude.{◌≡◌, ◌⊎◌, ℕ, ◌+◌, ◌*◌, ◌/◌, ◌%◌, ◌<◌, ◌≤◌, true, false, Option, Some, None, List, Result, Ok, Err}
+use Rattle.std.specs.Prelude.{◌≡◌, ◌⊎◌, ℕ, ◌+◌, ◌*◌, ◌/◌, ◌%◌, ◌<◌, ◌≤◌, Bool, true, false, Option, Some, None, List, Result, Ok, Err, IfErr}
 use Rattle.std.specs.FinSet as set
 use Rattle.std.specs.Ordering.{nat_cmp}
 use Rattle.fs_types.specs.declared.faults.Fault.{Fault}
@@ -8,6 +8,7 @@ use Rattle.flash_model.specs.Device.{Device, Page, block_of}
 use Rattle.read_only.specs.Modes.{is_read_only}
 use Rattle.record_format.specs.declared.records.Record.{Record}
 use Rattle.commit_pair.specs.declared.best.Found.{Found}
+use Rattle.commit_pair.specs.Anchored.{OnlyAnchors, Asked}
 use Rattle.commit_pair.specs.Parts.{first_data, parts_on, newest_at, newest_on}
 use Rattle.commit_pair.specs.Payloads.{Means}
 use Rattle.commit_pair.specs.Programming.{Fills}
@@ -46,6 +47,26 @@ OnNone (Err _) p = Unit {0}
 -- pages of blocks that are not in the list are as they were
 abbrev pub Untouched : Device → set.FinSet nat_cmp → Device → Type 0
 Untouched old bad new = (p : ℕ) → set.contains bad (block_of old p) ≡ false → new.pages p ≡ old.pages p
+
+-- what an attempt answers, by what the writing of its record answered
+abbrev pub answered : Result Bool Fault → Found → Result (Option Found) Fault
+answered (Ok true) found = Ok (Some found)
+answered (Ok false) found = Ok None
+answered (Err fault) found = Err fault
+
+-- what an attempt leaves that wrote to an anchor which is not bad, at a place with room, after so many operations more
+pub record Attempted (old : Device) (was : set.FinSet nat_cmp) (new : Device) (now : set.FinSet nat_cmp) (r : Record) (sequence anchor place more : ℕ) (result : Result (Option Found) Fault) : Type 0 where
+  pub attempts : Attempts old.pages new.pages r sequence now result
+  pub page : IfPlaced result (λ found. found.page ≡ anchor * r.geometry.pages + place)
+  pub fits : IfPlaced result (λ found. place < r.geometry.pages)
+  pub list : IfPlaced result (λ found. now ≡ was)
+  pub good : IfPlaced result (λ found. set.contains was anchor ≡ false)
+  pub refused : OnNone result (set.contains now anchor ≡ true)
+  pub untouched : OnNone result (Untouched old now new)
+  pub asked : IfPlaced result (λ found. Asked old new (more + found.head.count))
+  pub tried : OnNone result (Asked old new 0)
+  pub only_anchors : OnlyAnchors old was new now
+  pub why : IfErr result (λ fault. (fault ≡ PowerCut) × (new.powered ≡ false))
 
 -- the pages of an anchor from a place on are too few for the record with this list
 pub record LacksRoom (r : Record) (bad : set.FinSet nat_cmp) (place : ℕ) : Type 0 where

@@ -8,8 +8,10 @@ ghost use Rattle.record_format.specs.Payloads.{is_record};
 ghost use Rattle.commit_pair.specs.Parts.{first_data};
 ghost use Rattle.commit_pair.specs.Anchored.{OnlyAnchors, Asked};
 ghost use Rattle.commit_pair.specs.Keeping.{AreOlder, Spares};
-ghost use Rattle.commit_pair.specs.Programming.{head_for};
+ghost use Rattle.commit_pair.specs.Payloads.{Means};
+ghost use Rattle.commit_pair.specs.Programming.{head_for, Fills};
 ghost use Rattle.commit_pair.specs.Committing as spec;
+ghost use Rattle.fs_types.specs.declared.limits.TheConstants.{MAX_BAD_BLOCKS};
 
 use crate::best::Found;
 use crate::payloads::payload_with;
@@ -47,6 +49,82 @@ fn first_page(
     }
 }
 
+/// What an attempt answers: where the record stands, if it was written.
+fn answered(done: Result<bool, Fault>, found: Found) -> Result<Option<Found>, Fault>
+    ensures { result ≡ spec.answered done found }
+{
+    match done {
+        Ok(true) => Ok(Some(found)),
+        Ok(false) => Ok(None),
+        Err(fault) => Err(fault),
+    }
+}
+
+/// Writes a payload of a record to an anchor that is not bad, which is erased first.
+fn attempt_anew<F: Flash>(
+    flash: &mut F,
+    bad: &mut BadBlocks,
+    anchor: u32,
+    sequence: u64,
+    saved: &Record,
+    payload: &[u8],
+    page: &mut Vec<u8>,
+) -> Result<Option<Found>, Fault>
+    requires same { (F.device flash.old).geometry ≡ saved.now.geometry }
+    requires lawful { IsGeometry saved.now.geometry }
+    requires anchor { anchor < first_data }
+    requires spares { Spares saved.now.geometry (F.device flash.old).pages anchor }
+    requires older { AreOlder saved.now.geometry (F.device flash.old).pages sequence }
+    requires good { set.contains bad.old anchor ≡ false }
+    requires room_in_list { set.len bad.old < MAX_BAD_BLOCKS }
+    requires means { Means saved.now sequence bad.old payload.now }
+    requires some { 0 < length payload.now }
+    requires short { length payload.now ≤ 2408 }
+    requires room { saved.now.geometry.page ≤ vec_capacity page.old }
+    ensures attempted { spec.Attempted (F.device flash.old) bad.old (F.device flash.new) bad.new saved.now sequence anchor 0 1 result }
+    ensures room { saved.now.geometry.page ≤ vec_capacity page.new }
+{
+    let geometry = saved.geometry;
+    let count = pages_for(geometry, payload);
+    let found = first_page(geometry, anchor, 0, sequence, payload, count);
+    let done = write_anchor(flash, bad, geometry, anchor, sequence, payload, count, page);
+    answered(done, found)
+}
+
+/// Writes a payload of a record to an anchor that is not bad, of which all pages from a place on are erased.
+fn attempt_after<F: Flash>(
+    flash: &mut F,
+    bad: &mut BadBlocks,
+    anchor: u32,
+    place: u32,
+    sequence: u64,
+    saved: &Record,
+    payload: &[u8],
+    count: u16,
+    page: &mut Vec<u8>,
+) -> Result<Option<Found>, Fault>
+    requires same { (F.device flash.old).geometry ≡ saved.now.geometry }
+    requires lawful { IsGeometry saved.now.geometry }
+    requires anchor { anchor < first_data }
+    requires in_block { place + count ≤ saved.now.geometry.pages }
+    requires fills { Fills saved.now.geometry payload.now count }
+    requires blank { (m : ℕ) → place ≤ m → m < saved.now.geometry.pages → (F.device flash.old).pages (anchor * saved.now.geometry.pages + m) ≡ erased }
+    requires older { AreOlder saved.now.geometry (F.device flash.old).pages sequence }
+    requires good { set.contains bad.old anchor ≡ false }
+    requires room_in_list { set.len bad.old < MAX_BAD_BLOCKS }
+    requires means { Means saved.now sequence bad.old payload.now }
+    requires room { saved.now.geometry.page ≤ vec_capacity page.old }
+    ensures attempted { spec.Attempted (F.device flash.old) bad.old (F.device flash.new) bad.new saved.now sequence anchor place 0 result }
+    ensures room { saved.now.geometry.page ≤ vec_capacity page.new }
+{
+    let geometry = saved.geometry;
+    let found = first_page(geometry, anchor, place, sequence, payload, count);
+    let done = place_record(
+        flash, bad, geometry, anchor, place, sequence, payload, count, page,
+    );
+    answered(done, found)
+}
+
 /// Commits a record on an anchor that is erased first, with the list as it is, and answers where.
 /// None where the anchor is in the list; it is put there where an operation failed.
 pub(crate) fn commit_anew<F: Flash>(
@@ -81,13 +159,16 @@ pub(crate) fn commit_anew<F: Flash>(
     if bad.contains(anchor) {
         return Ok(None);
     }
-    let geometry = saved.geometry;
     let payload = payload_with(saved, bad);
-    let bytes = payload.as_slice();
-    let count = pages_for(geometry, bytes);
-    let found = first_page(geometry, anchor, 0, sequence, bytes, count);
-    let done = write_anchor(flash, bad, geometry, anchor, sequence, bytes, count, page)?;
-    if done { Ok(Some(found)) } else { Ok(None) }
+    attempt_anew(
+        flash,
+        bad,
+        anchor,
+        sequence,
+        saved,
+        payload.as_slice(),
+        page,
+    )
 }
 
 /// Commits a record on an anchor of which all pages from a place on are erased, with the list as it
@@ -128,16 +209,13 @@ pub(crate) fn commit_after<F: Flash>(
     if bad.contains(anchor) {
         return Ok(None);
     }
-    let geometry = saved.geometry;
     let payload = payload_with(saved, bad);
     let bytes = payload.as_slice();
-    let count = pages_for(geometry, bytes);
-    if geometry.pages < place + count as u32 {
+    let count = pages_for(saved.geometry, bytes);
+    if saved.geometry.pages < place + count as u32 {
         return Ok(None);
     }
-    let found = first_page(geometry, anchor, place, sequence, bytes, count);
-    let done = place_record(
-        flash, bad, geometry, anchor, place, sequence, bytes, count, page,
-    )?;
-    if done { Ok(Some(found)) } else { Ok(None) }
+    attempt_after(
+        flash, bad, anchor, place, sequence, saved, bytes, count, page,
+    )
 }

@@ -1,22 +1,43 @@
-use Rattle.std.proofs.Common.{◌<◌, sym, subst, inl, arith}
-use Rattle.commit_pair.specs.Payloads.{Means}
-use Rattle.commit_pair.proofs.Attempting.{commits_at, failed_listed, failed_untouched}
+use Rattle.std.specs.FinSet as set
+use Rattle.std.proofs.Common.{◌≡◌, true}
+use Rattle.commit_pair.specs.Committing.{LacksRoom}
+use Rattle.commit_pair.proofs.Attempting.{refused_more, asked_alone}
 use Rattle.commit_pair.proofs.committing.commit_after.Goals as goal
 
-pub returns-then-done-clause-attempts : goal.returns-then-done-clause-attempts
-returns-then-done-clause-attempts g c =
-    let old = g.F.Flash.device c.args.flash.now in
-    let new = g.F.Flash.device c.place_record.new.flash in
-    let done = c.in_ok-done.ensures in
-    let below : c.args.place < c.args.saved.now.geometry.pages = let some = c.pages_for-count.ensures.fills.some in let fits = c.pages_for-count.ensures.fits in omega arith in
-    commits_at old.pages new.pages c.args.saved.now c.args.sequence c.args.bad.now c.place_record.new.bad c.as_slice-bytes.result.now c.args.anchor (c.args.place) c.pages_for-count.result c.first_page-found.result c.in_ok-done.done
-    c.if-done.true below c.first_page-found.ensures.page c.first_page-found.ensures.head done.placed done.end done.list
-    (subst (Means c.args.saved.now c.args.sequence c.args.bad.now) (sym c.as_slice-bytes.ensures.value) (c.payload_with-payload.ensures.means c.args.sequence))
+pub returns-clause-attempts : goal.returns-clause-attempts
+returns-clause-attempts g c = c.attempt_after.ensures.attempted.attempts
 
-pub returns-else-done-clause-refused : goal.returns-else-done-clause-refused
-returns-else-done-clause-refused g c = inl (failed_listed c.args.bad.now c.place_record.new.bad c.args.anchor c.in_ok-done.done c.if-done.false c.in_ok-done.ensures.list)
+pub returns-clause-list : goal.returns-clause-list
+returns-clause-list g c = c.attempt_after.ensures.attempted.list
 
-pub returns-else-done-clause-untouched : goal.returns-else-done-clause-untouched
-returns-else-done-clause-untouched g c =
-    failed_untouched (g.F.Flash.device c.args.flash.now) (g.F.Flash.device c.place_record.new.flash) c.place_record.new.bad c.args.anchor
-    (failed_listed c.args.bad.now c.place_record.new.bad c.args.anchor c.in_ok-done.done c.if-done.false c.in_ok-done.ensures.list) c.in_ok-done.ensures.others
+pub returns-clause-good : goal.returns-clause-good
+returns-clause-good g c = c.attempt_after.ensures.attempted.good
+
+pub returns-clause-untouched : goal.returns-clause-untouched
+returns-clause-untouched g c = c.attempt_after.ensures.attempted.untouched
+
+pub returns-clause-tried : goal.returns-clause-tried
+returns-clause-tried g c = c.attempt_after.ensures.attempted.tried
+
+pub returns-clause-only_anchors : goal.returns-clause-only_anchors
+returns-clause-only_anchors g c = c.attempt_after.ensures.attempted.only_anchors
+
+pub returns-clause-why : goal.returns-clause-why
+returns-clause-why g c = c.attempt_after.ensures.attempted.why
+
+pub returns-clause-room : goal.returns-clause-room
+returns-clause-room g c = c.attempt_after.ensures.room
+
+pub returns-clause-place : goal.returns-clause-place
+returns-clause-place g c = c.attempt_after.ensures.attempted.page
+
+pub returns-clause-fits : goal.returns-clause-fits
+returns-clause-fits g c = c.attempt_after.ensures.attempted.fits
+
+pub returns-clause-refused : goal.returns-clause-refused
+returns-clause-refused g c =
+    refused_more c.attempt_after.result (set.contains c.attempt_after.new.bad c.args.anchor ≡ true) (LacksRoom c.args.saved.now c.args.bad.now c.args.place) c.attempt_after.ensures.attempted.refused
+
+pub returns-clause-asked : goal.returns-clause-asked
+returns-clause-asked g c =
+    asked_alone (g.F.Flash.device c.args.flash.now) (g.F.Flash.device c.attempt_after.new.flash) c.attempt_after.result c.attempt_after.ensures.attempted.asked

@@ -1,6 +1,6 @@
 use Rattle.std.proofs.Common.{Ok, None, Some, ◌∙◌, rules}
 use Rattle.node_store.specs.Storage.{storage, Tries, TriesNext}
-use Rattle.node_store.specs.StorageLaws.{Evolved_on, Passes_on, Passes_next}
+use Rattle.node_store.specs.StorageLaws.{Evolved_itself, Evolved_on, Passes_on, Passes_next}
 use Rattle.node_store.proofs.adding.write_node.Goals as goal
 
 pub returns-in-Some-clause-evolved : goal.returns-in-Some-clause-evolved
@@ -29,3 +29,9 @@ attempts-preserved g c =
       page = c.write_next.ensures.page ∙ c.attempts.invariant.page;
       operations = search rules;
     }
+
+pub returns-then-is_full-clause-evolved : goal.returns-then-is_full-clause-evolved
+returns-then-is_full-clause-evolved g c = Evolved_itself (storage (g.F.Flash.device c.args.flash.now) c.args.bad.now c.args.ring.now)
+
+pub returns-in_err-block-clause-evolved : goal.returns-in_err-block-clause-evolved
+returns-in_err-block-clause-evolved g c = Evolved_on _ _ _ c.attempts.invariant.evolved c.write_next.ensures.evolved

@@ -6,6 +6,7 @@ use Rattle.block_trees.specs.Trees.{items_in}
 use Rattle.directory.specs.Depths.{AreNamedBy, HasDirectories}
 use Rattle.directory.proofs.MovedPaths.{if_ok}
 use Rattle.directory.proofs.Levels.{IsLevel, one_level_more, first_level, next_is_level, next_listed, last_shallow, last_deeper}
+use Rattle.std.proofs.lemmas.Result.{err_from_is_err_and}
 use Rattle.directory.proofs.depths.any_is_deeper.Goals as goal
 
 pub loop-done-init : goal.loop-done-init
@@ -79,3 +80,24 @@ returns-clause-reads g c list all =
     let at_end : c.loop-done.done ≡ c.args.most = search rules in
     let size : (c.args.most + 1) * length list ≡ (c.loop-done.done + 1) * length list = ap (λ (n : ℕ). (n + 1) * length list) (sym at_end) in
     omega (arith, size, one_level_more c.loop-done.done (length list), c.any_has_entries.ensures.reads list (c.loop-done.invariant.listed list all), c.loop-done.invariant.reads list all)
+
+pub returns-in_err-level-2-clause-looks : goal.returns-in_err-level-2-clause-looks
+returns-in_err-level-2-clause-looks g c = 
+    g.met.N.Nodes.looks_on c.args.nodes.now c.loop-done.nodes c.next_level.new.nodes c.loop-done.invariant.looks c.next_level.ensures.looks
+
+pub returns-clause-looks : goal.returns-clause-looks
+returns-clause-looks g c = 
+    g.met.N.Nodes.looks_on c.args.nodes.now c.loop-done.nodes c.any_has_entries.new.nodes c.loop-done.invariant.looks c.any_has_entries.ensures.looks
+
+pub returns-in_err-level-2-clause-why : goal.returns-in_err-level-2-clause-why
+returns-in_err-level-2-clause-why g c = 
+    let p = err_from_is_err_and c.from_residual-in_err-level-2.result c.from_residual-in_err-level-2.ensures.1 in
+    rw (p.1, p.2) (g.met.N.Nodes.causes_on c.args.nodes.now c.loop-done.nodes c.next_level.new.nodes c.in_err-level-2.field-0.0 c.loop-done.invariant.looks.came c.in_err-level-2.ensures.why)
+
+pub returns-in_err-level-2-clause-faults : goal.returns-in_err-level-2-clause-faults
+returns-in_err-level-2-clause-faults g c = 
+    let p = err_from_is_err_and c.from_residual-in_err-level-2.result c.from_residual-in_err-level-2.ensures.1 in
+    rw (p.1, p.2) c.in_err-level-2.ensures.faults
+
+pub returns-clause-faults : goal.returns-clause-faults
+returns-clause-faults g c = c.any_has_entries.ensures.faults

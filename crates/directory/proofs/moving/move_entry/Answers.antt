@@ -155,3 +155,36 @@ returns-clause-reaches g c =
     } in
     let moved : IsMoved (g.N.Nodes.node old) (g.N.Nodes.node new) (g.N.Nodes.kept old) (g.N.Nodes.kept new) c.args.root c.loop-i.to c.args.old.now c.args.new.now c.args.place = search rules in
     only_moved (g.N.Nodes.node old) (g.N.Nodes.node new) (g.N.Nodes.kept old) (g.N.Nodes.kept new) c.args.root c.args.old.now c.args.new.now c.args.place (Ok c.loop-i.to) keeps c.requires.held c.requires.stands moved
+
+pub returns-in_err-to-clause-keeps : goal.returns-in_err-to-clause-keeps
+returns-in_err-to-clause-keeps g c = record {
+  same = λ b kept. g.met.N.Nodes.same_node c.args.nodes.now c.rewrite_fork.new.nodes b c.requires.sound c.rewrite_fork.ensures.works.came kept;
+  stays = λ b kept. g.met.N.Nodes.stays_kept c.args.nodes.now c.rewrite_fork.new.nodes b c.rewrite_fork.ensures.works.came kept;
+}
+
+pub returns-in_err-to-clause-why : goal.returns-in_err-to-clause-why
+returns-in_err-to-clause-why g c = 
+    let p = err_from_is_err_and c.from_residual.result c.from_residual.ensures.1 in
+    rw (p.1, p.2) c.in_err-to.ensures.why
+
+pub returns-in_err-to-clause-faults : goal.returns-in_err-to-clause-faults
+returns-in_err-to-clause-faults g c = 
+    let p = err_from_is_err_and c.from_residual.result c.from_residual.ensures.1 in
+    rw (p.1, p.2) c.in_err-to.ensures.faults
+
+pub returns-in_err-to-clause-works : goal.returns-in_err-to-clause-works
+returns-in_err-to-clause-works g c = c.rewrite_fork.ensures.works
+
+pub returns-in_err-to-2-clause-faults : goal.returns-in_err-to-2-clause-faults
+returns-in_err-to-2-clause-faults g c = 
+    let p = err_from_is_err_and c.from_residual-in_err-to-2.result c.from_residual-in_err-to-2.ensures.1 in
+    rw (p.1, p.2) c.in_err-to-2.ensures.faults
+
+pub returns-clause-keeps : goal.returns-clause-keeps
+returns-clause-keeps g c = record {
+  same = λ b kept. g.met.N.Nodes.same_node c.args.nodes.now c.loop-i.nodes b c.requires.sound c.loop-i.invariant.works.came kept;
+  stays = λ b kept. g.met.N.Nodes.stays_kept c.args.nodes.now c.loop-i.nodes b c.loop-i.invariant.works.came kept;
+}
+
+pub returns-clause-works : goal.returns-clause-works
+returns-clause-works g c = c.loop-i.invariant.works

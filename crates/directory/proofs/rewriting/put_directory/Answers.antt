@@ -75,3 +75,42 @@ returns-clause-reaches g c =
       stays = λ b kept. g.met.N.Nodes.stays_kept old new b before kept;
     } in
     made_reaches (g.N.Nodes.node old) (g.N.Nodes.node new) (g.N.Nodes.kept old) (g.N.Nodes.kept new) c.args.root c.in_ok-to.to c.args.path.now keeps c.requires.held (returns-clause-made g c)
+
+pub returns-in_err-block-clause-keeps : goal.returns-in_err-block-clause-keeps
+returns-in_err-block-clause-keeps g c = record {
+  same = λ b kept. g.met.N.Nodes.same_node c.args.nodes.now c.write.new.self b c.requires.sound c.write.ensures.works.came kept;
+  stays = λ b kept. g.met.N.Nodes.stays_kept c.args.nodes.now c.write.new.self b c.write.ensures.works.came kept;
+}
+
+pub returns-in_err-block-clause-works : goal.returns-in_err-block-clause-works
+returns-in_err-block-clause-works g c = c.write.ensures.works
+
+pub returns-in_err-block-clause-why : goal.returns-in_err-block-clause-why
+returns-in_err-block-clause-why g c = 
+    let p = err_from_is_err_and c.from_residual.result c.from_residual.ensures.1 in
+    rw (p.1, p.2) c.in_err-block.ensures.why
+
+pub returns-in_err-to-clause-keeps : goal.returns-in_err-to-clause-keeps
+returns-in_err-to-clause-keeps g c = record {
+  same = λ b kept. g.met.N.Nodes.same_node c.args.nodes.now c.put_entry.new.nodes b c.requires.sound (g.met.N.Nodes.follows_on c.args.nodes.now c.write.new.self c.put_entry.new.nodes c.write.ensures.works.came c.put_entry.ensures.works.came) kept;
+  stays = λ b kept. g.met.N.Nodes.stays_kept c.args.nodes.now c.put_entry.new.nodes b (g.met.N.Nodes.follows_on c.args.nodes.now c.write.new.self c.put_entry.new.nodes c.write.ensures.works.came c.put_entry.ensures.works.came) kept;
+}
+
+pub returns-in_err-to-clause-works : goal.returns-in_err-to-clause-works
+returns-in_err-to-clause-works g c = 
+    g.met.N.Nodes.works_on c.args.nodes.now c.write.new.self c.put_entry.new.nodes c.write.ensures.works c.put_entry.ensures.works
+
+pub returns-clause-keeps : goal.returns-clause-keeps
+returns-clause-keeps g c = record {
+  same = λ b kept. g.met.N.Nodes.same_node c.args.nodes.now c.put_entry.new.nodes b c.requires.sound (g.met.N.Nodes.follows_on c.args.nodes.now c.write.new.self c.put_entry.new.nodes c.write.ensures.works.came c.put_entry.ensures.works.came) kept;
+  stays = λ b kept. g.met.N.Nodes.stays_kept c.args.nodes.now c.put_entry.new.nodes b (g.met.N.Nodes.follows_on c.args.nodes.now c.write.new.self c.put_entry.new.nodes c.write.ensures.works.came c.put_entry.ensures.works.came) kept;
+}
+
+pub returns-clause-works : goal.returns-clause-works
+returns-clause-works g c = 
+    g.met.N.Nodes.works_on c.args.nodes.now c.write.new.self c.put_entry.new.nodes c.write.ensures.works c.put_entry.ensures.works
+
+pub returns-in_err-to-clause-faults : goal.returns-in_err-to-clause-faults
+returns-in_err-to-clause-faults g c = 
+    let p = err_from_is_err_and c.from_residual-in_err-to.result c.from_residual-in_err-to.ensures.1 in
+    rw (p.1, p.2) c.in_err-to.ensures.faults

@@ -9,6 +9,7 @@ use Rattle.reclaim.specs.Sound.{IsSoundNode}
 use Rattle.reclaim.proofs.Costs.{holds_directory, looks_and_levels, reached_directories}
 use Rattle.reclaim.proofs.Looking.{never}
 use Rattle.reclaim.proofs.Verifying.{AreAsked, roots_asked, asked_roots}
+use Rattle.std.proofs.lemmas.Result.{err_from_is_err_and}
 use Rattle.reclaim.proofs.verification.have_trees.Goals as goal
 
 pub returns-then-not-are_sound-clause-exact : goal.returns-then-not-are_sound-clause-exact
@@ -68,3 +69,37 @@ returns-clause-reads g c =
     (c.in_ok-are_sound.ensures.exact.0 c.if-not-are_sound.false) c.requires.directories in
     let levels = c.are_shallow.ensures.reads list (subst (λ (h : Blocks). HasDirectories h blocks roots list) (sym c.are_sound.ensures.looks.same_nodes) directories) in
     omega (arith, looks_and_levels f marked, c.are_sound.ensures.reads, levels)
+
+pub returns-in_err-are_sound-clause-why : goal.returns-in_err-are_sound-clause-why
+returns-in_err-are_sound-clause-why g c = 
+    let p = err_from_is_err_and c.from_residual.result c.from_residual.ensures.1 in
+    rw (p.1, p.2) c.in_err-are_sound.ensures.why
+
+pub returns-in_err-are_sound-clause-faults : goal.returns-in_err-are_sound-clause-faults
+returns-in_err-are_sound-clause-faults g c = 
+    let p = err_from_is_err_and c.from_residual.result c.from_residual.ensures.1 in
+    rw (p.1, p.2) c.in_err-are_sound.ensures.faults
+
+pub returns-in_err-are_sound-clause-looks : goal.returns-in_err-are_sound-clause-looks
+returns-in_err-are_sound-clause-looks g c = c.are_sound.ensures.looks
+
+pub returns-then-not-are_sound-clause-looks : goal.returns-then-not-are_sound-clause-looks
+returns-then-not-are_sound-clause-looks g c = c.are_sound.ensures.looks
+
+pub returns-in_err-are_shallow-clause-why : goal.returns-in_err-are_shallow-clause-why
+returns-in_err-are_shallow-clause-why g c = 
+    let p = err_from_is_err_and c.from_residual-in_err-are_shallow.result c.from_residual-in_err-are_shallow.ensures.1 in
+    rw (p.1, p.2) (g.met.N.Nodes.causes_on c.args.nodes.now c.are_sound.new.nodes c.are_shallow.new.nodes c.in_err-are_shallow.field-0.0 c.are_sound.ensures.looks.came c.in_err-are_shallow.ensures.why)
+
+pub returns-in_err-are_shallow-clause-faults : goal.returns-in_err-are_shallow-clause-faults
+returns-in_err-are_shallow-clause-faults g c = 
+    let p = err_from_is_err_and c.from_residual-in_err-are_shallow.result c.from_residual-in_err-are_shallow.ensures.1 in
+    rw (p.1, p.2) c.in_err-are_shallow.ensures.faults
+
+pub returns-in_err-are_shallow-clause-looks : goal.returns-in_err-are_shallow-clause-looks
+returns-in_err-are_shallow-clause-looks g c = 
+    g.met.N.Nodes.looks_on c.args.nodes.now c.are_sound.new.nodes c.are_shallow.new.nodes c.are_sound.ensures.looks c.are_shallow.ensures.looks
+
+pub returns-clause-looks : goal.returns-clause-looks
+returns-clause-looks g c = 
+    g.met.N.Nodes.looks_on c.args.nodes.now c.are_sound.new.nodes c.are_shallow.new.nodes c.are_sound.ensures.looks c.are_shallow.ensures.looks

@@ -3,6 +3,7 @@ use Rattle.std.specs.Prelude.{IsTrue, slice_index}
 use Rattle.block_trees.specs.Bodies.{Blocks}
 use Rattle.reclaim.specs.Looks.{AreSteppedTo}
 use Rattle.reclaim.proofs.Looking.{body_good, same_pair}
+use Rattle.std.proofs.lemmas.Result.{err_from_is_err_and}
 use Rattle.reclaim.proofs.looks.is_sound_body.Goals as goal
 
 pub returns-clause-exact : goal.returns-clause-exact
@@ -11,3 +12,24 @@ returns-clause-exact g c =
     body_good c.args.capacity (g.N.Nodes.node c.args.nodes.now) p c.args.index c.in_ok-stepped.stepped c.requires.short c.if-index-eq0.false
     (sym c.in_ok-found.ensures.exact ∙ same_pair c.in_ok-found.found (c.args.index - 1) c.args.capacity c.ne.result c.ne.ensures c.if-ne.false)
     (subst (λ (f : Blocks). IsTrue c.in_ok-stepped.stepped ↔ AreSteppedTo f p c.args.index 12) c.body_at.ensures.looks.same_nodes c.in_ok-stepped.ensures.exact)
+
+pub returns-in_err-found-clause-looks : goal.returns-in_err-found-clause-looks
+returns-in_err-found-clause-looks g c = c.body_at.ensures.looks
+
+pub returns-in_err-stepped-clause-why : goal.returns-in_err-stepped-clause-why
+returns-in_err-stepped-clause-why g c = 
+    let p = err_from_is_err_and c.from_residual-in_err-stepped.result c.from_residual-in_err-stepped.ensures.1 in
+    rw (p.1, p.2) (g.met.N.Nodes.causes_on c.args.nodes.now c.body_at.new.nodes c.are_stepped.new.nodes c.in_err-stepped.field-0.0 c.body_at.ensures.looks.came c.in_err-stepped.ensures.why)
+
+pub returns-in_err-stepped-clause-faults : goal.returns-in_err-stepped-clause-faults
+returns-in_err-stepped-clause-faults g c = 
+    let p = err_from_is_err_and c.from_residual-in_err-stepped.result c.from_residual-in_err-stepped.ensures.1 in
+    rw (p.1, p.2) c.in_err-stepped.ensures.faults
+
+pub returns-in_err-stepped-clause-looks : goal.returns-in_err-stepped-clause-looks
+returns-in_err-stepped-clause-looks g c = 
+    g.met.N.Nodes.looks_on c.args.nodes.now c.body_at.new.nodes c.are_stepped.new.nodes c.body_at.ensures.looks c.are_stepped.ensures.looks
+
+pub returns-clause-looks : goal.returns-clause-looks
+returns-clause-looks g c = 
+    g.met.N.Nodes.looks_on c.args.nodes.now c.body_at.new.nodes c.are_stepped.new.nodes c.body_at.ensures.looks c.are_stepped.ensures.looks

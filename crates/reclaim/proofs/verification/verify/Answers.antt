@@ -10,6 +10,7 @@ use Rattle.reclaim.proofs.Costs.{pass_reads, tree_reads}
 use Rattle.reclaim.specs.Verified.{AreRoots}
 use Rattle.reclaim.proofs.Looking.{never, look_read, look_other}
 use Rattle.reclaim.proofs.Verifying.{roots_are_data, roots_directories, directories_roots, none_reached, marked_exact}
+use Rattle.reclaim.specs.Passes.{IsPass}
 use Rattle.reclaim.proofs.verification.verify.Goals as goal
 
 pub read_all-requires-clause-pass : goal.read_all-requires-clause-pass
@@ -135,3 +136,38 @@ returns-in_err-have_trees-clause-faults g c =
 
 pub returns-then-not-have_trees-clause-why : goal.returns-then-not-have_trees-clause-why
 returns-then-not-have_trees-clause-why g c other = absurd (other refl)
+
+pub returns-in_err-pass-clause-why : goal.returns-in_err-pass-clause-why
+returns-in_err-pass-clause-why g c = 
+    let p = err_from_is_err_and c.from_residual.result c.from_residual.ensures.1 in
+    rw (p.1, p.2) c.in_err-pass.ensures.why
+
+pub returns-in_err-pass-clause-faults : goal.returns-in_err-pass-clause-faults
+returns-in_err-pass-clause-faults g c = 
+    let p = err_from_is_err_and c.from_residual.result c.from_residual.ensures.1 in
+    rw (p.1, p.2) c.in_err-pass.ensures.faults
+
+pub returns-in_err-pass-clause-looks : goal.returns-in_err-pass-clause-looks
+returns-in_err-pass-clause-looks g c = c.start_pass.ensures.looks
+
+pub returns-in_err-read_all-clause-faults : goal.returns-in_err-read_all-clause-faults
+returns-in_err-read_all-clause-faults g c = 
+    let p = err_from_is_err_and c.from_residual-in_err-read_all.result c.from_residual-in_err-read_all.ensures.1 in
+    rw (p.1, p.2) c.in_err-read_all.ensures.faults
+
+pub returns-in_err-read_all-clause-looks : goal.returns-in_err-read_all-clause-looks
+returns-in_err-read_all-clause-looks g c = 
+    g.met.N.Nodes.looks_on c.args.nodes.now c.start_pass.new.nodes c.read_all.new.nodes c.start_pass.ensures.looks c.read_all.ensures.looks
+
+pub read_all-requires-clause-sound : goal.read_all-requires-clause-sound
+read_all-requires-clause-sound g c = c.start_pass.ensures.looks.sound
+
+pub have_trees-requires-clause-sound : goal.have_trees-requires-clause-sound
+have_trees-requires-clause-sound g c = c.read_all.ensures.looks.sound
+
+pub returns-clause-pass : goal.returns-clause-pass
+returns-clause-pass g c = 
+    (subst (λ (f : Blocks). IsPass f c.read_all.new.self) (sym c.have_trees.ensures.looks.same_nodes) c.in_ok-read_all.ensures.pass, c.in_ok-read_all.ensures.finished)
+
+pub returns-clause-of : goal.returns-clause-of
+returns-clause-of g c = (c.read_all.ensures.same.0 ∙ c.in_ok-pass.ensures.begun.0, c.read_all.ensures.same.1 ∙ c.in_ok-pass.ensures.begun.1)

@@ -4,8 +4,9 @@ use Rattle.flash_model.specs.declared.sizes.Geometry.{Geometry}
 use Rattle.flash_model.specs.Device.{block_of, AfterProgram, bytes_of}
 use Rattle.flash_model.specs.Blocks.{block_of-at}
 use Rattle.record_format.specs.Pages.{page_bytes}
+use Rattle.commit_pair.specs.Parts.{part_of}
 use Rattle.commit_pair.specs.Programming.{bytes_for}
-use Rattle.commit_pair.proofs.Anchoring.{program_touches, Touches_on}
+use Rattle.commit_pair.proofs.Anchoring.{program_touches, Touches_itself, Touches_on}
 use Rattle.commit_pair.proofs.Asking.{one_more, tries_end}
 use Rattle.commit_pair.proofs.Programmed.{pages_next, pages_end}
 use Rattle.commit_pair.proofs.programming.program_record.Goals as goal
@@ -83,3 +84,24 @@ loop-n-preserved g c =
       blank = λ m from below. done.others _ (λ same. absurd (let e = is in omega arith)) ∙ c.loop-n.invariant.blank m (omega arith) below;
       room = let a = c.loop-n.invariant.room in let b = c.write_page.ensures.capacity in omega arith;
     }
+
+pub loop-n-init : goal.loop-n-init
+loop-n-init g c = record {
+  touches = Touches_itself (g.F.Flash.device c.args.flash.now) c.args.anchor tt;
+  operations = omega arith;
+  pages = record {
+    others = λ q past. refl;
+    done = λ m lt. absurd (omega arith);
+    rest = λ m from below. ap part_of (c.requires.blank m below);
+  };
+  blank = λ m from below. c.requires.blank m below;
+  room = c.requires.room;
+}
+
+pub returns-clause-programmed : goal.returns-clause-programmed
+returns-clause-programmed g c =
+    let all : c.loop-n.n ≡ c.args.count = let test = c.loop-n-test.false in let within = c.loop-n.auto.n-end in omega arith in
+    (c.loop-n.n, all, c.loop-n.invariant.pages)
+
+pub returns-clause-touches : goal.returns-clause-touches
+returns-clause-touches g c = c.loop-n.invariant.touches

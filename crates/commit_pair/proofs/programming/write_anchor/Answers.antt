@@ -6,6 +6,7 @@ use Rattle.commit_pair.specs.Keeping.{Keeps}
 use Rattle.commit_pair.proofs.Sparing.{erase_keeps, Placed_on}
 use Rattle.commit_pair.proofs.programming.write_anchor.Goals as goal
 use Rattle.commit_pair.proofs.programming.write_anchor.Goals.{After-erase_anchor}
+use Rattle.commit_pair.proofs.Anchoring.{OnlyAnchors_on}
 use Rattle.commit_pair.proofs.programming.write_anchor.Given.{Over}
 
 module _ (g : Over) (c : After-erase_anchor g) where
@@ -35,3 +36,32 @@ pub returns-clause-placed : goal.returns-clause-placed
 returns-clause-placed g c =
     Placed_on c.args.geometry (g.F.Flash.device c.args.flash.now).pages (g.F.Flash.device c.erase_anchor.new.flash).pages (g.F.Flash.device c.place_record.new.flash).pages _ _ c.place_record.result
     (keeps g (goal.at.returns-clause-placed g c).After-erase_anchor) c.place_record.ensures.placed
+
+pub returns-in_err-erase_anchor-clause-only_anchors : goal.returns-in_err-erase_anchor-clause-only_anchors
+returns-in_err-erase_anchor-clause-only_anchors g c = c.erase_anchor.ensures.only_anchors
+
+pub returns-in_err-erase_anchor-clause-others : goal.returns-in_err-erase_anchor-clause-others
+returns-in_err-erase_anchor-clause-others g c = c.erase_anchor.ensures.others
+
+pub returns-then-not-branch-clause-only_anchors : goal.returns-then-not-branch-clause-only_anchors
+returns-then-not-branch-clause-only_anchors g c = c.erase_anchor.ensures.only_anchors
+
+pub returns-then-not-branch-clause-others : goal.returns-then-not-branch-clause-others
+returns-then-not-branch-clause-others g c = c.erase_anchor.ensures.others
+
+pub place_record-requires-clause-same : goal.place_record-requires-clause-same
+place_record-requires-clause-same g c = c.erase_anchor.ensures.only_anchors.geometry ∙ c.requires.same
+
+pub returns-clause-only_anchors : goal.returns-clause-only_anchors
+returns-clause-only_anchors g c =
+    OnlyAnchors_on (g.F.Flash.device c.args.flash.now) (g.F.Flash.device c.erase_anchor.new.flash) (g.F.Flash.device c.place_record.new.flash) c.args.bad.now c.erase_anchor.new.bad c.place_record.new.bad c.erase_anchor.ensures.only_anchors c.place_record.ensures.only_anchors
+
+pub returns-clause-end : goal.returns-clause-end
+returns-clause-end g c = c.place_record.ensures.end
+
+pub returns-clause-why : goal.returns-clause-why
+returns-clause-why g c = c.place_record.ensures.why
+
+pub returns-clause-others : goal.returns-clause-others
+returns-clause-others g c = λ p apart.
+    c.place_record.ensures.others p (λ here. apart (sym (ap (λ (h : Geometry). p / h.pages) c.erase_anchor.ensures.only_anchors.geometry) ∙ here)) ∙ c.erase_anchor.ensures.others p apart

@@ -14,7 +14,6 @@ use Rattle.node_store.proofs.adding.write_next.Given.{Over}
 spends_once : (old new takes later each : ℕ) → later ≡ takes + 1 → new ≤ old + each → new + takes * each ≤ old + later * each
 spends_once old new takes later each one few = subst (λ (n : ℕ). new + takes * each ≤ old + n * each) (sym one) (omega arith)
 
-
 pub returns-in-Ok-clause-tries : goal.returns-in-Ok-clause-tries
 returns-in-Ok-clause-tries g c =
     took_added (storage (g.F.Flash.device c.args.flash.now) c.args.bad.now c.args.ring.now) c.in_ok-block.block c.take_block.new.ring
@@ -86,14 +85,14 @@ returns-in_ok-list_block-in-Err-Failed-clause-next g c =
     passes g (goal.at.returns-in_ok-list_block-in-Err-Failed-clause-next g c).After-list_block
 
 pub returns-in_err-block-clause-evolved : goal.returns-in_err-block-clause-evolved
-returns-in_err-block-clause-evolved g c = 
+returns-in_err-block-clause-evolved g c =
     subst (λ (r : Ring). Evolved (storage (g.F.Flash.device c.args.flash.now) c.args.bad.now c.args.ring.now) (storage (g.F.Flash.device c.args.flash.now) c.args.bad.now r)) (sym c.in_err-block.ensures.full.1) (Evolved_itself (storage (g.F.Flash.device c.args.flash.now) c.args.bad.now c.args.ring.now))
 
 pub returns-in-Ok-clause-pays : goal.returns-in-Ok-clause-pays
 returns-in-Ok-clause-pays g c = pays_good (storage (g.F.Flash.device c.args.flash.now) c.args.bad.now c.args.ring.now) c.in_ok-block.block c.take_block.new.ring (g.F.Flash.device c.write_block.new.flash) c.in_ok-block.ensures.taken
 
 pub returns-in-Err-PowerCut-clause-evolved : goal.returns-in-Err-PowerCut-clause-evolved
-returns-in-Err-PowerCut-clause-evolved g c = 
+returns-in-Err-PowerCut-clause-evolved g c =
     took_good (storage (g.F.Flash.device c.args.flash.now) c.args.bad.now c.args.ring.now) c.in_ok-block.block c.take_block.new.ring
     c.args.bytes.now (g.F.Flash.device c.write_block.new.flash) _ c.in_ok-block.ensures.taken (rw c.in-Err-PowerCut.field-0-is at c.in-Err-PowerCut.ensures.writes) refl
 
@@ -101,17 +100,17 @@ pub returns-in-Err-PowerCut-clause-pays : goal.returns-in-Err-PowerCut-clause-pa
 returns-in-Err-PowerCut-clause-pays g c = pays_good (storage (g.F.Flash.device c.args.flash.now) c.args.bad.now c.args.ring.now) c.in_ok-block.block c.take_block.new.ring (g.F.Flash.device c.write_block.new.flash) c.in_ok-block.ensures.taken
 
 pub returns-in-Ok-clause-operations : goal.returns-in-Ok-clause-operations
-returns-in-Ok-clause-operations g c = 
+returns-in-Ok-clause-operations g c =
     spends_once (g.F.Flash.device c.args.flash.now).operations (g.F.Flash.device c.write_block.new.flash).operations c.args.ring.now.takes c.take_block.new.ring.takes (1 + pages_for (g.F.Flash.device c.args.flash.now).geometry.page (length c.args.bytes.now)) c.in_ok-block.ensures.taken.takes c.write_block.ensures.operations
 
 pub returns-in-Err-PowerCut-clause-operations : goal.returns-in-Err-PowerCut-clause-operations
-returns-in-Err-PowerCut-clause-operations g c = 
+returns-in-Err-PowerCut-clause-operations g c =
     spends_once (g.F.Flash.device c.args.flash.now).operations (g.F.Flash.device c.write_block.new.flash).operations c.args.ring.now.takes c.take_block.new.ring.takes (1 + pages_for (g.F.Flash.device c.args.flash.now).geometry.page (length c.args.bytes.now)) c.in_ok-block.ensures.taken.takes c.write_block.ensures.operations
 
 pub returns-in_err-list_block-in-Err-Failed-clause-operations : goal.returns-in_err-list_block-in-Err-Failed-clause-operations
-returns-in_err-list_block-in-Err-Failed-clause-operations g c = 
+returns-in_err-list_block-in-Err-Failed-clause-operations g c =
     spends_once (g.F.Flash.device c.args.flash.now).operations (g.F.Flash.device c.write_block.new.flash).operations c.args.ring.now.takes c.take_block.new.ring.takes (1 + pages_for (g.F.Flash.device c.args.flash.now).geometry.page (length c.args.bytes.now)) c.in_ok-block.ensures.taken.takes c.write_block.ensures.operations
 
 pub returns-in_ok-list_block-in-Err-Failed-clause-operations : goal.returns-in_ok-list_block-in-Err-Failed-clause-operations
-returns-in_ok-list_block-in-Err-Failed-clause-operations g c = 
+returns-in_ok-list_block-in-Err-Failed-clause-operations g c =
     spends_once (g.F.Flash.device c.args.flash.now).operations (g.F.Flash.device c.write_block.new.flash).operations c.args.ring.now.takes c.take_block.new.ring.takes (1 + pages_for (g.F.Flash.device c.args.flash.now).geometry.page (length c.args.bytes.now)) c.in_ok-block.ensures.taken.takes c.write_block.ensures.operations

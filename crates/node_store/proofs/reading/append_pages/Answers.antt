@@ -20,7 +20,6 @@ one_page_more old mid first place so_far shown same before next =
     let is : place + 1 ≡ suc place = omega arith in
     ap (joined old first) is ∙ ap (λ (o : Option (List ℕ)). and_page o (old (first + place))) before ∙ ap (and_page (Some so_far)) (sym (same (first + place))) ∙ next
 
-
 pub returns-in_err-append_page-clause-brings : goal.returns-in_err-append_page-clause-brings
 returns-in_err-append_page-clause-brings g c =
     let p = err_from_is_err_and c.from_residual.result c.from_residual.ensures.1 in
@@ -44,14 +43,14 @@ loop-place-init g c = record {
 }
 
 pub append_page-requires-clause-in_range : goal.append_page-requires-clause-in_range
-append_page-requires-clause-in_range g c = 
+append_page-requires-clause-in_range g c =
     subst (λ (h : Geometry). c.args.first + c.loop-place.place < page_count h) (sym c.loop-place.invariant.only_reads.geometry) (let below = c.loop-place-test.true in let fits = c.requires.in_range in omega arith)
 
 pub append_page-requires-clause-whole : goal.append_page-requires-clause-whole
 append_page-requires-clause-whole g c = c.loop-place.invariant.page ∙ c.requires.whole ∙ sym (ap (λ (h : Geometry). h.page) c.loop-place.invariant.only_reads.geometry)
 
 pub append_page-requires-clause-room : goal.append_page-requires-clause-room
-append_page-requires-clause-room g c = 
+append_page-requires-clause-room g c =
     room_for c.loop-place.place c.args.end (vec_len c.loop-place.page) (vec_len c.loop-place.node) (vec_capacity c.args.node.now) (vec_capacity c.loop-place.node) c.loop-place-test.true c.loop-place.invariant.len (subst (λ (n : ℕ). c.args.end * n ≤ vec_capacity c.args.node.now) (sym c.loop-place.invariant.page) c.requires.room) c.loop-place.invariant.room
 
 pub returns-in_err-append_page-clause-only_reads : goal.returns-in_err-append_page-clause-only_reads
@@ -64,7 +63,7 @@ pub returns-in_err-append_page-clause-room : goal.returns-in_err-append_page-cla
 returns-in_err-append_page-clause-room g c = let a = c.loop-place.invariant.room in let b = c.append_page.ensures.room in omega arith
 
 pub loop-place-preserved : goal.loop-place-preserved
-loop-place-preserved g c = 
+loop-place-preserved g c =
     let so_far = c.loop-place.invariant in
     record {
       only_reads = OnlyReads_on (g.F.Flash.device c.args.flash.now) (g.F.Flash.device c.loop-place.flash) (g.F.Flash.device c.append_page.new.flash) so_far.only_reads c.append_page.ensures.only_reads;
@@ -79,7 +78,7 @@ loop-place-preserved g c =
     }
 
 pub returns-clause-brings : goal.returns-clause-brings
-returns-clause-brings g c = 
+returns-clause-brings g c =
     let all : c.loop-place.place ≡ c.args.end = let test = c.loop-place-test.false in let within = c.loop-place.auto.place-end in let ordered = c.requires.ordered in omega arith in
     ap (joined (g.F.Flash.device c.args.flash.now).pages c.args.first) (sym all) ∙ c.loop-place.invariant.joined
 
@@ -87,6 +86,6 @@ pub returns-clause-only_reads : goal.returns-clause-only_reads
 returns-clause-only_reads g c = c.loop-place.invariant.only_reads
 
 pub returns-clause-len : goal.returns-clause-len
-returns-clause-len g c = 
+returns-clause-len g c =
     let all : c.loop-place.place ≡ c.args.end = let test = c.loop-place-test.false in let within = c.loop-place.auto.place-end in let ordered = c.requires.ordered in omega arith in
     c.loop-place.invariant.len ∙ ap (λ (n : ℕ). n * vec_len c.loop-place.page) all ∙ ap (λ (n : ℕ). c.args.end * n) c.loop-place.invariant.page

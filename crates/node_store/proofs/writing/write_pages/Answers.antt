@@ -1,11 +1,12 @@
-use Rattle.std.proofs.Common.{◌≡◌, ◌+◌, ◌-◌, ◌*◌, ◌<◌, ◌++◌, length, take, drop, replicate, vec_len, ap, ◌∙◌, arith}
+use Rattle.std.proofs.Common.{◌≡◌, ℕ, ◌+◌, ◌-◌, ◌*◌, ◌<◌, ◌++◌, length, take, drop, replicate, vec_len, refl, ap, subst, ◌∙◌, arith}
 use Rattle.std.proofs.lemmas.Result.{err_from_is_err_and}
 use Rattle.std.proofs.lemmas.List.{take_at, take_rest}
 use Rattle.flash_model.specs.declared.sizes.Geometry.{Geometry}
-use Rattle.node_store.specs.NodePages.{page_bytes}
-use Rattle.node_store.specs.WritingLaws.{program_next, program_fails, place_below, one_more}
+use Rattle.node_store.specs.NodePages.{page_bytes, pages_for}
+use Rattle.node_store.specs.WritingLaws.{IsWriting_start, program_next, all_written, program_fails, place_below, one_more}
 use Rattle.node_store.proofs.writing.write_pages.Goals as goal
 use Rattle.node_store.proofs.writing.write_pages.Goals.{After-program}
+use Rattle.node_store.specs.Writing.{IsWriting}
 use Rattle.node_store.proofs.writing.write_pages.Given.{Over}
 
 module _ (g : Over) (c : After-program g) where
@@ -47,3 +48,17 @@ returns-in_err-program-clause-writes g c =
     let t = (goal.at.returns-in_err-program-clause-writes g c).After-program in
     let p = err_from_is_err_and c.from_residual.result c.from_residual.ensures.1 in
     rw (p.1, p.2) (program_fails _ _ _ _ _ _ _ _ _ c.loop-place.invariant.writing (below g t) (number g t) c.in_err-program.ensures)
+
+pub loop-place-init : goal.loop-place-init
+loop-place-init g c = record {
+  writing = IsWriting_start (g.F.Flash.device c.args.flash.now) c.args.block c.args.bytes.now c.requires.blank;
+  page = refl;
+  operations = omega arith;
+}
+
+pub returns-clause-writes : goal.returns-clause-writes
+returns-clause-writes g c =
+    let last : c.loop-place.place ≡ c.div_ceil-count.result = let test = c.loop-place-test.false in let within = c.loop-place.auto.place-end in omega arith in
+    let all : c.loop-place.place ≡ pages_for (g.F.Flash.device c.args.flash.now).geometry.page (length c.args.bytes.now) =
+    last ∙ c.div_ceil-count.ensures ∙ ap (λ (k : Geometry). pages_for k.page (length c.args.bytes.now)) c.geometry-geometry.ensures in
+    all_written (g.F.Flash.device c.args.flash.now) (g.F.Flash.device c.loop-place.flash) c.args.block c.args.bytes.now tt (subst (λ (n : ℕ). IsWriting (g.F.Flash.device c.args.flash.now) c.args.block c.args.bytes.now n (g.F.Flash.device c.loop-place.flash)) all c.loop-place.invariant.writing)

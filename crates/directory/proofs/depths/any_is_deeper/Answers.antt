@@ -82,20 +82,20 @@ returns-clause-reads g c list all =
     omega (arith, size, one_level_more c.loop-done.done (length list), c.any_has_entries.ensures.reads list (c.loop-done.invariant.listed list all), c.loop-done.invariant.reads list all)
 
 pub returns-in_err-level-2-clause-looks : goal.returns-in_err-level-2-clause-looks
-returns-in_err-level-2-clause-looks g c = 
+returns-in_err-level-2-clause-looks g c =
     g.met.N.Nodes.looks_on c.args.nodes.now c.loop-done.nodes c.next_level.new.nodes c.loop-done.invariant.looks c.next_level.ensures.looks
 
 pub returns-clause-looks : goal.returns-clause-looks
-returns-clause-looks g c = 
+returns-clause-looks g c =
     g.met.N.Nodes.looks_on c.args.nodes.now c.loop-done.nodes c.any_has_entries.new.nodes c.loop-done.invariant.looks c.any_has_entries.ensures.looks
 
 pub returns-in_err-level-2-clause-why : goal.returns-in_err-level-2-clause-why
-returns-in_err-level-2-clause-why g c = 
+returns-in_err-level-2-clause-why g c =
     let p = err_from_is_err_and c.from_residual-in_err-level-2.result c.from_residual-in_err-level-2.ensures.1 in
     rw (p.1, p.2) (g.met.N.Nodes.causes_on c.args.nodes.now c.loop-done.nodes c.next_level.new.nodes c.in_err-level-2.field-0.0 c.loop-done.invariant.looks.came c.in_err-level-2.ensures.why)
 
 pub returns-in_err-level-2-clause-faults : goal.returns-in_err-level-2-clause-faults
-returns-in_err-level-2-clause-faults g c = 
+returns-in_err-level-2-clause-faults g c =
     let p = err_from_is_err_and c.from_residual-in_err-level-2.result c.from_residual-in_err-level-2.ensures.1 in
     rw (p.1, p.2) c.in_err-level-2.ensures.faults
 

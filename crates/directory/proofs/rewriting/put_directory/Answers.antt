@@ -86,7 +86,7 @@ pub returns-in_err-block-clause-works : goal.returns-in_err-block-clause-works
 returns-in_err-block-clause-works g c = c.write.ensures.works
 
 pub returns-in_err-block-clause-why : goal.returns-in_err-block-clause-why
-returns-in_err-block-clause-why g c = 
+returns-in_err-block-clause-why g c =
     let p = err_from_is_err_and c.from_residual.result c.from_residual.ensures.1 in
     rw (p.1, p.2) c.in_err-block.ensures.why
 
@@ -97,7 +97,7 @@ returns-in_err-to-clause-keeps g c = record {
 }
 
 pub returns-in_err-to-clause-works : goal.returns-in_err-to-clause-works
-returns-in_err-to-clause-works g c = 
+returns-in_err-to-clause-works g c =
     g.met.N.Nodes.works_on c.args.nodes.now c.write.new.self c.put_entry.new.nodes c.write.ensures.works c.put_entry.ensures.works
 
 pub returns-clause-keeps : goal.returns-clause-keeps
@@ -107,10 +107,10 @@ returns-clause-keeps g c = record {
 }
 
 pub returns-clause-works : goal.returns-clause-works
-returns-clause-works g c = 
+returns-clause-works g c =
     g.met.N.Nodes.works_on c.args.nodes.now c.write.new.self c.put_entry.new.nodes c.write.ensures.works c.put_entry.ensures.works
 
 pub returns-in_err-to-clause-faults : goal.returns-in_err-to-clause-faults
-returns-in_err-to-clause-faults g c = 
+returns-in_err-to-clause-faults g c =
     let p = err_from_is_err_and c.from_residual-in_err-to.result c.from_residual-in_err-to.ensures.1 in
     rw (p.1, p.2) c.in_err-to.ensures.faults

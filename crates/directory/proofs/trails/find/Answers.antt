@@ -31,30 +31,30 @@ loop-i-preserved g c =
     }
 
 pub returns-in_err-found-clause-looks : goal.returns-in_err-found-clause-looks
-returns-in_err-found-clause-looks g c = 
+returns-in_err-found-clause-looks g c =
     g.met.N.Nodes.looks_on c.args.nodes.now c.loop-i.nodes c.found_in.new.nodes c.loop-i.invariant.looks c.found_in.ensures.looks
 
 pub returns-then-i-names-clause-looks : goal.returns-then-i-names-clause-looks
-returns-then-i-names-clause-looks g c = 
+returns-then-i-names-clause-looks g c =
     g.met.N.Nodes.looks_on c.args.nodes.now c.loop-i.nodes c.found_in.new.nodes c.loop-i.invariant.looks c.found_in.ensures.looks
 
 pub returns-in_err-place-clause-looks : goal.returns-in_err-place-clause-looks
-returns-in_err-place-clause-looks g c = 
+returns-in_err-place-clause-looks g c =
     g.met.N.Nodes.looks_on c.args.nodes.now c.loop-i.nodes c.place_in.new.nodes c.loop-i.invariant.looks c.place_in.ensures.looks
 
 pub returns-in_err-block-clause-looks : goal.returns-in_err-block-clause-looks
-returns-in_err-block-clause-looks g c = 
+returns-in_err-block-clause-looks g c =
     g.met.N.Nodes.looks_on c.args.nodes.now c.loop-i.nodes c.place_in.new.nodes c.loop-i.invariant.looks c.place_in.ensures.looks
 
 pub returns-clause-looks : goal.returns-clause-looks
 returns-clause-looks g c = c.loop-i.invariant.looks
 
 pub returns-in_err-found-clause-why : goal.returns-in_err-found-clause-why
-returns-in_err-found-clause-why g c = 
+returns-in_err-found-clause-why g c =
     let p = err_from_is_err_and c.from_residual.result c.from_residual.ensures.1 in
     rw (p.1, p.2) (λ other. g.met.N.Nodes.causes_on c.args.nodes.now c.loop-i.nodes c.found_in.new.nodes c.in_err-found.field-0.0 c.loop-i.invariant.looks.came (c.in_err-found.ensures.why other))
 
 pub returns-in_err-place-clause-why : goal.returns-in_err-place-clause-why
-returns-in_err-place-clause-why g c = 
+returns-in_err-place-clause-why g c =
     let p = err_from_is_err_and c.from_residual-in_err-place.result c.from_residual-in_err-place.ensures.1 in
     rw (p.1, p.2) (λ other. g.met.N.Nodes.causes_on c.args.nodes.now c.loop-i.nodes c.place_in.new.nodes c.in_err-place.field-0.0 c.loop-i.invariant.looks.came (c.in_err-place.ensures.why other))

@@ -20,21 +20,21 @@ returns-then-not-holds-clause-exact g c =
     (subst (λ (f : Blocks). IsTrue c.in_ok-holds.holds ↔ HoldsSlot (f (p x)) x (p (x + 1))) c.loop-slot.invariant.looks.same_nodes c.in_ok-holds.ensures.exact))
 
 pub returns-in_err-holds-clause-why : goal.returns-in_err-holds-clause-why
-returns-in_err-holds-clause-why g c = 
+returns-in_err-holds-clause-why g c =
     let p = err_from_is_err_and c.from_residual.result c.from_residual.ensures.1 in
     rw (p.1, p.2) (g.met.N.Nodes.causes_on c.args.nodes.now c.loop-slot.nodes c.holds_slot.new.nodes c.in_err-holds.field-0.0 c.loop-slot.invariant.looks.came c.in_err-holds.ensures.why)
 
 pub returns-in_err-holds-clause-faults : goal.returns-in_err-holds-clause-faults
-returns-in_err-holds-clause-faults g c = 
+returns-in_err-holds-clause-faults g c =
     let p = err_from_is_err_and c.from_residual.result c.from_residual.ensures.1 in
     rw (p.1, p.2) c.in_err-holds.ensures.faults
 
 pub returns-in_err-holds-clause-looks : goal.returns-in_err-holds-clause-looks
-returns-in_err-holds-clause-looks g c = 
+returns-in_err-holds-clause-looks g c =
     g.met.N.Nodes.looks_on c.args.nodes.now c.loop-slot.nodes c.holds_slot.new.nodes c.loop-slot.invariant.looks c.holds_slot.ensures.looks
 
 pub returns-then-not-holds-clause-looks : goal.returns-then-not-holds-clause-looks
-returns-then-not-holds-clause-looks g c = 
+returns-then-not-holds-clause-looks g c =
     g.met.N.Nodes.looks_on c.args.nodes.now c.loop-slot.nodes c.holds_slot.new.nodes c.loop-slot.invariant.looks c.holds_slot.ensures.looks
 
 pub returns-clause-looks : goal.returns-clause-looks

@@ -17,19 +17,19 @@ pub returns-in_err-found-clause-looks : goal.returns-in_err-found-clause-looks
 returns-in_err-found-clause-looks g c = c.body_at.ensures.looks
 
 pub returns-in_err-stepped-clause-why : goal.returns-in_err-stepped-clause-why
-returns-in_err-stepped-clause-why g c = 
+returns-in_err-stepped-clause-why g c =
     let p = err_from_is_err_and c.from_residual-in_err-stepped.result c.from_residual-in_err-stepped.ensures.1 in
     rw (p.1, p.2) (g.met.N.Nodes.causes_on c.args.nodes.now c.body_at.new.nodes c.are_stepped.new.nodes c.in_err-stepped.field-0.0 c.body_at.ensures.looks.came c.in_err-stepped.ensures.why)
 
 pub returns-in_err-stepped-clause-faults : goal.returns-in_err-stepped-clause-faults
-returns-in_err-stepped-clause-faults g c = 
+returns-in_err-stepped-clause-faults g c =
     let p = err_from_is_err_and c.from_residual-in_err-stepped.result c.from_residual-in_err-stepped.ensures.1 in
     rw (p.1, p.2) c.in_err-stepped.ensures.faults
 
 pub returns-in_err-stepped-clause-looks : goal.returns-in_err-stepped-clause-looks
-returns-in_err-stepped-clause-looks g c = 
+returns-in_err-stepped-clause-looks g c =
     g.met.N.Nodes.looks_on c.args.nodes.now c.body_at.new.nodes c.are_stepped.new.nodes c.body_at.ensures.looks c.are_stepped.ensures.looks
 
 pub returns-clause-looks : goal.returns-clause-looks
-returns-clause-looks g c = 
+returns-clause-looks g c =
     g.met.N.Nodes.looks_on c.args.nodes.now c.body_at.new.nodes c.are_stepped.new.nodes c.body_at.ensures.looks c.are_stepped.ensures.looks

@@ -51,21 +51,21 @@ returns-clause-reads g c =
     omega (arith, sum_by-take-le (λ b. look_reads (f b)) c.args.list.now c.loop-block.block-index, c.loop-block.invariant.reads)
 
 pub returns-in_err-good-clause-why : goal.returns-in_err-good-clause-why
-returns-in_err-good-clause-why g c = 
+returns-in_err-good-clause-why g c =
     let p = err_from_is_err_and c.from_residual.result c.from_residual.ensures.1 in
     rw (p.1, p.2) (g.met.N.Nodes.causes_on c.args.nodes.now c.loop-block.nodes c.look.new.nodes c.in_err-good.field-0.0 c.loop-block.invariant.looks.came c.in_err-good.ensures.why)
 
 pub returns-in_err-good-clause-faults : goal.returns-in_err-good-clause-faults
-returns-in_err-good-clause-faults g c = 
+returns-in_err-good-clause-faults g c =
     let p = err_from_is_err_and c.from_residual.result c.from_residual.ensures.1 in
     rw (p.1, p.2) c.in_err-good.ensures.faults
 
 pub returns-in_err-good-clause-looks : goal.returns-in_err-good-clause-looks
-returns-in_err-good-clause-looks g c = 
+returns-in_err-good-clause-looks g c =
     g.met.N.Nodes.looks_on c.args.nodes.now c.loop-block.nodes c.look.new.nodes c.loop-block.invariant.looks c.look.ensures.looks
 
 pub returns-then-not-good-clause-looks : goal.returns-then-not-good-clause-looks
-returns-then-not-good-clause-looks g c = 
+returns-then-not-good-clause-looks g c =
     g.met.N.Nodes.looks_on c.args.nodes.now c.loop-block.nodes c.look.new.nodes c.loop-block.invariant.looks c.look.ensures.looks
 
 pub returns-clause-looks : goal.returns-clause-looks

@@ -71,12 +71,12 @@ returns-clause-reads g c =
     omega (arith, looks_and_levels f marked, c.are_sound.ensures.reads, levels)
 
 pub returns-in_err-are_sound-clause-why : goal.returns-in_err-are_sound-clause-why
-returns-in_err-are_sound-clause-why g c = 
+returns-in_err-are_sound-clause-why g c =
     let p = err_from_is_err_and c.from_residual.result c.from_residual.ensures.1 in
     rw (p.1, p.2) c.in_err-are_sound.ensures.why
 
 pub returns-in_err-are_sound-clause-faults : goal.returns-in_err-are_sound-clause-faults
-returns-in_err-are_sound-clause-faults g c = 
+returns-in_err-are_sound-clause-faults g c =
     let p = err_from_is_err_and c.from_residual.result c.from_residual.ensures.1 in
     rw (p.1, p.2) c.in_err-are_sound.ensures.faults
 
@@ -87,19 +87,19 @@ pub returns-then-not-are_sound-clause-looks : goal.returns-then-not-are_sound-cl
 returns-then-not-are_sound-clause-looks g c = c.are_sound.ensures.looks
 
 pub returns-in_err-are_shallow-clause-why : goal.returns-in_err-are_shallow-clause-why
-returns-in_err-are_shallow-clause-why g c = 
+returns-in_err-are_shallow-clause-why g c =
     let p = err_from_is_err_and c.from_residual-in_err-are_shallow.result c.from_residual-in_err-are_shallow.ensures.1 in
     rw (p.1, p.2) (g.met.N.Nodes.causes_on c.args.nodes.now c.are_sound.new.nodes c.are_shallow.new.nodes c.in_err-are_shallow.field-0.0 c.are_sound.ensures.looks.came c.in_err-are_shallow.ensures.why)
 
 pub returns-in_err-are_shallow-clause-faults : goal.returns-in_err-are_shallow-clause-faults
-returns-in_err-are_shallow-clause-faults g c = 
+returns-in_err-are_shallow-clause-faults g c =
     let p = err_from_is_err_and c.from_residual-in_err-are_shallow.result c.from_residual-in_err-are_shallow.ensures.1 in
     rw (p.1, p.2) c.in_err-are_shallow.ensures.faults
 
 pub returns-in_err-are_shallow-clause-looks : goal.returns-in_err-are_shallow-clause-looks
-returns-in_err-are_shallow-clause-looks g c = 
+returns-in_err-are_shallow-clause-looks g c =
     g.met.N.Nodes.looks_on c.args.nodes.now c.are_sound.new.nodes c.are_shallow.new.nodes c.are_sound.ensures.looks c.are_shallow.ensures.looks
 
 pub returns-clause-looks : goal.returns-clause-looks
-returns-clause-looks g c = 
+returns-clause-looks g c =
     g.met.N.Nodes.looks_on c.args.nodes.now c.are_sound.new.nodes c.are_shallow.new.nodes c.are_sound.ensures.looks c.are_shallow.ensures.looks

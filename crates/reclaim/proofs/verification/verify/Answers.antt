@@ -138,12 +138,12 @@ pub returns-then-not-have_trees-clause-why : goal.returns-then-not-have_trees-cl
 returns-then-not-have_trees-clause-why g c other = absurd (other refl)
 
 pub returns-in_err-pass-clause-why : goal.returns-in_err-pass-clause-why
-returns-in_err-pass-clause-why g c = 
+returns-in_err-pass-clause-why g c =
     let p = err_from_is_err_and c.from_residual.result c.from_residual.ensures.1 in
     rw (p.1, p.2) c.in_err-pass.ensures.why
 
 pub returns-in_err-pass-clause-faults : goal.returns-in_err-pass-clause-faults
-returns-in_err-pass-clause-faults g c = 
+returns-in_err-pass-clause-faults g c =
     let p = err_from_is_err_and c.from_residual.result c.from_residual.ensures.1 in
     rw (p.1, p.2) c.in_err-pass.ensures.faults
 
@@ -151,12 +151,12 @@ pub returns-in_err-pass-clause-looks : goal.returns-in_err-pass-clause-looks
 returns-in_err-pass-clause-looks g c = c.start_pass.ensures.looks
 
 pub returns-in_err-read_all-clause-faults : goal.returns-in_err-read_all-clause-faults
-returns-in_err-read_all-clause-faults g c = 
+returns-in_err-read_all-clause-faults g c =
     let p = err_from_is_err_and c.from_residual-in_err-read_all.result c.from_residual-in_err-read_all.ensures.1 in
     rw (p.1, p.2) c.in_err-read_all.ensures.faults
 
 pub returns-in_err-read_all-clause-looks : goal.returns-in_err-read_all-clause-looks
-returns-in_err-read_all-clause-looks g c = 
+returns-in_err-read_all-clause-looks g c =
     g.met.N.Nodes.looks_on c.args.nodes.now c.start_pass.new.nodes c.read_all.new.nodes c.start_pass.ensures.looks c.read_all.ensures.looks
 
 pub read_all-requires-clause-sound : goal.read_all-requires-clause-sound
@@ -166,7 +166,7 @@ pub have_trees-requires-clause-sound : goal.have_trees-requires-clause-sound
 have_trees-requires-clause-sound g c = c.read_all.ensures.looks.sound
 
 pub returns-clause-pass : goal.returns-clause-pass
-returns-clause-pass g c = 
+returns-clause-pass g c =
     (subst (λ (f : Blocks). IsPass f c.read_all.new.self) (sym c.have_trees.ensures.looks.same_nodes) c.in_ok-read_all.ensures.pass, c.in_ok-read_all.ensures.finished)
 
 pub returns-clause-of : goal.returns-clause-of

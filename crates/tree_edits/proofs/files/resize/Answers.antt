@@ -5,9 +5,11 @@ use Rattle.node_format.specs.Headers.{body_header}
 use Rattle.block_trees.specs.Trees.{root_tree}
 use Rattle.directory.specs.declared.lookups.Found.TheVariants as found
 use Rattle.directory.proofs.NewDirectories.{held_later}
-use Rattle.directory.proofs.TrailEdits.{look_later, trail_later}
+use Rattle.directory.proofs.TrailEdits.{if_err, look_later, trail_later}
 use Rattle.skip_list_file.specs.Writing.{IsWritten}
 use Rattle.tree_edits.proofs.NewBytes.{file_result, from_file, file_whole, file_held, file_bytes}
+use Rattle.std.proofs.lemmas.Result.{err_from_is_err_and}
+use Rattle.fs_types.specs.declared.faults.Fault.{Fault}
 use Rattle.tree_edits.proofs.files.resize.Goals as goal
 
 pub set_length-requires-clause-whole : goal.set_length-requires-clause-whole
@@ -46,3 +48,25 @@ returns-clause-root g c =
     file_result capacity (g.N.Nodes.node old) (g.N.Nodes.node mid) (g.N.Nodes.node new) (g.N.Nodes.kept old) (g.N.Nodes.kept mid) (g.N.Nodes.kept new) c.args.root c.args.path.now (found.File c.args.body.head c.args.body.length) c.in_ok-new.new
     (resized (bytes_at (root_tree capacity (g.N.Nodes.node old) c.args.root) c.args.path.now) c.args.size) c.put_body.result c.set_length.ensures.keeps c.put_body.ensures.keeps c.requires.held c.requires.rooted c.requires.lawful c.requires.found tt written
     (from_file (g.N.Nodes.node old) (g.N.Nodes.node mid) (g.N.Nodes.kept old) c.args.root c.args.path.now c.args.body c.in_ok-new.new c.requires.found c.in_ok-new.ensures.reaches) c.put_body.ensures.rewritten c.put_body.ensures.reaches
+
+pub put_body-requires-clause-sound : goal.put_body-requires-clause-sound
+put_body-requires-clause-sound g c = c.set_length.ensures.works.sound
+
+pub returns-in_err-new-clause-why : goal.returns-in_err-new-clause-why
+returns-in_err-new-clause-why g c =
+    let p = err_from_is_err_and c.from_residual.result c.from_residual.ensures.1 in
+    rw (p.1, p.2) c.in_err-new.ensures.why
+
+pub returns-in_err-new-clause-follows : goal.returns-in_err-new-clause-follows
+returns-in_err-new-clause-follows g c = c.set_length.ensures.works.came
+
+pub returns-clause-why : goal.returns-clause-why
+returns-clause-why g c =
+    if_err _ (λ (fault : Fault). g.N.Nodes.causes c.args.nodes.now c.put_body.new.nodes fault) c.put_body.result
+    (λ fault why. g.met.N.Nodes.causes_on c.args.nodes.now c.set_length.new.nodes c.put_body.new.nodes fault c.set_length.ensures.works.came why) c.put_body.ensures.why
+
+pub returns-clause-faults : goal.returns-clause-faults
+returns-clause-faults g c = c.put_body.ensures.faults
+
+pub returns-clause-follows : goal.returns-clause-follows
+returns-clause-follows g c = g.met.N.Nodes.follows_on c.args.nodes.now c.set_length.new.nodes c.put_body.new.nodes c.set_length.ensures.works.came c.put_body.ensures.follows

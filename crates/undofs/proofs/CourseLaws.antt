@@ -10,7 +10,8 @@ use Rattle.fs_types.specs.declared.calls.Call.{Call}
 use Rattle.fs_types.specs.declared.calls.Reply.{Reply}
 use Rattle.working_state.specs.Seen.{machine_on}
 use Rattle.working_state.specs.declared.state.State.{State}
-use Rattle.undofs.specs.Runs.{World, Shows, is_sync, found_after, Happens, Run}
+use Rattle.working_state.specs.Steps.{is_sync}
+use Rattle.undofs.specs.Runs.{World, Shows, found_after, Happens, Run}
 use Rattle.undofs.specs.Courses.{Course, no_calls, with_call, Restarts, Goes, Leads, after_mounts, after_course, CourseLaw}
 use Rattle.fs_types.specs.declared.events.Event.{Event}
 use Rattle.fs_types.specs.declared.events.Answer.{Answer}

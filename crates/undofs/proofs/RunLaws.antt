@@ -9,8 +9,8 @@ use Rattle.fs_types.specs.declared.calls.Call.{Call}
 use Rattle.fs_types.specs.declared.calls.Reply.{Reply}
 use Rattle.fs_types.specs.declared.faults.Fault.{Fault}
 use Rattle.working_state.specs.Seen.{Seen, machine_on}
-use Rattle.working_state.specs.Steps.{Answers}
-use Rattle.undofs.specs.Runs.{World, Shows, is_sync, found_after, Run, accepted, NoneCommits, CommitLaw, PrefixLaw}
+use Rattle.working_state.specs.Steps.{is_sync, Answers}
+use Rattle.undofs.specs.Runs.{World, Shows, found_after, Run, accepted, NoneCommits, CommitLaw, PrefixLaw}
 use Rattle.working_state.specs.declared.state.State.{State}
 use Rattle.fs_types.specs.declared.events.Event.{Event}
 use Rattle.fs_types.specs.declared.events.Answer.{Answer}

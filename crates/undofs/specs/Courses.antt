@@ -2,7 +2,8 @@
 use Rattle.std.specs.Prelude.{◌≡◌, ℕ, suc, ◌≤◌, List, [], ◌∷◌, ◌++◌, length, take, if◌then◌else◌}
 use Rattle.history_machine.specs.Machine.{Machine, mounted, after}
 use Rattle.fs_types.specs.declared.calls.Call.{Call}
-use Rattle.undofs.specs.Runs.{World, Shows, is_sync, Run}
+use Rattle.working_state.specs.Steps.{is_sync}
+use Rattle.undofs.specs.Runs.{World, Shows, Run}
 use Rattle.fs_types.specs.declared.events.Event.{Event}
 use Rattle.fs_types.specs.declared.events.Answer.{Answer}
 

@@ -10,6 +10,7 @@ use Rattle.fs_types.specs.declared.faults.Fault.TheVariants.{FlashFull, ReadOnly
 use Rattle.flash_model.specs.Device.{Device}
 use Rattle.flash_model.specs.Reading.{OnlyReads}
 use Rattle.working_state.specs.Seen.{capacity_of, seen_on, machine_on}
+use Rattle.working_state.specs.Steps.{is_sync}
 use Rattle.working_state.specs.Mounted.{IsMounted, StateStep}
 use Rattle.working_state.specs.Moments.{Moment}
 use Rattle.working_state.specs.declared.state.State.{State}
@@ -30,12 +31,6 @@ world_at m found = record { device = m.device; state = Some m.state; found = fou
 -- a system is mounted, and shows this machine
 abbrev pub Shows : World → Machine → Type 0
 Shows w m = (s : State) × (w.state ≡ Some s) × (machine_on w.device s ≡ m)
-
--- calls that commit the history
-abbrev pub is_sync : Call → Bool
-is_sync (Call.Fsync descriptor) = true
-is_sync Call.Sync = true
-is_sync _ = false
 
 -- what a restart may find after a call that was answered so and left this history: an accepted one adds it, and a sync
 -- leaves it alone

@@ -6,6 +6,7 @@ ghost use Rattle.working_state.specs.Mounted.{IsMounted};
 ghost use Rattle.working_state.specs.Props.{mounted-prop};
 ghost use Rattle.fs_types.specs.declared.limits.TheConstants.{MIN_VERSIONS, MAX_VERSIONS};
 
+use calls::carry_out;
 use flash_model::{FaultKind, Flash, Planned};
 use fs_types::{Bytes, Call, CpName, Fault, Name, OpenFlags, Path, Reply, Sequence, Stat, View};
 use std::alloc::Global;
@@ -29,29 +30,7 @@ pub struct Fs<'f, F: Flash> {
 pub fn is_built(call: &Call) -> bool
     ensures { result ≡ is_built call.now }
 {
-    matches!(
-        call,
-        Call::Open { .. }
-            | Call::Close { .. }
-            | Call::Pread { .. }
-            | Call::Pwrite { .. }
-            | Call::Ftruncate { .. }
-            | Call::Mkdir { .. }
-            | Call::Rmdir { .. }
-            | Call::Rename { .. }
-            | Call::Unlink { .. }
-            | Call::Stat { .. }
-            | Call::List { .. }
-            | Call::ReadAt { .. }
-            | Call::Log
-            | Call::Undo
-            | Call::Redo
-            | Call::Goto { .. }
-            | Call::Rollback { .. }
-            | Call::Forget { .. }
-            | Call::Checkpoint { .. }
-            | Call::RemoveCheckpoint { .. }
-    )
+    !matches!(call, Call::Fsync { .. } | Call::Sync | Call::Df)
 }
 
 impl<'f, F: Flash> Fs<'f, F> {
@@ -308,44 +287,7 @@ impl<'f, F: Flash> Fs<'f, F> {
         ensures pages { KeepsAllPages self.old self.new }
         ensures same_flash { flash_name self.new ≡ flash_name self.old }
     {
-        match call {
-            Call::Open { path, flags } => Ok(Reply::Fd(self.open(alloc, path, *flags)?)),
-            Call::Close { descriptor } => empty_reply(self.close(*descriptor)),
-            Call::Pread {
-                descriptor,
-                offset,
-                count,
-            } => Ok(Reply::Bytes(self.pread(alloc, *descriptor, *offset, *count)?)),
-            Call::Pwrite {
-                descriptor,
-                offset,
-                bytes,
-            } => Ok(Reply::Count(self.pwrite(alloc, *descriptor, *offset, bytes.as_slice())?)),
-            Call::Ftruncate { descriptor, length } => {
-                empty_reply(self.ftruncate(alloc, *descriptor, *length))
-            }
-            Call::Mkdir { path } => empty_reply(self.mkdir(alloc, path)),
-            Call::Rmdir { path } => empty_reply(self.rmdir(alloc, path)),
-            Call::Unlink { path } => empty_reply(self.unlink(alloc, path)),
-            Call::Rename { old, new } => empty_reply(self.rename(alloc, old, new)),
-            Call::Stat { view, path } => Ok(Reply::Stat(self.stat(view, path)?)),
-            Call::List { view, path } => Ok(Reply::Names(self.list(alloc, view, path)?)),
-            Call::ReadAt {
-                view,
-                path,
-                offset,
-                count,
-            } => Ok(Reply::Bytes(self.read_at(alloc, view, path, *offset, *count)?)),
-            Call::Log => self.log(alloc),
-            Call::Undo => empty_reply(self.undo()),
-            Call::Redo => empty_reply(self.redo()),
-            Call::Goto { serial } => empty_reply(self.goto(*serial)),
-            Call::Rollback { name } => empty_reply(self.rollback(alloc, name)),
-            Call::Forget { count } => empty_reply(self.forget(*count)),
-            Call::Checkpoint { name } => empty_reply(self.checkpoint(name)),
-            Call::RemoveCheckpoint { name } => empty_reply(self.remove_checkpoint(name)),
-            _ => unreachable!(),
-        }
+        carry_out(&mut self.state, alloc, self.flash, call)
     }
 
     /// Ends the system, and gives its very flash back, as the last call left it: all of the history
@@ -356,13 +298,6 @@ impl<'f, F: Flash> Fs<'f, F> {
     {
         self.flash
     }
-}
-
-fn empty_reply(answer: Result<(), Fault>) -> Result<Reply, Fault>
-    ensures { result ≡ replied empty answer }
-{
-    answer?;
-    Ok(Reply::Empty)
 }
 
 impl<'f, F: Planned> Fs<'f, F> {

@@ -36,6 +36,12 @@ is_for_record (Call.Checkpoint name) = true
 is_for_record (Call.RemoveCheckpoint name) = true
 is_for_record _ = false
 
+-- calls that commit the history
+abbrev pub is_sync : Call → Bool
+is_sync (Call.Fsync descriptor) = true
+is_sync Call.Sync = true
+is_sync _ = false
+
 -- what `df` tells is no fact of the machine: it is the space that is left of the flash
 abbrev pub tells_space : Call → Bool
 tells_space Call.Df = true

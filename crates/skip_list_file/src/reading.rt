@@ -86,6 +86,7 @@ pub(crate) fn copy_data<N: Nodes>(
     requires within { from + length out.old ≤ length (data_of (N.node nodes.old block)) }
     ensures copied { OnOk result (out.new ≡ take (length out.old) (drop from (data_of (N.node nodes.old block)))) }
     ensures before { IfOk result (λ before. (index : ℕ) → index_of (N.node nodes.old block) ≡ Some index → 0 < index → before ≡ pointer_of (N.node nodes.old block) 0) }
+    ensures first { IfOk result (λ before. index_of (N.node nodes.old block) ≡ Some 0 → before ≡ 0) }
     ensures why { IfErr result (λ fault. N.causes nodes.old nodes.new fault) }
     ensures faults { IfErr result spec.IsBodyFault }
     ensures looks { OnlyLooks N.node N.kept N.writes N.follows N.is_sound N.limit N.blocks nodes.old nodes.new }

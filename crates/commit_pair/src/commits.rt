@@ -1,5 +1,5 @@
 //! Commits of records on the anchors.
-ghost use Rattle.std.specs.Prelude.{◌≡◌, ◌≢◌, ◌⊎◌, ℕ, ◌+◌, ◌-◌, ◌*◌, ◌/◌, ◌^◌, ◌<◌, ◌≤◌, [], true, false, length, None, IfOk, OnOk, IfErr, IsErr, Err, vec_capacity};
+ghost use Rattle.std.specs.Prelude.{◌≡◌, ◌≢◌, ◌⊎◌, ℕ, ◌+◌, ◌-◌, ◌*◌, ◌/◌, ◌^◌, ◌<◌, ◌≤◌, [], true, false, length, None, IfOk, OnOk, OnErr, IfErr, IsErr, Err, vec_capacity};
 ghost use Rattle.std.specs.FinSet as set;
 ghost use Rattle.flash_model.specs.Geometry.{IsGeometry};
 ghost use Rattle.read_only.specs.Modes.{is_read_only};
@@ -71,6 +71,10 @@ impl Anchors {
         ensures only_anchors { OnlyAnchors (F.device flash.old) bad.old (F.device flash.new) bad.new }
         ensures untouched { IfErr result (λ fault. fault ≢ Fault.PowerCut → Untouched (F.device flash.old) bad.new (F.device flash.new)) }
         ensures ready { result ≢ Err Fault.PowerCut → MayCommit (F.device flash.new) bad.new self.new }
+
+        // A place that is remembered is forgotten by no answer.
+        ensures known { OnOk result (remembered self.new ≢ None) }
+        ensures same { OnErr result (self.new ≡ self.old) }
 
         // Read-only mode is met at once, and never left by an answer of Ok.
         ensures at_once { is_read_only bad.old ≡ true → (result ≡ Err Fault.ReadOnly) × (F.device flash.new ≡ F.device flash.old) × (bad.new ≡ bad.old) }
@@ -150,6 +154,8 @@ impl Anchors {
         ensures only_anchors { OnlyAnchors (F.device flash.old) bad.old (F.device flash.new) bad.new }
         ensures untouched { IfErr result (λ fault. fault ≢ Fault.PowerCut → Untouched (F.device flash.old) bad.new (F.device flash.new)) }
         ensures ready { result ≢ Err Fault.PowerCut → MayCommit (F.device flash.new) bad.new self.new }
+        ensures known { OnOk result (remembered self.new ≢ None) }
+        ensures same { OnErr result (self.new ≡ self.old) }
         ensures open { OnOk result (is_read_only bad.new ≡ false) }
         ensures why { IfErr result (TryCause (F.device flash.new) bad.new) }
     {

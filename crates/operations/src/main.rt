@@ -1,14 +1,15 @@
-//! Tells how many reads, programs and erases calls ask of a flash, beside the nodes that they may
-//! write: pages of 256 bytes, 16 a block, so that each node is erased once and programmed page by
-//! page.
+//! Tells how many reads, programs and erases calls ask of a flash, and a format and mounts, beside
+//! the nodes that they may write: pages of 256 bytes, 16 a block, so that each node is erased once
+//! and programmed page by page.
 #![tactic(auto)]
 
-mod calls;
 mod error;
 mod measures;
+mod texts;
 
 use anyhow::{Context, Result};
-use measures::{MEASURES, asked_by};
+use flash_model::Counters;
+use measures::{MEASURES, SYNCED_DIRECTORIES, asked_by, asked_by_format, asked_by_mount};
 
 fn main(rt: HostRuntime) -> Result<()> {
     println!(rt;
@@ -17,10 +18,24 @@ fn main(rt: HostRuntime) -> Result<()> {
     )?;
     for row in MEASURES {
         let asked = asked_by(rt.alloc(), &row).context(row.name)?;
-        println!(rt;
-            "{:<42}{:>7}{:>8}{:>10}{:>8}",
-            row.name, row.nodes, asked.reads, asked.programs, asked.erases
-        )?;
+        tell(&rt, row.name, row.nodes, asked)?;
     }
+    tell(&rt, "format", 1, asked_by_format(rt.alloc())?)?;
+    tell(
+        &rt,
+        "mount of an empty root",
+        0,
+        asked_by_mount(rt.alloc(), &[])?,
+    )?;
+    let synced = asked_by_mount(rt.alloc(), SYNCED_DIRECTORIES)?;
+    tell(&rt, "mount of five versions, 15 directories", 0, synced)
+}
+
+/// Tells what was asked of a flash.
+fn tell<R: Print>(rt: &R, name: &str, nodes: u32, asked: Counters) -> Result<()> {
+    println!(rt;
+        "{:<42}{:>7}{:>8}{:>10}{:>8}",
+        name, nodes, asked.reads, asked.programs, asked.erases
+    )?;
     Ok(())
 }

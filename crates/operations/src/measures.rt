@@ -1,6 +1,6 @@
 //! The calls that are measured.
-use crate::calls::counts_after;
 use crate::error::MeasureError;
+use crate::texts::{counts_after, formatted};
 use flash_model::Counters;
 use std::alloc::Global;
 
@@ -15,16 +15,34 @@ pub struct Measure {
 
 /// What a call asked of the flash, beyond what the calls before it asked.
 pub fn asked_by(alloc: Global, row: &Measure) -> Result<Counters, MeasureError> {
-    let before = counts_after(alloc, row.before)?;
+    let before = counts_after(alloc, &mut formatted(alloc)?, row.before)?;
     let mut lines = Vec::new(alloc);
     lines.extend_from_slice(row.before)?;
     lines.push(row.call)?;
-    let after = counts_after(alloc, &lines)?;
-    Ok(Counters {
+    let after = counts_after(alloc, &mut formatted(alloc)?, &lines)?;
+    Ok(beyond(after, before))
+}
+
+/// What a mount asks of a flash on which these lines were carried out.
+pub fn asked_by_mount(alloc: Global, lines: &[&str]) -> Result<Counters, MeasureError> {
+    let mut flash = formatted(alloc)?;
+    let before = counts_after(alloc, &mut flash, lines)?;
+    let after = counts_after(alloc, &mut flash, &[])?;
+    Ok(beyond(after, before))
+}
+
+/// What format asks of an erased flash.
+pub fn asked_by_format(alloc: Global) -> Result<Counters, MeasureError> {
+    Ok(formatted(alloc)?.counts())
+}
+
+/// What was asked beyond what was asked before.
+fn beyond(after: Counters, before: Counters) -> Counters {
+    Counters {
         reads: after.reads.saturating_sub(before.reads),
         programs: after.programs.saturating_sub(before.programs),
         erases: after.erases.saturating_sub(before.erases),
-    })
+    }
 }
 
 const EMPTY_FILE: &[&str] = &["open /f 7"];
@@ -35,8 +53,25 @@ const FILE_OF_1_MIB: &[&str] = &["open /f 7", "fill 1048576"];
 
 const FILE_OF_512_KIB: &[&str] = &["open /f 7", "fill 1048576", "ftruncate 0 524288"];
 
+const FULL_ANCHOR: &[&str] = &[
+    "sync", "sync", "sync", "sync", "sync", "sync", "sync", "sync", "sync", "sync", "sync", "sync",
+    "sync", "sync", "sync",
+];
+
+const LONG_RECORD: &[&str] = &[
+    "checkpoint a-name-that-takes-31-bytes-no-1",
+    "checkpoint a-name-that-takes-31-bytes-no-2",
+    "checkpoint a-name-that-takes-31-bytes-no-3",
+    "checkpoint a-name-that-takes-31-bytes-no-4",
+    "checkpoint a-name-that-takes-31-bytes-no-5",
+    "checkpoint a-name-that-takes-31-bytes-no-6",
+];
+
+/// What is done before a mount that is measured.
+pub const SYNCED_DIRECTORIES: &[&str] = &["deep 4", "sync"];
+
 /// The calls, with the most nodes that each may write.
-pub const MEASURES: [Measure; 19] = [
+pub const MEASURES: [Measure; 22] = [
     Measure {
         name: "mkdir at depth 1",
         before: &[],
@@ -149,6 +184,24 @@ pub const MEASURES: [Measure; 19] = [
         name: "redo",
         before: &["deep 4", "undo"],
         call: "redo",
+        nodes: 0,
+    },
+    Measure {
+        name: "sync of a record of one page",
+        before: &["deep 4"],
+        call: "sync",
+        nodes: 0,
+    },
+    Measure {
+        name: "sync of a record of two pages",
+        before: LONG_RECORD,
+        call: "sync",
+        nodes: 0,
+    },
+    Measure {
+        name: "sync where the anchor is full",
+        before: FULL_ANCHOR,
+        call: "sync",
         nodes: 0,
     },
 ];

@@ -1,6 +1,6 @@
 //! Runs worked rows: scripts with the replies that are expected of them, each on the plain machine
-//! and on a flash in memory as far as these go by now. A row that does not give its replies is told
-//! with what it gave, and the status is 1.
+//! and on a flash in memory that was formatted, as far as these go by now. A row that does not give
+//! its replies is told with what it gave, and the status is 1.
 #![tactic(auto)]
 
 mod error;

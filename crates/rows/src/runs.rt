@@ -7,10 +7,7 @@ use plain_machine::{PlainMachine, Space};
 use script::{Line, LineAnswer, print_answer, read_line};
 use shell::run_script;
 use std::alloc::Global;
-use undofs::{Fs, is_built};
-
-/// The history of a script's system.
-const SCRIPT_HISTORY: u32 = 8;
+use undofs::format;
 
 /// What a row gave that was not expected: the line, and what was answered to it.
 #[derive(Drop)]
@@ -75,56 +72,6 @@ fn told(outcome: Result<Reply, Fault>) -> LineAnswer {
     }
 }
 
-/// Runs a row on a fresh flash in memory, and answers the first difference.
-pub fn run_on_flash(alloc: Global, row: &Row<'_>) -> Result<Option<Difference>, RowError> {
-    let mut flash = SimFlash::new(alloc, row.geometry, &row.plan)?;
-    if row.history == SCRIPT_HISTORY {
-        return run_as_script(alloc, row, &mut flash);
-    }
-    run_calls(alloc, row, &mut flash)
-}
-
-/// Runs a row by the calls of a system with the row's history.
-fn run_calls(
-    alloc: Global,
-    row: &Row<'_>,
-    flash: &mut SimFlash,
-) -> Result<Option<Difference>, RowError> {
-    let mut system = Fs::fresh(alloc, flash, row.history)?;
-    for step in &row.steps {
-        if let Some(difference) = compare_call(alloc, &mut system, step)? {
-            return Ok(Some(difference));
-        }
-    }
-    Ok(None)
-}
-
-/// Carries out a line on a system, and compares its answer.
-fn compare_call(
-    alloc: Global,
-    system: &mut Fs<'_, SimFlash>,
-    step: &Step<'_>,
-) -> Result<Option<Difference>, RowError> {
-    let answer = answer_call(alloc, system, step)?;
-    compare_answer(alloc, step, &answer)
-}
-
-fn answer_call(
-    alloc: Global,
-    system: &mut Fs<'_, SimFlash>,
-    step: &Step<'_>,
-) -> Result<LineAnswer, RowError> {
-    let answer = match read_line(alloc, step.line.as_bytes())? {
-        Line::Call(call) if is_built(&call) => told(system.call(alloc, &call)),
-        Line::PlanFault { k, kind } if 0 < k => {
-            told(system.plan_fault(k, kind).map(|_| Reply::Empty))
-        }
-        Line::Refused(fault) => told(Err(fault)),
-        _ => LineAnswer::Syntax,
-    };
-    Ok(answer)
-}
-
 /// Compares an answer with the reply that is expected.
 fn compare_answer(
     alloc: Global,
@@ -138,6 +85,14 @@ fn compare_answer(
         return Ok(None);
     }
     Ok(Some(difference_at(alloc, step, text.trim_end())?))
+}
+
+/// Runs a row on a flash in memory that was formatted, as one script, and answers the first
+/// difference.
+pub fn run_on_flash(alloc: Global, row: &Row<'_>) -> Result<Option<Difference>, RowError> {
+    let mut flash = SimFlash::new(alloc, row.geometry, &row.plan)?;
+    format(alloc, &mut flash, row.history)?;
+    run_as_script(alloc, row, &mut flash)
 }
 
 /// Runs the lines as one script, and compares all that it writes.

@@ -1,6 +1,7 @@
 //! Tests of what no clause says: each public call that takes memory once with ample memory, worked
 //! bytes, and streams that fail.
 mod commits;
+mod formats;
 mod histories;
 mod images;
 mod lines;

@@ -14,10 +14,10 @@ use Rattle.flash_model.specs.declared.simulation.SimFlash.{SimFlash}
 use Rattle.script.specs.Lines.{line_of}
 use Rattle.script.specs.declared.lines.Line.{Line}
 use Rattle.script.specs.declared.answers.LineAnswer.{LineAnswer}
-use Rattle.working_state.specs.Fresh.{IsFresh, FreshCause}
-use Rattle.working_state.specs.Moments.{Moment, machine_at, IsMountedAt}
+use Rattle.upkeep.specs.Mounts.{IsMountOf, MountCause}
+use Rattle.upkeep.specs.Moments.{Moment, machine_at, IsMountedAt}
 use Rattle.undofs.specs.Runs.{world_at, found_after}
-use Rattle.shell.specs.Scripts.{Scene, event_of, Plans, RepliesBy, Replies, CarriesOut, scene_at, kept_versions, answer_text, answer_texts, HasTaken, EndsBy, Session, Ends}
+use Rattle.shell.specs.Scripts.{Scene, event_of, Plans, RepliesBy, Replies, CarriesOut, scene_at, answer_text, answer_texts, HasTaken, EndsBy, Session, Ends}
 use Rattle.shell.specs.Turns.{Gets, DoesBy, Does, Writes, Carried, LinesEnd}
 use Rattle.shell.specs.declared.scripts.ScriptFault.{ScriptFault}
 use Rattle.shell.proofs.TakenLines.{taken_all, taken_more}
@@ -32,9 +32,9 @@ replies_by : (e : Option Event) (line : Line) (m : Moment) (plan : Schedule) (an
     → (found : List (Past Tree)) → (more : List (Past Tree)) × RepliesBy e line (scene_at m found plan) answer (scene_at n more plan')
 replies_by None line m plan answer n plan' h mounted found = (found, (ap (λ (x : Moment). world_at x found) h.0, h.1))
 replies_by (Some (Event.Call call)) line m plan (LineAnswer.Told (Answer.Done reply)) n plan' h mounted found =
-    (found_after call (Ok reply) found (machine_at n).history, record { before = m.state; after = n.state; was = refl; is = refl; step = h; mounted = mounted; found = refl })
+    (found_after call (Ok reply) found (machine_at n).history, record { before = m.system; after = n.system; was = refl; is = refl; step = h; mounted = mounted; found = refl })
 replies_by (Some (Event.Call call)) line m plan (LineAnswer.Told (Answer.Refused fault)) n plan' h mounted found =
-    (found, record { before = m.state; after = n.state; was = refl; is = refl; step = h; mounted = mounted; found = refl })
+    (found, record { before = m.system; after = n.system; was = refl; is = refl; step = h; mounted = mounted; found = refl })
 replies_by (Some (Event.Call call)) line m plan (LineAnswer.Told Answer.Mounted) n plan' h mounted found = absurd h
 replies_by (Some (Event.Call call)) line m plan (LineAnswer.Told Answer.Unmounted) n plan' h mounted found = absurd h
 replies_by (Some (Event.Call call)) line m plan LineAnswer.Syntax n plan' h mounted found = absurd h
@@ -147,10 +147,10 @@ ends_map P Q C D f g input left (Err ScriptFault.Write) old new h = (h.0, h.1, h
 ends_map P Q C D f g input left (Err ScriptFault.Memory) old new (inl h) = inl (h.0, h.1, f h.0 h.1 h.2, h.3, h.4)
 ends_map P Q C D f g input left (Err ScriptFault.Memory) old new (inr h) = inr (h.0, h.1, h.2, f h.0 (h.1 ++ h.2 ∷ []) h.3, h.4, h.5)
 
--- the lines of a reader on a fresh system, whose flash this is at the end
+-- the lines of a reader on a mounted system, whose flash this is at the end
 pub script_ends : (start end : SimFlash) (m : Moment) (plan : Schedule) (n : Moment) (input left : Option (List ℕ)) (result : Result (Unit {0}) ScriptFault) (old new : Option (List ℕ))
-    → IsFresh (device_of start) kept_versions m → IsMountedAt n → n.device ≡ device_of end → LinesEnd m plan input left result old new n (plan_of end) → Ends start end input left result old new
+    → IsMountOf (device_of start) m.device m.system → IsMountedAt n → n.device ≡ device_of end → LinesEnd m plan input left result old new n (plan_of end) → Ends start end input left result old new
 script_ends start end m plan n input left result old new begins mounted ends h =
-    ends_map (Carried m plan n (plan_of end)) (Session start end) (λ fault. ⊥) (λ fault. FreshCause (device_of start) kept_versions fault (device_of end))
+    ends_map (Carried m plan n (plan_of end)) (Session start end) (λ fault. ⊥) (MountCause (device_of start) (device_of end))
     (λ lines answers carried. record { first = m; last = n; plan = plan; found = carried.0; begins = begins; carried = carried.1; mounted = mounted; ends = ends })
     (λ fault none. absurd none) input left result old new h

@@ -18,8 +18,8 @@ use Rattle.script.specs.Streams.{TakesLine, TakesPart, lines_of}
 use Rattle.script.specs.declared.lines.Line.{Line}
 use Rattle.script.specs.declared.answers.LineAnswer.{LineAnswer}
 use Rattle.undofs.specs.Built.{is_built}
-use Rattle.working_state.specs.Fresh.{IsFresh, FreshCause}
-use Rattle.working_state.specs.Moments.{Moment, machine_at, IsMountedAt}
+use Rattle.upkeep.specs.Mounts.{IsMountOf, MountCause}
+use Rattle.upkeep.specs.Moments.{Moment, machine_at, IsMountedAt}
 use Rattle.undofs.specs.Runs.{World, world_at, Happens, Run}
 use Rattle.shell.specs.declared.scripts.ScriptFault.{ScriptFault}
 
@@ -100,29 +100,25 @@ EndsBy Session Cause input left (Err ScriptFault.Memory) old new =
     ⊎ ((lines : List (List ℕ)) × (earlier : List LineAnswer) × (last : LineAnswer) × Session lines (earlier ++ last ∷ []) × HasTaken input lines left × Appends old new (answer_texts earlier))
 EndsBy Session Cause input left (Err (ScriptFault.Mount fault)) old new = Cause fault × (left ≡ input) × (new ≡ old)
 
--- how many versions the system of a script keeps
-abbrev pub kept_versions : ℕ
-kept_versions = 8
-
 -- a mounted system, the histories that a restart may find, and the plan of its flash
 abbrev pub scene_at : Moment → List (Past Tree) → Schedule → Scene
 scene_at m found plan = record { world = world_at m found; plan = plan }
 
--- lines that were carried out on a fresh system on a flash: the first moment is that of the fresh system, and the last one
--- stands on the flash at the end, with a tree at each root of its history
+-- lines that were carried out on the system that was mounted on a flash: the first moment is that of the mount, and the last
+-- one stands on the flash at the end, with a tree at each root of its history
 pub record Session (start end : SimFlash) (lines : List (List ℕ)) (answers : List LineAnswer) : Type 0 where
   pub first : Moment
   pub last : Moment
   pub plan : Schedule
   pub found : List (Past Tree)
-  pub begins : IsFresh (device_of start) kept_versions first
+  pub begins : IsMountOf (device_of start) first.device first.system
   pub carried : CarriesOut (scene_at first ((machine_at first).history ∷ []) plan) lines answers (scene_at last found (plan_of end))
   pub mounted : IsMountedAt last
   pub ends : last.device ≡ device_of end
 
 -- how a script ends that found and leaves these flashes
 abbrev pub Ends : SimFlash → SimFlash → Option (List ℕ) → Option (List ℕ) → Result (Unit {0}) ScriptFault → Option (List ℕ) → Option (List ℕ) → Type 0
-Ends start end input left result old new = EndsBy (Session start end) (λ fault. FreshCause (device_of start) kept_versions fault (device_of end)) input left result old new
+Ends start end input left result old new = EndsBy (Session start end) (MountCause (device_of start) (device_of end)) input left result old new
 
 -- the events that lines ask for
 abbrev pub with_first : {A : Type 0} → Option A → List A → List A

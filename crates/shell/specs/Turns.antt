@@ -11,7 +11,7 @@ use Rattle.script.specs.Lines.{line_of}
 use Rattle.script.specs.Streams.{TakesLine, TakesPart}
 use Rattle.script.specs.declared.lines.Line.{Line}
 use Rattle.script.specs.declared.answers.LineAnswer.{LineAnswer}
-use Rattle.working_state.specs.Moments.{Moment, machine_at, Steps}
+use Rattle.upkeep.specs.Moments.{Moment, machine_at, Steps}
 use Rattle.shell.specs.Scripts.{event_of, IsStillAnswer, CarriesOut, EndsBy, scene_at, answer_text}
 use Rattle.shell.specs.declared.scripts.ScriptFault.{ScriptFault}
 

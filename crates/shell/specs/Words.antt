@@ -6,8 +6,9 @@ use Rattle.flash_model.specs.Simulation.{device_of, plan_of, IsNew}
 use Rattle.flash_model.specs.Plan.{plan_of_entries}
 use Rattle.flash_model.specs.declared.simulation.SimFlash.{SimFlash}
 use Rattle.flash_model.specs.declared.sizes.Geometry.{Geometry}
-use Rattle.working_state.specs.Fresh.{FreshCause}
-use Rattle.shell.specs.Scripts.{EndsBy, kept_versions, Session}
+use Rattle.upkeep.specs.Formats.{IsFormatted, FormatCause}
+use Rattle.upkeep.specs.Mounts.{MountCause}
+use Rattle.shell.specs.Scripts.{EndsBy, Session}
 use Rattle.script.specs.declared.answers.LineAnswer.{LineAnswer}
 use Rattle.shell.specs.declared.scripts.ScriptFault.{ScriptFault}
 
@@ -31,13 +32,20 @@ pub record IsNewFlash (sizes : Geometry) (flash : SimFlash) : Type 0 where
   pub new : IsNew sizes (device_of flash)
   pub plan : plan_of flash ≡ plan_of_entries []
 
--- lines that were carried out on a new flash
-abbrev pub NewSession : Geometry → List (List ℕ) → List LineAnswer → Type 0
-NewSession sizes lines answers = (start : SimFlash) × (end : SimFlash) × IsNewFlash sizes start × Session start end lines answers
+-- how many versions the system of `memory` keeps
+abbrev pub kept_versions : ℕ
+kept_versions = 8
 
--- why no system was made: for want of memory for the flash, or for a fresh system's cause
+-- lines that were carried out on a new flash, once it was formatted
+abbrev pub NewSession : Geometry → List (List ℕ) → List LineAnswer → Type 0
+NewSession sizes lines answers =
+    (start : SimFlash) × (formatted : SimFlash) × (end : SimFlash) × IsNewFlash sizes start × IsFormatted kept_versions (device_of formatted) × Session formatted end lines answers
+
+-- why no system was made: for want of memory for the flash; or since it was not formatted, or not mounted then
 abbrev pub NewCause : Geometry → Fault → Type 0
-NewCause sizes fault = (fault ≡ Fault.NoMemory) ⊎ ((start : SimFlash) × (end : SimFlash) × IsNewFlash sizes start × FreshCause (device_of start) kept_versions fault (device_of end))
+NewCause sizes fault = (fault ≡ Fault.NoMemory)
+    ⊎ (((start : SimFlash) × (end : SimFlash) × IsNewFlash sizes start × FormatCause (device_of start) kept_versions fault (device_of end))
+    ⊎ ((formatted : SimFlash) × (end : SimFlash) × IsFormatted kept_versions (device_of formatted) × MountCause (device_of formatted) (device_of end) fault))
 
 -- how a script ends on a new flash of its own
 abbrev pub EndsInMemory : Geometry → Option (List ℕ) → Option (List ℕ) → Result (Unit {0}) ScriptFault → Option (List ℕ) → Option (List ℕ) → Type 0

@@ -11,10 +11,7 @@ use script::{Line, LineAnswer, LineReader, Taken, print_answer, read_line, write
 use std::alloc::Global;
 use std::io::{Read, Write};
 use thiserror::Error;
-use undofs::{Fs, State, is_built};
-
-/// How many versions a script's system keeps.
-const HISTORY: u32 = 8;
+use undofs::{Fs, is_built, mount};
 
 /// Why a script did not run to its end.
 #[derive(Clone, Copy, Debug, PartialEq, Eq, Error)]
@@ -46,9 +43,9 @@ pub fn run_script<R: Read, W: Write>(
 ) -> Result<(), ScriptFault>
     ensures ends { Ends flash.old flash.new (R.remaining reader.old) (R.remaining reader.new) result (W.contents writer.old) (W.contents writer.new) }
 {
-    match State::fresh(alloc, flash, HISTORY) {
-        Ok(state) => {
-            let mut system = Fs::on(flash, state);
+    match mount(alloc, flash) {
+        Ok(mounted) => {
+            let mut system = Fs::on(flash, mounted);
             let ended = run_lines(alloc, reader, writer, &mut system);
             system.into_flash();
             ended

@@ -7,6 +7,7 @@ use flash_model::{Geometry, SimFlash};
 use fs_types::Fault;
 use std::alloc::Global;
 use std::io::{Read, Write};
+use undofs::format;
 
 /// The flash of `uffs memory`: 32 blocks of 16 pages of 256 bytes.
 pub const MEMORY_SIZES: Geometry = Geometry {
@@ -14,6 +15,9 @@ pub const MEMORY_SIZES: Geometry = Geometry {
     pages: 16,
     blocks: 32,
 };
+
+/// How many versions the system of `uffs memory` keeps.
+pub const MEMORY_HISTORY: u32 = 8;
 
 /// Carries out the words that follow the program's name, and answers the status.
 ///
@@ -57,8 +61,12 @@ fn run_in_memory<R: Read, W: Write>(
 ) -> Result<(), ScriptFault>
     ensures { EndsInMemory MEMORY_SIZES (R.remaining reader.old) (R.remaining reader.new) result (W.contents out.old) (W.contents out.new) }
 {
-    match SimFlash::new(alloc, MEMORY_SIZES, &[]) {
-        Ok(mut flash) => run_script(alloc, reader, out, &mut flash),
+    let mut flash = match SimFlash::new(alloc, MEMORY_SIZES, &[]) {
+        Ok(flash) => flash,
+        Err(fault) => return Err(ScriptFault::Mount(fault)),
+    };
+    match format(alloc, &mut flash, MEMORY_HISTORY) {
+        Ok(()) => run_script(alloc, reader, out, &mut flash),
         Err(fault) => Err(ScriptFault::Mount(fault)),
     }
 }

@@ -9,7 +9,7 @@ use Rattle.history_machine.specs.Machine.{Machine, mounted, next, after}
 use Rattle.fs_types.specs.declared.calls.Call.{Call}
 use Rattle.fs_types.specs.declared.calls.Reply.{Reply}
 use Rattle.working_state.specs.Seen.{machine_on}
-use Rattle.working_state.specs.declared.state.State.{State}
+use Rattle.upkeep.specs.declared.systems.System.{System}
 use Rattle.working_state.specs.Steps.{is_sync}
 use Rattle.undofs.specs.Runs.{World, Shows, found_after, Happens, Run}
 use Rattle.undofs.specs.Courses.{Course, no_calls, with_call, Restarts, Goes, Leads, after_mounts, after_course, CourseLaw}
@@ -92,16 +92,16 @@ found_then m c call reply found h now within is before has = on (is_sync call) r
         part other (inr new) = whole m c call h (is ∙ only now h new) within
 
 -- what is shown is what the state shows
-shows : (w : World) (n : Machine) (s : State) → Shows w n → w.state ≡ Some s → machine_on w.device s ≡ n
-shows w n s is there = let same : s ≡ is.0 = (let first = is.1 in cc) in ap (machine_on w.device) same ∙ is.2
+shows : (w : World) (n : Machine) (s : System) → Shows w n → w.system ≡ Some s → machine_on w.device s.state ≡ n
+shows w n s is there = let same : s ≡ is.0 = (let first = is.1 in cc) in ap (λ (x : System). machine_on w.device x.state) same ∙ is.2
 
 accepts : (m : Machine) (w v : World) (c : Course) (call : Call) (reply : Reply) → Stands m w c → Happens w (Event.Call call) (Answer.Done reply) v → Stands m v (with_call c call)
 accepts m w v c call reply stands here =
-    let was : machine_on w.device here.before ≡ after_course m c = stands.shown (machine_on w.device here.before) (here.before, here.was, refl) in
-    let now : machine_on v.device here.after ≡ next (after_course m c) call = here.step.step.answers.1.leaves ∙ ap (λ (x : Machine). next x call) was in
+    let was : machine_on w.device here.before.state ≡ after_course m c = stands.shown (machine_on w.device here.before.state) (here.before, here.was, refl) in
+    let now : machine_on v.device here.after.state ≡ next (after_course m c) call = here.step.step.answers.1.leaves ∙ ap (λ (x : Machine). next x call) was in
     record {
       shown = λ n is. sym (shows v n here.after is here.is) ∙ now ∙ sym (with_next m c call);
-      found = λ h has. found_then m c call reply w.found h (machine_on v.device here.after).history stands.within (ap (λ (x : Machine). x.history) (sym now)) stands.found (subst (λ (x : List (Past Tree)). Contains x h) here.found has);
+      found = λ h has. found_then m c call reply w.found h (machine_on v.device here.after.state).history stands.within (ap (λ (x : Machine). x.history) (sym now)) stands.found (subst (λ (x : List (Past Tree)). Contains x h) here.found has);
       within = on (is_sync call);
     }
   where
@@ -113,8 +113,8 @@ accepts m w v c call reply stands here =
 goes : (m : Machine) (w v : World) (c : Course) (event : Event) (answer : Answer) → Stands m w c → Happens w event answer v → (d : Course) × Goes c event answer d × Stands m v d
 goes m w v c (Event.Call call) (Answer.Done reply) stands here = (with_call c call, refl, accepts m w v c call reply stands here)
 goes m w v c (Event.Call call) (Answer.Refused fault) stands here =
-    let stays : machine_on v.device here.after ≡ machine_on w.device here.before = refused_keeps _ _ here.before.is_off call fault _ _ here.after.is_off here.step.step.answers in
-    let was = stands.shown (machine_on w.device here.before) (here.before, here.was, refl) in (
+    let stays : machine_on v.device here.after.state ≡ machine_on w.device here.before.state = refused_keeps _ _ here.before.state.is_off call fault _ _ here.after.state.is_off here.step.step.answers in
+    let was = stands.shown (machine_on w.device here.before.state) (here.before, here.was, refl) in (
       c,
       refl,
       record {
@@ -143,7 +143,7 @@ goes m w v c Event.Restart Answer.Mounted stands here =
       d,
       record { left = among.left; held = among.held; there = among.there; is = refl },
       record {
-        shown = λ n is. sym (shows v n mount.state is mount.is) ∙ mount.machine ∙ sym at;
+        shown = λ n is. sym (shows v n mount.system is mount.is) ∙ mount.machine ∙ sym at;
         found = λ h has. record {
           left = 0;
           held = omega arith;

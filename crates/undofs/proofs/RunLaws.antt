@@ -10,8 +10,9 @@ use Rattle.fs_types.specs.declared.calls.Reply.{Reply}
 use Rattle.fs_types.specs.declared.faults.Fault.{Fault}
 use Rattle.working_state.specs.Seen.{Seen, machine_on}
 use Rattle.working_state.specs.Steps.{is_sync, Answers}
+use Rattle.working_state.specs.Steps.{is_sync}
 use Rattle.undofs.specs.Runs.{World, Shows, found_after, Run, accepted, NoneCommits, CommitLaw, PrefixLaw}
-use Rattle.working_state.specs.declared.state.State.{State}
+use Rattle.upkeep.specs.declared.systems.System.{System}
 use Rattle.fs_types.specs.declared.events.Event.{Event}
 use Rattle.fs_types.specs.declared.events.Answer.{Answer}
 
@@ -37,11 +38,11 @@ call_adds : (call : Call) (reply : Reply) (found : List (Past Tree)) (h : Past T
 call_adds call reply found h other = rw other
 
 -- the machine that is shown is that of the state that is there
-shown : (w : World) (m : Machine) (s : State) → Shows w m → w.state ≡ Some s → machine_on w.device s ≡ m
-shown w m s is there = let same : s ≡ is.0 = (let first = is.1 in cc) in ap (machine_on w.device) same ∙ is.2
+shown : (w : World) (m : Machine) (s : System) → Shows w m → w.system ≡ Some s → machine_on w.device s.state ≡ m
+shown w m s is there = let same : s ≡ is.0 = (let first = is.1 in cc) in ap (λ (x : System). machine_on w.device x.state) same ∙ is.2
 
 -- a system is mounted, or none is
-pub not_both : (w : World) (s : State) → w.state ≡ Some s → w.state ≡ None → ⊥
+pub not_both : (w : World) (s : System) → w.system ≡ Some s → w.system ≡ None → ⊥
 not_both w s some none = cc
 
 pub refused_keeps : (s : Seen) (m : Machine) (off : Bool) (call : Call) (fault : Fault) (t : Seen) (n : Machine) (off' : Bool) → Answers s m off call (Err fault) t n off' → n ≡ m
@@ -49,7 +50,7 @@ refused_keeps s m true call fault t n off' h = h.2
 refused_keeps s m false call fault t n off' h = h.1
 
 -- without a mount no call is accepted, and what a restart may find stays
-stopped : (w : World) (events : List Event) (answers : List Answer) (v : World) → w.state ≡ None
+stopped : (w : World) (events : List Event) (answers : List Answer) (v : World) → w.system ≡ None
     → Run w events answers v → NoneCommits events answers → (v.found ≡ w.found) × (accepted events answers ≡ [])
 stopped w [] [] v stops run none = (ap (λ (x : World). x.found) run, refl)
 stopped w [] (answer ∷ answers) v stops run none = absurd run
@@ -58,7 +59,7 @@ stopped w (Event.Call call ∷ events) (Answer.Done reply ∷ answers) v stops (
 stopped w (Event.Call call ∷ events) (Answer.Refused fault ∷ answers) v stops (between, here, rest) none = absurd (not_both w here.before here.was stops)
 stopped w (Event.Call call ∷ events) (Answer.Mounted ∷ answers) v stops (between, here, rest) none = absurd here
 stopped w (Event.Call call ∷ events) (Answer.Unmounted ∷ answers) v stops (between, here, rest) none =
-    let on = stopped between events answers v (ap (λ (x : World). x.state) here.1 ∙ stops) rest none.1 in
+    let on = stopped between events answers v (ap (λ (x : World). x.system) here.1 ∙ stops) rest none.1 in
     (on.0 ∙ ap (λ (x : World). x.found) here.1, on.1)
 stopped w (Event.Restart ∷ events) (Answer.Done reply ∷ answers) v stops (between, here, rest) none = absurd here
 stopped w (Event.Restart ∷ events) (Answer.Refused fault ∷ answers) v stops (between, here, rest) none =
@@ -74,14 +75,14 @@ grows w m [] [] v is run none = ap (λ (x : World). x.found) run ∙ sym (append
 grows w m [] (answer ∷ answers) v is run none = absurd run
 grows w m (event ∷ events) [] v is run none = absurd run
 grows w m (Event.Call call ∷ events) (Answer.Done reply ∷ answers) v is (between, here, rest) none =
-    let leaves : machine_on between.device here.after ≡ next m call = here.step.step.answers.1.leaves ∙ ap (λ (x : Machine). next x call) (shown w m here.before is here.was) in
+    let leaves : machine_on between.device here.after.state ≡ next m call = here.step.step.answers.1.leaves ∙ ap (λ (x : Machine). next x call) (shown w m here.before is here.was) in
     let on = grows between (next m call) events answers v (here.after, here.is, leaves) rest none.1 in
     let added : between.found ≡ w.found ++ (next m call).history ∷ [] =
-    here.found ∙ call_adds call reply w.found (machine_on between.device here.after).history none.0 ∙ ap (λ (x : Machine). w.found ++ x.history ∷ []) leaves in
+    here.found ∙ call_adds call reply w.found (machine_on between.device here.after.state).history none.0 ∙ ap (λ (x : Machine). w.found ++ x.history ∷ []) leaves in
     on ∙ ap (λ (x : List (Past Tree)). x ++ later (next m call) (accepted events answers)) added
     ∙ append_assoc w.found ((next m call).history ∷ []) (later (next m call) (accepted events answers))
 grows w m (Event.Call call ∷ events) (Answer.Refused fault ∷ answers) v is (between, here, rest) none =
-    let stays : machine_on between.device here.after ≡ m = refused_keeps _ _ here.before.is_off call fault _ _ here.after.is_off here.step.step.answers ∙ shown w m here.before is here.was in
+    let stays : machine_on between.device here.after.state ≡ m = refused_keeps _ _ here.before.state.is_off call fault _ _ here.after.state.is_off here.step.step.answers ∙ shown w m here.before is here.was in
     grows between m events answers v (here.after, here.is, stays) rest none.1
     ∙ ap (λ (x : List (Past Tree)). x ++ later m (accepted events answers)) here.found
 grows w m (Event.Call call ∷ events) (Answer.Mounted ∷ answers) v is (between, here, rest) none = absurd here
@@ -99,14 +100,14 @@ prefix_law w v u m events answers is alone run none here =
     grows w m events answers v is run none ∙ ap (λ (x : List (Past Tree)). x ++ later m (accepted events answers)) alone in
     let mount = here.0 in
     let at = found_later m (accepted events answers) mount.history (subst (λ (x : List (Past Tree)). Contains x mount.history) grown mount.among) in
-    (at.0, at.1, (mount.state, mount.is, mount.machine ∙ ap (λ (h : Past Tree). mounted h) at.2))
+    (at.0, at.1, (mount.system, mount.is, mount.machine ∙ ap (λ (h : Past Tree). mounted h) at.2))
 
 pub commit_law : CommitLaw
-commit_law w v (Event.Call call) (Answer.Done reply) here sync = (machine_on v.device here.after, (here.after, here.is, refl), here.found ∙ (rw sync))
+commit_law w v (Event.Call call) (Answer.Done reply) here sync = (machine_on v.device here.after.state, (here.after, here.is, refl), here.found ∙ (rw sync))
 commit_law w v (Event.Call call) (Answer.Refused fault) here sync = absurd (cc)
 commit_law w v (Event.Call call) Answer.Mounted here sync = absurd here
 commit_law w v (Event.Call call) Answer.Unmounted here sync = absurd (cc)
 commit_law w v Event.Restart (Answer.Done reply) here sync = absurd here
 commit_law w v Event.Restart (Answer.Refused fault) here sync = absurd (cc)
-commit_law w v Event.Restart Answer.Mounted here sync = (mounted here.0.history, (here.0.state, here.0.is, here.0.machine), here.0.alone)
+commit_law w v Event.Restart Answer.Mounted here sync = (mounted here.0.history, (here.0.system, here.0.is, here.0.machine), here.0.alone)
 commit_law w v Event.Restart Answer.Unmounted here sync = absurd here

@@ -11,26 +11,27 @@ use Rattle.flash_model.specs.Device.{Device}
 use Rattle.flash_model.specs.Reading.{OnlyReads}
 use Rattle.working_state.specs.Seen.{capacity_of, seen_on, machine_on}
 use Rattle.working_state.specs.Steps.{is_sync}
-use Rattle.working_state.specs.Mounted.{IsMounted, StateStep}
-use Rattle.working_state.specs.Moments.{Moment}
-use Rattle.working_state.specs.declared.state.State.{State}
+use Rattle.upkeep.specs.Commits.{SystemStep}
+use Rattle.upkeep.specs.Moments.{Moment}
+use Rattle.upkeep.specs.Systems.{IsSystem}
+use Rattle.upkeep.specs.declared.systems.System.{System}
 use Rattle.fs_types.specs.declared.events.Event.{Event}
 use Rattle.fs_types.specs.declared.events.Answer.{Answer}
 
--- a flash; the working state of the system on it, where one is mounted; and the histories that a restart may find, oldest
+-- a flash; the system on it, where one is mounted; and the histories that a restart may find, oldest
 -- first: the one that was mounted or synced last, and those after each call that was accepted since
 pub record World : Type 0 where
   pub device : Device
-  pub state : Option State
+  pub system : Option System
   pub found : List (Past Tree)
 
 -- a system is mounted, and this is the world's moment
 abbrev pub world_at : Moment → List (Past Tree) → World
-world_at m found = record { device = m.device; state = Some m.state; found = found }
+world_at m found = record { device = m.device; system = Some m.system; found = found }
 
 -- a system is mounted, and shows this machine
 abbrev pub Shows : World → Machine → Type 0
-Shows w m = (s : State) × (w.state ≡ Some s) × (machine_on w.device s ≡ m)
+Shows w m = (s : System) × (w.system ≡ Some s) × (machine_on w.device s.state ≡ m)
 
 -- what a restart may find after a call that was answered so and left this history: an accepted one adds it, and a sync
 -- leaves it alone
@@ -38,16 +39,16 @@ abbrev pub found_after : Call → Result Reply Fault → List (Past Tree) → Pa
 found_after call (Ok reply) found h = if is_sync call then h ∷ [] else found ++ h ∷ []
 found_after call (Err fault) found h = found
 
--- a call on a mounted system takes its step from the flash and the state to the next ones, on which the system is mounted.
+-- a call on a mounted system takes its step from the flash and the system to the next ones, on which the system is mounted.
 -- The step says what is left of both, so that nothing changes between events that no event did
 pub record Calls (w : World) (call : Call) (result : Result Reply Fault) (v : World) : Type 0 where
-  pub before : State
-  pub after : State
-  pub was : w.state ≡ Some before
-  pub is : v.state ≡ Some after
-  pub step : StateStep w.device before call result v.device after
-  pub mounted : IsMounted v.device after
-  pub found : v.found ≡ found_after call result w.found (machine_on v.device after).history
+  pub before : System
+  pub after : System
+  pub was : w.system ≡ Some before
+  pub is : v.system ≡ Some after
+  pub step : SystemStep w.device before call result v.device after
+  pub mounted : IsSystem v.device after
+  pub found : v.found ≡ found_after call result w.found (machine_on v.device after.state).history
 
 -- the same flash with the power on
 abbrev pub put_on : Device → Device
@@ -63,18 +64,18 @@ MayRefuseMount old _ new = ⊥
 -- a system is mounted that shows one of these histories, and no file is open
 pub record IsMount (found : List (Past Tree)) (v : World) : Type 0 where
   pub history : Past Tree
-  pub state : State
+  pub system : System
   pub among : Contains found history
-  pub is : v.state ≡ Some state
-  pub machine : machine_on v.device state ≡ mounted history
-  pub mounted : IsMounted v.device state
-  pub is_on : state.is_off ≡ false
+  pub is : v.system ≡ Some system
+  pub machine : machine_on v.device system.state ≡ mounted history
+  pub mounted : IsSystem v.device system
+  pub is_on : system.state.is_off ≡ false
   pub alone : v.found ≡ history ∷ []
 
 -- a mount reads the flash and does nothing else to it: it mounts one of these histories, or is refused
 abbrev pub Mounts : Device → List (Past Tree) → Answer → World → Type 0
 Mounts d found Answer.Mounted v = IsMount found v × OnlyReads d v.device
-Mounts d found (Answer.Refused fault) v = (v.state ≡ None) × (v.found ≡ found) × MayRefuseMount d fault v.device × OnlyReads d v.device
+Mounts d found (Answer.Refused fault) v = (v.system ≡ None) × (v.found ≡ found) × MayRefuseMount d fault v.device × OnlyReads d v.device
 Mounts d found (Answer.Done reply) v = ⊥
 Mounts d found Answer.Unmounted v = ⊥
 
@@ -84,7 +85,7 @@ abbrev pub Happens : World → Event → Answer → World → Type 0
 Happens w (Event.Call call) (Answer.Done reply) v = Calls w call (Ok reply) v
 Happens w (Event.Call call) (Answer.Refused fault) v = Calls w call (Err fault) v
 Happens w (Event.Call call) Answer.Mounted v = ⊥
-Happens w (Event.Call call) Answer.Unmounted v = (w.state ≡ None) × (v ≡ w)
+Happens w (Event.Call call) Answer.Unmounted v = (w.system ≡ None) × (v ≡ w)
 Happens w Event.Restart answer v = Mounts (put_on w.device) w.found answer v
 
 -- events in order, each with its answer: from the first world to the last
@@ -142,8 +143,8 @@ NoneRefused fault (answer ∷ answers) = (answer ≢ Answer.Refused fault) × No
 -- where no program or erase fails in a run of calls, and read-only mode is off before it, no call is refused for that mode;
 -- and none for want of a block where as many are free before it as all of them need
 abbrev pub HealthyLaw : Type 0
-HealthyLaw = (w v : World) (s : State) (events : List Event) (answers : List Answer)
-    → w.state ≡ Some s → AreCalls events → Run w events answers v
-    → v.device.failures ≡ w.device.failures → (seen_on w.device s).read_only ≡ false
+HealthyLaw = (w v : World) (s : System) (events : List Event) (answers : List Answer)
+    → w.system ≡ Some s → AreCalls events → Run w events answers v
+    → v.device.failures ≡ w.device.failures → (seen_on w.device s.state).read_only ≡ false
     → NoneRefused ReadOnly answers
-    × (nodes_needed (capacity_of w.device) (machine_on w.device s) events answers ≤ (seen_on w.device s).free → NoneRefused FlashFull answers)
+    × (nodes_needed (capacity_of w.device) (machine_on w.device s.state) events answers ≤ (seen_on w.device s.state).free → NoneRefused FlashFull answers)

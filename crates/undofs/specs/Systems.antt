@@ -5,15 +5,15 @@ use Rattle.fs_types.specs.declared.calls.Call.{Call}
 use Rattle.fs_types.specs.declared.calls.Reply.{Reply}
 use Rattle.fs_types.specs.declared.faults.Fault.{Fault}
 use Rattle.flash_model.specs.declared.device.Flash.{Ghosts}
-use Rattle.working_state.specs.Moments.{Moment}
-use Rattle.working_state.specs.Moments as moments
+use Rattle.upkeep.specs.Moments.{Moment}
+use Rattle.upkeep.specs.Moments as moments
 use Rattle.working_state.specs.Mounted.{KeepsPages}
 use Rattle.undofs.specs.declared.system.Fs.{Fs}
 
 module _ {F : Type 0} {flash : Ghosts F} where
   -- its flash and its working state
   abbrev pub moment_of : Fs F flash → Moment
-  moment_of fs = record { device = flash.device fs.flash.now; state = fs.state }
+  moment_of fs = record { device = flash.device fs.flash.now; system = fs.system }
 
   -- a call takes its step from one moment of a system to another, and is answered so
   abbrev pub Steps : Fs F flash → Call → Result Reply Fault → Fs F flash → Type 0
@@ -21,7 +21,7 @@ module _ {F : Type 0} {flash : Ghosts F} where
 
   -- no page changed of a block that a version or a checkpoint reaches
   abbrev pub KeepsAllPages : Fs F flash → Fs F flash → Type 0
-  KeepsAllPages old new = KeepsPages (flash.device old.flash.now) old.state (flash.device new.flash.now)
+  KeepsAllPages old new = KeepsPages (flash.device old.flash.now) old.system.state (flash.device new.flash.now)
 
   -- the name of the reference to the flash, which stays the same
   abbrev pub flash_name : Fs F flash → GName

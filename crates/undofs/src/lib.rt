@@ -7,4 +7,4 @@ mod system;
 pub use fs_types::{Answer, Event};
 pub use promises::laws;
 pub use system::{Fs, is_built};
-pub use working_state::State;
+pub use upkeep::{System, format, mount};

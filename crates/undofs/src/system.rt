@@ -2,15 +2,13 @@
 ghost use Rattle.std.specs.Prelude.{◌≡◌, true};
 ghost use Rattle.undofs.specs.Built.{is_built};
 ghost use Rattle.working_state.specs.Steps.{replied, empty};
-ghost use Rattle.working_state.specs.Mounted.{IsMounted};
-ghost use Rattle.working_state.specs.Props.{mounted-prop};
-ghost use Rattle.fs_types.specs.declared.limits.TheConstants.{MIN_VERSIONS, MAX_VERSIONS};
+ghost use Rattle.upkeep.specs.Systems.{IsSystem};
+ghost use Rattle.upkeep.specs.Props.{system-prop};
 
-use calls::carry_out;
 use flash_model::{FaultKind, Flash, Planned};
 use fs_types::{Bytes, Call, CpName, Fault, Name, OpenFlags, Path, Reply, Sequence, Stat, View};
 use std::alloc::Global;
-use working_state::State;
+use upkeep::{System, mount};
 
 /// A file system that is mounted on a flash.
 ///
@@ -22,46 +20,60 @@ use working_state::State;
 #[derive(Drop)]
 pub struct Fs<'f, F: Flash> {
     flash: &'f mut F,
-    state: State,
-    ghost mounted: { IsMounted (F.device flash.now) state } by { mounted-prop (F.device flash.now) state },
+    system: System,
+    ghost mounted: { IsSystem (F.device flash.now) system } by { system-prop (F.device flash.now) system },
 }
 
 /// Whether the call is built by now.
 pub fn is_built(call: &Call) -> bool
     ensures { result ≡ is_built call.now }
 {
-    !matches!(call, Call::Fsync { .. } | Call::Sync | Call::Df)
+    !matches!(call, Call::Df)
 }
 
 impl<'f, F: Flash> Fs<'f, F> {
-    ghost use Rattle.std.specs.Prelude.{◌↔◌, ◌<◌, ◌⊎◌, ℕ, Err, IfOk, IfErr};
+    ghost use Rattle.std.specs.Prelude.{ℕ, IfOk};
     ghost use Rattle.fs_types.specs.declared.calls.Call.{Call};
     ghost use Rattle.fs_types.specs.declared.calls.Reply.{Reply};
-    ghost use Rattle.flash_model.specs.Geometry.{IsGeometry};
-    ghost use Rattle.working_state.specs.Fresh.{IsFresh, IsFreshFault};
-    ghost use Rattle.working_state.specs.Moments.{moment};
+    ghost use Rattle.flash_model.specs.Reading.{OnlyReads};
+    ghost use Rattle.upkeep.specs.Moments.{moment};
+    ghost use Rattle.upkeep.specs.Mounts.{IsMountOf};
     ghost use Rattle.undofs.specs.Systems.{moment_of, Steps, KeepsAllPages, flash_name};
 
-    /// A fresh system with an empty root as its version of serial 1, which keeps at most `limit`
-    /// versions. It is refused as its working state is: [`State::fresh`].
-    pub fn fresh(alloc: Global, flash: &'f mut F, limit: u32) -> Result<Fs<'f, F>, Fault>
-        ensures fresh { IfOk result (λ fs. IsFresh (F.device flash.old) limit (moment_of fs)) }
+    /// Mounts what the newest record of a flash holds, as [`mount`] does.
+    pub fn mount(alloc: Global, flash: &'f mut F) -> Result<Fs<'f, F>, Fault>
+        ensures mounted { IfOk result (λ fs. IsMountOf (F.device flash.old) (F.device fs.flash.now) fs.system) }
+        ensures only_reads { IfOk result (λ fs. OnlyReads (F.device flash.old) (F.device fs.flash.now)) }
         ensures same_flash { IfOk result (λ fs. flash_name fs ≡ flash.entry.ghost_name) }
-        ensures sizes { (result ≡ Err Fault.BadGeometry) ↔ ¬ IsGeometry (F.device flash.old).geometry }
-        ensures limits { (result ≡ Err Fault.Invalid) ↔ (IsGeometry (F.device flash.old).geometry × ((limit < MIN_VERSIONS) ⊎ (MAX_VERSIONS < limit))) }
-        ensures faults { IfErr result IsFreshFault }
     {
-        let state = State::fresh(alloc, flash, limit)?;
-        Ok(Fs::on(flash, state))
+        let system = mount(alloc, flash)?;
+        Ok(Fs::on(flash, system))
     }
 
-    /// The system of a working state, on the flash that it was made of.
-    pub fn on(flash: &'f mut F, state: State) -> Fs<'f, F>
-        requires { IsMounted (F.device flash.old) state }
-        ensures moment { moment_of result ≡ moment (F.device flash.old) state }
+    /// The system that is mounted on a flash.
+    pub fn on(flash: &'f mut F, system: System) -> Fs<'f, F>
+        requires { IsSystem (F.device flash.old) system }
+        ensures moment { moment_of result ≡ moment (F.device flash.old) system }
         ensures same_flash { flash_name result ≡ flash.entry.ghost_name }
     {
-        Fs { flash, state }
+        Fs { flash, system }
+    }
+
+    /// Commits the whole history, with the checkpoints, so that a restart finds it
+    /// ([`System::sync`]; POSIX.1-2017 `sync`, which answers nothing).
+    pub fn sync(&mut self, alloc: Global) -> Result<(), Fault>
+        ensures step { Steps self.old Call.Sync (replied empty result) self.new }
+        ensures same_flash { flash_name self.new ≡ flash_name self.old }
+    {
+        self.system.sync(alloc, self.flash)
+    }
+
+    /// The same, where the descriptor is of an open file ([`System::fsync`]).
+    pub fn fsync(&mut self, alloc: Global, descriptor: u64) -> Result<(), Fault>
+        ensures step { Steps self.old (Call.Fsync descriptor) (replied empty result) self.new }
+        ensures same_flash { flash_name self.new ≡ flash_name self.old }
+    {
+        self.system.fsync(alloc, self.flash, descriptor)
     }
 
     /// Opens the file at a path, and answers its descriptor, the least that is free (POSIX.1-2017 `open`,
@@ -71,7 +83,7 @@ impl<'f, F: Flash> Fs<'f, F> {
         ensures pages { KeepsAllPages self.old self.new }
         ensures same_flash { flash_name self.new ≡ flash_name self.old }
     {
-        self.state.open(alloc, self.flash, path, flags)
+        self.system.state.open(alloc, self.flash, path, flags)
     }
 
     /// Closes the open file of a descriptor, which is free then.
@@ -80,7 +92,7 @@ impl<'f, F: Flash> Fs<'f, F> {
         ensures still { F.device self.new.flash.now ≡ F.device self.old.flash.now }
         ensures same_flash { flash_name self.new ≡ flash_name self.old }
     {
-        self.state.close(descriptor)
+        self.system.state.close(descriptor)
     }
 
     /// Writes these bytes at an offset of the open file of a descriptor, all or none, and answers how many
@@ -96,7 +108,8 @@ impl<'f, F: Flash> Fs<'f, F> {
         ensures pages { KeepsAllPages self.old self.new }
         ensures same_flash { flash_name self.new ≡ flash_name self.old }
     {
-        self.state
+        self.system
+            .state
             .pwrite(alloc, self.flash, descriptor, offset, bytes)
     }
 
@@ -107,7 +120,9 @@ impl<'f, F: Flash> Fs<'f, F> {
         ensures pages { KeepsAllPages self.old self.new }
         ensures same_flash { flash_name self.new ≡ flash_name self.old }
     {
-        self.state.ftruncate(alloc, self.flash, descriptor, length)
+        self.system
+            .state
+            .ftruncate(alloc, self.flash, descriptor, length)
     }
 
     /// What stands at a path of the tree that a view shows: a directory, with its number of entries, or
@@ -117,7 +132,7 @@ impl<'f, F: Flash> Fs<'f, F> {
         ensures pages { (p : ℕ) → (F.device self.new.flash.now).pages p ≡ (F.device self.old.flash.now).pages p }
         ensures same_flash { flash_name self.new ≡ flash_name self.old }
     {
-        self.state.stat(self.flash, view, path)
+        self.system.state.stat(self.flash, view, path)
     }
 
     /// The names in the directory at a path, in byte order, each with whether it is a directory.
@@ -131,7 +146,7 @@ impl<'f, F: Flash> Fs<'f, F> {
         ensures pages { (p : ℕ) → (F.device self.new.flash.now).pages p ≡ (F.device self.old.flash.now).pages p }
         ensures same_flash { flash_name self.new ≡ flash_name self.old }
     {
-        self.state.list(alloc, self.flash, view, path)
+        self.system.state.list(alloc, self.flash, view, path)
     }
 
     /// The bytes of a file from `offset` on, at most `count`: fewer near its end, none at or past it.
@@ -148,7 +163,8 @@ impl<'f, F: Flash> Fs<'f, F> {
         ensures pages { (p : ℕ) → (F.device self.new.flash.now).pages p ≡ (F.device self.old.flash.now).pages p }
         ensures same_flash { flash_name self.new ≡ flash_name self.old }
     {
-        self.state
+        self.system
+            .state
             .read_at(alloc, self.flash, view, path, offset, count)
     }
 
@@ -165,7 +181,8 @@ impl<'f, F: Flash> Fs<'f, F> {
         ensures pages { (p : ℕ) → (F.device self.new.flash.now).pages p ≡ (F.device self.old.flash.now).pages p }
         ensures same_flash { flash_name self.new ≡ flash_name self.old }
     {
-        self.state
+        self.system
+            .state
             .pread(alloc, self.flash, descriptor, offset, count)
     }
 
@@ -175,7 +192,7 @@ impl<'f, F: Flash> Fs<'f, F> {
         ensures pages { KeepsAllPages self.old self.new }
         ensures same_flash { flash_name self.new ≡ flash_name self.old }
     {
-        self.state.mkdir(alloc, self.flash, path)
+        self.system.state.mkdir(alloc, self.flash, path)
     }
 
     /// Removes an empty directory (POSIX.1-2017 `rmdir`). [`Fault::Busy`] for the root.
@@ -184,7 +201,7 @@ impl<'f, F: Flash> Fs<'f, F> {
         ensures pages { KeepsAllPages self.old self.new }
         ensures same_flash { flash_name self.new ≡ flash_name self.old }
     {
-        self.state.rmdir(alloc, self.flash, path)
+        self.system.state.rmdir(alloc, self.flash, path)
     }
 
     /// Removes a file (POSIX.1-2017 `unlink`). [`Fault::NotPermitted`] for a directory, [`Fault::Busy`]
@@ -194,7 +211,7 @@ impl<'f, F: Flash> Fs<'f, F> {
         ensures pages { KeepsAllPages self.old self.new }
         ensures same_flash { flash_name self.new ≡ flash_name self.old }
     {
-        self.state.unlink(alloc, self.flash, path)
+        self.system.state.unlink(alloc, self.flash, path)
     }
 
     /// Moves a file or a directory to another path, in place of a file or an empty directory that
@@ -205,7 +222,7 @@ impl<'f, F: Flash> Fs<'f, F> {
         ensures pages { KeepsAllPages self.old self.new }
         ensures same_flash { flash_name self.new ≡ flash_name self.old }
     {
-        self.state.rename(alloc, self.flash, old, new)
+        self.system.state.rename(alloc, self.flash, old, new)
     }
 
     /// The version before becomes the present one.
@@ -214,7 +231,7 @@ impl<'f, F: Flash> Fs<'f, F> {
         ensures still { F.device self.new.flash.now ≡ F.device self.old.flash.now }
         ensures same_flash { flash_name self.new ≡ flash_name self.old }
     {
-        self.state.undo()
+        self.system.state.undo()
     }
 
     /// The version after becomes the present one.
@@ -223,7 +240,7 @@ impl<'f, F: Flash> Fs<'f, F> {
         ensures still { F.device self.new.flash.now ≡ F.device self.old.flash.now }
         ensures same_flash { flash_name self.new ≡ flash_name self.old }
     {
-        self.state.redo()
+        self.system.state.redo()
     }
 
     /// The version with this serial becomes the present one.
@@ -232,7 +249,7 @@ impl<'f, F: Flash> Fs<'f, F> {
         ensures still { F.device self.new.flash.now ≡ F.device self.old.flash.now }
         ensures same_flash { flash_name self.new ≡ flash_name self.old }
     {
-        self.state.goto(serial)
+        self.system.state.goto(serial)
     }
 
     /// A change to the tree of a checkpoint. It asks nothing of the flash.
@@ -241,7 +258,7 @@ impl<'f, F: Flash> Fs<'f, F> {
         ensures still { F.device self.new.flash.now ≡ F.device self.old.flash.now }
         ensures same_flash { flash_name self.new ≡ flash_name self.old }
     {
-        self.state.rollback(alloc, self.flash, name)
+        self.system.state.rollback(alloc, self.flash, name)
     }
 
     /// The `count` oldest versions before the present one are dropped.
@@ -250,7 +267,7 @@ impl<'f, F: Flash> Fs<'f, F> {
         ensures still { F.device self.new.flash.now ≡ F.device self.old.flash.now }
         ensures same_flash { flash_name self.new ≡ flash_name self.old }
     {
-        self.state.forget(count)
+        self.system.state.forget(count)
     }
 
     /// The present tree is kept under a name, until it is removed by that name.
@@ -259,7 +276,7 @@ impl<'f, F: Flash> Fs<'f, F> {
         ensures still { F.device self.new.flash.now ≡ F.device self.old.flash.now }
         ensures same_flash { flash_name self.new ≡ flash_name self.old }
     {
-        self.state.checkpoint(name)
+        self.system.state.checkpoint(name)
     }
 
     /// The checkpoint of this name is given up.
@@ -268,14 +285,14 @@ impl<'f, F: Flash> Fs<'f, F> {
         ensures still { F.device self.new.flash.now ≡ F.device self.old.flash.now }
         ensures same_flash { flash_name self.new ≡ flash_name self.old }
     {
-        self.state.remove_checkpoint(name)
+        self.system.state.remove_checkpoint(name)
     }
 
     /// The history: next serial, kept serials, the present one, and the checkpoints.
     pub fn log(&self, alloc: Global) -> Result<Reply, Fault>
         ensures { Steps self.now Call.Log result self.now }
     {
-        self.state.log(alloc)
+        self.system.state.log(alloc)
     }
 
     /// Carries out a call that is built, and answers its reply. Its step says what that of each call
@@ -287,14 +304,14 @@ impl<'f, F: Flash> Fs<'f, F> {
         ensures pages { KeepsAllPages self.old self.new }
         ensures same_flash { flash_name self.new ≡ flash_name self.old }
     {
-        carry_out(&mut self.state, alloc, self.flash, call)
+        self.system.call(alloc, self.flash, call)
     }
 
-    /// Ends the system, and gives its very flash back, as the last call left it: all of the history
-    /// is on its pages.
+    /// Ends the system, and gives its very flash back, as the last call left it: what was
+    /// committed is on its pages.
     pub fn into_flash(self) -> &'f mut F
         ensures flash { result ≡ self.entry.flash }
-        ensures mounted { IsMounted (F.device result.now) self.entry.state }
+        ensures mounted { IsSystem (F.device result.now) self.entry.system }
     {
         self.flash
     }
@@ -310,7 +327,7 @@ impl<'f, F: Planned> Fs<'f, F> {
     /// off too.
     pub fn plan_fault(&mut self, k: u64, kind: FaultKind) -> Result<(), Fault>
         requires { 1 ≤ k }
-        ensures state { self.new.state ≡ self.old.state }
+        ensures system { self.new.system ≡ self.old.system }
         ensures still { F.device self.new.flash.now ≡ F.device self.old.flash.now }
         ensures ok { OnOk result (F.schedule self.new.flash.now ≡ planned (F.schedule self.old.flash.now) k kind) }
         ensures err { OnErr result (F.schedule self.new.flash.now ≡ F.schedule self.old.flash.now) }

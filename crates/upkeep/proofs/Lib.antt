@@ -1,3 +1,12 @@
+pub mod AfterCommits
+pub mod Committed
+pub mod Formatting
 pub mod LawfulContents
+pub mod MountedSystems
 pub mod Mounting
 pub mod Restored
+pub mod SameData
+pub mod SameNodes
+pub mod StateSteps
+pub mod Syncs
+pub mod Tried

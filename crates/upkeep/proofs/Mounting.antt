@@ -49,7 +49,7 @@ use Rattle.working_state.specs.Mounted.{IsStanding, IsMounted}
 use Rattle.working_state.specs.Roots.{HasRoot}
 use Rattle.working_state.specs.declared.state.State.{State}
 use Rattle.upkeep.specs.Mounts.{history_of, roots_of, IsLoaded, IsMountOf, RootsCause, MountCause}
-use Rattle.upkeep.specs.declared.mounts.Mounted.{Mounted}
+use Rattle.upkeep.specs.declared.systems.System.{System}
 
 -- ---- why roots are refused
 
@@ -81,14 +81,14 @@ installed marks note used f roots none is exact b =
 
 -- ---- roots
 
-contains_front : {X : Type 0} (f : X → ℕ) (xs : List X) (rest : List ℕ) (k : ℕ) (d : X) → k < length xs → Contains (map f xs ++ rest) (f (slice_index_or xs k d))
+pub contains_front : {X : Type 0} (f : X → ℕ) (xs : List X) (rest : List ℕ) (k : ℕ) (d : X) → k < length xs → Contains (map f xs ++ rest) (f (slice_index_or xs k d))
 contains_front f [] rest k d within = absurd (omega arith)
 contains_front f (x ∷ xs) rest zero d within = (0, omega arith, refl)
 contains_front f (x ∷ xs) rest (suc k) d within =
     let there = contains_front f xs rest k d (omega arith) in
     (suc there.0, let l : there.0 < length (map f xs ++ rest) = there.1 in omega arith, there.2)
 
-contains_back : {X : Type 0} (f : X → ℕ) (front : List ℕ) (xs : List X) (k : ℕ) (d : X) → k < length xs → Contains (front ++ map f xs) (f (slice_index_or xs k d))
+pub contains_back : {X : Type 0} (f : X → ℕ) (front : List ℕ) (xs : List X) (k : ℕ) (d : X) → k < length xs → Contains (front ++ map f xs) (f (slice_index_or xs k d))
 contains_back f [] [] k d within = absurd (omega arith)
 contains_back f [] (x ∷ xs) zero d within = (0, omega arith, refl)
 contains_back f [] (x ∷ xs) (suc k) d within =
@@ -193,6 +193,7 @@ module _ (d e : Device) (r : Record) (s : State) (built : IsBuilt d e r s) where
   built_loaded = record {
     mounted = is_mounted;
     is_on = built.is_on;
+    history = built.history;
     machine = λ i. machine_with (map_roots (tree_on e) (built.history i)) (built.files i);
     bad = built.bad;
     last = built.last;
@@ -260,7 +261,7 @@ knows_on d e bad known reads k =
 pub not_none : (o : Option Record) (r : Record) → o ≡ Some r → o ≢ None
 not_none o r is none = absurd cc
 
-pub mounts : (d e f : Device) (r : Record) (m : Mounted) → committed_on d ≡ Some (Ok r) → OnlyReads e f → IsUncleared m.anchors
+pub mounts : (d e f : Device) (r : Record) (m : System) → committed_on d ≡ Some (Ok r) → OnlyReads e f → IsUncleared m.anchors
     → ((bad : set.FinSet nat_cmp) → MayCommit e bad m.anchors) → IsLoaded f r m.state → IsMountOf d f m
 mounts d e f r m is reads uncleared may loaded = record {
   newest = r;

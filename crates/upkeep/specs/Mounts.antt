@@ -19,7 +19,7 @@ use Rattle.commit_pair.specs.Remembering.{KnowsNewest}
 use Rattle.working_state.specs.Seen.{tree_on, machine_on}
 use Rattle.working_state.specs.Mounted.{IsMounted}
 use Rattle.working_state.specs.declared.state.State.{State}
-use Rattle.upkeep.specs.declared.mounts.Mounted.{Mounted}
+use Rattle.upkeep.specs.declared.systems.System.{System}
 
 -- the history that a record holds, by the blocks of its roots
 abbrev pub history_of : Record → Past ℕ
@@ -47,6 +47,7 @@ HasTrees d r = AreRoots (block_bytes d.geometry) (node_of d) (roots_of (history_
 -- a working state is what a record holds: its history, with no file open, its bad blocks, and the last block that was
 -- taken. Used are exactly the blocks that its roots reach
 pub record IsLoaded (d : Device) (r : Record) (state : State) : Type 0 where
+  pub history : state.history ≡ history_of r
   pub machine : machine_on d state ≡ mounted (trees_of d r)
   pub mounted : IsMounted d state
   pub is_on : state.is_off ≡ false
@@ -55,7 +56,7 @@ pub record IsLoaded (d : Device) (r : Record) (state : State) : Type 0 where
   pub used : (b : ℕ) → (set.contains state.storage.ring.used b ≡ true) ↔ Reached (node_of d) (roots_of (history_of r)) b
 
 -- a system is mounted with what the newest record holds, and that record's place is known, so that a commit may follow
-pub record IsMountOf (old new : Device) (system : Mounted) : Type 0 where
+pub record IsMountOf (old new : Device) (system : System) : Type 0 where
   pub newest : Record
   pub holds : committed_on old ≡ Some (Ok newest)
   pub loaded : IsLoaded new newest system.state

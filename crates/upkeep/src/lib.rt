@@ -1,11 +1,15 @@
-//! Upkeep of a file system on a flash: what a mount makes of the newest record, and the record that a
-//! history is committed as.
+//! Upkeep of a file system on a flash: how an empty one is made, what a mount makes of the newest
+//! record, and the record that a history is committed as.
 #![tactic(auto)]
 
 mod contents;
+mod formats;
 mod mounts;
 mod reaching;
 mod restoring;
+mod systems;
 
 pub use contents::record_of;
-pub use mounts::{Mounted, mount};
+pub use formats::format;
+pub use mounts::mount;
+pub use systems::System;

@@ -6,9 +6,11 @@ ghost use Rattle.flash_model.specs.Geometry.{IsGeometry, block_bytes};
 ghost use Rattle.flash_model.specs.Reading.{OnlyReads};
 ghost use Rattle.record_format.specs.Payloads.{is_record};
 ghost use Rattle.upkeep.specs.Mounts.{history_of, roots_of, IsLoaded, IsMountOf, RootsCause, MountCause};
+ghost use Rattle.upkeep.specs.Systems.{IsSystem};
 
 use crate::reaching::use_reached;
 use crate::restoring::{list_bad, list_roots, restore_history};
+use crate::systems::System;
 use allocator::Ring;
 use commit_pair::Anchors;
 use flash_model::Flash;
@@ -18,15 +20,6 @@ use open_files::OpenFiles;
 use record_format::Record;
 use std::alloc::Global;
 use working_state::State;
-
-/// A mounted system: its working state, and where the newest record is.
-#[derive(Drop)]
-pub struct Mounted {
-    /// What the newest record holds, with no file open.
-    pub state: State,
-    /// The place of the newest record, so that a commit may follow.
-    pub anchors: Anchors,
-}
 
 /// What nodes are kept with on the flash of a record: no block is used yet.
 fn unused_storage(alloc: Global, saved: &Record) -> Result<Storage, Fault>
@@ -82,8 +75,9 @@ fn load<F: Flash>(alloc: Global, flash: &mut F, saved: &Record) -> Result<State,
 /// of it has no tree of linked bodies. `BadGeometry` where the sizes are out of range, before any
 /// read, or where the newest record tells others; `ReadFailed` and `PowerCut` by the device;
 /// `NoMemory` where memory could not be had.
-pub fn mount<F: Flash>(alloc: Global, flash: &mut F) -> Result<Mounted, Fault>
+pub fn mount<F: Flash>(alloc: Global, flash: &mut F) -> Result<System, Fault>
     ensures ok { IfOk result (IsMountOf (F.device flash.old) (F.device flash.new)) }
+    ensures system { IfOk result (IsSystem (F.device flash.new)) }
     ensures only_reads { OnlyReads (F.device flash.old) (F.device flash.new) }
     ensures why { IfErr result (MountCause (F.device flash.old) (F.device flash.new)) }
 {
@@ -95,5 +89,5 @@ pub fn mount<F: Flash>(alloc: Global, flash: &mut F) -> Result<Mounted, Fault>
         return Err(Fault::NoRecord);
     };
     let state = load(alloc, flash, &newest)?;
-    Ok(Mounted { state, anchors })
+    Ok(System { state, anchors })
 }

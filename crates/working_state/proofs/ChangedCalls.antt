@@ -186,7 +186,7 @@ cause_refuses a b f st root call made reply fault is l by few (inl (inl only)) =
     (writes-version (machine_at a) call (makes (machine_at a) call by.fine (ap is_some (by.after root is))), only.1.on, λ off _. later_serial a b l (only.1.serial_left (later_writable a b l ∙ off))))
 cause_refuses a b f st root call made reply fault is l by few (inl (inr over)) =
     inr (subst (λ x. MayRefuse (seen_at a) (machine_at a) call x (seen_at (moment f (record b.state { storage = st })))) (sym over.0)
-    (makes (machine_at a) call by.fine (ap is_some (by.after root is)), sym (later_writable a b l) ∙ over.1.writable, ap (λ (h : Past ℕ). h.next) (sym l.rest.history) ∙ over.1.last))
+    (sym (later_writable a b l) ∙ over.1.writable, inl (makes (machine_at a) call by.fine (ap is_some (by.after root is)), ap (λ (h : Past ℕ). h.next) (sym l.rest.history) ∙ over.1.last)))
 cause_refuses a b f st root call {edit} made reply fault is l by few (inr work) =
     writing_refuses a b f st edit call fault l by.heavy (makes (machine_at a) call by.fine (ap is_some (by.after root is))) (by.more (capacity_at a)) few work
 

@@ -1,6 +1,6 @@
 -- A fresh system: its one version is the empty root.
-use Rattle.std.proofs.Common.{◌≡◌, ℕ, zero, suc, ◌+◌, ◌-◌, ◌≤◌, Bool, true, false, cond, List, Some, [], Result, Ok, Err, refl, sym, ap, subst, ◌∙◌, arith}
-use Rattle.std.proofs.lemmas.Bool.{true≢false}
+use Rattle.std.proofs.Common.{◌≡◌, ℕ, zero, suc, ◌+◌, ◌-◌, ◌<◌, ◌≤◌, inl, inr, Bool, true, false, cond, List, Some, [], Result, Ok, Err, refl, sym, ap, subst, ◌∙◌, arith}
+use Rattle.std.proofs.lemmas.Bool.{true≢false, cases_Bool}
 use Rattle.std.proofs.lemmas.List.Elements.{All-push}
 use Rattle.std.proofs.lemmas.List.Sums.{sum_by-cons}
 use Rattle.std.specs.Prelude.{not, ◌||◌, count_by, IfOk, IfErr, vec_len, vec_capacity}
@@ -13,29 +13,30 @@ use Rattle.history_machine.specs.Machine.{IsMachine, mounted, machine_with}
 use Rattle.plain_trees.specs.Trees.{Tree, bare}
 use Rattle.fs_types.specs.declared.calls.Version.{Version}
 use Rattle.fs_types.specs.declared.faults.Fault.{Fault}
-use Rattle.fs_types.specs.declared.faults.Fault.TheVariants.{FlashFull, ReadOnly, PowerCut}
+use Rattle.fs_types.specs.declared.faults.Fault.TheVariants.{FlashFull, ReadOnly, PowerCut, NoMemory}
 use Rattle.history_machine.proofs.Kept.{machine_law}
 use Rattle.flash_model.specs.Device.{Device}
 use Rattle.flash_model.specs.declared.sizes.Geometry.{Geometry}
 use Rattle.flash_model.specs.Geometry.{IsGeometry, block_bytes}
-use Rattle.allocator.specs.Ring.{Ring, is_busy, free_count, IsNext}
+use Rattle.allocator.specs.Ring.{Ring, IsDataBlock, is_busy, free_count, IsNext}
 use Rattle.allocator.specs.RingLaws.{distance_earlier}
 use Rattle.node_store.specs.declared.storage.Storage.{Storage}
-use Rattle.node_store.specs.NodePages.{node_of}
+use Rattle.node_store.specs.NodePages.{first_data, node_of}
 use Rattle.node_store.specs.Storage as parts
 use Rattle.node_store.specs.Storage.{Evolved, Pays, Adds, unpaid}
 use Rattle.node_format.specs.Directories.{directory_at}
 use Rattle.block_trees.specs.Trees.{entries_of, entries_in}
 use Rattle.block_trees.proofs.RootMaps.{empty_root}
-use Rattle.working_state.specs.Fresh.{unused_ring, unused, IsFirstGood, IsFresh, FreshCause, RootCause}
+use Rattle.working_state.specs.Fresh.{unused_ring, unused_beside, IsFirstGood, IsFresh, IsBegun, HasGrown, BeginCause, FreshCause, RootCause}
 use Rattle.working_state.specs.Leaves.{HasWritten}
-use Rattle.working_state.specs.Moments.{moment, Moment, machine_at, storage_at, IsMountedAt, nodes_at, capacity_at}
+use Rattle.working_state.specs.Moments.{moment, Moment, IsMountedAt, nodes_at, capacity_at}
 use Rattle.working_state.specs.Seen.{capacity_of, tree_on}
 use Rattle.working_state.specs.Mounted.{IsStanding}
 use Rattle.working_state.specs.declared.state.State.{State}
 use Rattle.block_trees.proofs.EmptyDirectories.{empty_held}
 use Rattle.working_state.proofs.Roots.{with_history, all_roots, at_history}
 use Rattle.working_state.proofs.Standing.{AllStand}
+use Rattle.working_state.proofs.BadData.{all_bad}
 
 -- an empty root stands
 empty_stands : (a : Moment) (root : ℕ) → entries_in (nodes_at a) root ≡ Some [] → set.contains a.state.storage.ring.used root ≡ true → IsStanding a.device a.state.storage.ring root
@@ -78,52 +79,62 @@ abbrev one_if : Bool → ℕ
 one_if b = cond b 1 0
 
 -- all of so many
-count_all : (p : ℕ → Bool) (a n : ℕ) → ((b : ℕ) → p b ≡ true) → count_by p (range_with_len a n) ≡ n
+count_all : (p : ℕ → Bool) (a n : ℕ) → ((b : ℕ) → a ≤ b → p b ≡ true) → count_by p (range_with_len a n) ≡ n
 count_all p a zero each = refl
 count_all p a (suc n) each =
-    let rest = count_all p (a + 1) n each in
-    let one : one_if (p a) ≡ 1 = ap one_if (each a) in
+    let rest = count_all p (a + 1) n (λ b low. each b (omega arith)) in
+    let one : one_if (p a) ≡ 1 = ap one_if (each a (omega arith)) in
     let first = sum_by-cons (λ b. one_if (p b)) a (range_with_len (a + 1) n) in
     omega (arith, rest, one, first)
 
--- each data block of an unused flash is free
-free_unused : (blocks : ℕ) → free_count (unused_ring blocks) set.empty ≡ blocks - 8
-free_unused blocks =
-    count_all (λ b. not (is_busy (unused_ring blocks) set.empty b)) 8 (blocks - 8)
-    (λ b. let none : set.contains (set.empty {R = nat_cmp}) b ≡ false = set.contains-empty nat_cmp b in λ i. not (none i || none i))
+abbrev pub AreAnchors : set.FinSet nat_cmp → Type 0
+AreAnchors bad = (b : ℕ) → set.contains bad b ≡ true → b < first_data
 
-unused_parts : (d : Device) (s : Storage) → s.bad ≡ set.empty → s.ring ≡ unused_ring d.geometry.blocks → parts.storage d s.bad s.ring ≡ unused d
-unused_parts d s bad ring = λ i. parts.storage d (bad i) (ring i)
+no-data : (bad : set.FinSet nat_cmp) → AreAnchors bad → (b : ℕ) → first_data ≤ b → set.contains bad b ≡ false
+no-data bad are b low = elim (cases_Bool (set.contains bad b)) [
+  | inl has ↦ absurd (let below = are b has in omega arith)
+  | inr free ↦ free
+]
 
-pub fresh_cause : (d : Device) (limit : ℕ) (s : Storage) (fault : Fault) (e : Device) (t : Storage) → s.bad ≡ set.empty → s.ring ≡ unused_ring d.geometry.blocks → HasWritten d s 1 e t
-    → RootCause (parts.storage d s.bad s.ring) fault (parts.storage e t.bad t.ring) → FreshCause d limit fault e
-fresh_cause d limit s FlashFull e t bad ring written why =
-    let none : set.len s.bad ≡ 0 = ap set.len bad ∙ set.len-empty nat_cmp in
-    let free : free_count s.ring s.bad ≡ d.geometry.blocks - 8 = (λ i. free_count (ring i) (bad i)) ∙ free_unused d.geometry.blocks in
-    let failures = written.evolved.failures in
-    omega arith
-fresh_cause d limit s ReadOnly e t bad ring written why =
-    let none : set.len s.bad ≡ 0 = ap set.len bad ∙ set.len-empty nat_cmp in
-    let failures = written.evolved.failures in
-    omega arith
-fresh_cause d limit s PowerCut e t bad ring written why = why
-fresh_cause d limit s _ e t bad ring written why = absurd why
+pub none_bad : AreAnchors set.empty
+none_bad b has = absurd (true≢false (sym has ∙ set.contains-empty nat_cmp b))
 
-pub fresh_at : (d : Device) (limit : ℕ) (s : Storage) (b : Moment) → IsMountedAt b → machine_at b ≡ mounted (fresh limit bare) → b.state.is_off ≡ false
-    → s.bad ≡ set.empty → s.ring ≡ unused_ring d.geometry.blocks → HasWritten d s 1 b.device b.state.storage
-    → ((root : ℕ) → present_root b.state.history ≡ Some root → IsFirstGood b.state.storage.bad root) → IsFresh d limit b
-fresh_at d limit s b is shows on bad ring written first =
-    let none : set.len s.bad ≡ 0 = ap set.len bad ∙ set.len-empty nat_cmp in
-    let no_takes : s.ring.takes ≡ 0 = ap (λ (r : Ring). r.takes) ring in
-    let paid = written.paid in
-    record {
-      machine = shows;
-      mounted = is;
-      is_on = on;
-      evolved = subst (λ p. Evolved p (storage_at b)) (unused_parts d s bad ring) written.evolved;
-      paid = omega arith;
-      root_block = first;
-    }
+-- on an unused flash the next block is the first data block that is not bad
+busy_unused : (blocks : ℕ) (bad : set.FinSet nat_cmp) (b : ℕ) → is_busy (unused_ring blocks) bad b ≡ set.contains bad b
+busy_unused blocks bad b = ap (λ t. t || set.contains bad b) (set.contains-empty nat_cmp b)
+
+-- each data block of an unused flash is free, where only anchors are bad
+free_unused : (blocks : ℕ) (bad : set.FinSet nat_cmp) → AreAnchors bad → free_count (unused_ring blocks) bad ≡ blocks - 8
+free_unused blocks bad are =
+    count_all (λ b. not (is_busy (unused_ring blocks) bad b)) 8 (blocks - 8)
+    (λ b low. ap not (busy_unused blocks bad b ∙ no-data bad are b low))
+
+begins : (d : Device) (was : set.FinSet nat_cmp) (s : Storage) (p : parts.Storage) → s.bad ≡ was → s.ring ≡ unused_ring d.geometry.blocks → Evolved (parts.storage d s.bad s.ring) p → Evolved (unused_beside was d) p
+begins d was s p bad ring evolved =
+    let same : parts.storage d s.bad s.ring ≡ unused_beside was d = λ i. parts.storage d (bad i) (ring i) in
+    subst (λ q. Evolved q p) same evolved
+
+grown : (d : Device) (was : set.FinSet nat_cmp) (e : Device) (t : Storage) → Evolved (unused_beside was d) (parts.storage e t.bad t.ring) → HasGrown d was e t.bad
+grown d was e t evolved = record { stays_bad = evolved.stays_bad; bad_worn = evolved.bad_worn; worn = evolved.worn; failures = evolved.failures }
+
+pub begin_cause : (d : Device) (was : set.FinSet nat_cmp) (s : Storage) (fault : Fault) (e : Device) (t : Storage) → AreAnchors was → s.bad ≡ was → s.ring ≡ unused_ring d.geometry.blocks → HasWritten d s 1 e t
+    → ((b : ℕ) → set.contains t.ring.used b ≡ true → IsDataBlock t.ring.blocks b) → RootCause (parts.storage d s.bad s.ring) fault (parts.storage e t.bad t.ring) → BeginCause d was fault e
+begin_cause d was s FlashFull e t are bad ring written used why =
+    let evolved = begins d was s (parts.storage e t.bad t.ring) bad ring written.evolved in
+    let same : set.len s.bad ≡ set.len was = ap set.len bad in
+    let free : free_count s.ring s.bad ≡ d.geometry.blocks - 8 = (λ i. free_count (ring i) (bad i)) ∙ free_unused d.geometry.blocks was are in
+    let many : d.geometry.blocks - 8 + set.len was ≤ set.len t.bad = omega arith in (
+      t.bad,
+      record {
+        grown = grown d was e t evolved;
+        all = all_bad was t.bad d.geometry.blocks (λ b has new. subst (λ (n : ℕ). IsDataBlock n b) evolved.blocks (used b (evolved.bad_used b has new))) many;
+        many = many;
+      },
+    )
+begin_cause d was s ReadOnly e t are bad ring written used why =
+    (t.bad, record { grown = grown d was e t (begins d was s (parts.storage e t.bad t.ring) bad ring written.evolved); full = why })
+begin_cause d was s PowerCut e t are bad ring written used why = why
+begin_cause d was s _ e t are bad ring written used why = absurd why
 
 unpaid_one : (result : Result ℕ Fault) → unpaid result ≤ 1
 unpaid_one (Ok root) = omega arith
@@ -154,10 +165,6 @@ pub root_empty : (s : parts.Storage) (bytes : List ℕ) (t : parts.Storage) (res
 root_empty s bytes t (Ok root) read adds = ap entries_of adds.node ∙ read
 root_empty s bytes t (Err fault) read adds = tt
 
--- on an unused flash the next block is the first data block that is not bad
-busy_unused : (blocks : ℕ) (bad : set.FinSet nat_cmp) (b : ℕ) → is_busy (unused_ring blocks) bad b ≡ set.contains bad b
-busy_unused blocks bad b = ap (λ t. t || set.contains bad b) (set.contains-empty nat_cmp b)
-
 first_good : (blocks : ℕ) (bad : set.FinSet nat_cmp) (b : ℕ) → IsNext (is_busy (unused_ring blocks) bad) blocks (blocks - 1) b → IsFirstGood bad b
 first_good blocks bad b next = record {
   data_block = next.data_block.0;
@@ -168,23 +175,73 @@ first_good blocks bad b next = record {
       sym (busy_unused blocks bad c) ∙ next.first c (low, omega (arith, next.data_block)) (omega (arith, next.data_block));
 }
 
-pub first_root : (d : Device) (s : Storage) (e : Device) (t : Storage) (h : Past ℕ) (limit root other : ℕ) → s.ring ≡ unused_ring d.geometry.blocks → h ≡ fresh limit root
-    → parts.IsNextBlock (parts.storage d s.bad s.ring) (parts.storage e t.bad t.ring) root → present_root h ≡ Some other → IsFirstGood t.bad other
-first_root d s e t h limit root other ring is next present =
-    let same : other ≡ root = cc (sym present ∙ ap present_root is) in
-    subst (IsFirstGood t.bad) (sym same)
-    (first_good d.geometry.blocks t.bad root (subst (λ (r : Ring). IsNext (is_busy r t.bad) r.blocks r.last root) ring next.next))
+first_root : (d : Device) (s : Storage) (e : Device) (t : Storage) (root : ℕ) → s.ring ≡ unused_ring d.geometry.blocks
+    → parts.IsNextBlock (parts.storage d s.bad s.ring) (parts.storage e t.bad t.ring) root → IsFirstGood t.bad root
+first_root d s e t root ring next =
+    first_good d.geometry.blocks t.bad root (subst (λ (r : Ring). IsNext (is_busy r t.bad) r.blocks r.last root) ring next.next)
 
 -- the first moment, once the root is written
-pub written_fresh : (d : Device) (limit : ℕ) (s : Storage) (e : Device) (t : Storage) (h : Past ℕ) (files : Descriptors) (root : ℕ) → IsGeometry d.geometry → s.bad ≡ set.empty → s.ring ≡ unused_ring d.geometry.blocks
-    → vec_len s.page ≡ d.geometry.page → block_bytes d.geometry ≤ vec_capacity s.node → HasWritten d s 1 e t → set.contains t.ring.used root ≡ true → entries_in (node_of e) root ≡ Some []
-    → parts.IsNextBlock (parts.storage d s.bad s.ring) (parts.storage e t.bad t.ring) root → 2 ≤ limit → h ≡ fresh limit root → files ≡ none_open
-    → IsFresh d limit (moment e (record { history = h; storage = t; files = files; is_off = false }))
-written_fresh d limit s e t h files root lawful bad ring len capacity written kept empty next some is none =
+pub written_begun : (d : Device) (was : set.FinSet nat_cmp) (limit : ℕ) (s : Storage) (e : Device) (t : Storage) (h : Past ℕ) (files : Descriptors) (root : ℕ) → IsGeometry d.geometry → s.bad ≡ was
+    → s.ring ≡ unused_ring d.geometry.blocks → vec_len s.page ≡ d.geometry.page → block_bytes d.geometry ≤ vec_capacity s.node → HasWritten d s 1 e t → set.contains t.ring.used root ≡ true
+    → entries_in (node_of e) root ≡ Some [] → parts.IsNextBlock (parts.storage d s.bad s.ring) (parts.storage e t.bad t.ring) root → 2 ≤ limit → h ≡ fresh limit root → files ≡ none_open
+    → IsBegun d was limit (moment e (record { history = h; storage = t; files = files; is_off = false }))
+written_begun d was limit s e t h files root lawful bad ring len capacity written kept empty next some is none =
     let state : State = record { history = h; storage = t; files = files; is_off = false } in
     let same = sym written.evolved.geometry in
     let more = written.node_room in
     let fits : block_bytes d.geometry ≤ vec_capacity t.node = omega arith in
     let stands = fresh_mounted (moment e state) limit root refl (subst IsGeometry same lawful) (written.evolved.blocks ∙ ap (λ (r : Ring). r.blocks) ring ∙ ap (λ (g : Geometry). g.blocks) same) (written.page_len ∙ len ∙ ap (λ (g : Geometry). g.page) same)
     (subst (λ (g : Geometry). block_bytes g ≤ vec_capacity t.node) same fits) some is none empty kept in
-    fresh_at d limit s (moment e state) stands (fresh_machine e h files limit root is none empty) refl bad ring written (λ other present. first_root d s e t h limit root other ring is next present)
+    let before : set.len s.bad ≡ set.len was = ap set.len bad in
+    let no_takes : s.ring.takes ≡ 0 = ap (λ (r : Ring). r.takes) ring in
+    let paid = written.paid in
+    record {
+      root = root;
+      history = is;
+      machine = fresh_machine e h files limit root is none empty;
+      mounted = stands;
+      is_on = refl;
+      evolved = begins d was s (parts.storage e t.bad t.ring) bad ring written.evolved;
+      paid = omega arith;
+      root_block = first_root d s e t root ring next;
+    }
+
+-- Where no block was bad before.
+
+begun_fresh : (d : Device) (limit : ℕ) (m : Moment) → IsBegun d set.empty limit m → IsFresh d limit m
+begun_fresh d limit m begun =
+    let none : set.len (set.empty {R = nat_cmp}) ≡ 0 = set.len-empty nat_cmp in
+    let paid = begun.paid in
+    record {
+      machine = begun.machine;
+      mounted = begun.mounted;
+      is_on = begun.is_on;
+      evolved = begun.evolved;
+      paid = omega arith;
+      root_block = λ root present. let same : root ≡ begun.root = cc (sym present ∙ ap present_root begun.history) in subst (IsFirstGood m.state.storage.bad) (sym same) begun.root_block;
+    }
+
+pub all_begun_fresh : (d : Device) (was : set.FinSet nat_cmp) (limit : ℕ) (e : Device) (result : Result State Fault) → was ≡ set.empty → IfOk result (λ s. IsBegun d was limit (moment e s))
+    → IfOk result (λ s. IsFresh d limit (moment e s))
+all_begun_fresh d was limit e (Ok s) none begun = begun_fresh d limit (moment e s) (subst (λ (bad : set.FinSet nat_cmp). IsBegun d bad limit (moment e s)) none begun)
+all_begun_fresh d was limit e (Err fault) none begun = tt
+
+fresh_cause : (d : Device) (limit : ℕ) (fault : Fault) (e : Device) → BeginCause d set.empty fault e → FreshCause d limit fault e
+fresh_cause d limit FlashFull e (bad, lacks) =
+    let none : set.len (set.empty {R = nat_cmp}) ≡ 0 = set.len-empty nat_cmp in
+    let many = lacks.many in
+    let failures = lacks.grown.failures in
+    omega arith
+fresh_cause d limit ReadOnly e (bad, full) =
+    let none : set.len (set.empty {R = nat_cmp}) ≡ 0 = set.len-empty nat_cmp in
+    let most = full.full in
+    let failures = full.grown.failures in
+    omega arith
+fresh_cause d limit PowerCut e why = why
+fresh_cause d limit NoMemory e why = tt
+fresh_cause d limit _ e why = absurd why
+
+pub all_fresh_cause : (d : Device) (was : set.FinSet nat_cmp) (limit : ℕ) (e : Device) (result : Result State Fault) → was ≡ set.empty → IfErr result (λ fault. BeginCause d was fault e)
+    → IfErr result (λ fault. FreshCause d limit fault e)
+all_fresh_cause d was limit e (Ok s) none why = tt
+all_fresh_cause d was limit e (Err fault) none why = fresh_cause d limit fault e (subst (λ (bad : set.FinSet nat_cmp). BeginCause d bad fault e) none why)

@@ -1,4 +1,5 @@
 pub mod BadCounts
+pub mod BadData
 pub mod ChangeSteps
 pub mod ChangedCalls
 pub mod CutCalls

@@ -44,7 +44,7 @@ same_capacity s t e = ap (λ (g : Geometry). block_bytes g - body_header) e.geom
 frame : (s t : Storage) → IsGeometry s.device.geometry → Evolved s t → FrameLaw (node_of s.device) (node_of t.device) (is_kept s) (is_kept t)
 frame s t lawful e = frame_law (node_of s.device) (node_of t.device) (is_kept s) (is_kept t) (keeps s t lawful e)
 
-still_stands : (s t : Storage) (root : ℕ) → IsGeometry s.device.geometry → Evolved s t → IsStanding s.device s.ring root → IsStanding t.device t.ring root
+pub still_stands : (s t : Storage) (root : ℕ) → IsGeometry s.device.geometry → Evolved s t → IsStanding s.device s.ring root → IsStanding t.device t.ring root
 still_stands s t root lawful e stands = record {
   held = (frame s t lawful e).held (Dir root) stands.held;
   rooted = subst (λ capacity. IsRoot capacity (node_of t.device) root) (sym (same_capacity s t e))

@@ -119,7 +119,7 @@ writes-record m call ok e = and_from (is_accepted m call) _ (ap is_none ok) (ap 
 pub refused_change : (a : Moment) (call : Call) (fault : Fault) → a.state.is_off ≡ false → makes_version (machine_at a) call ≡ true
     → ((fault ≡ Fault.ReadOnly) × IsReadOnly a.state.history a.state.storage a.state.storage) ⊎ ((fault ≡ Fault.Overflow) × IsOverflow a.state.history a.state.storage) → Steps a call (Err fault) a
 refused_change a call fault on makes (inl why) = subst (λ f. Steps a call (Err f) a) (sym why.0) (refused a call Fault.ReadOnly on refl (inr (writes-version (machine_at a) call makes, why.1.on, λ off made. why.1.serial_left off)))
-refused_change a call fault on makes (inr why) = subst (λ f. Steps a call (Err f) a) (sym why.0) (refused a call Fault.Overflow on refl (inr (makes, why.1.writable, why.1.last)))
+refused_change a call fault on makes (inr why) = subst (λ f. Steps a call (Err f) a) (sym why.0) (refused a call Fault.Overflow on refl (inr (why.1.writable, inl (makes, why.1.last))))
 
 -- what refuses another call that the record has to take
 pub refused_record : (a : Moment) (call : Call) (fault : Fault) → a.state.is_off ≡ false → refusal (machine_at a) call ≡ None → is_for_record call ≡ true

@@ -37,7 +37,7 @@ entries-set = hlevel props
 same-items : (a b : List Item) → Some a ≡ Some b → a ≡ b
 same-items a b e = ap (λ o. unwrap_or o a) e
 
-whole-prop : (capacity : ℕ) (f : Blocks) (place : Place) → IsProp (IsWhole capacity f place)
+pub whole-prop : (capacity : ℕ) (f : Blocks) (place : Place) → IsProp (IsWhole capacity f place)
 whole-prop capacity f (Dir block) a b = Σ_prop_path (λ items. entries-set (entries_in f block) (Some items)) (same-items a.0 b.0 (sym a.1 ∙ b.1))
 whole-prop capacity f (File head size) a b = body-prop capacity f head size a b
 

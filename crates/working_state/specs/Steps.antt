@@ -57,12 +57,13 @@ pub record IsFull (old : Seen) (nodes : ℕ) (new : Seen) : Type 0 where
   pub few_free : old.free + old.listed < new.listed + nodes
 
 -- a refusal that the machine does not give, with its cause. The checks before the work are in order: read-only mode (16),
--- and for a version the serials (22). So where no block is left for the nodes of a version, neither had refused it; and
--- where read-only mode came on in the work, a serial was left. A read failed; the device is off; memory was wanted
+-- and for a version the serials, or for a commit its sequence (22). So where no block is left for the nodes of a version,
+-- neither had refused it; and where read-only mode came on in the work, a serial was left. A read failed; the device is off;
+-- memory was wanted
 abbrev pub MayRefuse : Seen → Machine → Call → Fault → Seen → Type 0
 MayRefuse old m call FlashFull new = (0 < need old.capacity m call) × (old.read_only ≡ false) × (m.history.next < last_serial) × IsFull old (need old.capacity m call) new
 MayRefuse old m call ReadOnly new = (is_writing m call ≡ true) × (new.read_only ≡ true) × (old.read_only ≡ false → makes_version m call ≡ true → m.history.next < last_serial)
-MayRefuse old m call Overflow new = (makes_version m call ≡ true) × (old.read_only ≡ false) × (m.history.next ≡ last_serial)
+MayRefuse old m call Overflow new = (old.read_only ≡ false) × (((makes_version m call ≡ true) × (m.history.next ≡ last_serial)) ⊎ (is_sync call ≡ true))
 MayRefuse old m call ReadFailed new = (is_light call ≡ false) × (old.failed_reads < new.failed_reads)
 MayRefuse old m call PowerCut new = (is_light call ≡ false) × (new.powered ≡ false)
 MayRefuse old m call NoMemory new = is_light call ≡ false

@@ -14,7 +14,7 @@ use read_only::is_read_only;
 
 impl State {
     /// Refuses a call where an earlier one answered that the power is off.
-    pub(crate) fn check_power(&self) -> Result<(), Fault>
+    pub fn check_power(&self) -> Result<(), Fault>
         ensures ok { OnOk result (self.now.is_off ≡ false) }
         ensures off { IfErr result (λ fault. (fault ≡ Fault.PowerCut) × (self.now.is_off ≡ true)) }
     {
@@ -38,7 +38,7 @@ impl State {
     }
 
     /// Remembers that the power is off, where a call answers that.
-    pub(crate) fn remember_cut<T>(&mut self, answer: Result<T, Fault>) -> Result<T, Fault>
+    pub fn remember_cut<T>(&mut self, answer: Result<T, Fault>) -> Result<T, Fault>
         ensures same { result ≡ answer }
         ensures off { self.new ≡ record self.old { is_off = self.old.is_off || is_cut_answer answer } }
     {

@@ -1,15 +1,16 @@
 //! The working state: all that a mounted system keeps in memory, apart from the flash.
-ghost use Rattle.std.specs.Prelude.{◌≡◌, ◌<◌, ◌≤◌, ◌↔◌, ◌⊎◌, true, Some, Err, [], IfOk, IfErr, vec_len, vec_capacity};
+ghost use Rattle.std.specs.Prelude.{◌≡◌, ℕ, ◌<◌, ◌≤◌, ◌↔◌, ◌⊎◌, true, Some, Err, [], IfOk, IfErr, vec_len, vec_capacity};
 ghost use Rattle.std.specs.FinSet as set;
 ghost use Rattle.history_machine.specs.History.{present_root};
 ghost use Rattle.fs_types.specs.declared.limits.TheConstants.{MIN_VERSIONS, MAX_VERSIONS};
 ghost use Rattle.fs_types.specs.declared.faults.Fault.{Fault};
 ghost use Rattle.flash_model.specs.Geometry.{IsGeometry, block_bytes};
-ghost use Rattle.node_store.specs.NodePages.{node_of};
+ghost use Rattle.allocator.specs.Ring.{IsDataBlock};
+ghost use Rattle.node_store.specs.NodePages.{first_data, node_of};
 ghost use Rattle.node_store.specs.Storage as parts;
 ghost use Rattle.block_trees.specs.Trees.{entries_in};
 ghost use Rattle.working_state.specs.Leaves.{HasWritten};
-ghost use Rattle.working_state.specs.Fresh.{unused_ring, IsFresh, FreshCause, RootCause};
+ghost use Rattle.working_state.specs.Fresh.{unused_ring, IsFresh, IsBegun, BeginCause, FreshCause, RootCause};
 ghost use Rattle.working_state.specs.Moments.{moment};
 ghost use Rattle.working_state.specs.Seen.{IsLaterFlash};
 
@@ -63,19 +64,30 @@ impl State {
         if limit < (MIN_VERSIONS as u32) || (MAX_VERSIONS as u32) < limit {
             return Err(Fault::Invalid);
         }
-        State::with_empty_root(alloc, flash, limit)
+        State::with_empty_root(alloc, flash, BadBlocks::new(), limit)
     }
 
-    /// The same, where the sizes and the limit are lawful.
-    fn with_empty_root<F: Flash>(alloc: Global, flash: &mut F, limit: u32) -> Result<State, Fault>
+    /// The working state of a fresh system on a flash of lawful sizes, of which these anchors are bad
+    /// and nothing is used: an empty root is written, and is its version of serial 1. At most `limit`
+    /// versions are kept, 2 to 64.
+    ///
+    /// [`Fault::FlashFull`] where an operation failed in each data block, [`Fault::ReadOnly`] where 256
+    /// blocks are bad, [`Fault::PowerCut`], [`Fault::NoMemory`].
+    pub fn with_empty_root<F: Flash>(
+        alloc: Global,
+        flash: &mut F,
+        bad: BadBlocks,
+        limit: u32,
+    ) -> Result<State, Fault>
         requires lawful { IsGeometry (F.device flash.old).geometry }
         requires at_least { MIN_VERSIONS ≤ limit }
         requires at_most { limit ≤ MAX_VERSIONS }
+        requires anchors { (b : ℕ) → set.contains bad b ≡ true → b < first_data }
         ensures later { IsLaterFlash (F.device flash.old) (F.device flash.new) }
-        ensures fresh { IfOk result (λ state. IsFresh (F.device flash.old) limit (moment (F.device flash.new) state)) }
-        ensures why { IfErr result (λ fault. FreshCause (F.device flash.old) limit fault (F.device flash.new)) }
+        ensures begun { IfOk result (λ state. IsBegun (F.device flash.old) bad limit (moment (F.device flash.new) state)) }
+        ensures why { IfErr result (λ fault. BeginCause (F.device flash.old) bad fault (F.device flash.new)) }
     {
-        let mut storage = unused_storage(alloc, flash.geometry())?;
+        let mut storage = unused_storage(alloc, flash.geometry(), bad)?;
         let root = write_root(flash, &mut storage)?;
         let history = History::new(alloc, limit as usize, root)?;
         Ok(State {
@@ -87,18 +99,18 @@ impl State {
     }
 }
 
-/// What nodes are kept with on a flash of these sizes that nothing was written to: no block is bad or
-/// used, and the first data block is the next one.
-fn unused_storage(alloc: Global, geometry: Geometry) -> Result<Storage, Fault>
+/// What nodes are kept with on a flash of these sizes that no node was written to: these blocks are
+/// bad, none is used, and the first data block is the next one.
+fn unused_storage(alloc: Global, geometry: Geometry, bad: BadBlocks) -> Result<Storage, Fault>
     requires { IsGeometry geometry }
-    ensures bad { IfOk result (λ storage. storage.bad ≡ set.empty) }
+    ensures bad { IfOk result (λ storage. storage.bad ≡ bad) }
     ensures ring { IfOk result (λ storage. storage.ring ≡ unused_ring geometry.blocks) }
     ensures page_len { IfOk result (λ storage. vec_len storage.page ≡ geometry.page) }
     ensures node_room { IfOk result (λ storage. block_bytes geometry ≤ vec_capacity storage.node) }
     ensures err { IfErr result (λ fault. fault ≡ Fault.NoMemory) }
 {
     Ok(Storage {
-        bad: BadBlocks::new(),
+        bad,
         ring: Ring::new(alloc, geometry.blocks, geometry.blocks - 1)?,
         page: vec![in alloc; 0; geometry.page as usize]?,
         node: Vec::with_capacity(alloc, geometry.block_bytes())?,
@@ -114,6 +126,7 @@ fn write_root<F: Flash>(flash: &mut F, storage: &mut Storage) -> Result<u32, Fau
     ensures kept { IfOk result (λ root. set.contains storage.new.ring.used root ≡ true) }
     ensures empty { IfOk result (λ root. entries_in (node_of (F.device flash.new)) root ≡ Some []) }
     ensures next { IfOk result (λ root. parts.IsNextBlock (parts.storage (F.device flash.old) storage.old.bad storage.old.ring) (parts.storage (F.device flash.new) storage.new.bad storage.new.ring) root) }
+    ensures data_blocks { (b : ℕ) → set.contains storage.new.ring.used b ≡ true → IsDataBlock storage.new.ring.blocks b }
     ensures why { IfErr result (λ fault. RootCause (parts.storage (F.device flash.old) storage.old.bad storage.old.ring) fault (parts.storage (F.device flash.new) storage.new.bad storage.new.ring)) }
 {
     let Storage {
@@ -122,5 +135,8 @@ fn write_root<F: Flash>(flash: &mut F, storage: &mut Storage) -> Result<u32, Fau
         page,
         ..
     } = storage;
-    write_node(flash, bad, ring, page, &empty_directory())
+    let root = write_node(flash, bad, ring, page, &empty_directory());
+    // The used blocks are data blocks, as its contract tells.
+    let _ = ring.blocks();
+    root
 }

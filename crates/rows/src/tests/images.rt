@@ -1,4 +1,5 @@
 //! Rows of image files: bytes that are written out here, and what they are read as.
+use crate::tests::mounts::formatted;
 use flash_image::{ImageFault, decode, encode};
 use flash_model::{Flash, Geometry, PageView, SimFlash};
 use std::alloc::{AllocError, Global};
@@ -18,7 +19,7 @@ const HEADER: [u8; 20] = [
     0x20, 0x00, 0x00, 0x00,
 ];
 
-/// The first bytes of page 0 of a fresh flash, after which it has 184 bytes of 0.
+/// The first bytes of page 0 of a formatted flash, after which it has 184 bytes of 0.
 const RECORD: [u8; 72] = [
     0x55, 0x46, 0x43, 0x52, 0x01, 0x00, 0x00, 0x00, 0x00, 0x00, 0x00, 0x00, 0x00, 0x00, 0x01, 0x00,
     0x34, 0x00, 0x00, 0x00, 0x01, 0x00, 0x00, 0x00, 0x00, 0x01, 0x00, 0x00, 0x10, 0x00, 0x00, 0x00,
@@ -27,7 +28,7 @@ const RECORD: [u8; 72] = [
     0x00, 0x00, 0x00, 0x00, 0x08, 0x00, 0x00, 0x00,
 ];
 
-/// The first bytes of page 128 of a fresh flash, after which it has 252 bytes of 0.
+/// The first bytes of page 128 of a formatted flash, after which it has 252 bytes of 0.
 const NODE: [u8; 4] = [0x55, 0x46, 0x4e, 0x44];
 
 /// A page that begins with these bytes and goes on with 0.
@@ -47,7 +48,7 @@ fn push_many(image: &mut Vec<u8>, byte: u8, count: usize) -> Result<(), AllocErr
     Ok(())
 }
 
-/// The image of a fresh flash as it is written out: no block worn, page 0 and page 128 with data, all
+/// The image of a formatted flash as it is written out: no block worn, page 0 and page 128 with data, all
 /// others erased.
 fn fresh_image(alloc: Global) -> Result<Vec<u8>, AllocError> {
     let mut image = Vec::new(alloc);
@@ -83,18 +84,6 @@ fn with_byte(alloc: Global, bytes: &[u8], place: usize, byte: u8) -> Result<Vec<
     Ok(changed)
 }
 
-/// Programs a page; false where it is not erased or is not programmed.
-fn program(flash: &mut SimFlash, number: u32, bytes: &[u8; 256]) -> bool {
-    let sizes = flash.geometry();
-    if sizes.page != 256 || sizes.page_count() <= number as usize {
-        return false;
-    }
-    match flash.page(number) {
-        PageView::Erased => flash.program(number, bytes).is_ok(),
-        _ => false,
-    }
-}
-
 /// Whether the page holds this.
 fn holds(flash: &SimFlash, number: u32, page: PageView<'_>) -> bool {
     if flash.geometry().page_count() <= number as usize {
@@ -111,12 +100,10 @@ fn assert_fault<R: Abort>(rt: &R, alloc: Global, bytes: &[u8], fault: ImageFault
 }
 
 #[test]
-fn a_fresh_flash_has_the_image_written_out(rt: HostRuntime) -> Result<(), Fail> {
+fn a_formatted_flash_has_the_image_written_out(rt: HostRuntime) -> Result<(), Fail> {
     let image = fresh_image(rt.alloc())?;
     assert_eq!(rt; image.len(), 1076);
-    let mut flash = SimFlash::new(rt.alloc(), SIZES, &[])?;
-    assert!(rt; program(&mut flash, 0, &padded(&RECORD)));
-    assert!(rt; program(&mut flash, 128, &padded(&NODE)));
+    let flash = formatted(rt.alloc(), SIZES, 8)?;
     let encoded = encode(rt.alloc(), &flash)?;
     assert_eq!(rt; encoded.as_slice(), image.as_slice());
     Ok(())

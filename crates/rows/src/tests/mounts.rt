@@ -1,12 +1,12 @@
-//! What was committed of a working state is mounted again.
-use bad_blocks::BadBlocks;
-use commit_pair::Anchors;
-use flash_model::{Flash, Geometry, SimFlash};
-use fs_types::{CpName, Fault, Path, View};
+//! File systems that are made on a flash and mounted, and what of them is mounted again.
+use bitflags::Flags;
+use flash_model::{FaultKind, Flash, Geometry, PageView, PlannedFault, SimFlash};
+use fs_types::{CpName, Fault, OpenFlags, Path};
+use shell::run_script;
 use std::alloc::Global;
 use std::test::Fail;
-use upkeep::{mount, record_of};
-use working_state::State;
+use undofs::{Fs, format};
+use upkeep::mount;
 
 const SIZES: Geometry = Geometry {
     page: 256,
@@ -14,61 +14,281 @@ const SIZES: Geometry = Geometry {
     blocks: 32,
 };
 
-/// Clears the anchors and commits a working state.
-fn commit_state(alloc: Global, flash: &mut SimFlash, state: &State) -> Result<(), Fault> {
-    let sizes = flash.geometry();
-    let last = state.storage.ring.last();
-    if sizes != SIZES || !sizes.is_lawful() || last >= SIZES.blocks {
-        return Err(Fault::Invalid);
+/// A flash with an empty file system on it.
+pub(crate) fn formatted(alloc: Global, sizes: Geometry, limit: u32) -> Result<SimFlash, Fault> {
+    let mut flash = SimFlash::new(alloc, sizes, &[])?;
+    format(alloc, &mut flash, limit)?;
+    Ok(flash)
+}
+
+/// Puts the power on, mounts what is on a flash, and runs a script: what it writes.
+fn told(alloc: Global, flash: &mut SimFlash, script: &[u8]) -> Result<String, Fail> {
+    flash.power_on();
+    let mut script = script;
+    let mut out: Vec<u8> = Vec::new(alloc);
+    run_script(alloc, &mut script, &mut out, flash)?;
+    Ok(String::from_utf8(out)?)
+}
+
+/// What format answers on a flash of so many blocks where the first `count` operations of a kind
+/// have that fault.
+fn format_with(alloc: Global, blocks: u32, count: u64, kind: FaultKind) -> Result<(), Fault> {
+    let sizes = Geometry { blocks, ..SIZES };
+    let mut plan = Vec::new(alloc);
+    for number in 1..=count {
+        plan.push(PlannedFault {
+            number: u128::from(number),
+            kind,
+        })?;
     }
-    let record = record_of(alloc, SIZES, &state.history, last)?;
-    let mut bad = BadBlocks::new();
-    let mut anchors = Anchors::new();
-    anchors.clear(flash, &mut bad)?;
-    anchors.commit(alloc, flash, &mut bad, &record)
+    let mut flash = SimFlash::new(alloc, sizes, &plan)?;
+    format(alloc, &mut flash, 8)
 }
 
-/// Makes a directory and a checkpoint on a fresh system, and commits it.
-fn commit_directory(alloc: Global, flash: &mut SimFlash) -> Result<(), Fault> {
-    let path = Path::parse(alloc, b"/a")?;
-    let name = CpName::parse(b"one")?;
-    let mut state = State::fresh(alloc, flash, 8)?;
-    state.mkdir(alloc, flash, &path)?;
-    state.checkpoint(&name)?;
-    commit_state(alloc, flash, &state)
+#[test]
+fn a_limit_out_of_range_is_refused(rt: HostRuntime) -> Result<(), Fail> {
+    let mut flash = SimFlash::new(rt.alloc(), SIZES, &[])?;
+    for limit in [0, 1, 65] {
+        assert_eq!(rt; format(rt.alloc(), &mut flash, limit), Err(Fault::Invalid));
+    }
+    assert_eq!(rt; flash.counts().erases, 0);
+    for limit in [2, 64] {
+        assert_eq!(rt; format(rt.alloc(), &mut flash, limit), Ok(()));
+    }
+    Ok(())
 }
 
-/// How many names the root has of what is mounted.
-fn count_names(alloc: Global, flash: &mut SimFlash) -> Result<usize, Fault> {
-    let root = Path::root(alloc);
-    let mut state = mount(alloc, flash)?.state;
-    let names = state.list(alloc, flash, &View::Present, &root)?;
-    Ok(names.as_slice().len())
+#[test]
+fn two_anchors_and_a_data_block_have_to_work(rt: HostRuntime) -> Result<(), Fail> {
+    let erase = FaultKind::EraseFail;
+    assert_eq!(rt; format_with(rt.alloc(), 32, 6, erase), Ok(()));
+    assert_eq!(rt;
+        format_with(rt.alloc(), 32, 7, erase),
+        Err(Fault::NoAnchors)
+    );
+    let program = FaultKind::ProgramFail;
+    assert_eq!(rt; format_with(rt.alloc(), 32, 23, program), Ok(()));
+    assert_eq!(rt;
+        format_with(rt.alloc(), 32, 24, program),
+        Err(Fault::FlashFull)
+    );
+    let cut = FaultKind::ProgramCutNone;
+    assert_eq!(rt; format_with(rt.alloc(), 32, 1, cut), Err(Fault::PowerCut));
+    Ok(())
+}
+
+#[test]
+fn so_many_bad_blocks_leave_no_room(rt: HostRuntime) -> Result<(), Fail> {
+    let program = FaultKind::ProgramFail;
+    assert_eq!(rt; format_with(rt.alloc(), 512, 255, program), Ok(()));
+    assert_eq!(rt;
+        format_with(rt.alloc(), 512, 256, program),
+        Err(Fault::FlashFull)
+    );
+    Ok(())
 }
 
 #[test]
 fn an_erased_flash_has_no_record(rt: HostRuntime) -> Result<(), Fail> {
-    let mut flash = SimFlash::new(rt.alloc(), SIZES, &[])?;
-    assert_eq!(rt; mount(rt.alloc(), &mut flash).err(), Some(Fault::NoRecord));
+    let sizes = Geometry {
+        blocks: 16,
+        ..SIZES
+    };
+    let mut flash = SimFlash::new(rt.alloc(), sizes, &[])?;
+    assert_eq!(rt;
+        Fs::mount(rt.alloc(), &mut flash).err(),
+        Some(Fault::NoRecord)
+    );
+    Ok(())
+}
+
+/// Puts this node into the first page of block 8.
+fn put_root(flash: &mut SimFlash, node: &[u8; 256]) -> Result<(), Fault> {
+    let sizes = flash.geometry();
+    if sizes.page != 256 || sizes.page_count() <= 128 {
+        return Err(Fault::BadGeometry);
+    }
+    flash.set_page(128, PageView::Data(node));
     Ok(())
 }
 
 #[test]
-fn what_was_committed_is_listed(rt: HostRuntime) -> Result<(), Fail> {
-    let mut flash = SimFlash::new(rt.alloc(), SIZES, &[])?;
-    commit_directory(rt.alloc(), &mut flash)?;
-    assert_eq!(rt; count_names(rt.alloc(), &mut flash)?, 1);
+fn a_directory_that_reaches_itself_is_damaged(rt: HostRuntime) -> Result<(), Fail> {
+    let mut flash = formatted(rt.alloc(), SIZES, 8)?;
+    let root = b"UFND\x01\0\0\0\x0b\0\0\0\0\0\0\0\x02\x01a\x08\0\0\0\0\0\0\0";
+    let mut page = [0; 256];
+    for (place, byte) in page.iter_mut().zip(root) {
+        *place = *byte;
+    }
+    put_root(&mut flash, &page)?;
+    assert_eq!(rt;
+        Fs::mount(rt.alloc(), &mut flash).err(),
+        Some(Fault::Damaged)
+    );
     Ok(())
 }
 
+/// Makes a directory and a checkpoint, and syncs; a second directory is made after that.
+fn make_directories(alloc: Global, flash: &mut SimFlash) -> Result<(), Fault> {
+    let name = CpName::parse(b"one")?;
+    let first = Path::parse(alloc, b"/a")?;
+    let second = Path::parse(alloc, b"/b")?;
+    let mut system = Fs::mount(alloc, flash)?;
+    system.mkdir(alloc, &first)?;
+    system.checkpoint(&name)?;
+    system.sync(alloc)?;
+    system.mkdir(alloc, &second)
+}
+
 #[test]
-fn what_was_committed_is_mounted(rt: HostRuntime) -> Result<(), Fail> {
-    let mut flash = SimFlash::new(rt.alloc(), SIZES, &[])?;
-    commit_directory(rt.alloc(), &mut flash)?;
+fn what_was_synced_is_mounted(rt: HostRuntime) -> Result<(), Fail> {
+    let mut flash = formatted(rt.alloc(), SIZES, 8)?;
+    assert_eq!(rt; make_directories(rt.alloc(), &mut flash), Ok(()));
     let state = mount(rt.alloc(), &mut flash)?.state;
     assert_eq!(rt; state.history.next_serial(), 3);
     assert_eq!(rt; state.history.checkpoints().len(), 1);
     assert_eq!(rt; state.storage.ring.last(), 10);
     assert!(rt; state.storage.ring.is_used(8) && !state.storage.ring.is_used(11));
+    Ok(())
+}
+
+/// What `fsync` answers of the descriptor of an open file, of one that is closed, and of another.
+fn fsyncs(alloc: Global, flash: &mut SimFlash) -> Result<[Result<(), Fault>; 3], Fault> {
+    let path = Path::parse(alloc, b"/f")?;
+    let mut system = Fs::mount(alloc, flash)?;
+    let descriptor = system.open(alloc, &path, OpenFlags::from_bits_retain(6))? as u64;
+    let open = system.fsync(alloc, descriptor);
+    system.close(descriptor)?;
+    let closed = system.fsync(alloc, descriptor);
+    Ok([open, closed, system.fsync(alloc, 16)])
+}
+
+#[test]
+fn fsync_asks_for_an_open_file(rt: HostRuntime) -> Result<(), Fail> {
+    let mut flash = formatted(rt.alloc(), SIZES, 8)?;
+    let bad = Err(Fault::BadDescriptor);
+    assert_eq!(rt; fsyncs(rt.alloc(), &mut flash)?, [Ok(()), bad, bad]);
+    let names = told(rt.alloc(), &mut flash, b"ls /\n")?;
+    assert_eq!(rt; names.as_str(), "entries 1 f\n");
+    Ok(())
+}
+
+#[test]
+fn what_was_not_synced_is_lost(rt: HostRuntime) -> Result<(), Fail> {
+    let mut flash = formatted(rt.alloc(), SIZES, 8)?;
+    let first = b"mkdir /a\ncheckpoint v\nsync\nrmdir /a\n";
+    let replies = told(rt.alloc(), &mut flash, first)?;
+    assert_eq!(rt; replies.as_str(), "ok\nok\nok\nok\n");
+    let replies = told(rt.alloc(), &mut flash, b"ls /\nls / =v\nlog\n")?;
+    let log = "log next 3 dropped 0 versions 1 *2 checkpoints v\n";
+    assert!(rt; replies.strip_prefix("entries 1 a/\nentries 1 a/\n") == Some(log));
+    Ok(())
+}
+
+/// The names of the root after power went in the second of two syncs, with this fault of a program.
+fn names_after_a_cut(alloc: Global, fault: &str) -> Result<String, Fail> {
+    let mut flash = formatted(alloc, SIZES, 8)?;
+    let mut script = String::new(alloc);
+    script.push_str("mkdir /a\nsync\nmkdir /b\nfault 1 ")?;
+    script.push_str(fault)?;
+    script.push_str("\nsync\nls /\n")?;
+    let replies = told(alloc, &mut flash, script.as_bytes())?;
+    if replies.as_str() != "ok\nok\nok\nok\nerr POWERCUT 24\nerr POWERCUT 24\n" {
+        return Ok(replies);
+    }
+    told(alloc, &mut flash, b"ls /\n")
+}
+
+#[test]
+fn a_cut_in_a_sync_leaves_one_record_or_the_other(rt: HostRuntime) -> Result<(), Fail> {
+    let torn = names_after_a_cut(rt.alloc(), "program-cut-torn")?;
+    assert_eq!(rt; torn.as_str(), "entries 1 a/\n");
+    let none = names_after_a_cut(rt.alloc(), "program-cut-none")?;
+    assert_eq!(rt; none.as_str(), "entries 1 a/\n");
+    let whole = names_after_a_cut(rt.alloc(), "program-cut-whole")?;
+    assert_eq!(rt; whole.as_str(), "entries 2 a/ b/\n");
+    Ok(())
+}
+
+#[test]
+fn a_block_with_a_torn_erase_is_erased_again(rt: HostRuntime) -> Result<(), Fail> {
+    let mut flash = formatted(rt.alloc(), SIZES, 8)?;
+    let first = b"open /f 6\nfsync 0\nfault 1 erase-cut-torn\nmkdir /b\n";
+    let replies = told(rt.alloc(), &mut flash, first)?;
+    assert_eq!(rt; replies.as_str(), "fd 0\nok\nok\nerr POWERCUT 24\n");
+    let replies = told(rt.alloc(), &mut flash, b"ls /\nclose 0\nmkdir /b\n")?;
+    assert_eq!(rt; replies.as_str(), "entries 1 f\nerr EBADF 10\nok\n");
+    Ok(())
+}
+
+/// The names of the root after power went in a sync whose record has two pages, by a line `fault`.
+fn names_after_two_pages(alloc: Global, fault: &str) -> Result<String, Fail> {
+    let sizes = Geometry {
+        blocks: 64,
+        ..SIZES
+    };
+    let mut flash = formatted(alloc, sizes, 32)?;
+    let mut script = String::new(alloc);
+    for name in "abcdefghijklmnop".chars() {
+        script.push_str("mkdir /")?;
+        script.push(name)?;
+        script.push('\n')?;
+    }
+    script.push_str(fault)?;
+    script.push_str("\nsync\n")?;
+    let replies = told(alloc, &mut flash, script.as_bytes())?;
+    if !replies.as_str().ends_with("ok\nerr POWERCUT 24\n") {
+        return Ok(replies);
+    }
+    told(alloc, &mut flash, b"ls /\n")
+}
+
+#[test]
+fn a_record_of_two_pages_counts_once_both_are_written(rt: HostRuntime) -> Result<(), Fail> {
+    for fault in ["fault 2 program-cut-torn", "fault 1 program-cut-whole"] {
+        let names = names_after_two_pages(rt.alloc(), fault)?;
+        assert_eq!(rt; names.as_str(), "entries 0\n", "{fault}");
+    }
+    let names = names_after_two_pages(rt.alloc(), "fault 2 program-cut-whole")?;
+    assert!(rt; names.as_str().starts_with("entries 16 a/"));
+    Ok(())
+}
+
+#[test]
+fn a_record_before_seven_anchors_failed_is_mounted(rt: HostRuntime) -> Result<(), Fail> {
+    let mut flash = formatted(rt.alloc(), SIZES, 8)?;
+    let first =
+        b"mkdir /a\nfault 1 program-fail\nfault 2 program-fail\nfault 3 program-fail\nfault 4 program-fail\nfault 5 program-fail\nfault 6 program-fail\nfault 7 program-fail\nsync\n";
+    let replies = told(rt.alloc(), &mut flash, first)?;
+    assert!(rt; replies.as_str().ends_with("ok\nerr EROFS 16\n"));
+    let replies = told(rt.alloc(), &mut flash, b"ls /\nmkdir /b\n")?;
+    assert_eq!(rt; replies.as_str(), "entries 0\nok\n");
+    Ok(())
+}
+
+/// The sequence of the record that begins on a page of an anchor.
+fn sequence_on(flash: &SimFlash, number: u32) -> Option<u8> {
+    if flash.geometry().page_count() <= number as usize {
+        return None;
+    }
+    match flash.page(number) {
+        PageView::Data(bytes) => bytes.strip_prefix(b"UFCR")?.first().copied(),
+        _ => None,
+    }
+}
+
+#[test]
+fn sixteen_syncs_fill_an_anchor(rt: HostRuntime) -> Result<(), Fail> {
+    let mut flash = formatted(rt.alloc(), SIZES, 8)?;
+    let mut script = String::new(rt.alloc());
+    for _ in 0..16 {
+        script.push_str("sync\n")?;
+    }
+    let replies = told(rt.alloc(), &mut flash, script.as_bytes())?;
+    assert_eq!(rt; replies.lines().filter(|reply| *reply == "ok").count(), 16);
+    for page in 0..=16u32 {
+        assert_eq!(rt; sequence_on(&flash, page).map(u32::from), Some(page + 1));
+    }
+    assert_eq!(rt; sequence_on(&flash, 17), None);
     Ok(())
 }

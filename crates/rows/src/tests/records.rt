@@ -12,7 +12,7 @@ const SIZES: Geometry = Geometry {
     blocks: 32,
 };
 
-/// What the first page of a fresh flash begins with: a header, and a payload of 52 bytes. 0 follows.
+/// What the first page of a formatted flash begins with: a header, and a payload of 52 bytes. 0 follows.
 const FRESH: [u8; 72] =
     *b"UFCR\x01\0\0\0\0\0\0\0\0\0\x01\0\x34\0\0\0\x01\0\0\0\0\x01\0\0\x10\0\0\0\x20\0\0\0\x08\0\0\0\0\x01\0\0\0\0\0\0\x02\0\0\0\0\0\0\0\x08\0\0\0\x01\0\0\0\0\0\0\0\x08\0\0\0";
 
@@ -54,7 +54,7 @@ fn page_of(alloc: Global, record: &Record) -> Result<Vec<u8>, Fault> {
 }
 
 #[test]
-fn the_record_of_a_fresh_flash_is_read(rt: HostRuntime) -> Result<(), Fail> {
+fn the_record_of_a_formatted_flash_is_read(rt: HostRuntime) -> Result<(), Fail> {
     let record = newest_of(rt.alloc(), &FRESH)?.ok_or("a record")?;
     assert_eq!(rt; record.sequence, 1);
     assert_eq!(rt; record.geometry, SIZES);
@@ -72,7 +72,7 @@ fn the_record_of_a_fresh_flash_is_read(rt: HostRuntime) -> Result<(), Fail> {
 }
 
 #[test]
-fn the_record_of_a_fresh_flash_is_written(rt: HostRuntime) -> Result<(), Fail> {
+fn the_record_of_a_formatted_flash_is_written(rt: HostRuntime) -> Result<(), Fail> {
     let record = newest_of(rt.alloc(), &FRESH)?.ok_or("a record")?;
     let page = page_of(rt.alloc(), &record)?;
     let mut wanted = FRESH.to_vec(rt.alloc())?;

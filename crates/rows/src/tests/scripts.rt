@@ -1,5 +1,6 @@
 //! What stands written where a script does not run to its end, and the statuses of the program.
-use flash_model::{FaultKind, Flash, Geometry, PageView, PlannedFault, SimFlash};
+use crate::tests::mounts::formatted;
+use flash_model::{Flash, Geometry, PageView, SimFlash};
 use fs_types::Fault;
 use shell::{ScriptFault, run_script, tool};
 use std::alloc::Global;
@@ -56,25 +57,18 @@ impl Write for Full {
 
 #[test]
 fn a_refused_system_writes_nothing(rt: HostRuntime) -> Result<(), Fail> {
-    let mut plan = Vec::new(rt.alloc());
-    for number in 1..25u64 {
-        plan.push(PlannedFault {
-            number: u128::from(number),
-            kind: FaultKind::ProgramFail,
-        })?;
-    }
-    let mut flash = SimFlash::new(rt.alloc(), SIZES, &plan)?;
+    let mut flash = SimFlash::new(rt.alloc(), SIZES, &[])?;
     let mut script: &[u8] = b"ls /\n";
     let mut out: Vec<u8> = Vec::new(rt.alloc());
     let ended = run_script(rt.alloc(), &mut script, &mut out, &mut flash);
-    assert_eq!(rt; ended, Err(ScriptFault::Mount(Fault::FlashFull)));
-    assert_eq!(rt; out.len(), 0);
+    assert_eq!(rt; ended, Err(ScriptFault::Mount(Fault::NoRecord)));
+    assert_eq!(rt; (script.len(), out.len()), (5, 0));
     Ok(())
 }
 
 #[test]
 fn a_failed_reader_leaves_all_replies(rt: HostRuntime) -> Result<(), Fail> {
-    let mut flash = SimFlash::new(rt.alloc(), SIZES, &[])?;
+    let mut flash = formatted(rt.alloc(), SIZES, 8)?;
     let mut script = Broken {
         bytes: b"mkdir /a\nls /\nundo",
     };
@@ -87,7 +81,7 @@ fn a_failed_reader_leaves_all_replies(rt: HostRuntime) -> Result<(), Fail> {
 
 #[test]
 fn a_failed_writer_leaves_a_beginning(rt: HostRuntime) -> Result<(), Fail> {
-    let mut flash = SimFlash::new(rt.alloc(), SIZES, &[])?;
+    let mut flash = formatted(rt.alloc(), SIZES, 8)?;
     let mut script: &[u8] = b"mkdir /a\nls /\nundo\n";
     let mut out = Full {
         bytes: Vec::new(rt.alloc()),
@@ -144,7 +138,7 @@ impl Read for Greedy<'_> {
 /// Where an address checker stands between, memory has no end, and the script runs to its own.
 #[test]
 fn want_of_memory_leaves_the_replies_before(rt: HostRuntime) -> Result<(), Fail> {
-    let mut flash = SimFlash::new(rt.alloc(), SIZES, &[])?;
+    let mut flash = formatted(rt.alloc(), SIZES, 8)?;
     let mut script = Greedy {
         first: b"mkdir /a\nls /\n",
         last: b"mkdir /b\n",
@@ -213,7 +207,7 @@ fn is_unreadable(flash: &SimFlash, number: u32) -> bool {
 
 #[test]
 fn a_directory_is_written_before_its_root(rt: HostRuntime) -> Result<(), Fail> {
-    let mut flash = SimFlash::new(rt.alloc(), SIZES, &[])?;
+    let mut flash = formatted(rt.alloc(), SIZES, 8)?;
     let mut script: &[u8] = b"mkdir /a\n";
     let mut out: Vec<u8> = Vec::new(rt.alloc());
     run_script(rt.alloc(), &mut script, &mut out, &mut flash)?;
@@ -224,9 +218,29 @@ fn a_directory_is_written_before_its_root(rt: HostRuntime) -> Result<(), Fail> {
     Ok(())
 }
 
+#[test]
+fn a_file_is_written_before_its_root(rt: HostRuntime) -> Result<(), Fail> {
+    let mut flash = formatted(rt.alloc(), SIZES, 8)?;
+    let mut script: &[u8] = b"open /f 7\npwrite 0 0 6869\n";
+    let mut out: Vec<u8> = Vec::new(rt.alloc());
+    run_script(rt.alloc(), &mut script, &mut out, &mut flash)?;
+    let empty = b"UFND\x01\0\0\0\x0b\0\0\0\0\0\0\0\x01\x01f";
+    assert!(rt; is_filled(&flash, 144, empty));
+    let mut node = [0; 82];
+    for (place, byte) in node.iter_mut().zip(b"UFNB\0\0\0\0\x02") {
+        *place = *byte;
+    }
+    node[80] = b'h';
+    node[81] = b'i';
+    assert!(rt; is_filled(&flash, 160, &node));
+    let root = b"UFND\x01\0\0\0\x0b\0\0\0\0\0\0\0\x01\x01f\x0a\0\0\0\x02\0\0\0";
+    assert!(rt; is_filled(&flash, 176, root));
+    Ok(())
+}
+
 /// Runs a script with one fault, and tells whether it left block 9 and wrote blocks 10 and 11.
 fn leaves_a_block(alloc: Global, script: &[u8]) -> Result<bool, Fail> {
-    let mut flash = SimFlash::new(alloc, SIZES, &[])?;
+    let mut flash = formatted(alloc, SIZES, 8)?;
     let mut script = script;
     let mut out: Vec<u8> = Vec::new(alloc);
     run_script(alloc, &mut script, &mut out, &mut flash)?;
@@ -275,7 +289,7 @@ fn is_node(flash: &SimFlash, number: u32) -> bool {
 /// Makes so many directories, each in the one before, and tells how many nodes stand written then; 0
 /// where one was refused.
 fn nodes_of_depth(alloc: Global, depth: usize) -> Result<usize, Fail> {
-    let mut flash = SimFlash::new(alloc, LARGE, &[])?;
+    let mut flash = formatted(alloc, LARGE, 8)?;
     let mut path = String::new(alloc);
     let mut script = String::new(alloc);
     let mut wanted: Vec<u8> = Vec::new(alloc);

@@ -1,9 +1,10 @@
 use Rattle.std.proofs.Common.{refl, sym, ap, subst, ◌∙◌}
 use Rattle.flash_model.specs.Simulation.{device_of, plan_of}
 use Rattle.flash_model.specs.declared.simulation.SimFlash.{SimFlash}
-use Rattle.working_state.specs.Fresh.{IsFresh}
+use Rattle.upkeep.specs.Mounts.{IsMountOf}
+use Rattle.upkeep.specs.Moments.{Moment}
 use Rattle.undofs.specs.Systems.{moment_of}
-use Rattle.shell.specs.Scripts.{Ends, kept_versions}
+use Rattle.shell.specs.Scripts.{Ends}
 use Rattle.shell.proofs.TurnLemmas.{script_ends}
 use Rattle.shell.proofs.scripts.run_script.Goals as goal
 
@@ -15,7 +16,8 @@ returns-in-Ok g c =
     let new = g.W.Write.contents c.run_lines-ended.new.writer in
     let system = c.run_lines-ended.new.system in
     let start = c.args.flash.now in
-    let begins : IsFresh (device_of start) kept_versions (moment_of c.on-system.result) = subst (IsFresh (device_of start) kept_versions) (sym c.on-system.ensures.moment) c.in-Ok.ensures.fresh in
+    let begins : IsMountOf (device_of start) (moment_of c.on-system.result).device (moment_of c.on-system.result).system =
+    subst (λ (m : Moment). IsMountOf (device_of start) m.device m.system) (sym c.on-system.ensures.moment) c.in-Ok.ensures.ok in
     let ended : Ends start system.flash.now input left c.run_lines-ended.result old new =
     script_ends start system.flash.now (moment_of c.on-system.result) (plan_of c.on-system.result.flash.now) (moment_of system) input left c.run_lines-ended.result old new
     begins system.mounted refl c.run_lines-ended.ensures.ends in

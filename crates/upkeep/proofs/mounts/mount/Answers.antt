@@ -3,6 +3,8 @@ use Rattle.std.proofs.lemmas.Result.{err_from_is_err_and}
 use Rattle.record_format.specs.declared.records.Record.{Record}
 use Rattle.commit_pair.specs.Newest.{IsNewestRecord}
 use Rattle.upkeep.proofs.Mounting.{newest_fits, none_committed, as_reads, mounts, not_none, load_why}
+use Rattle.flash_model.specs.Reading.{OnlyReads_on}
+use Rattle.upkeep.proofs.MountedSystems.{mounted_system}
 use Rattle.upkeep.proofs.mounts.mount.Goals as goal
 
 pub returns-in_default-clause-why : goal.returns-in_default-clause-why
@@ -32,9 +34,18 @@ returns-in_err-state-clause-why g c =
     (load_why d (g.F.Flash.device c.newest.new.flash) (g.F.Flash.device c.load.new.flash) c.in-Some.newest c.in_err-state.field-0.0 (search rules) newest
     (as_reads d (g.F.Flash.device c.newest.new.flash) c.newest.ensures.only_reads) c.in_err-state.ensures.why)
 
-pub returns-clause-ok : goal.returns-clause-ok
-returns-clause-ok g c =
+mount_of : goal.returns-clause-ok
+mount_of g c =
     let d = g.F.Flash.device c.args.flash.now in
     let newest = subst (λ (o : Option Record). IsNewestRecord d o) c.in-Some.is c.in_ok-newest.ensures.newest in
     mounts d (g.F.Flash.device c.newest.new.flash) (g.F.Flash.device c.load.new.flash) c.in-Some.newest (record { state = c.in_ok-state.state; anchors = c.newest.new.self }) newest
     c.load.ensures.only_reads c.newest.ensures.uncleared (c.in_ok-newest.ensures.ready (not_none c.in_ok-newest.field-0 c.in-Some.newest c.in-Some.is)) c.in_ok-state.ensures.loaded
+
+pub returns-clause-system : goal.returns-clause-system
+returns-clause-system g c =
+    let d = g.F.Flash.device c.args.flash.now in
+    mounted_system d (g.F.Flash.device c.load.new.flash) (record { state = c.in_ok-state.state; anchors = c.newest.new.self })
+    (OnlyReads_on d (g.F.Flash.device c.newest.new.flash) (g.F.Flash.device c.load.new.flash) (as_reads d (g.F.Flash.device c.newest.new.flash) c.newest.ensures.only_reads) c.load.ensures.only_reads) (mount_of g c)
+
+pub returns-clause-ok : goal.returns-clause-ok
+returns-clause-ok g c = mount_of g c

@@ -1,10 +1,10 @@
-//! Calls from short texts, carried out on a fresh system.
+//! Calls from short texts, carried out on a flash that was formatted.
 use crate::error::MeasureError;
 use flash_model::{Counters, Geometry, SimFlash};
 use fs_types::{Call, Path, Sequence};
 use script::{Line, read_line};
 use std::alloc::Global;
-use undofs::{Fs, is_built};
+use undofs::{Fs, format, is_built};
 
 /// Room for a file of 1 MiB many times over.
 const SIZES: Geometry = Geometry {
@@ -16,13 +16,24 @@ const SIZES: Geometry = Geometry {
 /// How many versions are kept.
 const HISTORY: u32 = 8;
 
-/// Carries out the calls of a text on a fresh system, and answers what was asked of its flash.
+/// A flash on which an empty file system was made.
+pub fn formatted(alloc: Global) -> Result<SimFlash, MeasureError> {
+    let mut flash = SimFlash::new(alloc, SIZES, &[])?;
+    format(alloc, &mut flash, HISTORY)?;
+    Ok(flash)
+}
+
+/// Mounts what is on a flash, carries out the calls of a text, and answers what was asked of the
+/// flash since it was made.
 ///
 /// A line is one of a script, or `fill N`, which writes N bytes at the start of descriptor 0, or
 /// `deep N`, which makes N directories `a`, each in the one before.
-pub fn counts_after(alloc: Global, lines: &[&str]) -> Result<Counters, MeasureError> {
-    let mut flash = SimFlash::new(alloc, SIZES, &[])?;
-    let mut system = Fs::fresh(alloc, &mut flash, HISTORY)?;
+pub fn counts_after(
+    alloc: Global,
+    flash: &mut SimFlash,
+    lines: &[&str],
+) -> Result<Counters, MeasureError> {
+    let mut system = Fs::mount(alloc, flash)?;
     for (i, line) in lines.iter().enumerate() {
         carry_out(alloc, &mut system, line, i)?;
     }

@@ -1,0 +1,15 @@
+use Rattle.std.proofs.Common.{refl}
+use Rattle.upkeep.proofs.StateSteps.{state_system, state_step}
+use Rattle.undofs.proofs.system.Fs.undo.Goals as goal
+
+pub invariant_of-self : goal.invariant_of-self
+invariant_of-self g c =
+    let fs = c.args.self.now in
+    let d = g.F.Flash.device fs.flash.now in
+    record { mounted = state_system d d fs.system c.undo.new.self _ _ fs.mounted (c.undo.ensures.step d) (c.undo.ensures.mounted d fs.mounted.mounted) }
+
+pub returns-clause-step : goal.returns-clause-step
+returns-clause-step g c =
+    let fs = c.args.self.now in
+    let d = g.F.Flash.device fs.flash.now in
+    state_step d d fs.system c.undo.new.self _ _ fs.mounted (c.undo.ensures.step d) refl

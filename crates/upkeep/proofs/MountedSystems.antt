@@ -1,0 +1,80 @@
+-- What a mount makes is a system.
+use Rattle.std.proofs.Common.{◌≡◌, ℕ, ◌<◌, Bool, true, false, ◌||◌, Option, Some, None, Result, Ok, List, [], ◌∷◌, map, refl, sym, ap, subst, ◌∙◌, nat_eq}
+use Rattle.std.proofs.lemmas.Bool.{true≢false, ltb-true, eqb-true}
+use Rattle.std.proofs.lemmas.List.Elements.{Contains-append_cases}
+use Rattle.std.specs.Prelude.{is_some, Contains, nat_lt}
+use Rattle.std.specs.FinSet as set
+use Rattle.std.specs.List.{list_all, list_any}
+use Rattle.std.specs.Ordering.{nat_cmp}
+use Rattle.std.specs.Option.{option_map}
+use Rattle.fs_types.specs.declared.faults.Fault.{Fault}
+use Rattle.history_machine.specs.History.{Past}
+use Rattle.flash_model.specs.declared.sizes.Geometry.{Geometry}
+use Rattle.flash_model.specs.Device.{Device}
+use Rattle.flash_model.specs.Reading.{OnlyReads}
+use Rattle.record_format.specs.declared.records.Record.{Record}
+use Rattle.record_format.specs.Payloads.{is_record, has_counts, has_versions, has_checkpoints, has_bad_blocks, numbers_ascend, payload_at}
+use Rattle.record_format.proofs.LawfulRecords.{both_true}
+use Rattle.commit_pair.specs.Parts.{Entry, newest_on}
+use Rattle.commit_pair.specs.Newest.{committed_on}
+use Rattle.working_state.specs.Mounted.{IsStanding}
+use Rattle.working_state.specs.Roots.{HasRoot}
+use Rattle.upkeep.specs.Mounts.{history_of, roots_of, IsMountOf}
+use Rattle.upkeep.specs.Saved.{record_in, saved_on}
+use Rattle.upkeep.specs.Systems.{IsSystem}
+use Rattle.upkeep.specs.declared.systems.System.{System}
+use Rattle.upkeep.proofs.AfterCommits.{known}
+use Rattle.upkeep.proofs.Mounting.{newest_fits}
+
+-- a number of a list that is below n
+below : (n q : ℕ) (bs : List ℕ) → list_any (λ y. nat_eq y q) bs ≡ true → list_all (λ block. nat_lt block n) bs ≡ true → q < n
+below n q [] any all = absurd (true≢false (sym any))
+below n q (b ∷ bs) any all = on (nat_eq b q) refl any (λ others. below n q bs others parts.1)
+  where
+    parts : (nat_lt b n ≡ true) × (list_all (λ block. nat_lt block n) bs ≡ true)
+    parts = both_true (nat_lt b n) (list_all (λ block. nat_lt block n) bs) all
+
+    on : (x : Bool) → nat_eq b q ≡ x → (x || list_any (λ y. nat_eq y q) bs) ≡ true → (list_any (λ y. nat_eq y q) bs ≡ true → q < n) → q < n
+    on true is one rest = subst (λ (y : ℕ). y < n) (eqb-true b q is) (ltb-true b n parts.0)
+    on false is others rest = rest others
+
+-- reads leave the newest record
+same_saved : (d e : Device) → OnlyReads d e → saved_on e ≡ saved_on d
+same_saved d e reads = λ i. record_in (option_map (λ (entry : Entry). payload_at (reads.geometry i) entry.sequence entry.payload) (newest_on (reads.geometry i) (λ p. reads.pages p i)))
+
+some_record : (a b : Record) → Some a ≡ Some b → a ≡ b
+some_record a b e = cc
+
+pub mounted_system : (d e : Device) (m : System) → OnlyReads d e → IsMountOf d e m → IsSystem e m
+mounted_system d e m reads mount = record {
+  mounted = mount.loaded.mounted;
+  saved = λ on. ap is_some saved;
+  stands = λ on r is root has. mount.loaded.mounted.roots root (has_root (subst (λ (x : Record). Contains (roots_of (history_of x)) root) (some_record r mount.newest (sym is ∙ saved)) has));
+  known = λ on. known e m.state.storage.bad m.anchors mount.remembers;
+  listed = λ b bad unused. listed b bad;
+}
+  where
+    saved : saved_on e ≡ Some mount.newest
+    saved = same_saved d e reads ∙ ap record_in mount.holds
+
+    has_root : {root : ℕ} → Contains (roots_of (history_of mount.newest)) root → HasRoot m.state root
+    has_root {root} has =
+        Contains-append_cases (map (λ v. v.root) m.state.history.versions) (map (λ x. x.1) m.state.history.checkpoints) root
+        (subst (λ (h : Past ℕ). Contains (roots_of h) root) (sym mount.loaded.history) has)
+
+    fits : (mount.newest.geometry ≡ d.geometry) × (is_record mount.newest ≡ true)
+    fits = newest_fits d mount.newest mount.holds
+
+    in_order : list_all (λ block. nat_lt block mount.newest.geometry.blocks) mount.newest.bad ≡ true
+    in_order =
+        let r = mount.newest in
+        let rest = (both_true (has_counts r) _ fits.1).1 in
+        let others = (both_true (has_versions r) _ rest).1 in
+        let bad = (both_true (has_checkpoints r) _ others).1 in
+        (both_true (numbers_ascend 0 r.bad) _ bad).1
+
+    listed : (b : ℕ) → set.contains m.state.storage.bad b ≡ true → b < e.geometry.blocks
+    listed b bad =
+        let there = below mount.newest.geometry.blocks b mount.newest.bad
+        (sym (set.contains-from_list_nat mount.newest.bad b) ∙ ap (λ (s : set.FinSet nat_cmp). set.contains s b) (sym mount.loaded.bad) ∙ bad) in_order in
+        subst (λ (g : Geometry). b < g.blocks) (fits.0 ∙ sym reads.geometry) there

@@ -1,0 +1,324 @@
+-- The step of a call that commits the working history.
+use Rattle.std.proofs.Common.{◌≡◌, ◌≢◌, ◌⊎◌, inl, inr, ℕ, zero, suc, ◌+◌, ◌-◌, ◌^◌, ◌<◌, ◌≤◌, Bool, true, false, cond, ◌&&◌, ◌||◌, Option, Some, None, Bor, Result, Ok, Err, List, [], ◌∷◌, map, refl, sym, ap, subst, ◌∙◌, arith}
+use Rattle.std.proofs.lemmas.Bool.{true≢false}
+use Rattle.std.proofs.lemmas.List.Sums.{sum_by-cons}
+use Rattle.std.specs.Prelude.{is_some, is_none, Contains, OnOk, OnErr, IfErr, not, count_by}
+use Rattle.std.specs.List.{range_with_len}
+use Rattle.std.specs.FinSet as set
+use Rattle.std.specs.Ordering.{nat_cmp}
+use Rattle.std.specs.Option.{option_map_or, option_copied}
+use Rattle.history_machine.specs.Descriptors.{Descriptor, descriptor_at}
+use Rattle.history_machine.specs.History.{Past}
+use Rattle.history_machine.specs.Machine.{Machine, Space, refusal, answer, next, is_accepted, makes_version, tree_after}
+use Rattle.plain_trees.specs.Trees.{Tree}
+use Rattle.fs_types.specs.declared.calls.Call.{Call}
+use Rattle.fs_types.specs.declared.calls.Reply.{Reply}
+use Rattle.fs_types.specs.declared.faults.Fault.{Fault}
+use Rattle.fs_types.specs.declared.faults.Fault.TheVariants.{ReadOnly, Overflow, ReadFailed, PowerCut, NoMemory, BadDescriptor}
+use Rattle.flash_model.specs.Device.{Device, block_of}
+use Rattle.allocator.specs.Ring.{Ring, data_blocks, is_busy, free_count}
+use Rattle.read_only.specs.Modes.{is_read_only}
+use Rattle.block_trees.specs.Bodies.{Blocks}
+use Rattle.block_trees.specs.Reached.{Reached, IsFirst, IsNamed}
+use Rattle.record_format.specs.declared.records.Record.{Record}
+use Rattle.node_store.specs.NodePages.{first_data, node_of}
+use Rattle.commit_pair.specs.Parts.{greatest_on}
+use Rattle.commit_pair.specs.Anchored.{OnlyAnchors}
+use Rattle.commit_pair.specs.Committing.{Commits}
+use Rattle.commit_pair.specs.Keeping.{Keeps}
+use Rattle.commit_pair.specs.Remembering.{CommitCause}
+use Rattle.working_state.specs.Leaves.{Leaves}
+use Rattle.working_state.specs.Mounted.{IsStanding}
+use Rattle.working_state.specs.Roots.{IsReached}
+use Rattle.working_state.specs.Seen.{Seen, seen_on, machine_on, capacity_of}
+use Rattle.working_state.specs.Steps.{is_sync, is_cut, is_cut_answer, is_light, is_writing, is_for_record, last_serial, replied, empty, tells_space, CallStep, IsLater, IsDone, Answers, MayRefuse, Refuses}
+use Rattle.working_state.proofs.BadCounts.{len-within, stays_read_only}
+use Rattle.working_state.specs.declared.state.State.{State}
+use Rattle.upkeep.specs.Mounts.{history_of, roots_of, HasTrees}
+use Rattle.upkeep.specs.Saved.{saved_on, saved_trees, IsWhole}
+use Rattle.upkeep.specs.Commits.{record_on, Saves, SaveCause, RecordAfter, SystemStep}
+use Rattle.upkeep.specs.Systems.{IsSystem}
+use Rattle.upkeep.specs.declared.systems.System.{System}
+use Rattle.upkeep.proofs.SameNodes.{HasSameData, same_room}
+use Rattle.upkeep.proofs.AfterCommits.{same, same_machine, saved_after, stands_after, trees_after, newly_trees}
+use Rattle.upkeep.proofs.Committed.{newly_saved}
+
+abbrev failed_reply : Fault → Result Reply Fault
+failed_reply x = Err x
+
+-- ---- calls that commit
+
+-- an accepted call that commits answers nothing, and leaves the machine
+pub record IsSyncing (m : Machine) (call : Call) : Type 0 where
+  pub sync : is_sync call ≡ true
+  pub accepted : refusal m call ≡ None
+  pub answered : (space : Space) → answer space m call ≡ Ok Reply.Empty
+  pub leaves : next m call ≡ m
+  pub no_version : makes_version m call ≡ false
+  pub heavy : is_light call ≡ false
+  pub writing : is_writing m call ≡ true
+
+pub sync_syncs : (m : Machine) → IsSyncing m Call.Sync
+sync_syncs m = record { sync = refl; accepted = refl; answered = λ space. refl; leaves = refl; no_version = refl; heavy = refl; writing = refl }
+
+pub fsync_syncs : (m : Machine) (descriptor : ℕ) → refusal m (Call.Fsync descriptor) ≡ None → IsSyncing m (Call.Fsync descriptor)
+fsync_syncs m descriptor accepted = record {
+  sync = refl;
+  accepted = accepted;
+  answered = λ space. rw accepted refl;
+  leaves = rw accepted refl;
+  no_version = rw accepted refl;
+  heavy = refl;
+  writing = rw accepted refl;
+}
+
+-- a file is open under the descriptor
+pub is_open_there : (m : Machine) (descriptor : ℕ) (o : Option Descriptor) → o ≡ descriptor_at m.descriptors descriptor → is_some o ≡ true → refusal m (Call.Fsync descriptor) ≡ None
+is_open_there m descriptor None is some = absurd (true≢false (sym some))
+is_open_there m descriptor (Some x) is some = ap (λ (p : Option Descriptor). option_map_or (λ (y : Descriptor). no_fault) p (Some BadDescriptor)) (sym is)
+  where
+    no_fault : Option Fault
+    no_fault = None
+
+pub copied_some : {X : Type 0} (o : Option (Bor X)) → is_some o ≡ true → is_some (option_copied o) ≡ true
+copied_some None some = some
+copied_some (Some x) some = refl
+
+-- ---- free blocks
+
+same_count : (p q : ℕ → Bool) (s n : ℕ) → ((b : ℕ) → s ≤ b → p b ≡ q b) → count_by p (range_with_len s n) ≡ count_by q (range_with_len s n)
+same_count p q s zero h = refl
+same_count p q s (suc n) h =
+    sum_by-cons (λ x. cond (p x) 1 0) s (range_with_len (s + 1) n)
+    ∙ (λ i. cond (h s (omega arith) i) 1 0 + same_count p q (s + 1) n (λ b more. h b (omega arith)) i)
+    ∙ sym (sum_by-cons (λ x. cond (q x) 1 0) s (range_with_len (s + 1) n))
+
+-- as many data blocks are free, whatever anchors become bad
+free_same : (ring : Ring) (was now : set.FinSet nat_cmp) → ((b : ℕ) → first_data ≤ b → set.contains now b ≡ set.contains was b) → free_count ring now ≡ free_count ring was
+free_same ring was now same = same_count (λ b. not (is_busy ring now b)) (λ b. not (is_busy ring was b)) 8 (ring.blocks - 8) (λ b least i. not (set.contains ring.used b || same b least i))
+
+-- what roots reach one of them does
+pub reached_from : (f : Blocks) (roots : List ℕ) (b : ℕ) → Reached f roots b → (root : ℕ) × Contains roots root × Reached f (root ∷ []) b
+reached_from f roots b (IsFirst has) = (b, has, IsFirst (0, omega arith, refl))
+reached_from f roots b (IsNamed {block = c} reached names) = let from = reached_from f roots c reached in (from.0, from.1, IsNamed from.2 names)
+
+-- a call that commits tells no space
+tells_none : (call : Call) → is_sync call ≡ true → tells_space call ≡ true → ⊥
+tells_none Call.Df sync tells = true≢false (sym sync)
+tells_none _ sync tells = true≢false (sym tells)
+
+-- ---- what is seen
+
+module _ {T : Type 0} (d e : Device) (m n : System) (result : Result T Fault) (s : IsSystem d m) (on : m.state.is_off ≡ false) (saves : Saves d m result e n) where
+  anchors : OnlyAnchors d m.state.storage.bad e n.state.storage.bad
+  anchors = saves.only_anchors
+
+  same_bad : (b : ℕ) → first_data ≤ b → set.contains n.state.storage.bad b ≡ set.contains m.state.storage.bad b
+  same_bad b least = by (set.contains m.state.storage.bad b) (set.contains n.state.storage.bad b) refl refl
+    where
+      by : (x y : Bool) → set.contains m.state.storage.bad b ≡ x → set.contains n.state.storage.bad b ≡ y → y ≡ x
+      by true y was now = sym now ∙ anchors.stays_bad b was
+      by false false was now = refl
+      by false true was now = absurd (let anchor : b < 8 = anchors.bad_anchor b now was in omega arith)
+
+  later : IsLater (seen_on d m.state) (seen_on e n.state)
+  later =
+      let free : free_count n.state.storage.ring n.state.storage.bad ≡ free_count m.state.storage.ring m.state.storage.bad =
+      ap (λ (t : State). free_count t.storage.ring n.state.storage.bad) saves.state ∙ free_same m.state.storage.ring m.state.storage.bad n.state.storage.bad same_bad in
+      let takes : n.state.storage.ring.takes ≡ m.state.storage.ring.takes = ap (λ (t : State). t.storage.ring.takes) saves.state in
+      record {
+        capacity = same_room d e (same d e m n result s saves);
+        failed_reads = anchors.failed_reads;
+        failures = anchors.failures;
+        listed = len-within m.state.storage.bad n.state.storage.bad anchors.stays_bad;
+        taken = omega (arith, free, takes);
+        cuts = anchors.cuts;
+        was_on = anchors.was_on;
+        stays_read_only = stays_read_only m.state.storage.bad n.state.storage.bad anchors.stays_bad;
+      }
+
+  -- the flag after it
+  flag : n.state.is_off ≡ is_cut_answer result
+  flag = ap (λ (t : State). t.is_off) saves.state ∙ ap (λ (b : Bool). b || is_cut_answer result) on
+
+  writable_before : is_read_only n.state.storage.bad ≡ false → is_read_only m.state.storage.bad ≡ false
+  writable_before off = by (is_read_only m.state.storage.bad) refl
+    where
+      by : (x : Bool) → is_read_only m.state.storage.bad ≡ x → x ≡ false
+      by false is = refl
+      by true is = absurd (true≢false (sym (stays_read_only m.state.storage.bad n.state.storage.bad anchors.stays_bad is) ∙ off))
+
+  -- why it is refused
+  may_refuse : (call : Call) (fault : Fault) → IsSyncing (machine_on d m.state) call → SaveCause d m e n fault → MayRefuse (seen_on d m.state) (machine_on d m.state) call fault (seen_on e n.state)
+  may_refuse call ReadOnly is why = (is.writing, why, λ off makes. absurd (true≢false (sym makes ∙ is.no_version)))
+  may_refuse call Overflow is why = (why.0, inr is.sync)
+  may_refuse call PowerCut is why = (is.heavy, why)
+  may_refuse call NoMemory is why = is.heavy
+  may_refuse call _ is why = absurd why
+
+  -- the blocks that the newest record reaches are used
+  used : (r : Record) → saved_on d ≡ Some r → (b : ℕ) → Reached (node_of d) (roots_of (history_of r)) b → set.contains m.state.storage.ring.used b ≡ true
+  used r is b reached =
+      let from = reached_from (node_of d) (roots_of (history_of r)) b reached in
+      (s.stands on r is from.0 from.1).held from.0 refl b from.2
+
+  -- the blocks that a version or a checkpoint reaches are used
+  reached_used : (b : ℕ) → IsReached d m.state b → set.contains m.state.storage.ring.used b ≡ true
+  reached_used b (root, has, reached) = (s.mounted.roots root has).held root refl b reached
+
+  synced : OnOk (replied empty result) (saved_trees e ≡ Some (machine_on d m.state).history)
+  synced = by result saves.commits
+    where
+      by : (r : Result T Fault) → Commits d.pages e.pages (record_on d m.state) (greatest_on d.geometry d.pages + 1) n.state.storage.bad r → OnOk (replied empty r) (saved_trees e ≡ Some (machine_on d m.state).history)
+      by (Ok x) c = newly_trees d e m n result s saves (newly_saved d e m.state _ n.state.storage.bad anchors.geometry c)
+      by (Err fault) c = tt
+
+  -- the newest record after it
+  record_after : (call : Call) → is_sync call ≡ true → RecordAfter call (replied empty result) d (machine_on d m.state).history e
+  record_after call sync = record {
+    either = by (trees_after d e m n result s saves (saved_after d e m n result s saves) on);
+    synced = λ is. synced;
+    whole = λ was r is root has. (stands_after d e m n result s saves (saved_after d e m n result s saves) on r is root has).rooted;
+    anchors = λ is. absurd (true≢false (sym sync ∙ is));
+    kept = λ r is p reached. saves.used_pages p (used r is (block_of d p) reached);
+  }
+    where
+      by : (saved_trees e ≡ saved_trees d) ⊎ (saved_trees e ≡ Some (machine_on d m.state).history) → (saved_trees e ≡ saved_trees d) ⊎ ((is_sync call ≡ true) × (saved_trees e ≡ Some (machine_on d m.state).history))
+      by (inl was) = inl was
+      by (inr newly) = inr (sync, newly)
+
+  answers : (call : Call) → IsSyncing (machine_on d m.state) call → IfErr result (SaveCause d m e n)
+      → Answers (seen_on d m.state) (machine_on d m.state) m.state.is_off call (replied empty result) (seen_on e n.state) (machine_on e n.state) n.state.is_off
+  answers call is why = by result m.state.is_off on flag saves.writable why
+    where
+      by : (r : Result T Fault) (off : Bool) → off ≡ false → n.state.is_off ≡ is_cut_answer r → OnOk r (is_read_only n.state.storage.bad ≡ false) → IfErr r (SaveCause d m e n)
+          → Answers (seen_on d m.state) (machine_on d m.state) off call (replied empty r) (seen_on e n.state) (machine_on e n.state) n.state.is_off
+      by (Ok x) off was is_flag writable why = (
+        was,
+        record {
+          accepted = is.accepted;
+          answered = λ space told. is.answered space;
+          leaves = same_machine d e m n result s saves ∙ sym is.leaves;
+          writable = λ writes. (writable_before writable, writable);
+          serial_left = λ makes. absurd (true≢false (sym makes ∙ is.no_version));
+        },
+        is_flag,
+      )
+      by (Err fault) true was is_flag writable why = absurd (true≢false was)
+      by (Err fault) false was is_flag writable why = (inr (may_refuse call fault is why), same_machine d e m n result s saves, is_flag)
+
+  -- the same of the reply
+  replied_saves : Saves d m (replied empty result) e n
+  replied_saves = by result saves
+    where
+      of_fault : (fault : Fault) → Commits {T = T} d.pages e.pages (record_on d m.state) (greatest_on d.geometry d.pages + 1) n.state.storage.bad (Err fault)
+          → Commits {T = Reply} d.pages e.pages (record_on d m.state) (greatest_on d.geometry d.pages + 1) n.state.storage.bad (Err fault)
+      of_fault PowerCut c = c
+      of_fault _ c = c
+
+      by : (r : Result T Fault) → Saves d m r e n → Saves d m (replied empty r) e n
+      by (Ok x) a = record { commits = a.commits; only_anchors = a.only_anchors; used_pages = a.used_pages; state = a.state; writable = a.writable; overflow = λ is. absurd cc }
+      by (Err fault) a = record { commits = of_fault fault a.commits; only_anchors = a.only_anchors; used_pages = a.used_pages; state = a.state; writable = tt; overflow = λ is. a.overflow (ap Err (same_fault is)) }
+        where
+          same_fault : {x y : Fault} → failed_reply x ≡ failed_reply y → x ≡ y
+          same_fault e = cc
+
+  -- a call that committed
+  pub committed : (call : Call) → IsSyncing (machine_on d m.state) call → IfErr result (SaveCause d m e n) → SystemStep d m call (replied empty result) e n
+  committed call is why = record {
+    step = record { later = later; answers = answers call is why };
+    leaves = λ none. absurd (true≢false (sym is.sync ∙ none));
+    saves = λ sync. replied_saves;
+    told = λ tells. absurd (tells_none call is.sync tells);
+    stopped = λ off. absurd (true≢false (sym off ∙ on));
+    pages = λ p reached. saves.used_pages p (reached_used (block_of d p) reached);
+    after = record_after call is.sync;
+  }
+
+-- ---- calls that were refused before any work
+
+kept_anchors : (d : Device) (bad : set.FinSet nat_cmp) → OnlyAnchors d bad d bad
+kept_anchors d bad = record {
+  geometry = refl;
+  data_pages = λ p above. refl;
+  stays_bad = λ b is. is;
+  bad_anchor = λ b is none. absurd (true≢false (sym is ∙ none));
+  bad_worn = λ b is none. absurd (true≢false (sym is ∙ none));
+  worn = λ b is. is;
+  failures = refl;
+  failed_reads = omega arith;
+  cuts = omega arith;
+  was_on = λ is. is;
+  stays_off = λ off. refl;
+  list_off = λ off. refl;
+}
+
+kept_record : (d : Device) (m : System) (fault : Fault) (working : Past Tree) (call : Call) → RecordAfter call (Err fault) d working d
+kept_record d m fault working call = record {
+  either = inl refl;
+  synced = λ is. tt;
+  whole = λ was. was;
+  anchors = λ is p low. refl;
+  kept = λ r is p reached. refl;
+}
+
+keeps_itself : (d : Device) (m : System) (fault : Fault) → Commits {T = Reply} d.pages d.pages (record_on d m.state) (greatest_on d.geometry d.pages + 1) m.state.storage.bad (Err fault)
+keeps_itself d m PowerCut = inl (record { heads = λ q head is. is; place = refl; newest = refl })
+keeps_itself d m _ = record { heads = λ q head is. is; place = refl; newest = refl }
+
+seen_itself : (a : Seen) → IsLater a a
+seen_itself a = record {
+  capacity = refl;
+  failed_reads = omega arith;
+  failures = refl;
+  listed = omega arith;
+  taken = refl;
+  cuts = omega arith;
+  was_on = λ is. is;
+  stays_read_only = λ is. is;
+}
+
+refused_saves : (d : Device) (m : System) (fault : Fault) → (m.state.is_off || is_cut fault) ≡ m.state.is_off → (fault ≡ Overflow → ⊥) → Saves {T = Reply} d m (Err fault) d m
+refused_saves d m fault off other = record {
+  commits = keeps_itself d m fault;
+  only_anchors = kept_anchors d m.state.storage.bad;
+  used_pages = λ p is. refl;
+  state = λ i. record m.state { is_off = sym off i };
+  writable = tt;
+  overflow = λ is. absurd (other (same_fault is));
+}
+  where
+    same_fault : {x y : Fault} → failed_reply x ≡ failed_reply y → x ≡ y
+    same_fault e = cc
+
+-- the device is off, as a call told before
+pub off_step : (d : Device) (m : System) (call : Call) → is_sync call ≡ true → m.state.is_off ≡ true → SystemStep d m call (Err PowerCut) d m
+off_step d m call sync off = record {
+  step = record { later = seen_itself (seen_on d m.state); answers = by m.state.is_off off };
+  leaves = λ none. absurd (true≢false (sym sync ∙ none));
+  saves = λ is. refused_saves d m PowerCut (ap (λ (b : Bool). b || true) off ∙ sym off) (λ e. cc);
+  told = λ tells. tt;
+  stopped = λ is. (refl, refl);
+  pages = λ p reached. refl;
+  after = kept_record d m PowerCut _ call;
+}
+  where
+    by : (b : Bool) → b ≡ true → Answers (seen_on d m.state) (machine_on d m.state) b call (Err PowerCut) (seen_on d m.state) (machine_on d m.state) b
+    by true is = (refl, refl, refl, refl)
+    by false is = absurd (true≢false (sym is))
+
+-- no file is open under the descriptor
+pub closed_step : (d : Device) (m : System) (call : Call) → is_sync call ≡ true → m.state.is_off ≡ false → refusal (machine_on d m.state) call ≡ Some BadDescriptor → SystemStep d m call (Err BadDescriptor) d m
+closed_step d m call sync on refused = record {
+  step = record { later = seen_itself (seen_on d m.state); answers = by m.state.is_off on };
+  leaves = λ none. absurd (true≢false (sym sync ∙ none));
+  saves = λ is. refused_saves d m BadDescriptor (ap (λ (b : Bool). b || false) on ∙ sym on) (λ e. cc);
+  told = λ tells. tt;
+  stopped = λ is. (refl, refl);
+  pages = λ p reached. refl;
+  after = kept_record d m BadDescriptor _ call;
+}
+  where
+    by : (b : Bool) → b ≡ false → Answers (seen_on d m.state) (machine_on d m.state) b call (Err BadDescriptor) (seen_on d m.state) (machine_on d m.state) b
+    by false is = (inl refused, refl, refl)
+    by true is = absurd (true≢false is)

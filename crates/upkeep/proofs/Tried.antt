@@ -1,0 +1,106 @@
+-- What a commit on the anchors makes of a system.
+use Rattle.std.proofs.Common.{◌≡◌, ◌≢◌, ℕ, ◌+◌, ◌-◌, ◌^◌, ◌≤◌, Bool, true, false, ◌||◌, None, Result, Ok, Err, refl, sym, ap, subst, ◌∙◌, arith}
+use Rattle.std.proofs.lemmas.Bool.{true≢false}
+use Rattle.std.specs.Prelude.{OnOk, OnErr, IfErr}
+use Rattle.std.specs.FinSet as set
+use Rattle.std.specs.Ordering.{nat_cmp}
+use Rattle.fs_types.specs.declared.faults.Fault.{Fault}
+use Rattle.fs_types.specs.declared.faults.Fault.TheVariants.{Overflow, PowerCut, ReadOnly, ReadFailed, NoMemory}
+use Rattle.flash_model.specs.Device.{Device, block_of}
+use Rattle.allocator.specs.Ring.{AreDataBlocks}
+use Rattle.read_only.specs.Modes.{is_read_only}
+use Rattle.record_format.specs.declared.records.Record.{Record}
+use Rattle.commit_pair.specs.declared.anchors.Anchors.{Anchors}
+use Rattle.commit_pair.specs.Parts.{greatest_on}
+use Rattle.commit_pair.specs.Anchored.{OnlyAnchors}
+use Rattle.commit_pair.specs.Committing.{Commits}
+use Rattle.commit_pair.specs.Newest.{remembered}
+use Rattle.commit_pair.specs.Remembering.{KnowsNewest, MayCommit, CommitCause}
+use Rattle.working_state.specs.Steps.{is_cut_answer}
+use Rattle.working_state.specs.declared.state.State.{State}
+use Rattle.upkeep.specs.Commits.{record_on, Saves, SaveCause}
+use Rattle.upkeep.specs.Systems.{IsSystem}
+use Rattle.upkeep.specs.declared.systems.System.{System}
+use Rattle.upkeep.proofs.AfterCommits.{is_newest, not_none, is_system}
+
+-- the state with another bad list, and with its flag
+abbrev pub with_bad : State → set.FinSet nat_cmp → State
+with_bad s bad = record s { storage = record s.storage { bad = bad } }
+
+abbrev pub with_cut : State → Bool → State
+with_cut s cut = record s { is_off = s.is_off || cut }
+
+-- what was found of a commit on the anchors
+pub record IsTried {T : Type 0} (d e : Device) (m : System) (anchors : Anchors) (bad : set.FinSet nat_cmp) (answer : Result T Fault) (saved : Record) : Type 0 where
+  pub says : saved ≡ record_on d m.state
+  pub blocks : AreDataBlocks m.state.storage.ring.blocks m.state.storage.ring.used
+  pub writable : is_read_only m.state.storage.bad ≡ false
+  pub commits : Commits d.pages e.pages saved (greatest_on saved.geometry d.pages + 1) bad answer
+  pub only_anchors : OnlyAnchors d m.state.storage.bad e bad
+  pub ready : answer ≢ Err PowerCut → MayCommit e bad anchors
+  pub known : OnOk answer (remembered anchors ≢ None)
+  pub same : OnErr answer (anchors ≡ m.anchors)
+  pub opens : OnOk answer (is_read_only bad ≡ false)
+  pub why : IfErr answer (CommitCause d m.state.storage.bad m.anchors e bad)
+
+module _ {T : Type 0} (d e : Device) (m : System) (anchors : Anchors) (bad : set.FinSet nat_cmp) (answer : Result T Fault) (saved : Record) (s : IsSystem d m) (on : m.state.is_off ≡ false) (tried : IsTried d e m anchors bad answer saved) where
+  abbrev after : System
+  after = record { state = with_cut (with_bad m.state bad) (is_cut_answer answer); anchors = anchors }
+
+  -- the newest record was known
+  was_known : remembered m.anchors ≢ None
+  was_known = not_none (remembered m.anchors) (s.known on).some
+
+  abbrev failed : Fault → Result T Fault
+  failed x = Err x
+
+  over : (r : Result T Fault) → r ≡ Err Overflow → IfErr r (CommitCause d m.state.storage.bad m.anchors e bad) → greatest_on d.geometry d.pages ≡ 2 ^ 64 - 1
+  over (Ok x) is why = absurd cc
+  over (Err fault) is why =
+      let cause : CommitCause d m.state.storage.bad m.anchors e bad Overflow = subst (CommitCause d m.state.storage.bad m.anchors e bad) (same_fault fault Overflow is) why in
+      cause.0
+    where
+      same_fault : (x y : Fault) → failed x ≡ failed y → x ≡ y
+      same_fault x y e = cc
+
+  saves : Saves d m answer e after
+  saves = record {
+    commits = subst (λ (r : Record). Commits d.pages e.pages r (greatest_on r.geometry d.pages + 1) bad answer) tried.says tried.commits;
+    only_anchors = tried.only_anchors;
+    used_pages = λ p used. tried.only_anchors.data_pages p (tried.blocks (block_of d p) used).0;
+    state = refl;
+    writable = tried.opens;
+    overflow = λ is. over answer is tried.why;
+  }
+
+  knows_newest : is_cut_answer answer ≡ false → KnowsNewest e bad anchors
+  knows_newest no_cut = is_newest e bad anchors (by answer tried.known tried.same) (tried.ready (λ is. true≢false (sym (ap is_cut_answer is) ∙ no_cut)))
+    where
+      by : (r : Result T Fault) → OnOk r (remembered anchors ≢ None) → OnErr r (anchors ≡ m.anchors) → remembered anchors ≢ None
+      by (Ok x) known same = known
+      by (Err fault) known same = λ none. was_known (ap remembered (sym same) ∙ none)
+
+  is_off : (with_cut (with_bad m.state bad) (is_cut_answer answer)).is_off ≡ true → e.powered ≡ false
+  is_off off = by answer (sym (ap (λ (b : Bool). b || is_cut_answer answer) on) ∙ off) tried.why
+    where
+      by : (r : Result T Fault) → is_cut_answer r ≡ true → IfErr r (CommitCause d m.state.storage.bad m.anchors e bad) → e.powered ≡ false
+      by (Ok x) is why = absurd (true≢false (sym is))
+      by (Err PowerCut) is why = why
+      by (Err _) is why = absurd (true≢false (sym is))
+
+  cause : (fault : Fault) → CommitCause d m.state.storage.bad m.anchors e bad fault → SaveCause d m e after fault
+  cause ReadOnly why = why
+  cause Overflow why = (tried.writable, why.0)
+  cause ReadFailed why = absurd (was_known why.0)
+  cause PowerCut why = why
+  cause NoMemory why = tt
+  cause _ why = absurd why
+
+  system_after : IsSystem e after
+  system_after = is_system d e m after answer s saves is_off knows_newest
+
+  pub tried_saves : (t : State) (result : Result T Fault) → t ≡ with_cut (with_bad m.state bad) (is_cut_answer answer) → result ≡ answer → Saves d m result e (record { state = t; anchors = anchors })
+  tried_saves t result is same = subst (λ (r : Result T Fault). Saves d m r e (record { state = t; anchors = anchors })) (sym same) (subst (λ (x : State). Saves d m answer e (record { state = x; anchors = anchors })) (sym is) saves)
+
+  pub tried_system : (t : State) → t ≡ with_cut (with_bad m.state bad) (is_cut_answer answer) → IsSystem e (record { state = t; anchors = anchors })
+  tried_system t is = subst (λ (x : State). IsSystem e (record { state = x; anchors = anchors })) (sym is) system_after

@@ -1,0 +1,73 @@
+-- What a call leaves of the newest record, and the step that a call takes on a mounted system.
+use Rattle.std.specs.Prelude.{◌≡◌, ◌⊎◌, ℕ, ◌+◌, ◌-◌, ◌^◌, ◌<◌, true, false, ◌||◌, Some, Result, Ok, Err, IfOk, OnOk}
+use Rattle.std.specs.FinSet as set
+use Rattle.history_machine.specs.History.{Past}
+use Rattle.history_machine.specs.Machine.{Space, answer}
+use Rattle.plain_trees.specs.Trees.{Tree}
+use Rattle.fs_types.specs.declared.calls.Call.{Call}
+use Rattle.fs_types.specs.declared.calls.Reply.{Reply}
+use Rattle.fs_types.specs.declared.faults.Fault.{Fault}
+use Rattle.fs_types.specs.declared.faults.Fault.TheVariants.{ReadOnly, Overflow, PowerCut, NoMemory}
+use Rattle.flash_model.specs.Device.{Device, block_of}
+use Rattle.node_store.specs.NodePages.{first_data, node_of}
+use Rattle.block_trees.specs.Reached.{Reached}
+use Rattle.read_only.specs.Modes.{is_read_only}
+use Rattle.record_format.specs.declared.records.Record.{Record}
+use Rattle.commit_pair.specs.Parts.{greatest_on}
+use Rattle.commit_pair.specs.Anchored.{OnlyAnchors}
+use Rattle.commit_pair.specs.Committing.{Commits}
+use Rattle.working_state.specs.Leaves.{Leaves}
+use Rattle.working_state.specs.Mounted.{KeepsPages}
+use Rattle.working_state.specs.Roots.{IsSpace}
+use Rattle.working_state.specs.Seen.{seen_on, machine_on}
+use Rattle.working_state.specs.Steps.{is_sync, is_cut_answer, tells_space, CallStep}
+use Rattle.working_state.specs.declared.state.State.{State}
+use Rattle.upkeep.specs.Contents.{record_of}
+use Rattle.upkeep.specs.Mounts.{history_of, roots_of}
+use Rattle.upkeep.specs.Saved.{saved_on, saved_trees, IsWhole}
+use Rattle.upkeep.specs.declared.systems.System.{System}
+
+-- the record that a commit of a working state writes, apart from its sequence and its bad blocks
+abbrev pub record_on : Device → State → Record
+record_on d s = record_of d.geometry s.history s.storage.ring.last
+
+-- what a commit of the working state leaves, whatever it answers. It writes the record with the next sequence and the list of
+-- bad blocks as it is left, or leaves the newest record as it was; where power went, either. No page of a data block changes,
+-- so none of a used one, and the list grows by exactly the failures, by anchors. All else of the state is as it was
+pub record Saves {T : Type 0} (old : Device) (m : System) (result : Result T Fault) (new : Device) (n : System) : Type 0 where
+  pub commits : Commits old.pages new.pages (record_on old m.state) (greatest_on old.geometry old.pages + 1) n.state.storage.bad result
+  pub only_anchors : OnlyAnchors old m.state.storage.bad new n.state.storage.bad
+  pub used_pages : (p : ℕ) → set.contains m.state.storage.ring.used (block_of old p) ≡ true → new.pages p ≡ old.pages p
+  pub state : n.state ≡ record m.state { storage = record m.state.storage { bad = n.state.storage.bad }; is_off = m.state.is_off || is_cut_answer result }
+  pub writable : OnOk result (is_read_only n.state.storage.bad ≡ false)
+  pub overflow : result ≡ Err Overflow → greatest_on old.geometry old.pages ≡ 2 ^ 64 - 1
+
+-- why a commit is refused: read-only mode; no sequence is left; the device is off; memory was wanted
+abbrev pub SaveCause : Device → System → Device → System → Fault → Type 0
+SaveCause old m new n ReadOnly = is_read_only n.state.storage.bad ≡ true
+SaveCause old m new n Overflow = (is_read_only m.state.storage.bad ≡ false) × (greatest_on old.geometry old.pages ≡ 2 ^ 64 - 1)
+SaveCause old m new n PowerCut = new.powered ≡ false
+SaveCause old m new n NoMemory = Unit {0}
+SaveCause old m new n _ = ⊥
+
+-- the newest record after a call: it is the one before, or what a sync commits of the working history, as that was before the
+-- call; after a sync that answered Ok it is that
+pub record RecordAfter (call : Call) (result : Result Reply Fault) (old : Device) (working : Past Tree) (new : Device) : Type 0 where
+  pub either : (saved_trees new ≡ saved_trees old) ⊎ ((is_sync call ≡ true) × (saved_trees new ≡ Some working))
+  pub synced : is_sync call ≡ true → OnOk result (saved_trees new ≡ Some working)
+  -- each of its versions and checkpoints has a tree, as before
+  pub whole : IsWhole old → IsWhole new
+  -- no page of an anchor changes but in a sync, and none of a block that the newest record reaches
+  pub anchors : is_sync call ≡ false → (p : ℕ) → block_of old p < first_data → new.pages p ≡ old.pages p
+  pub kept : (r : Record) → saved_on old ≡ Some r → (p : ℕ) → Reached (node_of old) (roots_of (history_of r)) (block_of old p) → new.pages p ≡ old.pages p
+
+-- a call's step on a mounted system: that of its working state, and what is left of the flash, the state and the newest record
+pub record SystemStep (old : Device) (m : System) (call : Call) (result : Result Reply Fault) (new : Device) (n : System) : Type 0 where
+  pub step : CallStep (seen_on old m.state) (machine_on old m.state) m.state.is_off call result (seen_on new n.state) (machine_on new n.state) n.state.is_off
+  pub leaves : is_sync call ≡ false → Leaves (machine_on old m.state) call old m.state.storage new n.state.storage
+  pub saves : is_sync call ≡ true → Saves old m result new n
+  pub told : tells_space call ≡ true → IfOk result (λ reply. (space : Space) × IsSpace new n.state space × (answer space (machine_on old m.state) call ≡ Ok reply))
+  pub stopped : m.state.is_off ≡ true → (new ≡ old) × (n ≡ m)
+  -- no page changes of a block that a version or a checkpoint reaches
+  pub pages : KeepsPages old m.state new
+  pub after : RecordAfter call result old (machine_on old m.state).history new

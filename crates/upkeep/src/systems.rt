@@ -1,0 +1,130 @@
+//! A mounted system: its working state beside the place of the newest record.
+ghost use Rattle.std.specs.Prelude.{◌≡◌, ◌⊎◌, true, false, IfOk, OnOk, IfErr};
+ghost use Rattle.fs_types.specs.declared.calls.Call.{Call};
+ghost use Rattle.fs_types.specs.declared.faults.Fault.{Fault};
+ghost use Rattle.allocator.specs.Ring.{AreDataBlocks};
+ghost use Rattle.read_only.specs.Modes.{is_read_only};
+ghost use Rattle.record_format.specs.Payloads.{is_record};
+ghost use Rattle.working_state.specs.Steps.{replied, empty, tells_space};
+ghost use Rattle.upkeep.specs.Contents.{record_of};
+ghost use Rattle.upkeep.specs.Systems.{IsSystem};
+ghost use Rattle.upkeep.specs.Commits.{Saves, SaveCause, SystemStep};
+
+use crate::contents::record_of;
+use calls::carry_out;
+use commit_pair::Anchors;
+use flash_model::{Flash, Geometry};
+use fs_types::{Call, Fault, Reply};
+use read_only::is_read_only;
+use record_format::Record;
+use std::alloc::Global;
+use working_state::State;
+
+/// A mounted system: its working state, and where the newest record is.
+#[derive(Drop)]
+pub struct System {
+    /// The versions and checkpoints, what nodes are kept with, and the open files.
+    pub state: State,
+    /// The place of the newest record, so that a commit may follow.
+    pub anchors: Anchors,
+}
+
+impl System {
+    /// Commits the whole working state: history, checkpoints, bad blocks, and the last block taken.
+    /// A record is written each time, as [`Anchors::commit`] has it.
+    ///
+    /// [`Fault::PowerCut`] where an earlier call answered that; [`Fault::ReadOnly`] in read-only mode,
+    /// or where it is met since anchors fail; [`Fault::Overflow`] where the sequence of the newest
+    /// record is the greatest number there is; [`Fault::PowerCut`]; [`Fault::NoMemory`]. After a
+    /// refusal but `PowerCut` the newest record is the one it was.
+    pub fn sync<F: Flash>(&mut self, alloc: Global, flash: &mut F) -> Result<(), Fault>
+        requires { IsSystem (F.device flash.old) self.old }
+        ensures system { IsSystem (F.device flash.new) self.new }
+        ensures step { SystemStep (F.device flash.old) self.old Call.Sync (replied empty result) (F.device flash.new) self.new }
+    {
+        self.state.check_power()?;
+        self.commit(alloc, flash)
+    }
+
+    /// The same, where the descriptor is of an open file; else [`Fault::BadDescriptor`] (POSIX.1-2017
+    /// `fsync`, which speaks of one file).
+    pub fn fsync<F: Flash>(
+        &mut self,
+        alloc: Global,
+        flash: &mut F,
+        descriptor: u64,
+    ) -> Result<(), Fault>
+        requires { IsSystem (F.device flash.old) self.old }
+        ensures system { IsSystem (F.device flash.new) self.new }
+        ensures step { SystemStep (F.device flash.old) self.old (Call.Fsync descriptor) (replied empty result) (F.device flash.new) self.new }
+    {
+        self.state.check_power()?;
+        if self.state.files.get(descriptor).is_none() {
+            return Err(Fault::BadDescriptor);
+        }
+        self.commit(alloc, flash)
+    }
+
+    /// Carries out a call other than `df`, which is not built yet, and answers its reply.
+    pub fn call<F: Flash>(
+        &mut self,
+        alloc: Global,
+        flash: &mut F,
+        call: &Call,
+    ) -> Result<Reply, Fault>
+        requires system { IsSystem (F.device flash.old) self.old }
+        requires tells { tells_space call.now ≡ false }
+        ensures system { IsSystem (F.device flash.new) self.new }
+        ensures step { SystemStep (F.device flash.old) self.old call.now result (F.device flash.new) self.new }
+    {
+        match call {
+            Call::Sync => empty_reply(self.sync(alloc, flash)),
+            Call::Fsync { descriptor } => empty_reply(self.fsync(alloc, flash, *descriptor)),
+            _ => carry_out(&mut self.state, alloc, flash, call),
+        }
+    }
+
+    /// Commits the record of the working state, where no call answered before that the power is off.
+    /// Where it goes in the commit that is remembered.
+    pub(crate) fn commit<F: Flash>(&mut self, alloc: Global, flash: &mut F) -> Result<(), Fault>
+        requires system { IsSystem (F.device flash.old) self.old }
+        requires is_on { self.old.state.is_off ≡ false }
+        ensures system { IsSystem (F.device flash.new) self.new }
+        ensures saves { Saves (F.device flash.old) self.old result (F.device flash.new) self.new }
+        ensures why { IfErr result (SaveCause (F.device flash.old) self.old (F.device flash.new) self.new) }
+    {
+        let saved = self.record(alloc, flash.geometry())?;
+        let answer = self
+            .anchors
+            .commit(alloc, flash, &mut self.state.storage.bad, &saved);
+        self.state.remember_cut(answer)
+    }
+
+    /// The record of the working state; [`Fault::ReadOnly`] in read-only mode.
+    fn record(&self, alloc: Global, geometry: Geometry) -> Result<Record, Fault>
+        requires { geometry.blocks ≡ self.now.state.storage.ring.blocks }
+        ensures says { IfOk result (λ saved. saved ≡ record_of geometry self.now.state.history self.now.state.storage.ring.last) }
+        ensures lawful { OnOk result (is_record (record_of geometry self.now.state.history self.now.state.storage.ring.last) ≡ true) }
+        ensures writable { OnOk result (is_read_only self.now.state.storage.bad ≡ false) }
+        ensures used { OnOk result (AreDataBlocks self.now.state.storage.ring.blocks self.now.state.storage.ring.used) }
+        ensures err { IfErr result (λ fault. ((fault ≡ Fault.ReadOnly) × (is_read_only self.now.state.storage.bad ≡ true)) ⊎ (fault ≡ Fault.NoMemory)) }
+    {
+        let State {
+            history,
+            storage,
+            ..
+        } = &self.state;
+        if is_read_only(&storage.bad) {
+            return Err(Fault::ReadOnly);
+        }
+        // The used blocks are data blocks, as their contract tells.
+        let _blocks = storage.ring.blocks();
+        Ok(record_of(alloc, geometry, history, storage.ring.last())?)
+    }
+}
+
+fn empty_reply(answer: Result<(), Fault>) -> Result<Reply, Fault>
+    ensures { result ≡ replied empty answer }
+{
+    answer.map(|_| Reply::Empty)
+}

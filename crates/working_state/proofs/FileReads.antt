@@ -26,7 +26,7 @@ use Rattle.directory.specs.declared.lookups.Found.TheVariants as found
 use Rattle.directory.specs.Lookups.{look_up, entry_of, is_path_fault, IsLookupFault}
 use Rattle.directory.proofs.LookupLaws.{found_is, found_leads_file}
 use Rattle.skip_list_file.specs.Reading.{is_body_fault}
-use Rattle.working_state.specs.Moments.{Moment, machine_at, seen_at, IsMountedAt, Steps, IsStep, tree_at}
+use Rattle.working_state.specs.Moments.{Moment, machine_at, seen_at, IsMountedAt, IsStep, tree_at}
 use Rattle.working_state.specs.Reading.{refuse_directory, file_refusal, IsRead}
 use Rattle.working_state.specs.Seen.{Seen}
 use Rattle.working_state.specs.Steps.{replied, is_light, is_cut_answer, MayRefuse}

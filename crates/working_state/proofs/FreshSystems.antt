@@ -7,13 +7,13 @@ use Rattle.std.specs.Prelude.{not, ◌||◌, count_by, IfOk, IfErr, vec_len, vec
 use Rattle.std.specs.FinSet as set
 use Rattle.std.specs.List.{range_with_len}
 use Rattle.std.specs.Ordering.{nat_cmp}
-use Rattle.history_machine.specs.History.{Past, fresh, present_root, map_roots}
+use Rattle.history_machine.specs.History.{Past, fresh, map_roots}
 use Rattle.history_machine.specs.Descriptors.{Descriptors, none_open}
 use Rattle.history_machine.specs.Machine.{IsMachine, mounted, machine_with}
 use Rattle.plain_trees.specs.Trees.{Tree, bare}
 use Rattle.fs_types.specs.declared.calls.Version.{Version}
 use Rattle.fs_types.specs.declared.faults.Fault.{Fault}
-use Rattle.fs_types.specs.declared.faults.Fault.TheVariants.{FlashFull, ReadOnly, PowerCut, NoMemory}
+use Rattle.fs_types.specs.declared.faults.Fault.TheVariants.{FlashFull, ReadOnly, PowerCut}
 use Rattle.history_machine.proofs.Kept.{machine_law}
 use Rattle.flash_model.specs.Device.{Device}
 use Rattle.flash_model.specs.declared.sizes.Geometry.{Geometry}
@@ -27,7 +27,7 @@ use Rattle.node_store.specs.Storage.{Evolved, Pays, Adds, unpaid}
 use Rattle.node_format.specs.Directories.{directory_at}
 use Rattle.block_trees.specs.Trees.{entries_of, entries_in}
 use Rattle.block_trees.proofs.RootMaps.{empty_root}
-use Rattle.working_state.specs.Fresh.{unused_ring, unused_beside, IsFirstGood, IsFresh, IsBegun, HasGrown, BeginCause, FreshCause, RootCause}
+use Rattle.working_state.specs.Fresh.{unused_ring, unused_beside, IsFirstGood, IsBegun, HasGrown, BeginCause, RootCause}
 use Rattle.working_state.specs.Leaves.{HasWritten}
 use Rattle.working_state.specs.Moments.{moment, Moment, IsMountedAt, nodes_at, capacity_at}
 use Rattle.working_state.specs.Seen.{capacity_of, tree_on}
@@ -95,9 +95,6 @@ no-data bad are b low = elim (cases_Bool (set.contains bad b)) [
   | inl has ↦ absurd (let below = are b has in omega arith)
   | inr free ↦ free
 ]
-
-pub none_bad : AreAnchors set.empty
-none_bad b has = absurd (true≢false (sym has ∙ set.contains-empty nat_cmp b))
 
 -- on an unused flash the next block is the first data block that is not bad
 busy_unused : (blocks : ℕ) (bad : set.FinSet nat_cmp) (b : ℕ) → is_busy (unused_ring blocks) bad b ≡ set.contains bad b
@@ -205,43 +202,3 @@ written_begun d was limit s e t h files root lawful bad ring len capacity writte
       paid = omega arith;
       root_block = first_root d s e t root ring next;
     }
-
--- Where no block was bad before.
-
-begun_fresh : (d : Device) (limit : ℕ) (m : Moment) → IsBegun d set.empty limit m → IsFresh d limit m
-begun_fresh d limit m begun =
-    let none : set.len (set.empty {R = nat_cmp}) ≡ 0 = set.len-empty nat_cmp in
-    let paid = begun.paid in
-    record {
-      machine = begun.machine;
-      mounted = begun.mounted;
-      is_on = begun.is_on;
-      evolved = begun.evolved;
-      paid = omega arith;
-      root_block = λ root present. let same : root ≡ begun.root = cc (sym present ∙ ap present_root begun.history) in subst (IsFirstGood m.state.storage.bad) (sym same) begun.root_block;
-    }
-
-pub all_begun_fresh : (d : Device) (was : set.FinSet nat_cmp) (limit : ℕ) (e : Device) (result : Result State Fault) → was ≡ set.empty → IfOk result (λ s. IsBegun d was limit (moment e s))
-    → IfOk result (λ s. IsFresh d limit (moment e s))
-all_begun_fresh d was limit e (Ok s) none begun = begun_fresh d limit (moment e s) (subst (λ (bad : set.FinSet nat_cmp). IsBegun d bad limit (moment e s)) none begun)
-all_begun_fresh d was limit e (Err fault) none begun = tt
-
-fresh_cause : (d : Device) (limit : ℕ) (fault : Fault) (e : Device) → BeginCause d set.empty fault e → FreshCause d limit fault e
-fresh_cause d limit FlashFull e (bad, lacks) =
-    let none : set.len (set.empty {R = nat_cmp}) ≡ 0 = set.len-empty nat_cmp in
-    let many = lacks.many in
-    let failures = lacks.grown.failures in
-    omega arith
-fresh_cause d limit ReadOnly e (bad, full) =
-    let none : set.len (set.empty {R = nat_cmp}) ≡ 0 = set.len-empty nat_cmp in
-    let most = full.full in
-    let failures = full.grown.failures in
-    omega arith
-fresh_cause d limit PowerCut e why = why
-fresh_cause d limit NoMemory e why = tt
-fresh_cause d limit _ e why = absurd why
-
-pub all_fresh_cause : (d : Device) (was : set.FinSet nat_cmp) (limit : ℕ) (e : Device) (result : Result State Fault) → was ≡ set.empty → IfErr result (λ fault. BeginCause d was fault e)
-    → IfErr result (λ fault. FreshCause d limit fault e)
-all_fresh_cause d was limit e (Ok s) none why = tt
-all_fresh_cause d was limit e (Err fault) none why = fresh_cause d limit fault e (subst (λ (bad : set.FinSet nat_cmp). BeginCause d bad fault e) none why)

@@ -21,7 +21,7 @@ use Rattle.directory.specs.declared.lookups.Found.{Found}
 use Rattle.directory.specs.declared.lookups.Found.TheVariants as found
 use Rattle.directory.specs.Lookups.{look_up, entry_of}
 use Rattle.directory.proofs.LookupLaws.{found_is, found_leads, found_leads_file}
-use Rattle.working_state.specs.Moments.{Moment, machine_at, seen_at, IsMountedAt, IsStep, nodes_at, capacity_at, tree_at}
+use Rattle.working_state.specs.Moments.{Moment, machine_at, IsMountedAt, IsStep, nodes_at, capacity_at, tree_at}
 use Rattle.working_state.specs.Worked.{IsLooked}
 use Rattle.working_state.proofs.PathCalls.{LooksUp, OnlyReads, found_by, read_done}
 use Rattle.working_state.proofs.Standing.{looked_on}

@@ -21,7 +21,7 @@ use Rattle.directory.specs.declared.lookups.Found.{Found}
 use Rattle.directory.specs.declared.lookups.Found.TheVariants as found
 use Rattle.directory.specs.Lookups.{look_up}
 use Rattle.directory.proofs.LookupLaws.{found_leads}
-use Rattle.working_state.specs.Moments.{Moment, machine_at, seen_at, IsMountedAt, IsRefused, nodes_at, capacity_at, tree_at}
+use Rattle.working_state.specs.Moments.{Moment, machine_at, IsMountedAt, IsRefused, nodes_at, capacity_at, tree_at}
 use Rattle.working_state.specs.Worked.{IsLooked}
 use Rattle.working_state.proofs.ChangeSteps.{later_tree}
 use Rattle.working_state.proofs.ChangedCalls.{IsChangeBy}

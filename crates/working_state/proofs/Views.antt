@@ -15,7 +15,7 @@ use Rattle.fs_types.specs.declared.calls.View.{View}
 use Rattle.fs_types.specs.declared.calls.View.TheVariants.{Present, Serial, Checkpoint}
 use Rattle.fs_types.specs.declared.faults.Fault.{Fault}
 use Rattle.plain_trees.proofs.Beneath.{None≢Some, same_Some}
-use Rattle.working_state.specs.Moments.{Moment, machine_at, seen_at, IsMountedAt, IsRefused, tree_at}
+use Rattle.working_state.specs.Moments.{Moment, machine_at, IsMountedAt, IsRefused, tree_at}
 use Rattle.working_state.specs.Steps.{is_light}
 use Rattle.working_state.specs.Mounted.{IsStanding}
 use Rattle.working_state.specs.declared.state.State.{State}

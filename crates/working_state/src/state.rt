@@ -10,14 +10,14 @@ ghost use Rattle.node_store.specs.NodePages.{first_data, node_of};
 ghost use Rattle.node_store.specs.Storage as parts;
 ghost use Rattle.block_trees.specs.Trees.{entries_in};
 ghost use Rattle.working_state.specs.Leaves.{HasWritten};
-ghost use Rattle.working_state.specs.Fresh.{unused_ring, IsFresh, IsBegun, BeginCause, FreshCause, RootCause};
+ghost use Rattle.working_state.specs.Fresh.{unused_ring, IsBegun, BeginCause, RootCause};
 ghost use Rattle.working_state.specs.Moments.{moment};
 ghost use Rattle.working_state.specs.Seen.{IsLaterFlash};
 
 use allocator::Ring;
 use bad_blocks::BadBlocks;
 use flash_model::{Flash, Geometry};
-use fs_types::{Fault, MAX_VERSIONS, MIN_VERSIONS};
+use fs_types::Fault;
 use history::History;
 use node_format::empty_directory;
 use node_store::{Storage, write_node};
@@ -43,28 +43,6 @@ impl State {
         ensures { present_root self.now.history ≡ Some result }
     {
         *self.history.root()
-    }
-
-    /// The working state of a fresh system of at most `limit` kept versions: an empty root is written,
-    /// and is its version of serial 1.
-    ///
-    /// [`Fault::BadGeometry`] where the sizes are out of range, else [`Fault::Invalid`] where `limit`
-    /// is not 2 to 64, else [`Fault::FlashFull`] where an operation failed in each data block,
-    /// [`Fault::ReadOnly`] where it failed in 256, [`Fault::PowerCut`], [`Fault::NoMemory`].
-    pub fn fresh<F: Flash>(alloc: Global, flash: &mut F, limit: u32) -> Result<State, Fault>
-        ensures later { IsLaterFlash (F.device flash.old) (F.device flash.new) }
-        ensures fresh { IfOk result (λ state. IsFresh (F.device flash.old) limit (moment (F.device flash.new) state)) }
-        ensures why { IfErr result (λ fault. FreshCause (F.device flash.old) limit fault (F.device flash.new)) }
-        ensures sizes { (result ≡ Err Fault.BadGeometry) ↔ ¬ IsGeometry (F.device flash.old).geometry }
-        ensures limits { (result ≡ Err Fault.Invalid) ↔ (IsGeometry (F.device flash.old).geometry × ((limit < MIN_VERSIONS) ⊎ (MAX_VERSIONS < limit))) }
-    {
-        if !flash.geometry().is_lawful() {
-            return Err(Fault::BadGeometry);
-        }
-        if limit < (MIN_VERSIONS as u32) || (MAX_VERSIONS as u32) < limit {
-            return Err(Fault::Invalid);
-        }
-        State::with_empty_root(alloc, flash, BadBlocks::new(), limit)
     }
 
     /// The working state of a fresh system on a flash of lawful sizes, of which these anchors are bad

@@ -1,7 +1,7 @@
 -- A system after a commit: it is mounted as before, and the newest record is the working history, or what it was.
-use Rattle.std.proofs.Common.{◌≡◌, ◌≢◌, ◌⊎◌, inl, inr, ℕ, ◌+◌, ◌<◌, ◌≤◌, Bool, true, false, ◌||◌, Option, Some, None, Result, Ok, Err, List, map, refl, sym, ap, subst, ◌∙◌, arith}
+use Rattle.std.proofs.Common.{◌≡◌, ◌≢◌, ◌⊎◌, inl, inr, ℕ, ◌+◌, ◌<◌, ◌≤◌, Bool, true, false, ◌||◌, Option, Some, None, Result, Ok, Err, map, refl, sym, ap, subst, ◌∙◌, arith}
 use Rattle.std.proofs.lemmas.Bool.{true≢false}
-use Rattle.std.specs.Prelude.{is_some, Contains, OnOk, ◌/◌, vec_len, vec_capacity}
+use Rattle.std.specs.Prelude.{is_some, Contains, ◌/◌, vec_len, vec_capacity}
 use Rattle.std.specs.FinSet as set
 use Rattle.std.specs.Ordering.{nat_cmp}
 use Rattle.std.specs.Option.{option_map}
@@ -9,20 +9,19 @@ use Rattle.std.proofs.lemmas.List.Elements.{Contains-append_cases}
 use Rattle.fs_types.specs.declared.faults.Fault.{Fault}
 use Rattle.fs_types.specs.declared.faults.Fault.TheVariants.{PowerCut}
 use Rattle.history_machine.specs.History.{Past, map_roots}
-use Rattle.history_machine.specs.Machine.{Machine, IsMachine, machine_with}
-use Rattle.plain_trees.specs.Trees.{Tree}
+use Rattle.history_machine.specs.Machine.{IsMachine, machine_with}
 use Rattle.flash_model.specs.declared.sizes.Geometry.{Geometry}
 use Rattle.flash_model.specs.Device.{Device}
 use Rattle.flash_model.specs.Geometry.{IsGeometry, block_bytes}
 use Rattle.record_format.specs.declared.records.Record.{Record}
 use Rattle.commit_pair.specs.declared.anchors.Anchors.{Anchors}
 use Rattle.commit_pair.specs.declared.best.Found.{Found}
-use Rattle.commit_pair.specs.Parts.{first_data, parts_on, newest_at, greatest_on}
+use Rattle.commit_pair.specs.Parts.{first_data, greatest_on}
 use Rattle.commit_pair.specs.Committing.{Commits}
 use Rattle.commit_pair.specs.Reading.{IsEnd}
 use Rattle.commit_pair.specs.Newest.{remembered}
-use Rattle.commit_pair.specs.Remembering.{KnowsNewest, KnowsErased, MayCommit}
-use Rattle.working_state.specs.Seen.{tree_on, machine_on}
+use Rattle.commit_pair.specs.Remembering.{KnowsNewest, MayCommit}
+use Rattle.working_state.specs.Seen.{machine_on}
 use Rattle.working_state.specs.Steps.{is_cut_answer}
 use Rattle.working_state.specs.Mounted.{IsStanding, IsMounted}
 use Rattle.working_state.specs.Roots.{HasRoot}
@@ -32,7 +31,7 @@ use Rattle.upkeep.specs.Saved.{saved_on, saved_trees}
 use Rattle.upkeep.specs.Commits.{record_on, Saves}
 use Rattle.upkeep.specs.Systems.{IsSystem, IsKnown}
 use Rattle.upkeep.specs.declared.systems.System.{System}
-use Rattle.upkeep.proofs.SameNodes.{HasSameData, same_nodes, same_tree, stands_too}
+use Rattle.upkeep.proofs.SameNodes.{HasSameData, same_tree, stands_too}
 use Rattle.upkeep.proofs.Committed.{same_saved, IsNewly, newly_saved}
 
 -- ---- places that are known
@@ -110,9 +109,9 @@ module _ {T : Type 0} (d e : Device) (m n : System) (result : Result T Fault) (s
     where
       on : (r : Result T Fault) → Commits d.pages e.pages (record_on d m.state) (greatest_on d.geometry d.pages + 1) n.state.storage.bad r → SavedAfter
       on (Ok x) c = inr (newly_saved d e m.state _ n.state.storage.bad same.geometry c)
-      on (Err PowerCut) (inl keeps) = inl (same_saved d e same.geometry keeps)
+      on (Err PowerCut) (inl keeps) = inl (same_saved d e same.geometry keeps.newest)
       on (Err PowerCut) (inr c) = inr (newly_saved d e m.state _ n.state.storage.bad same.geometry c)
-      on (Err _) keeps = inl (same_saved d e same.geometry keeps)
+      on (Err _) keeps = inl (same_saved d e same.geometry keeps.newest)
 
   -- its versions and checkpoints stand
   pub stands_after : SavedAfter → m.state.is_off ≡ false → (r : Record) → saved_on e ≡ Some r → (root : ℕ) → Contains (roots_of (history_of r)) root → IsStanding e n.state.storage.ring root

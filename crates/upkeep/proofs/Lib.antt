@@ -5,8 +5,8 @@ pub mod LawfulContents
 pub mod MountedSystems
 pub mod Mounting
 pub mod Restored
-pub mod SameData
 pub mod SameNodes
+pub mod SameRecords
 pub mod StateSteps
 pub mod Syncs
 pub mod Tried

@@ -1,29 +1,26 @@
 -- What a mount makes is a system.
-use Rattle.std.proofs.Common.{◌≡◌, ℕ, ◌<◌, Bool, true, false, ◌||◌, Option, Some, None, Result, Ok, List, [], ◌∷◌, map, refl, sym, ap, subst, ◌∙◌, nat_eq}
+use Rattle.std.proofs.Common.{◌≡◌, ℕ, ◌<◌, Bool, true, false, ◌||◌, Some, List, [], ◌∷◌, map, refl, sym, ap, subst, ◌∙◌, nat_eq}
 use Rattle.std.proofs.lemmas.Bool.{true≢false, ltb-true, eqb-true}
 use Rattle.std.proofs.lemmas.List.Elements.{Contains-append_cases}
 use Rattle.std.specs.Prelude.{is_some, Contains, nat_lt}
 use Rattle.std.specs.FinSet as set
 use Rattle.std.specs.List.{list_all, list_any}
 use Rattle.std.specs.Ordering.{nat_cmp}
-use Rattle.std.specs.Option.{option_map}
-use Rattle.fs_types.specs.declared.faults.Fault.{Fault}
 use Rattle.history_machine.specs.History.{Past}
 use Rattle.flash_model.specs.declared.sizes.Geometry.{Geometry}
 use Rattle.flash_model.specs.Device.{Device}
 use Rattle.flash_model.specs.Reading.{OnlyReads}
 use Rattle.record_format.specs.declared.records.Record.{Record}
-use Rattle.record_format.specs.Payloads.{is_record, has_counts, has_versions, has_checkpoints, has_bad_blocks, numbers_ascend, payload_at}
+use Rattle.record_format.specs.Payloads.{is_record, has_counts, has_versions, has_checkpoints, numbers_ascend}
 use Rattle.record_format.proofs.LawfulRecords.{both_true}
-use Rattle.commit_pair.specs.Parts.{Entry, newest_on}
-use Rattle.commit_pair.specs.Newest.{committed_on}
-use Rattle.working_state.specs.Mounted.{IsStanding}
+use Rattle.commit_pair.specs.Parts.{newest_on}
 use Rattle.working_state.specs.Roots.{HasRoot}
 use Rattle.upkeep.specs.Mounts.{history_of, roots_of, IsMountOf}
 use Rattle.upkeep.specs.Saved.{record_in, saved_on}
 use Rattle.upkeep.specs.Systems.{IsSystem}
 use Rattle.upkeep.specs.declared.systems.System.{System}
 use Rattle.upkeep.proofs.AfterCommits.{known}
+use Rattle.upkeep.proofs.Committed.{same_saved}
 use Rattle.upkeep.proofs.Mounting.{newest_fits}
 
 -- a number of a list that is below n
@@ -38,10 +35,6 @@ below n q (b ∷ bs) any all = on (nat_eq b q) refl any (λ others. below n q bs
     on true is one rest = subst (λ (y : ℕ). y < n) (eqb-true b q is) (ltb-true b n parts.0)
     on false is others rest = rest others
 
--- reads leave the newest record
-same_saved : (d e : Device) → OnlyReads d e → saved_on e ≡ saved_on d
-same_saved d e reads = λ i. record_in (option_map (λ (entry : Entry). payload_at (reads.geometry i) entry.sequence entry.payload) (newest_on (reads.geometry i) (λ p. reads.pages p i)))
-
 some_record : (a b : Record) → Some a ≡ Some b → a ≡ b
 some_record a b e = cc
 
@@ -55,7 +48,7 @@ mounted_system d e m reads mount = record {
 }
   where
     saved : saved_on e ≡ Some mount.newest
-    saved = same_saved d e reads ∙ ap record_in mount.holds
+    saved = same_saved d e reads.geometry (λ i. newest_on d.geometry (λ p. reads.pages p i)) ∙ ap record_in mount.holds
 
     has_root : {root : ℕ} → Contains (roots_of (history_of mount.newest)) root → HasRoot m.state root
     has_root {root} has =

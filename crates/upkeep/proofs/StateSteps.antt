@@ -1,7 +1,7 @@
 -- A step of the working state is one of the system: it leaves the newest record.
-use Rattle.std.proofs.Common.{◌≡◌, ◌≢◌, ◌⊎◌, inl, inr, ℕ, ◌<◌, ◌≤◌, Bool, true, false, Option, Some, None, Result, Ok, Err, List, map, refl, sym, ap, subst, ◌∙◌, arith}
+use Rattle.std.proofs.Common.{◌≡◌, inl, ℕ, ◌<◌, Bool, true, false, Option, Some, None, Result, Ok, Err, map, refl, sym, ap, subst, ◌∙◌}
 use Rattle.std.proofs.lemmas.Bool.{true≢false}
-use Rattle.std.specs.Prelude.{is_some, Contains, OnOk, All, slice_index_or}
+use Rattle.std.specs.Prelude.{is_some, Contains}
 use Rattle.std.specs.FinSet as set
 use Rattle.std.specs.Option.{option_map}
 use Rattle.fs_types.specs.Names.{Name}
@@ -9,31 +9,28 @@ use Rattle.fs_types.specs.declared.calls.Call.{Call}
 use Rattle.fs_types.specs.declared.calls.Reply.{Reply}
 use Rattle.fs_types.specs.declared.calls.Version.{Version}
 use Rattle.fs_types.specs.declared.faults.Fault.{Fault}
-use Rattle.history_machine.specs.History.{Past, map_roots}
 use Rattle.history_machine.specs.HistoryMaps.{same-map_roots}
-use Rattle.plain_trees.specs.Trees.{Tree}
 use Rattle.flash_model.specs.declared.sizes.Geometry.{Geometry}
 use Rattle.flash_model.specs.Device.{Device, block_of}
-use Rattle.node_store.specs.NodePages.{first_data, node_of}
+use Rattle.node_store.specs.NodePages.{node_of}
 use Rattle.node_store.specs.Storage.{Storage, storage, Evolved}
 use Rattle.block_trees.specs.Reached.{Reached}
 use Rattle.record_format.specs.declared.records.Record.{Record}
-use Rattle.record_format.specs.Payloads.{payload_at}
-use Rattle.commit_pair.specs.Parts.{Entry, newest_on}
 use Rattle.commit_pair.specs.Newest.{remembered}
 use Rattle.commit_pair.proofs.NewestLaws.{only_anchors_matter}
 use Rattle.commit_pair.proofs.Beginning.{still_may_commit}
-use Rattle.working_state.specs.Seen.{Seen, seen_on, tree_on, machine_on}
-use Rattle.working_state.specs.Steps.{is_sync, is_cut, CallStep, Answers}
+use Rattle.working_state.specs.Seen.{seen_on, tree_on, machine_on}
+use Rattle.working_state.specs.Steps.{is_sync, Answers}
 use Rattle.working_state.specs.Mounted.{IsStanding, IsMounted, StateStep, KeepsPages}
 use Rattle.working_state.specs.declared.state.State.{State}
 use Rattle.working_state.proofs.Standing.{still_stands, same_tree}
 use Rattle.upkeep.specs.Mounts.{history_of, roots_of, trees_of}
-use Rattle.upkeep.specs.Saved.{record_in, saved_on, saved_trees, IsWhole}
-use Rattle.upkeep.specs.Commits.{RecordAfter, SystemStep}
+use Rattle.upkeep.specs.Saved.{saved_on, saved_trees, IsWhole}
+use Rattle.upkeep.specs.Commits.{SystemStep}
 use Rattle.upkeep.specs.Systems.{IsSystem}
 use Rattle.upkeep.specs.declared.systems.System.{System}
 use Rattle.upkeep.proofs.AfterCommits.{knows, known, is_newest, not_none}
+use Rattle.upkeep.proofs.Committed.{same_saved}
 use Rattle.upkeep.proofs.Mounting.{contains_front, contains_back}
 use Rattle.upkeep.proofs.Syncs.{reached_from}
 
@@ -61,10 +58,8 @@ module _ (d e : Device) (m : System) (t : State) (call : Call) (result : Result 
       by true b (Ok reply) is answers off = absurd (true≢false answers.0)
       by true b (Err fault) is answers off = absurd (true≢false (sym answers.3 ∙ off))
 
-  same_saved : saved_on e ≡ saved_on d
-  same_saved =
-      ap (λ (g : Geometry). record_in (option_map (λ (entry : Entry). payload_at g entry.sequence entry.payload) (newest_on g e.pages))) evolved.geometry
-      ∙ ap (λ (o : Option Entry). record_in (option_map (λ (entry : Entry). payload_at d.geometry entry.sequence entry.payload) o)) (only_anchors_matter d.geometry d.pages e.pages evolved.anchor_pages)
+  as_saved : saved_on e ≡ saved_on d
+  as_saved = same_saved d e evolved.geometry (only_anchors_matter d.geometry d.pages e.pages evolved.anchor_pages)
 
   stands : m.state.is_off ≡ false → (r : Record) → saved_on d ≡ Some r → (root : ℕ) → Contains (roots_of (history_of r)) root → IsStanding e t.storage.ring root
   stands on r is root has = still_stands was now root s.mounted.lawful evolved (s.stands on r is root has)
@@ -83,8 +78,8 @@ module _ (d e : Device) (m : System) (t : State) (call : Call) (result : Result 
   pub state_system : IsMounted e t → IsSystem e (with_state m t)
   state_system mounted = record {
     mounted = mounted;
-    saved = λ on. ap is_some same_saved ∙ s.saved (was_on on);
-    stands = λ on r is. stands (was_on on) r (sym same_saved ∙ is);
+    saved = λ on. ap is_some as_saved ∙ s.saved (was_on on);
+    stands = λ on r is. stands (was_on on) r (sym as_saved ∙ is);
     known = λ on.
         let place = s.known (was_on on) in
         known e t.storage.bad m.anchors (is_newest e t.storage.bad m.anchors (not_none (remembered m.anchors) place.some)
@@ -95,7 +90,7 @@ module _ (d e : Device) (m : System) (t : State) (call : Call) (result : Result 
   -- ---- the newest record
 
   same_trees : m.state.is_off ≡ false → saved_trees e ≡ saved_trees d
-  same_trees on = ap (option_map (trees_of e)) same_saved ∙ by (saved_on d) refl
+  same_trees on = ap (option_map (trees_of e)) as_saved ∙ by (saved_on d) refl
     where
       by : (o : Option Record) → saved_on d ≡ o → option_map (trees_of e) o ≡ option_map (trees_of d) o
       by None is = refl
@@ -117,7 +112,7 @@ module _ (d e : Device) (m : System) (t : State) (call : Call) (result : Result 
   either = by_power (λ off. ap saved_trees (step.stopped off).0) same_trees
 
   whole : IsWhole d → IsWhole e
-  whole before = by_power (λ off. subst IsWhole (sym (step.stopped off).0) before) (λ on r is root has. (stands on r (sym same_saved ∙ is) root has).rooted)
+  whole before = by_power (λ off. subst IsWhole (sym (step.stopped off).0) before) (λ on r is root has. (stands on r (sym as_saved ∙ is) root has).rooted)
 
   kept : (r : Record) → saved_on d ≡ Some r → (p : ℕ) → Reached (node_of d) (roots_of (history_of r)) (block_of d p) → e.pages p ≡ d.pages p
   kept r is p reached =

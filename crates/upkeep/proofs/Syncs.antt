@@ -1,22 +1,22 @@
 -- The step of a call that commits the working history.
-use Rattle.std.proofs.Common.{◌≡◌, ◌≢◌, ◌⊎◌, inl, inr, ℕ, zero, suc, ◌+◌, ◌-◌, ◌^◌, ◌<◌, ◌≤◌, Bool, true, false, cond, ◌&&◌, ◌||◌, Option, Some, None, Bor, Result, Ok, Err, List, [], ◌∷◌, map, refl, sym, ap, subst, ◌∙◌, arith}
+use Rattle.std.proofs.Common.{◌≡◌, ◌⊎◌, inl, inr, ℕ, zero, suc, ◌+◌, ◌-◌, ◌<◌, ◌≤◌, Bool, true, false, cond, ◌||◌, Option, Some, None, Bor, Result, Ok, Err, List, [], ◌∷◌, refl, sym, ap, ◌∙◌, arith}
 use Rattle.std.proofs.lemmas.Bool.{true≢false}
 use Rattle.std.proofs.lemmas.List.Sums.{sum_by-cons}
-use Rattle.std.specs.Prelude.{is_some, is_none, Contains, OnOk, OnErr, IfErr, not, count_by}
+use Rattle.std.specs.Prelude.{is_some, Contains, OnOk, IfErr, not, count_by}
 use Rattle.std.specs.List.{range_with_len}
 use Rattle.std.specs.FinSet as set
 use Rattle.std.specs.Ordering.{nat_cmp}
 use Rattle.std.specs.Option.{option_map_or, option_copied}
 use Rattle.history_machine.specs.Descriptors.{Descriptor, descriptor_at}
 use Rattle.history_machine.specs.History.{Past}
-use Rattle.history_machine.specs.Machine.{Machine, Space, refusal, answer, next, is_accepted, makes_version, tree_after}
+use Rattle.history_machine.specs.Machine.{Machine, Space, refusal, answer, next, makes_version}
 use Rattle.plain_trees.specs.Trees.{Tree}
 use Rattle.fs_types.specs.declared.calls.Call.{Call}
 use Rattle.fs_types.specs.declared.calls.Reply.{Reply}
 use Rattle.fs_types.specs.declared.faults.Fault.{Fault}
-use Rattle.fs_types.specs.declared.faults.Fault.TheVariants.{ReadOnly, Overflow, ReadFailed, PowerCut, NoMemory, BadDescriptor}
+use Rattle.fs_types.specs.declared.faults.Fault.TheVariants.{ReadOnly, Overflow, PowerCut, NoMemory, BadDescriptor}
 use Rattle.flash_model.specs.Device.{Device, block_of}
-use Rattle.allocator.specs.Ring.{Ring, data_blocks, is_busy, free_count}
+use Rattle.allocator.specs.Ring.{Ring, is_busy, free_count}
 use Rattle.read_only.specs.Modes.{is_read_only}
 use Rattle.block_trees.specs.Bodies.{Blocks}
 use Rattle.block_trees.specs.Reached.{Reached, IsFirst, IsNamed}
@@ -25,21 +25,17 @@ use Rattle.node_store.specs.NodePages.{first_data, node_of}
 use Rattle.commit_pair.specs.Parts.{greatest_on}
 use Rattle.commit_pair.specs.Anchored.{OnlyAnchors}
 use Rattle.commit_pair.specs.Committing.{Commits}
-use Rattle.commit_pair.specs.Keeping.{Keeps}
-use Rattle.commit_pair.specs.Remembering.{CommitCause}
-use Rattle.working_state.specs.Leaves.{Leaves}
-use Rattle.working_state.specs.Mounted.{IsStanding}
 use Rattle.working_state.specs.Roots.{IsReached}
-use Rattle.working_state.specs.Seen.{Seen, seen_on, machine_on, capacity_of}
-use Rattle.working_state.specs.Steps.{is_sync, is_cut, is_cut_answer, is_light, is_writing, is_for_record, last_serial, replied, empty, tells_space, CallStep, IsLater, IsDone, Answers, MayRefuse, Refuses}
+use Rattle.working_state.specs.Seen.{Seen, seen_on, machine_on}
+use Rattle.working_state.specs.Steps.{is_sync, is_cut, is_cut_answer, is_light, is_writing, replied, empty, tells_space, IsLater, Answers, MayRefuse}
 use Rattle.working_state.proofs.BadCounts.{len-within, stays_read_only}
 use Rattle.working_state.specs.declared.state.State.{State}
-use Rattle.upkeep.specs.Mounts.{history_of, roots_of, HasTrees}
-use Rattle.upkeep.specs.Saved.{saved_on, saved_trees, IsWhole}
+use Rattle.upkeep.specs.Mounts.{history_of, roots_of}
+use Rattle.upkeep.specs.Saved.{saved_on, saved_trees}
 use Rattle.upkeep.specs.Commits.{record_on, Saves, SaveCause, RecordAfter, SystemStep}
 use Rattle.upkeep.specs.Systems.{IsSystem}
 use Rattle.upkeep.specs.declared.systems.System.{System}
-use Rattle.upkeep.proofs.SameNodes.{HasSameData, same_room}
+use Rattle.upkeep.proofs.SameNodes.{same_room}
 use Rattle.upkeep.proofs.AfterCommits.{same, same_machine, saved_after, stands_after, trees_after, newly_trees}
 use Rattle.upkeep.proofs.Committed.{newly_saved}
 

@@ -1,5 +1,5 @@
 -- What a commit on the anchors makes of a system.
-use Rattle.std.proofs.Common.{◌≡◌, ◌≢◌, ℕ, ◌+◌, ◌-◌, ◌^◌, ◌≤◌, Bool, true, false, ◌||◌, None, Result, Ok, Err, refl, sym, ap, subst, ◌∙◌, arith}
+use Rattle.std.proofs.Common.{◌≡◌, ◌≢◌, ◌+◌, ◌-◌, ◌^◌, Bool, true, false, ◌||◌, None, Result, Ok, Err, refl, sym, ap, subst, ◌∙◌}
 use Rattle.std.proofs.lemmas.Bool.{true≢false}
 use Rattle.std.specs.Prelude.{OnOk, OnErr, IfErr}
 use Rattle.std.specs.FinSet as set
@@ -99,8 +99,15 @@ module _ {T : Type 0} (d e : Device) (m : System) (anchors : Anchors) (bad : set
   system_after : IsSystem e after
   system_after = is_system d e m after answer s saves is_off knows_newest
 
-  pub tried_saves : (t : State) (result : Result T Fault) → t ≡ with_cut (with_bad m.state bad) (is_cut_answer answer) → result ≡ answer → Saves d m result e (record { state = t; anchors = anchors })
-  tried_saves t result is same = subst (λ (r : Result T Fault). Saves d m r e (record { state = t; anchors = anchors })) (sym same) (subst (λ (x : State). Saves d m answer e (record { state = x; anchors = anchors })) (sym is) saves)
+  why_after : (r : Result T Fault) → IfErr r (CommitCause d m.state.storage.bad m.anchors e bad) → IfErr r (SaveCause d m e after)
+  why_after (Ok x) why = tt
+  why_after (Err fault) why = cause fault why
 
-  pub tried_system : (t : State) → t ≡ with_cut (with_bad m.state bad) (is_cut_answer answer) → IsSystem e (record { state = t; anchors = anchors })
-  tried_system t is = subst (λ (x : State). IsSystem e (record { state = x; anchors = anchors })) (sym is) system_after
+  -- what is promised of a commit that left this state and answered so
+  abbrev IsLeft : State → Result T Fault → Type 0
+  IsLeft t result =
+      let n : System = record { state = t; anchors = anchors } in
+      IsSystem e n × Saves d m result e n × IfErr result (SaveCause d m e n)
+
+  pub tried_commit : (t : State) (result : Result T Fault) → t ≡ with_cut (with_bad m.state bad) (is_cut_answer answer) → result ≡ answer → IsLeft t result
+  tried_commit t result is same = subst (λ (r : Result T Fault). IsLeft t r) (sym same) (subst (λ (x : State). IsLeft x answer) (sym is) (system_after, saves, why_after answer tried.why))

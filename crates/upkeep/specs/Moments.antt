@@ -1,13 +1,10 @@
 -- Moments: a flash, and the system that is mounted on it.
 use Rattle.std.specs.Prelude.{Result}
-use Rattle.history_machine.specs.Machine.{Machine}
 use Rattle.fs_types.specs.declared.calls.Call.{Call}
 use Rattle.fs_types.specs.declared.calls.Reply.{Reply}
 use Rattle.fs_types.specs.declared.faults.Fault.{Fault}
 use Rattle.flash_model.specs.Device.{Device}
-use Rattle.working_state.specs.Seen.{machine_on}
 use Rattle.upkeep.specs.Commits.{SystemStep}
-use Rattle.upkeep.specs.Systems.{IsSystem}
 use Rattle.upkeep.specs.declared.systems.System.{System}
 
 pub record Moment : Type 0 where
@@ -16,14 +13,6 @@ pub record Moment : Type 0 where
 
 abbrev pub moment : Device → System → Moment
 moment d m = record { device = d; system = m }
-
--- the machine that it shows
-abbrev pub machine_at : Moment → Machine
-machine_at m = machine_on m.device m.system.state
-
--- what holds of it between calls
-abbrev pub IsMountedAt : Moment → Type 0
-IsMountedAt m = IsSystem m.device m.system
 
 -- a call takes its step from one moment to another, and is answered so
 abbrev pub Steps : Moment → Call → Result Reply Fault → Moment → Type 0

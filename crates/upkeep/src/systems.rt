@@ -78,10 +78,11 @@ impl System {
         ensures step { SystemStep (F.device flash.old) self.old call.now result (F.device flash.new) self.new }
     {
         match call {
-            Call::Sync => empty_reply(self.sync(alloc, flash)),
-            Call::Fsync { descriptor } => empty_reply(self.fsync(alloc, flash, *descriptor)),
-            _ => carry_out(&mut self.state, alloc, flash, call),
+            Call::Sync => self.sync(alloc, flash)?,
+            Call::Fsync { descriptor } => self.fsync(alloc, flash, *descriptor)?,
+            _ => return carry_out(&mut self.state, alloc, flash, call),
         }
+        Ok(Reply::Empty)
     }
 
     /// Commits the record of the working state, where no call answered before that the power is off.
@@ -121,10 +122,4 @@ impl System {
         let _blocks = storage.ring.blocks();
         Ok(record_of(alloc, geometry, history, storage.ring.last())?)
     }
-}
-
-fn empty_reply(answer: Result<(), Fault>) -> Result<Reply, Fault>
-    ensures { result ≡ replied empty answer }
-{
-    answer.map(|_| Reply::Empty)
 }

@@ -1,4 +1,3 @@
-use Rattle.std.proofs.Common.{◌≡◌}
 use Rattle.std.specs.Option.{option_copied}
 use Rattle.upkeep.proofs.Syncs.{fsync_syncs, committed, is_open_there, copied_some}
 use Rattle.fs_types.specs.declared.calls.Call.{Call}

@@ -1,4 +1,3 @@
-use Rattle.std.proofs.Common.{◌≡◌}
 use Rattle.upkeep.proofs.Syncs.{sync_syncs, committed}
 use Rattle.fs_types.specs.declared.calls.Call.{Call}
 use Rattle.working_state.specs.Seen.{machine_on}

@@ -1,5 +1,5 @@
 -- What a system shows after a run.
-use Rattle.std.proofs.Common.{◌≡◌, ℕ, zero, suc, ◌+◌, ◌<◌, ◌≤◌, Bool, true, false, Option, Some, None, Ok, Err, List, [], ◌∷◌, ◌++◌, length, take, refl, sym, ap, subst, ◌∙◌, ◌⊎◌, inl, inr, arith}
+use Rattle.std.proofs.Common.{◌≡◌, ℕ, zero, suc, ◌≤◌, Bool, true, false, Ok, List, [], ◌∷◌, ◌++◌, length, take, refl, sym, ap, subst, ◌∙◌, ◌⊎◌, inl, inr, arith}
 use Rattle.std.specs.Prelude.{Contains, if◌then◌else◌}
 use Rattle.std.proofs.lemmas.List.{take-append-le, length-append, take_all}
 use Rattle.std.proofs.lemmas.List.Elements.{Contains-append_cases}
@@ -9,13 +9,12 @@ use Rattle.history_machine.specs.Machine.{Machine, mounted, next, after}
 use Rattle.fs_types.specs.declared.calls.Call.{Call}
 use Rattle.fs_types.specs.declared.calls.Reply.{Reply}
 use Rattle.working_state.specs.Seen.{machine_on}
-use Rattle.upkeep.specs.declared.systems.System.{System}
 use Rattle.working_state.specs.Steps.{is_sync}
 use Rattle.undofs.specs.Runs.{World, Shows, found_after, Happens, Run}
-use Rattle.undofs.specs.Courses.{Course, no_calls, with_call, Restarts, Goes, Leads, after_mounts, after_course, CourseLaw}
+use Rattle.undofs.specs.Courses.{Course, no_calls, with_call, Goes, Leads, after_mounts, after_course, CourseLaw}
 use Rattle.fs_types.specs.declared.events.Event.{Event}
 use Rattle.fs_types.specs.declared.events.Answer.{Answer}
-use Rattle.undofs.proofs.RunLaws.{refused_keeps, not_both}
+use Rattle.undofs.proofs.RunLaws.{shown, refused_keeps, not_both}
 
 -- calls after calls
 after-append : (m : Machine) (xs ys : List Call) → after m (xs ++ ys) ≡ after (after m xs) ys
@@ -91,16 +90,12 @@ found_then m c call reply found h now within is before has = on (is_sync call) r
         part other (inl old) = kept m c call h other (before h old)
         part other (inr new) = whole m c call h (is ∙ only now h new) within
 
--- what is shown is what the state shows
-shows : (w : World) (n : Machine) (s : System) → Shows w n → w.system ≡ Some s → machine_on w.device s.state ≡ n
-shows w n s is there = let same : s ≡ is.0 = (let first = is.1 in cc) in ap (λ (x : System). machine_on w.device x.state) same ∙ is.2
-
 accepts : (m : Machine) (w v : World) (c : Course) (call : Call) (reply : Reply) → Stands m w c → Happens w (Event.Call call) (Answer.Done reply) v → Stands m v (with_call c call)
 accepts m w v c call reply stands here =
     let was : machine_on w.device here.before.state ≡ after_course m c = stands.shown (machine_on w.device here.before.state) (here.before, here.was, refl) in
     let now : machine_on v.device here.after.state ≡ next (after_course m c) call = here.step.step.answers.1.leaves ∙ ap (λ (x : Machine). next x call) was in
     record {
-      shown = λ n is. sym (shows v n here.after is here.is) ∙ now ∙ sym (with_next m c call);
+      shown = λ n is. sym (shown v n here.after is here.is) ∙ now ∙ sym (with_next m c call);
       found = λ h has. found_then m c call reply w.found h (machine_on v.device here.after.state).history stands.within (ap (λ (x : Machine). x.history) (sym now)) stands.found (subst (λ (x : List (Past Tree)). Contains x h) here.found has);
       within = on (is_sync call);
     }
@@ -118,7 +113,7 @@ goes m w v c (Event.Call call) (Answer.Refused fault) stands here =
       c,
       refl,
       record {
-        shown = λ n is. sym (shows v n here.after is here.is) ∙ stays ∙ was;
+        shown = λ n is. sym (shown v n here.after is here.is) ∙ stays ∙ was;
         found = λ h has. stands.found h (subst (λ (x : List (Past Tree)). Contains x h) here.found has);
         within = stands.within;
       },
@@ -136,14 +131,14 @@ goes m w v c Event.Restart (Answer.Refused fault) stands here = (
   },
 )
 goes m w v c Event.Restart Answer.Mounted stands here =
-    let mount = here.0 in
+    let mount = here in
     let among = stands.found mount.history mount.among in
     let d : Course = record { earlier = c.earlier ++ take among.left c.since ∷ []; since = []; synced = 0 } in
     let at : after_course m d ≡ mounted mount.history = after_mounts-append m c.earlier (take among.left c.since) ∙ ap (λ (h : Past Tree). mounted h) (sym among.is) in (
       d,
       record { left = among.left; held = among.held; there = among.there; is = refl },
       record {
-        shown = λ n is. sym (shows v n mount.system is mount.is) ∙ mount.machine ∙ sym at;
+        shown = λ n is. sym (shown v n mount.system is mount.is) ∙ mount.machine ∙ sym at;
         found = λ h has. record {
           left = 0;
           held = omega arith;
@@ -168,7 +163,7 @@ leads m w v c (event ∷ events) (answer ∷ answers) stands (between, here, res
 pub course_law : CourseLaw
 course_law w v m events answers is alone run =
     let begin : Stands m w no_calls = record {
-      shown = λ n other. sym (shows w n is.0 other is.1) ∙ is.2;
+      shown = is;
       found = λ h has. record {
         left = 0;
         held = omega arith;

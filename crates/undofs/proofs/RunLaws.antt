@@ -38,7 +38,7 @@ call_adds : (call : Call) (reply : Reply) (found : List (Past Tree)) (h : Past T
 call_adds call reply found h other = rw other
 
 -- the machine that is shown is that of the state that is there
-shown : (w : World) (m : Machine) (s : System) → Shows w m → w.system ≡ Some s → machine_on w.device s.state ≡ m
+pub shown : (w : World) (m : Machine) (s : System) → Shows w m → w.system ≡ Some s → machine_on w.device s.state ≡ m
 shown w m s is there = let same : s ≡ is.0 = (let first = is.1 in cc) in ap (λ (x : System). machine_on w.device x.state) same ∙ is.2
 
 -- a system is mounted, or none is
@@ -98,7 +98,7 @@ pub prefix_law : PrefixLaw
 prefix_law w v u m events answers is alone run none here =
     let grown : v.found ≡ m.history ∷ later m (accepted events answers) =
     grows w m events answers v is run none ∙ ap (λ (x : List (Past Tree)). x ++ later m (accepted events answers)) alone in
-    let mount = here.0 in
+    let mount = here in
     let at = found_later m (accepted events answers) mount.history (subst (λ (x : List (Past Tree)). Contains x mount.history) grown mount.among) in
     (at.0, at.1, (mount.system, mount.is, mount.machine ∙ ap (λ (h : Past Tree). mounted h) at.2))
 
@@ -109,5 +109,5 @@ commit_law w v (Event.Call call) Answer.Mounted here sync = absurd here
 commit_law w v (Event.Call call) Answer.Unmounted here sync = absurd (cc)
 commit_law w v Event.Restart (Answer.Done reply) here sync = absurd here
 commit_law w v Event.Restart (Answer.Refused fault) here sync = absurd (cc)
-commit_law w v Event.Restart Answer.Mounted here sync = (mounted here.0.history, (here.0.system, here.0.is, here.0.machine), here.0.alone)
+commit_law w v Event.Restart Answer.Mounted here sync = (mounted here.history, (here.system, here.is, here.machine), here.alone)
 commit_law w v Event.Restart Answer.Unmounted here sync = absurd here

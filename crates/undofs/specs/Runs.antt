@@ -12,7 +12,8 @@ use Rattle.flash_model.specs.Reading.{OnlyReads}
 use Rattle.working_state.specs.Seen.{capacity_of, seen_on, machine_on}
 use Rattle.working_state.specs.Steps.{is_sync}
 use Rattle.upkeep.specs.Commits.{SystemStep}
-use Rattle.upkeep.specs.Moments.{Moment}
+use Rattle.upkeep.specs.Mounts.{IsMountOf}
+use Rattle.upkeep.specs.Saved.{saved_trees, IsWhole}
 use Rattle.upkeep.specs.Systems.{IsSystem}
 use Rattle.upkeep.specs.declared.systems.System.{System}
 use Rattle.fs_types.specs.declared.events.Event.{Event}
@@ -25,9 +26,12 @@ pub record World : Type 0 where
   pub system : Option System
   pub found : List (Past Tree)
 
--- a system is mounted, and this is the world's moment
-abbrev pub world_at : Moment → List (Past Tree) → World
-world_at m found = record { device = m.device; system = Some m.system; found = found }
+-- the newest record of the flash holds one of these histories, and each of its versions and checkpoints has a tree
+pub record IsSaved (d : Device) (found : List (Past Tree)) : Type 0 where
+  pub history : Past Tree
+  pub saved : saved_trees d ≡ Some history
+  pub among : Contains found history
+  pub whole : IsWhole d
 
 -- a system is mounted, and shows this machine
 abbrev pub Shows : World → Machine → Type 0
@@ -49,6 +53,7 @@ pub record Calls (w : World) (call : Call) (result : Result Reply Fault) (v : Wo
   pub step : SystemStep w.device before call result v.device after
   pub mounted : IsSystem v.device after
   pub found : v.found ≡ found_after call result w.found (machine_on v.device after.state).history
+  pub saved : IsSaved v.device v.found
 
 -- the same flash with the power on
 abbrev pub put_on : Device → Device
@@ -61,21 +66,24 @@ MayRefuseMount old PowerCut new = new.powered ≡ false
 MayRefuseMount old NoMemory new = ⊤
 MayRefuseMount old _ new = ⊥
 
--- a system is mounted that shows one of these histories, and no file is open
-pub record IsMount (found : List (Past Tree)) (v : World) : Type 0 where
+-- a system is mounted that shows one of these histories, and no file is open. It is what the newest record holds, and was
+-- only read
+pub record IsMount (d : Device) (found : List (Past Tree)) (v : World) : Type 0 where
   pub history : Past Tree
   pub system : System
   pub among : Contains found history
   pub is : v.system ≡ Some system
   pub machine : machine_on v.device system.state ≡ mounted history
   pub mounted : IsSystem v.device system
-  pub is_on : system.state.is_off ≡ false
+  pub holds : IsMountOf d v.device system
+  pub reads : OnlyReads d v.device
   pub alone : v.found ≡ history ∷ []
+  pub saved : IsSaved v.device v.found
 
 -- a mount reads the flash and does nothing else to it: it mounts one of these histories, or is refused
 abbrev pub Mounts : Device → List (Past Tree) → Answer → World → Type 0
-Mounts d found Answer.Mounted v = IsMount found v × OnlyReads d v.device
-Mounts d found (Answer.Refused fault) v = (v.system ≡ None) × (v.found ≡ found) × MayRefuseMount d fault v.device × OnlyReads d v.device
+Mounts d found Answer.Mounted v = IsMount d found v
+Mounts d found (Answer.Refused fault) v = (v.system ≡ None) × (v.found ≡ found) × MayRefuseMount d fault v.device × OnlyReads d v.device × IsSaved v.device found
 Mounts d found (Answer.Done reply) v = ⊥
 Mounts d found Answer.Unmounted v = ⊥
 

@@ -2,9 +2,11 @@
 #![tactic(auto)]
 
 mod promises;
+mod sessions;
 mod system;
 
 pub use fs_types::{Answer, Event};
 pub use promises::laws;
+pub use sessions::{run_session, serve};
 pub use system::{Fs, is_built};
 pub use upkeep::{System, format, mount};

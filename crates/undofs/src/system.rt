@@ -5,7 +5,7 @@ ghost use Rattle.working_state.specs.Steps.{replied, empty};
 ghost use Rattle.upkeep.specs.Systems.{IsSystem};
 ghost use Rattle.upkeep.specs.Props.{system-prop};
 
-use flash_model::{FaultKind, Flash, Planned};
+use flash_model::Flash;
 use fs_types::{Bytes, Call, CpName, Fault, Name, OpenFlags, Path, Reply, Sequence, Stat, View};
 use std::alloc::Global;
 use upkeep::{System, mount};
@@ -314,27 +314,5 @@ impl<'f, F: Flash> Fs<'f, F> {
         ensures mounted { IsSystem (F.device result.now) self.entry.system }
     {
         self.flash
-    }
-}
-
-impl<'f, F: Planned> Fs<'f, F> {
-    ghost use Rattle.std.specs.Prelude.{◌↔◌, ◌≤◌, Err, OnOk, OnErr, IfErr};
-    ghost use Rattle.flash_model.specs.Plan.{planned, IsFull};
-    ghost use Rattle.undofs.specs.Systems.{flash_name};
-
-    /// Plans the `k`-th operation of the kind's class from now on, counted from 1, to fail so.
-    /// [`Fault::Invalid`] where 64 entries wait and this one replaces none. It works with the power
-    /// off too.
-    pub fn plan_fault(&mut self, k: u64, kind: FaultKind) -> Result<(), Fault>
-        requires { 1 ≤ k }
-        ensures system { self.new.system ≡ self.old.system }
-        ensures still { F.device self.new.flash.now ≡ F.device self.old.flash.now }
-        ensures ok { OnOk result (F.schedule self.new.flash.now ≡ planned (F.schedule self.old.flash.now) k kind) }
-        ensures err { OnErr result (F.schedule self.new.flash.now ≡ F.schedule self.old.flash.now) }
-        ensures full { (result ≡ Err Fault.Invalid) ↔ IsFull (F.schedule self.old.flash.now) k kind }
-        ensures only { IfErr result (λ fault. fault ≡ Fault.Invalid) }
-        ensures same_flash { flash_name self.new ≡ flash_name self.old }
-    {
-        self.flash.plan_fault(k, kind)
     }
 }

@@ -1,0 +1,219 @@
+-- What a call, a mount and a restart leave of a world.
+use Rattle.std.proofs.Common.{◌≡◌, ◌⊎◌, inl, inr, ℕ, Bool, true, false, Option, Some, None, Result, Ok, Err, List, [], ◌∷◌, ◌++◌, refl, sym, ap, subst, ◌∙◌, arith}
+use Rattle.std.proofs.lemmas.Bool.{true≢false, cases_eq}
+use Rattle.std.proofs.lemmas.List.Elements.{Contains-append_left, Contains-push}
+use Rattle.std.specs.Prelude.{Contains, if◌then◌else◌}
+use Rattle.std.specs.Option.{option_map}
+use Rattle.history_machine.specs.History.{Past}
+use Rattle.history_machine.specs.Machine.{Machine, mounted, next, refusal}
+use Rattle.plain_trees.specs.Trees.{Tree}
+use Rattle.fs_types.specs.declared.calls.Call.{Call}
+use Rattle.fs_types.specs.declared.calls.Reply.{Reply}
+use Rattle.fs_types.specs.declared.events.Event.{Event}
+use Rattle.fs_types.specs.declared.events.Answer.{Answer}
+use Rattle.fs_types.specs.declared.faults.Fault.{Fault}
+use Rattle.fs_types.specs.declared.faults.Fault.TheVariants.{BadGeometry, NoRecord, Damaged, ReadFailed, PowerCut, NoMemory}
+use Rattle.flash_model.specs.Device.{Device}
+use Rattle.flash_model.specs.Geometry.{IsGeometry}
+use Rattle.flash_model.specs.Reading.{OnlyReads}
+use Rattle.record_format.specs.declared.records.Record.{Record}
+use Rattle.commit_pair.specs.declared.best.Found.{Found}
+use Rattle.commit_pair.specs.Parts.{parts_on, newest_at}
+use Rattle.commit_pair.specs.Laws.{HasTie}
+use Rattle.commit_pair.specs.Newest.{committed_on}
+use Rattle.commit_pair.proofs.NewestLaws.{found_is_newest}
+use Rattle.working_state.specs.Seen.{machine_on}
+use Rattle.working_state.specs.Steps.{is_sync}
+use Rattle.upkeep.specs.Commits.{SystemStep}
+use Rattle.upkeep.specs.Mounts.{trees_of, IsMountOf, MountCause}
+use Rattle.upkeep.specs.Saved.{record_in, saved_on, saved_trees, IsWhole}
+use Rattle.upkeep.specs.Systems.{IsSystem}
+use Rattle.upkeep.specs.declared.systems.System.{System}
+use Rattle.upkeep.proofs.SameRecords.{still_saved, same_trees, still_whole}
+use Rattle.upkeep.proofs.Syncs.{sync_syncs, fsync_syncs}
+use Rattle.undofs.specs.Runs.{Shows, IsSaved, found_after, put_on, MayRefuseMount, Mounts}
+use Rattle.undofs.specs.Sessions.{Stands, world, Serves, Starts}
+use Rattle.undofs.proofs.RunLaws.{shown, refused_keeps}
+
+-- ---- where no page changes
+
+module _ (d e : Device) (lawful : IsGeometry d.geometry) (geometry : e.geometry ≡ d.geometry) (pages : (p : ℕ) → e.pages p ≡ d.pages p) where
+  stays_among : (found more : List (Past Tree)) (s : IsSaved d found) → Contains more s.history → IsSaved e more
+  stays_among found more s among = record { history = s.history; saved = same_trees d e lawful geometry pages ∙ s.saved; among = among; whole = still_whole d e lawful geometry pages s.whole }
+
+  pub stays_saved : (found : List (Past Tree)) → IsSaved d found → IsSaved e found
+  stays_saved found s = stays_among found found s s.among
+
+-- ---- after a call
+
+-- an accepted sync leaves the machine
+sync_keeps : (m : Machine) (call : Call) → is_sync call ≡ true → refusal m call ≡ None → next m call ≡ m
+sync_keeps m Call.Sync sync accepted = (sync_syncs m).leaves
+sync_keeps m (Call.Fsync descriptor) sync accepted = (fsync_syncs m descriptor accepted).leaves
+sync_keeps m _ sync accepted = absurd (true≢false (sym sync))
+
+the_one : (h : Past Tree) → Contains (h ∷ []) h
+the_one h = (0, omega arith, refl)
+
+module _ (d : Device) (m : System) (call : Call) (e : Device) (n : System) (found : List (Past Tree)) (s : IsSaved d found) (working : Contains found (machine_on d m.state).history) where
+  saved_among : (result : Result Reply Fault) (more : List (Past Tree)) → SystemStep d m call result e n → ((h : Past Tree) → Contains found h → Contains more h) → IsSaved e more
+  saved_among result more step keeps = by step.after.either
+    where
+      by : (saved_trees e ≡ saved_trees d) ⊎ ((is_sync call ≡ true) × (saved_trees e ≡ Some (machine_on d m.state).history)) → IsSaved e more
+      by (inl old) = record { history = s.history; saved = old ∙ s.saved; among = keeps s.history s.among; whole = step.after.whole s.whole }
+      by (inr new) = record { history = (machine_on d m.state).history; saved = new.1; among = keeps (machine_on d m.state).history working; whole = step.after.whole s.whole }
+
+  saved_done : (reply : Reply) → SystemStep d m call (Ok reply) e n → IsSaved e (found_after call (Ok reply) found (machine_on e n.state).history)
+  saved_done reply step = by (is_sync call) refl
+    where
+      now : Past Tree
+      now = (machine_on e n.state).history
+
+      by : (b : Bool) → is_sync call ≡ b → IsSaved e (if is_sync call then now ∷ [] else found ++ now ∷ [])
+      by true sync =
+          let done = step.step.answers.1 in
+          let kept : (machine_on d m.state).history ≡ now = ap (λ (x : Machine). x.history) (sym (done.leaves ∙ sync_keeps (machine_on d m.state) call sync done.accepted)) in
+          subst (λ (b : Bool). IsSaved e (if b then now ∷ [] else found ++ now ∷ [])) (sym sync)
+          (record { history = now; saved = step.after.synced sync ∙ ap Some kept; among = the_one now; whole = step.after.whole s.whole })
+      by false other =
+          subst (λ (b : Bool). IsSaved e (if b then now ∷ [] else found ++ now ∷ [])) (sym other)
+          (saved_among (Ok reply) (found ++ now ∷ []) step (λ h has. Contains-append_left found (now ∷ []) h has))
+
+  now_found : (reply : Reply) → Contains (found_after call (Ok reply) found (machine_on e n.state).history) (machine_on e n.state).history
+  now_found reply = by (is_sync call) refl
+    where
+      now : Past Tree
+      now = (machine_on e n.state).history
+
+      by : (b : Bool) → is_sync call ≡ b → Contains (if is_sync call then now ∷ [] else found ++ now ∷ []) now
+      by true sync = subst (λ (b : Bool). Contains (if b then now ∷ [] else found ++ now ∷ []) now) (sym sync) (the_one now)
+      by false other = subst (λ (b : Bool). Contains (if b then now ∷ [] else found ++ now ∷ []) now) (sym other) (Contains-push found now)
+
+-- the history that is shown is that of the system that is there
+shows_system : (e : Device) (n : System) (found : List (Past Tree)) → Contains found (machine_on e n.state).history → (m : Machine) → Shows (world e (Some n) found) m → Contains found m.history
+shows_system e n found has m is = subst (λ (x : Machine). Contains found x.history) (shown (world e (Some n) found) m n is refl) has
+
+abbrev pub answer_of : Result Reply Fault → Answer
+answer_of (Ok reply) = Answer.Done reply
+answer_of (Err fault) = Answer.Refused fault
+
+pub call_serves : (d : Device) (m : System) (call : Call) (result : Result Reply Fault) (e : Device) (n : System) → SystemStep d m call result e n → IsSystem e n
+    → Serves d (Some m) (Event.Call call) (answer_of result) e (Some n)
+call_serves d m call (Ok reply) e n step system found stands =
+    let working = stands.shown (machine_on d m.state) (m, refl, refl) in
+    let more = found_after call (Ok reply) found (machine_on e n.state).history in
+    let saved = saved_done d m call e n found stands.saved working reply step in (
+      more,
+      record { before = m; after = n; was = refl; is = refl; step = step; mounted = system; found = refl; saved = saved },
+      record { lawful = system.mounted.lawful; saved = saved; shown = shows_system e n more (now_found d m call e n found stands.saved working reply) },
+    )
+call_serves d m call (Err fault) e n step system found stands =
+    let working = stands.shown (machine_on d m.state) (m, refl, refl) in
+    let saved = saved_among d m call e n found stands.saved working (Err fault) found step (λ h has. has) in
+    let same : machine_on e n.state ≡ machine_on d m.state = refused_keeps _ _ m.state.is_off call fault _ _ n.state.is_off step.step.answers in (
+      found,
+      record { before = m; after = n; was = refl; is = refl; step = step; mounted = system; found = refl; saved = saved },
+      record { lawful = system.mounted.lawful; saved = saved; shown = shows_system e n found (subst (λ (x : Machine). Contains found x.history) (sym same) working) },
+    )
+
+-- without a system nothing is done
+pub unmounted_serves : (d : Device) (call : Call) → Serves d None (Event.Call call) Answer.Unmounted d None
+unmounted_serves d call found stands = (found, (refl, refl), stands)
+
+-- ---- after a mount
+
+no_system : (e : Device) (found : List (Past Tree)) (m : Machine) → Shows (world e None found) m → ⊥
+no_system e found m (s, is, shows) = let none : None ≡ Some s = is in cc
+
+-- no two records share the greatest sequence where one is the newest
+untied : (d : Device) (found : Found) → newest_at d.geometry (parts_on d.geometry d.pages) ≡ Some found → HasTie d.geometry (parts_on d.geometry d.pages) → ⊥
+untied d found is tie =
+    let newest = found_is_newest d.geometry (parts_on d.geometry d.pages) found is in
+    let most = tie.greatest found.page found.head newest.within newest.valid in
+    let same = tie.same in
+    elim (cases_eq tie.one.page found.page) [
+      | inl own ↦ let less = newest.older tie.two.page tie.two.head tie.two_within (λ other. tie.apart (other ∙ sym own)) tie.two_valid in omega arith
+      | inr other ↦ let less = newest.older tie.one.page tie.one.head tie.one_within other tie.one_valid in omega arith
+    ]
+
+module _ (d e : Device) (found : List (Past Tree)) (lawful : IsGeometry d.geometry) (s : IsSaved d found) (reads : OnlyReads d e) where
+  some_record : (o : Option Record) → saved_on d ≡ o → option_map (trees_of d) o ≡ Some s.history → (r : Record) × (saved_on d ≡ Some r)
+  some_record None is none = absurd cc
+  some_record (Some r) is some = (r, is)
+
+  the_record : (r : Record) × (saved_on d ≡ Some r)
+  the_record = some_record (saved_on d) refl s.saved
+
+  committed : (o : Option (Result Record Fault)) → committed_on d ≡ o → record_in o ≡ Some the_record.0 → committed_on d ≡ Some (Ok the_record.0)
+  committed None is none = absurd cc
+  committed (Some (Ok r)) is some = is ∙ (let same : r ≡ the_record.0 = cc in ap (λ (x : Record). Some (Ok x)) same)
+  committed (Some (Err fault)) is none = absurd cc
+
+  newest : committed_on d ≡ Some (Ok the_record.0)
+  newest = committed (committed_on d) refl the_record.1
+
+  some_place : (o : Option Found) → newest_at d.geometry (parts_on d.geometry d.pages) ≡ o → (found : Found) × (newest_at d.geometry (parts_on d.geometry d.pages) ≡ Some found)
+  some_place (Some found) is = (found, is)
+  some_place None is = absurd (let none : committed_on d ≡ None = (rw is refl) in let some = newest in cc)
+
+  looks : (fault : Fault) → MountCause d e fault → MayRefuseMount d fault e
+  looks BadGeometry (inl unlawful) = absurd (unlawful.0 lawful)
+  looks BadGeometry (inr other) = absurd (let some = newest in cc)
+  looks NoRecord (none, is) = absurd (let some = newest in cc)
+  looks Damaged (inl tie) = let place = some_place (newest_at d.geometry (parts_on d.geometry d.pages)) refl in absurd (untied d place.0 place.1 tie)
+  looks Damaged (inr (inl damaged)) = absurd (let some = newest in cc)
+  looks Damaged (inr (inr lacks)) = absurd (lacks.2 (s.whole lacks.0 (ap record_in lacks.1)))
+  looks ReadFailed why = why
+  looks PowerCut why = why
+  looks NoMemory why = tt
+  looks _ why = absurd why
+
+  still : IsSaved e found
+  still = stays_saved d e lawful reads.geometry reads.pages found s
+
+  still_lawful : IsGeometry e.geometry
+  still_lawful = subst IsGeometry (sym reads.geometry) lawful
+
+  pub refused_starts : (fault : Fault) → MountCause d e fault → (more : List (Past Tree)) × Mounts d found (Answer.Refused fault) (world e None more) × Stands (world e None more)
+  refused_starts fault why = (
+    found,
+    (refl, refl, looks fault why, reads, still),
+    record { lawful = still_lawful; saved = still; shown = λ m is. absurd (no_system e found m is) },
+  )
+
+  some_history : (g h : Past Tree) → Some g ≡ Some h → g ≡ h
+  some_history g h is = cc
+
+  pub mount_stands : (m : System) → IsMountOf d e m → IsSystem e m → Mounts d found Answer.Mounted (world e (Some m) (s.history ∷ [])) × Stands (world e (Some m) (s.history ∷ []))
+  mount_stands m mount system =
+      let there : saved_on e ≡ Some mount.newest = still_saved d e lawful reads.geometry reads.pages ∙ ap record_in mount.holds in
+      let history : trees_of e mount.newest ≡ s.history = some_history (trees_of e mount.newest) s.history (sym (ap (option_map (trees_of e)) there) ∙ same_trees d e lawful reads.geometry reads.pages ∙ s.saved) in
+      let machine : machine_on e m.state ≡ mounted s.history = mount.loaded.machine ∙ ap (λ (h : Past Tree). mounted h) history in
+      let saved : IsSaved e (s.history ∷ []) = stays_among d e lawful reads.geometry reads.pages found (s.history ∷ []) s (the_one s.history) in (
+        record { history = s.history; system = m; among = s.among; is = refl; machine = machine; mounted = system; holds = mount; reads = reads; alone = refl; saved = saved },
+        record {
+          lawful = still_lawful;
+          saved = saved;
+          shown = shows_system e m (s.history ∷ []) (subst (λ (x : Machine). Contains (s.history ∷ []) x.history) (sym machine) (the_one s.history));
+        },
+      )
+
+  pub mounted_starts : (m : System) → IsMountOf d e m → IsSystem e m → (more : List (Past Tree)) × Mounts d found Answer.Mounted (world e (Some m) more) × Stands (world e (Some m) more)
+  mounted_starts m mount system = let both = mount_stands m mount system in (s.history ∷ [], both.0, both.1)
+
+-- the newest record of a flash that was mounted is sound, and a session begins with what it holds
+pub mount_begins : (d e : Device) (m : System) → OnlyReads d e → IsMountOf d e m → IsSystem e m
+    → (history : Past Tree) × (saved_trees d ≡ Some history) × Mounts d (history ∷ []) Answer.Mounted (world e (Some m) (history ∷ [])) × Stands (world e (Some m) (history ∷ []))
+mount_begins d e m reads mount system =
+    let lawful : IsGeometry d.geometry = subst IsGeometry reads.geometry system.mounted.lawful in
+    let history : Past Tree = trees_of d mount.newest in
+    let is : saved_trees d ≡ Some history = ap (λ o. option_map (trees_of d) (record_in o)) mount.holds in
+    let there : IsWhole e = λ r saved root has. (system.stands mount.loaded.is_on r saved root has).rooted in
+    let saved : IsSaved d (history ∷ []) = record { history = history; saved = is; among = the_one history; whole = still_whole e d system.mounted.lawful (sym reads.geometry) (λ p. sym (reads.pages p)) there } in
+    let both = mount_stands d e (history ∷ []) lawful saved reads m mount system in
+    (history, is, both.0, both.1)
+
+-- ---- after a restart
+
+pub restart_serves : (d : Device) (s : Option System) (answer : Answer) (e : Device) (t : Option System) → Starts (put_on d) answer e t → Serves d s Event.Restart answer e t
+restart_serves d s answer e t starts found stands = starts found stands.lawful (stays_saved d (put_on d) stands.lawful refl (λ p. refl) found stands.saved)

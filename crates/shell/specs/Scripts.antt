@@ -18,14 +18,16 @@ use Rattle.script.specs.Streams.{TakesLine, TakesPart, lines_of}
 use Rattle.script.specs.declared.lines.Line.{Line}
 use Rattle.script.specs.declared.answers.LineAnswer.{LineAnswer}
 use Rattle.undofs.specs.Built.{is_built}
-use Rattle.upkeep.specs.Mounts.{IsMountOf, MountCause}
-use Rattle.upkeep.specs.Moments.{Moment, machine_at, IsMountedAt}
-use Rattle.undofs.specs.Runs.{World, world_at, Happens, Run}
+use Rattle.upkeep.specs.Mounts.{MountCause}
+use Rattle.upkeep.specs.Saved.{saved_trees}
+use Rattle.undofs.specs.Runs.{World, Mounts, Happens}
+use Rattle.undofs.specs.Sessions.{Session}
 use Rattle.shell.specs.declared.scripts.ScriptFault.{ScriptFault}
 
--- the event that a line asks for; calls that are built are the only ones
+-- the event that a line asks for: a call that is built, or a restart
 abbrev pub event_of : Line → Option Event
 event_of (Line.Call call) = if is_built call then Some (Event.Call call) else None
+event_of Line.Restart = Some Event.Restart
 event_of _ = None
 
 -- a world, and the faults that are planned for its flash
@@ -100,25 +102,21 @@ EndsBy Session Cause input left (Err ScriptFault.Memory) old new =
     ⊎ ((lines : List (List ℕ)) × (earlier : List LineAnswer) × (last : LineAnswer) × Session lines (earlier ++ last ∷ []) × HasTaken input lines left × Appends old new (answer_texts earlier))
 EndsBy Session Cause input left (Err (ScriptFault.Mount fault)) old new = Cause fault × (left ≡ input) × (new ≡ old)
 
--- a mounted system, the histories that a restart may find, and the plan of its flash
-abbrev pub scene_at : Moment → List (Past Tree) → Schedule → Scene
-scene_at m found plan = record { world = world_at m found; plan = plan }
-
--- lines that were carried out on the system that was mounted on a flash: the first moment is that of the mount, and the last
--- one stands on the flash at the end, with a tree at each root of its history
-pub record Session (start end : SimFlash) (lines : List (List ℕ)) (answers : List LineAnswer) : Type 0 where
-  pub first : Moment
-  pub last : Moment
-  pub plan : Schedule
-  pub found : List (Past Tree)
-  pub begins : IsMountOf (device_of start) first.device first.system
-  pub carried : CarriesOut (scene_at first ((machine_at first).history ∷ []) plan) lines answers (scene_at last found (plan_of end))
-  pub mounted : IsMountedAt last
-  pub ends : last.device ≡ device_of end
+-- lines that were carried out on what was mounted on a flash: the first world is that of the mount, and the last one stands
+-- on the flash at the end
+pub record LineSession (start end : SimFlash) (lines : List (List ℕ)) (answers : List LineAnswer) : Type 0 where
+  pub history : Past Tree
+  pub first : Scene
+  pub last : Scene
+  pub saved : saved_trees (device_of start) ≡ Some history
+  pub mounts : Mounts (device_of start) (history ∷ []) Answer.Mounted first.world
+  pub carried : CarriesOut first lines answers last
+  pub ends : last.world.device ≡ device_of end
+  pub plan : last.plan ≡ plan_of end
 
 -- how a script ends that found and leaves these flashes
 abbrev pub Ends : SimFlash → SimFlash → Option (List ℕ) → Option (List ℕ) → Result (Unit {0}) ScriptFault → Option (List ℕ) → Option (List ℕ) → Type 0
-Ends start end input left result old new = EndsBy (Session start end) (MountCause (device_of start) (device_of end)) input left result old new
+Ends start end input left result old new = EndsBy (LineSession start end) (MountCause (device_of start) (device_of end)) input left result old new
 
 -- the events that lines ask for
 abbrev pub with_first : {A : Type 0} → Option A → List A → List A
@@ -138,6 +136,7 @@ abbrev pub event_answers : List (List ℕ) → List LineAnswer → List Answer
 event_answers (line ∷ lines) (answer ∷ answers) = with_told (event_of (line_of line)) answer (event_answers lines answers)
 event_answers _ _ = []
 
--- lines that were carried out are a run of the events that they ask for, with the answers to these
+-- lines that were carried out are a session of the events that they ask for, with the answers to these
 abbrev pub ScriptLaw : Type 0
-ScriptLaw = (s t : Scene) (lines : List (List ℕ)) (answers : List LineAnswer) → CarriesOut s lines answers t → Run s.world (events_of lines) (event_answers lines answers) t.world
+ScriptLaw = (start end : SimFlash) (lines : List (List ℕ)) (answers : List LineAnswer) → LineSession start end lines answers
+    → (v : World) × Session (device_of start) (events_of lines) (Answer.Mounted ∷ event_answers lines answers) v × (v.device ≡ device_of end)

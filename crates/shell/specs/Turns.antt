@@ -1,18 +1,21 @@
--- One turn of a script: a line is taken, carried out on the system, and its answer written.
-use Rattle.std.specs.Prelude.{◌≡◌, ℕ, Option, Some, None, Result, Ok, Err, List, [], ◌∷◌, take}
+-- One turn of a script: a line is taken and carried out, and its answer written.
+use Rattle.std.specs.Prelude.{◌≡◌, ℕ, Option, Some, None, Result, Ok, Err, List, [], take}
 use Rattle.std.specs.Io.KnownBytes.{Consumes, IsAtEnd, Appends}
 use Rattle.history_machine.specs.History.{Past}
 use Rattle.plain_trees.specs.Trees.{Tree}
-use Rattle.fs_types.specs.declared.calls.Call.{Call}
 use Rattle.fs_types.specs.declared.events.Event.{Event}
-use Rattle.fs_types.specs.declared.events.Answer.{Answer}
+use Rattle.flash_model.specs.Device.{Device}
 use Rattle.flash_model.specs.Plan.{Schedule}
+use Rattle.flash_model.specs.Simulation.{device_of, plan_of}
+use Rattle.flash_model.specs.declared.simulation.SimFlash.{SimFlash}
 use Rattle.script.specs.Lines.{line_of}
 use Rattle.script.specs.Streams.{TakesLine, TakesPart}
 use Rattle.script.specs.declared.lines.Line.{Line}
 use Rattle.script.specs.declared.answers.LineAnswer.{LineAnswer}
-use Rattle.upkeep.specs.Moments.{Moment, machine_at, Steps}
-use Rattle.shell.specs.Scripts.{event_of, IsStillAnswer, CarriesOut, EndsBy, scene_at, answer_text}
+use Rattle.upkeep.specs.declared.systems.System.{System}
+use Rattle.undofs.specs.Runs.{World}
+use Rattle.undofs.specs.Sessions.{Stands, world, Serves}
+use Rattle.shell.specs.Scripts.{Scene, event_of, IsStillAnswer, CarriesOut, EndsBy, answer_text}
 use Rattle.shell.specs.declared.scripts.ScriptFault.{ScriptFault}
 
 -- what was taken from a reader, and what it asks
@@ -23,19 +26,29 @@ Gets old new (Err ScriptFault.Read) = TakesPart old new
 Gets old new (Err ScriptFault.Memory) = (bytes : List ℕ) × TakesLine old new bytes
 Gets old new (Err _) = ⊥
 
--- a call's step, by the answer to its line
-abbrev pub StepsTo : Moment → Call → LineAnswer → Moment → Type 0
-StepsTo m call (LineAnswer.Told (Answer.Done reply)) n = Steps m call (Ok reply) n
-StepsTo m call (LineAnswer.Told (Answer.Refused fault)) n = Steps m call (Err fault) n
-StepsTo m call _ n = ⊥
+-- a flash, the system on it, where one is mounted, and the faults that are planned for it
+pub record Seat : Type 0 where
+  pub device : Device
+  pub system : Option System
+  pub plan : Schedule
 
-abbrev pub DoesBy : Option Event → Line → Moment → Schedule → LineAnswer → Moment → Schedule → Type 0
-DoesBy (Some (Event.Call call)) line m plan answer n plan' = StepsTo m call answer n
-DoesBy (Some _) line m plan answer n plan' = ⊥
-DoesBy None line m plan answer n plan' = (n ≡ m) × IsStillAnswer line plan answer plan'
+abbrev pub seat : SimFlash → Option System → Seat
+seat flash system = record { device = device_of flash; system = system; plan = plan_of flash }
 
--- what a line does to a mounted system and to the plan of faults, and its answer
-abbrev pub Does : Line → Moment → Schedule → LineAnswer → Moment → Schedule → Type 0
+-- with the histories that a restart may find
+abbrev pub world_at : Seat → List (Past Tree) → World
+world_at s found = world s.device s.system found
+
+abbrev pub scene_at : Seat → List (Past Tree) → Scene
+scene_at s found = record { world = world_at s found; plan = s.plan }
+
+abbrev pub DoesBy : Option Event → Line → Seat → LineAnswer → Seat → Type 0
+DoesBy (Some event) line s (LineAnswer.Told answer) t = Serves s.device s.system event answer t.device t.system
+DoesBy (Some event) line s LineAnswer.Syntax t = ⊥
+DoesBy None line s answer t = (t.device ≡ s.device) × (t.system ≡ s.system) × IsStillAnswer line s.plan answer t.plan
+
+-- what a line does to a flash, to what is mounted on it and to the plan of faults, and its answer
+abbrev pub Does : Line → Seat → LineAnswer → Seat → Type 0
 Does line = DoesBy (event_of line) line
 
 -- what was written of an answer
@@ -45,10 +58,11 @@ Writes old new answer (Err ScriptFault.Memory) = new ≡ old
 Writes old new answer (Err ScriptFault.Write) = (n : ℕ) × Appends old new (take n (answer_text answer))
 Writes old new answer (Err _) = ⊥
 
--- lines that were carried out on a mounted system of which nothing earlier is told
-abbrev pub Carried : Moment → Schedule → Moment → Schedule → List (List ℕ) → List LineAnswer → Type 0
-Carried m plan n plan' lines answers = (found : List (Past Tree)) × CarriesOut (scene_at m ((machine_at m).history ∷ []) plan) lines answers (scene_at n found plan')
+-- lines that were carried out, from each world that has this flash and system to one that has those
+abbrev pub Carried : Seat → Seat → List (List ℕ) → List LineAnswer → Type 0
+Carried s t lines answers = (found : List (Past Tree)) → Stands (world_at s found)
+    → (more : List (Past Tree)) × CarriesOut (scene_at s found) lines answers (scene_at t more) × Stands (world_at t more)
 
--- how the lines of a reader end on a mounted system
-abbrev pub LinesEnd : Moment → Schedule → Option (List ℕ) → Option (List ℕ) → Result (Unit {0}) ScriptFault → Option (List ℕ) → Option (List ℕ) → Moment → Schedule → Type 0
-LinesEnd m plan input left result old new n plan' = EndsBy (Carried m plan n plan') (λ fault. ⊥) input left result old new
+-- how the lines of a reader end
+abbrev pub LinesEnd : Seat → Option (List ℕ) → Option (List ℕ) → Result (Unit {0}) ScriptFault → Option (List ℕ) → Option (List ℕ) → Seat → Type 0
+LinesEnd s input left result old new t = EndsBy (Carried s t) (λ fault. ⊥) input left result old new

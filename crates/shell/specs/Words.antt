@@ -8,7 +8,7 @@ use Rattle.flash_model.specs.declared.simulation.SimFlash.{SimFlash}
 use Rattle.flash_model.specs.declared.sizes.Geometry.{Geometry}
 use Rattle.upkeep.specs.Formats.{IsFormatted, FormatCause}
 use Rattle.upkeep.specs.Mounts.{MountCause}
-use Rattle.shell.specs.Scripts.{EndsBy, Session}
+use Rattle.shell.specs.Scripts.{EndsBy, LineSession}
 use Rattle.script.specs.declared.answers.LineAnswer.{LineAnswer}
 use Rattle.shell.specs.declared.scripts.ScriptFault.{ScriptFault}
 
@@ -39,7 +39,7 @@ kept_versions = 8
 -- lines that were carried out on a new flash, once it was formatted
 abbrev pub NewSession : Geometry → List (List ℕ) → List LineAnswer → Type 0
 NewSession sizes lines answers =
-    (start : SimFlash) × (formatted : SimFlash) × (end : SimFlash) × IsNewFlash sizes start × IsFormatted kept_versions (device_of formatted) × Session formatted end lines answers
+    (start : SimFlash) × (formatted : SimFlash) × (end : SimFlash) × IsNewFlash sizes start × IsFormatted kept_versions (device_of formatted) × LineSession formatted end lines answers
 
 -- why no system was made: for want of memory for the flash; or since it was not formatted, or not mounted then
 abbrev pub NewCause : Geometry → Fault → Type 0

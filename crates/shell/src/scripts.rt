@@ -1,17 +1,18 @@
 //! A script run on a flash in memory.
-ghost use Rattle.std.specs.Prelude.{◌≡◌};
-ghost use Rattle.flash_model.specs.Simulation.{plan_of};
-ghost use Rattle.undofs.specs.Systems.{moment_of, flash_name};
-ghost use Rattle.shell.specs.Scripts.{Ends};
-ghost use Rattle.shell.specs.Turns.{Gets, Does, Writes, LinesEnd};
+ghost use Rattle.std.specs.Prelude.{◌≡◌, IfSome};
+ghost use Rattle.flash_model.specs.Simulation.{device_of, plan_of};
+ghost use Rattle.script.specs.declared.lines.Line.{Line};
+ghost use Rattle.upkeep.specs.Systems.{IsSystem};
+ghost use Rattle.shell.specs.Scripts.{Ends, IsStillAnswer};
+ghost use Rattle.shell.specs.Turns.{Gets, seat, Does, Writes, LinesEnd};
 
-use flash_model::SimFlash;
-use fs_types::{Answer, Fault, Reply};
+use flash_model::{FaultKind, Planned, SimFlash};
+use fs_types::{Answer, Event, Fault, Reply};
 use script::{Line, LineAnswer, LineReader, Taken, print_answer, read_line, write_out};
 use std::alloc::Global;
 use std::io::{Read, Write};
 use thiserror::Error;
-use undofs::{Fs, is_built, mount};
+use undofs::{System, is_built, mount, serve};
 
 /// Why a script did not run to its end.
 #[derive(Clone, Copy, Debug, PartialEq, Eq, Error)]
@@ -31,8 +32,8 @@ pub enum ScriptFault {
     Memory,
 }
 
-/// Runs a script on a fresh system on this flash, and writes a reply for each line as it is carried
-/// out. The lines and their replies are those of docs/scripts.md.
+/// Mounts what the newest record of a flash holds, runs a script on it, and writes a reply for each
+/// line as it is carried out. The lines and their replies are those of docs/scripts.md.
 ///
 /// It keeps one line in memory at a time. The flash stands as after the lines that were carried out.
 pub fn run_script<R: Read, W: Write>(
@@ -43,26 +44,25 @@ pub fn run_script<R: Read, W: Write>(
 ) -> Result<(), ScriptFault>
     ensures ends { Ends flash.old flash.new (R.remaining reader.old) (R.remaining reader.new) result (W.contents writer.old) (W.contents writer.new) }
 {
-    match mount(alloc, flash) {
-        Ok(mounted) => {
-            let mut system = Fs::on(flash, mounted);
-            let ended = run_lines(alloc, reader, writer, &mut system);
-            system.into_flash();
-            ended
-        }
-        Err(fault) => Err(ScriptFault::Mount(fault)),
-    }
+    let mut system = match mount(alloc, flash) {
+        Ok(mounted) => Some(mounted),
+        Err(fault) => return Err(ScriptFault::Mount(fault)),
+    };
+    run_lines(alloc, reader, writer, flash, &mut system)
 }
 
-/// Carries out the lines of the reader on a mounted system, and writes their answers.
+/// Carries out the lines of the reader on a flash and on the system that is mounted on it, if one is,
+/// and writes their answers.
 fn run_lines<R: Read, W: Write>(
     alloc: Global,
     reader: &mut R,
     writer: &mut W,
-    system: &mut Fs<'_, SimFlash>,
+    flash: &mut SimFlash,
+    system: &mut Option<System>,
 ) -> Result<(), ScriptFault>
-    ensures ends { LinesEnd (moment_of system.old) (plan_of system.old.flash.now) (R.remaining reader.old) (R.remaining reader.new) result (W.contents writer.old) (W.contents writer.new) (moment_of system.new) (plan_of system.new.flash.now) }
-    ensures same_flash { flash_name system.new ≡ flash_name system.old }
+    requires { IfSome system.old (IsSystem (device_of flash.old)) }
+    ensures mounted { IfSome system.new (IsSystem (device_of flash.new)) }
+    ensures ends { LinesEnd (seat flash.old system.old) (R.remaining reader.old) (R.remaining reader.new) result (W.contents writer.old) (W.contents writer.new) (seat flash.new system.new) }
 {
     let mut lines = match LineReader::new(alloc) {
         Ok(lines) => lines,
@@ -75,7 +75,7 @@ fn run_lines<R: Read, W: Write>(
             Ok(None) => return Ok(()),
             Err(fault) => return Err(fault),
         };
-        let answer = carry_out(alloc, system, line);
+        let answer = carry_out(alloc, flash, system, line);
         match write_answer(writer, &mut text, &answer) {
             Ok(()) => {}
             Err(fault) => return Err(fault),
@@ -104,31 +104,41 @@ fn next<R: Read>(
 }
 
 /// Carries out what a line asks. What is not built yet has no form of a line.
-fn carry_out(alloc: Global, system: &mut Fs<'_, SimFlash>, line: Line) -> LineAnswer
-    ensures does { Does line (moment_of system.old) (plan_of system.old.flash.now) result (moment_of system.new) (plan_of system.new.flash.now) }
-    ensures same_flash { flash_name system.new ≡ flash_name system.old }
+fn carry_out(
+    alloc: Global,
+    flash: &mut SimFlash,
+    system: &mut Option<System>,
+    line: Line,
+) -> LineAnswer
+    requires { IfSome system.old (IsSystem (device_of flash.old)) }
+    ensures mounted { IfSome system.new (IsSystem (device_of flash.new)) }
+    ensures does { Does line (seat flash.old system.old) result (seat flash.new system.new) }
 {
     match line {
         Line::Call(call) => {
             if !is_built(&call) {
                 return LineAnswer::Syntax;
             }
-            match system.call(alloc, &call) {
-                Ok(reply) => LineAnswer::Told(Answer::Done(reply)),
-                Err(fault) => LineAnswer::Told(Answer::Refused(fault)),
-            }
+            LineAnswer::Told(serve(alloc, flash, system, &Event::Call(call)))
         }
+        Line::Restart => LineAnswer::Told(serve(alloc, flash, system, &Event::Restart)),
         Line::Refused(fault) => LineAnswer::Told(Answer::Refused(fault)),
-        Line::PlanFault { k, kind } => {
-            if k == 0 {
-                return LineAnswer::Syntax;
-            }
-            match system.plan_fault(k, kind) {
-                Ok(()) => LineAnswer::Told(Answer::Done(Reply::Empty)),
-                Err(fault) => LineAnswer::Told(Answer::Refused(fault)),
-            }
-        }
-        Line::ReclaimStep(_) | Line::Restart | Line::Syntax => LineAnswer::Syntax,
+        Line::PlanFault { k, kind } => plan_fault(flash, k, kind),
+        Line::ReclaimStep(_) | Line::Syntax => LineAnswer::Syntax,
+    }
+}
+
+/// Plans a fault for the flash. It works with the power off and without a system too.
+fn plan_fault(flash: &mut SimFlash, k: u64, kind: FaultKind) -> LineAnswer
+    ensures still { device_of flash.new ≡ device_of flash.old }
+    ensures plans { IsStillAnswer (Line.PlanFault k kind) (plan_of flash.old) result (plan_of flash.new) }
+{
+    if k == 0 {
+        return LineAnswer::Syntax;
+    }
+    match flash.plan_fault(k, kind) {
+        Ok(()) => LineAnswer::Told(Answer::Done(Reply::Empty)),
+        Err(fault) => LineAnswer::Told(Answer::Refused(fault)),
     }
 }
 

@@ -2,7 +2,7 @@ use Rattle.std.proofs.Common.{inl, inr, refl}
 use Rattle.flash_model.specs.Simulation.{device_of}
 use Rattle.upkeep.specs.Formats.{IsFormatted}
 use Rattle.upkeep.specs.Mounts.{MountCause}
-use Rattle.shell.specs.Scripts.{Session}
+use Rattle.shell.specs.Scripts.{LineSession}
 use Rattle.shell.specs.Words.{kept_versions, IsNewFlash, NewSession, NewCause}
 use Rattle.shell.specs.declared.words.TheConstants.{MEMORY_SIZES}
 use Rattle.shell.proofs.TurnLemmas.{ends_map}
@@ -15,7 +15,7 @@ returns-in-Ok-format g c =
     let end = c.run_script.new.flash in
     let new : IsNewFlash MEMORY_SIZES start = record { new = c.in-Ok.ensures.new; plan = c.in-Ok.ensures.plan } in
     let done : IsFormatted kept_versions (device_of formatted) = c.in-Ok-format.ensures.ok in
-    ends_map (Session formatted end) (NewSession MEMORY_SIZES) (MountCause (device_of formatted) (device_of end)) (NewCause MEMORY_SIZES)
+    ends_map (LineSession formatted end) (NewSession MEMORY_SIZES) (MountCause (device_of formatted) (device_of end)) (NewCause MEMORY_SIZES)
     (λ lines answers carried. (start, formatted, end, new, done, carried)) (λ fault cause. inr (inr (formatted, end, done, cause)))
     (g.R.Read.remaining c.args.reader.now) (g.R.Read.remaining c.run_script.new.reader) c.run_script.result (g.W.Write.contents c.args.out.now) (g.W.Write.contents c.run_script.new.writer) c.run_script.ensures.ends
 

@@ -116,9 +116,12 @@ fn waits(text_line: &str, side: Side) -> bool {
     }
 }
 
-/// Whether the plain machine leaves out the step after this line.
+/// Whether the side leaves out the step after this line.
 fn skips(text_line: &str, side: Side) -> bool {
-    side == Side::Plain && text_line.starts_with("plain skips: ")
+    match side {
+        Side::Plain => text_line.starts_with("plain skips: "),
+        Side::Flash => text_line.starts_with("flash skips: "),
+    }
 }
 
 fn number(text: &str) -> Result<u32, RowError> {

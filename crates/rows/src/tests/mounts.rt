@@ -22,7 +22,7 @@ pub(crate) fn formatted(alloc: Global, sizes: Geometry, limit: u32) -> Result<Si
 }
 
 /// Puts the power on, mounts what is on a flash, and runs a script: what it writes.
-fn told(alloc: Global, flash: &mut SimFlash, script: &[u8]) -> Result<String, Fail> {
+pub(crate) fn told(alloc: Global, flash: &mut SimFlash, script: &[u8]) -> Result<String, Fail> {
     flash.power_on();
     let mut script = script;
     let mut out: Vec<u8> = Vec::new(alloc);
@@ -98,32 +98,6 @@ fn an_erased_flash_has_no_record(rt: HostRuntime) -> Result<(), Fail> {
     assert_eq!(rt;
         Fs::mount(rt.alloc(), &mut flash).err(),
         Some(Fault::NoRecord)
-    );
-    Ok(())
-}
-
-/// Puts this node into the first page of block 8.
-fn put_root(flash: &mut SimFlash, node: &[u8; 256]) -> Result<(), Fault> {
-    let sizes = flash.geometry();
-    if sizes.page != 256 || sizes.page_count() <= 128 {
-        return Err(Fault::BadGeometry);
-    }
-    flash.set_page(128, PageView::Data(node));
-    Ok(())
-}
-
-#[test]
-fn a_directory_that_reaches_itself_is_damaged(rt: HostRuntime) -> Result<(), Fail> {
-    let mut flash = formatted(rt.alloc(), SIZES, 8)?;
-    let root = b"UFND\x01\0\0\0\x0b\0\0\0\0\0\0\0\x02\x01a\x08\0\0\0\0\0\0\0";
-    let mut page = [0; 256];
-    for (place, byte) in page.iter_mut().zip(root) {
-        *place = *byte;
-    }
-    put_root(&mut flash, &page)?;
-    assert_eq!(rt;
-        Fs::mount(rt.alloc(), &mut flash).err(),
-        Some(Fault::Damaged)
     );
     Ok(())
 }

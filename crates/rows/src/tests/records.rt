@@ -13,7 +13,7 @@ const SIZES: Geometry = Geometry {
 };
 
 /// What the first page of a formatted flash begins with: a header, and a payload of 52 bytes. 0 follows.
-const FRESH: [u8; 72] =
+pub(crate) const FRESH: [u8; 72] =
     *b"UFCR\x01\0\0\0\0\0\0\0\0\0\x01\0\x34\0\0\0\x01\0\0\0\0\x01\0\0\x10\0\0\0\x20\0\0\0\x08\0\0\0\0\x01\0\0\0\0\0\0\x02\0\0\0\0\0\0\0\x08\0\0\0\x01\0\0\0\0\0\0\0\x08\0\0\0";
 
 /// The newest record of a flash whose page 0 begins with these bytes.

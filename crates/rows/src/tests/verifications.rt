@@ -17,18 +17,18 @@ const SIZES: Geometry = Geometry {
 };
 
 /// The data bytes of a body node that is full.
-const FULL: u32 = 4016;
+pub(crate) const FULL: u32 = 4016;
 
 /// An entry of a directory, lawful or not.
 #[derive(Clone, Copy)]
-struct Entry {
+pub(crate) struct Entry<'a> {
     kind: u8,
-    name: [u8; 2],
+    name: &'a [u8],
     head: u32,
     length: u32,
 }
 
-fn file(name: [u8; 2], head: u32, length: u32) -> Entry {
+pub(crate) fn file(name: &[u8], head: u32, length: u32) -> Entry<'_> {
     Entry {
         kind: 1,
         name,
@@ -37,7 +37,7 @@ fn file(name: [u8; 2], head: u32, length: u32) -> Entry {
     }
 }
 
-fn folder(name: [u8; 2], block: u32) -> Entry {
+pub(crate) fn folder(name: &[u8], block: u32) -> Entry<'_> {
     Entry {
         kind: 2,
         name,
@@ -50,25 +50,39 @@ fn push_number(out: &mut Vec<u8>, number: u32) -> Result<(), AllocError> {
     out.extend_from_slice(&number.to_le_bytes())
 }
 
-// The bytes of a directory node with these entries, in this order.
-fn directory(alloc: Global, entries: &[Entry]) -> Result<Vec<u8>, AllocError> {
-    let count = u32::try_from(entries.len()).unwrap_or(0);
-    let mut out = Vec::from_slice(alloc, b"UFND")?;
-    push_number(&mut out, count)?;
-    push_number(&mut out, count.saturating_mul(12))?;
-    push_number(&mut out, 0)?;
+fn push_length(out: &mut Vec<u8>, length: usize) -> Result<(), AllocError> {
+    push_number(out, u32::try_from(length).unwrap_or(0))
+}
+
+fn push_entry(out: &mut Vec<u8>, entry: &Entry<'_>) -> Result<(), AllocError> {
+    out.push(entry.kind)?;
+    out.push(u8::try_from(entry.name.len()).unwrap_or(0))?;
+    out.extend_from_slice(entry.name)?;
+    push_number(out, entry.head)?;
+    push_number(out, entry.length)
+}
+
+/// The bytes of a directory node with these entries, in this order.
+pub(crate) fn directory(alloc: Global, entries: &[Entry<'_>]) -> Result<Vec<u8>, AllocError> {
+    let mut used = Vec::new(alloc);
     for entry in entries {
-        out.push(entry.kind)?;
-        out.push(2)?;
-        out.extend_from_slice(&entry.name)?;
-        push_number(&mut out, entry.head)?;
-        push_number(&mut out, entry.length)?;
+        push_entry(&mut used, entry)?;
     }
+    let mut out = Vec::from_slice(alloc, b"UFND")?;
+    push_length(&mut out, entries.len())?;
+    push_length(&mut out, used.len())?;
+    push_number(&mut out, 0)?;
+    out.extend_from_slice(&used)?;
     Ok(out)
 }
 
-// The bytes of a body node with so many data bytes.
-fn body(alloc: Global, index: u32, pointers: &[u32], used: u32) -> Result<Vec<u8>, AllocError> {
+/// The bytes of a body node with so many data bytes.
+pub(crate) fn body(
+    alloc: Global,
+    index: u32,
+    pointers: &[u32],
+    used: u32,
+) -> Result<Vec<u8>, AllocError> {
     let mut out = Vec::from_slice(alloc, b"UFNB")?;
     push_number(&mut out, index)?;
     push_number(&mut out, used)?;
@@ -80,25 +94,48 @@ fn body(alloc: Global, index: u32, pointers: &[u32], used: u32) -> Result<Vec<u8
     Ok(out)
 }
 
-// Puts a node into a block of a flash whose blocks have one page.
-fn put(alloc: Global, flash: &mut SimFlash, block: u32, node: &[u8]) -> Result<(), Fault> {
+/// Puts bytes into the first pages of a block, with zeros after them.
+pub(crate) fn put(
+    alloc: Global,
+    flash: &mut SimFlash,
+    block: u32,
+    bytes: &[u8],
+) -> Result<(), Fault> {
     let sizes = flash.geometry();
-    if block as usize >= sizes.page_count() {
+    if sizes.page == 0 {
         return Err(Fault::BadGeometry);
     }
-    let mut page = Vec::from_slice(alloc, node)?;
-    page.resize(sizes.page as usize, 0)?;
-    flash.set_page(block, PageView::Data(&page));
+    let first = block.saturating_mul(sizes.pages) as usize;
+    for (place, part) in bytes.chunks(sizes.page as usize).enumerate() {
+        let mut page = Vec::from_slice(alloc, part)?;
+        page.resize(sizes.page as usize, 0)?;
+        put_page(flash, first.saturating_add(place), &page)?;
+    }
+    Ok(())
+}
+
+fn put_page(flash: &mut SimFlash, number: usize, page: &[u8]) -> Result<(), Fault> {
+    let sizes = flash.geometry();
+    let number = u32::try_from(number).map_err(|_| Fault::BadGeometry)?;
+    if sizes.page_count() <= number as usize || sizes.page as usize != page.len() {
+        return Err(Fault::BadGeometry);
+    }
+    flash.set_page(number, PageView::Data(page));
+    Ok(())
+}
+
+/// Puts these nodes into the blocks from 8 on.
+pub(crate) fn put_all(alloc: Global, flash: &mut SimFlash, nodes: &[Vec<u8>]) -> Result<(), Fault> {
+    for (block, node) in (8..u32::MAX).zip(nodes) {
+        put(alloc, flash, block, node)?;
+    }
     Ok(())
 }
 
 // A flash with these nodes in its blocks from 8 on.
 fn flash_with(alloc: Global, plan: &[PlannedFault], nodes: &[Vec<u8>]) -> Result<SimFlash, Fault> {
     let mut flash = SimFlash::new(alloc, SIZES, plan)?;
-    for (place, node) in nodes.iter().enumerate() {
-        let block = u32::try_from(place).unwrap_or(0).saturating_add(8);
-        put(alloc, &mut flash, block, node)?;
-    }
+    put_all(alloc, &mut flash, nodes)?;
     Ok(flash)
 }
 
@@ -156,7 +193,7 @@ fn told_of(alloc: Global, nodes: &[Vec<u8>]) -> Result<Outcome, Fault> {
 // A root with two entries, and two nodes more.
 fn told_of_entries(
     alloc: Global,
-    entries: &[Entry],
+    entries: &[Entry<'_>],
     others: [Vec<u8>; 2],
 ) -> Result<Outcome, Fault> {
     let [first, second] = others;
@@ -167,7 +204,7 @@ fn told_of_entries(
 #[test]
 fn a_directory_below_itself_has_no_tree(rt: HostRuntime) -> Result<(), Fail> {
     let alloc = rt.alloc();
-    let root = directory(alloc, &[folder(*b"aa", 8)])?;
+    let root = directory(alloc, &[folder(b"aa", 8)])?;
     let told = told_of(alloc, &Vec::from_array(alloc, [root])?)?;
     assert_eq!(rt; told.fault, Some(Fault::Damaged));
     assert!(rt; told.reads <= 22);
@@ -177,14 +214,14 @@ fn a_directory_below_itself_has_no_tree(rt: HostRuntime) -> Result<(), Fail> {
 #[test]
 fn names_have_to_ascend(rt: HostRuntime) -> Result<(), Fail> {
     let alloc = rt.alloc();
-    for (first, second) in [(*b"bb", *b"aa"), (*b"aa", *b"aa")] {
+    for (first, second) in [(b"bb", b"aa"), (b"aa", b"aa")] {
         let others = [directory(alloc, &[])?, directory(alloc, &[])?];
         let told = told_of_entries(alloc, &[folder(first, 9), folder(second, 10)], others)?;
         assert_eq!(rt; told.fault, Some(Fault::Damaged));
         assert!(rt; told.reads <= 20);
     }
     let others = [directory(alloc, &[])?, directory(alloc, &[])?];
-    let told = told_of_entries(alloc, &[folder(*b"aa", 9), folder(*b"bb", 10)], others)?;
+    let told = told_of_entries(alloc, &[folder(b"aa", 9), folder(b"bb", 10)], others)?;
     assert_eq!(rt; told.fault, None);
     assert_eq!(rt; told.marked.as_slice(), [8, 9, 10].as_slice());
     Ok(())
@@ -194,16 +231,16 @@ fn names_have_to_ascend(rt: HostRuntime) -> Result<(), Fail> {
 fn heads_are_those_of_their_lengths(rt: HostRuntime) -> Result<(), Fail> {
     let alloc = rt.alloc();
     let rows = [
-        (file(*b"ff", 9, 2), 0, None),
-        (file(*b"ff", 9, 2), 1, Some(Fault::Damaged)),
-        (file(*b"ff", 0, 2), 0, Some(Fault::Damaged)),
-        (file(*b"ff", 9, 0), 0, Some(Fault::Damaged)),
-        (file(*b"ff", 0, 0), 0, None),
-        (file(*b"ff", 9, 3), 0, Some(Fault::Damaged)),
-        (file(*b"ff", 9, 1), 0, None),
-        (file(*b"ff", 10, 2), 0, Some(Fault::Damaged)),
-        (file(*b"ff", 40, 2), 0, Some(Fault::Damaged)),
-        (folder(*b"ff", 9), 0, Some(Fault::Damaged)),
+        (file(b"ff", 9, 2), 0, None),
+        (file(b"ff", 9, 2), 1, Some(Fault::Damaged)),
+        (file(b"ff", 0, 2), 0, Some(Fault::Damaged)),
+        (file(b"ff", 9, 0), 0, Some(Fault::Damaged)),
+        (file(b"ff", 0, 0), 0, None),
+        (file(b"ff", 9, 3), 0, Some(Fault::Damaged)),
+        (file(b"ff", 9, 1), 0, None),
+        (file(b"ff", 10, 2), 0, Some(Fault::Damaged)),
+        (file(b"ff", 40, 2), 0, Some(Fault::Damaged)),
+        (folder(b"ff", 9), 0, Some(Fault::Damaged)),
     ];
     for (entry, index, wanted) in rows {
         let others = [body(alloc, index, &[10], 2)?, directory(alloc, &[])?];
@@ -219,7 +256,7 @@ fn heads_are_those_of_their_lengths(rt: HostRuntime) -> Result<(), Fail> {
 fn files_share_a_head(rt: HostRuntime) -> Result<(), Fail> {
     let alloc = rt.alloc();
     let others = [body(alloc, 0, &[], 9)?, directory(alloc, &[])?];
-    let told = told_of_entries(alloc, &[file(*b"ff", 9, 2), file(*b"gg", 9, 2)], others)?;
+    let told = told_of_entries(alloc, &[file(b"ff", 9, 2), file(b"gg", 9, 2)], others)?;
     assert_eq!(rt; told.fault, None);
     assert_eq!(rt; told.marked.as_slice(), [8, 9].as_slice());
     assert!(rt; told.reads <= 44);
@@ -237,7 +274,7 @@ fn each_pointer_leads_to_its_index(rt: HostRuntime) -> Result<(), Fail> {
         (10, 5, Some(Fault::Damaged)),
     ] {
         let nodes = [
-            directory(alloc, &[file(*b"ff", 11, 8033)])?,
+            directory(alloc, &[file(b"ff", 11, 8033)])?,
             body(alloc, 1, &[10], FULL)?,
             body(alloc, 0, &[], used)?,
             body(alloc, 2, &[9, second], 1)?,
@@ -249,21 +286,16 @@ fn each_pointer_leads_to_its_index(rt: HostRuntime) -> Result<(), Fail> {
     Ok(())
 }
 
-// The name of the directory of a number below 100.
-fn numbered(number: u8) -> [u8; 2] {
-    [
-        b'0'.saturating_add(number / 10),
-        b'0'.saturating_add(number % 10),
-    ]
-}
+/// The names `00` to `31`, one after the other.
+const NUMBERS: &[u8] = b"0001020304050607080910111213141516171819202122232425262728293031";
 
-// So many directories, each with 32 entries that all name the next one, and an empty one at the end.
-fn shared_directories(alloc: Global, count: u32) -> Result<Vec<Vec<u8>>, AllocError> {
+/// So many directories, each with 32 entries that all name the next one, and an empty one at the end.
+pub(crate) fn shared_directories(alloc: Global, count: u32) -> Result<Vec<Vec<u8>>, AllocError> {
     let mut nodes = Vec::new(alloc);
     for place in 0..count {
         let mut entries = Vec::new(alloc);
-        for number in 0..32 {
-            entries.push(folder(numbered(number), place.saturating_add(9)))?;
+        for name in NUMBERS.chunks(2) {
+            entries.push(folder(name, place.saturating_add(9)))?;
         }
         nodes.push(directory(alloc, &entries)?)?;
     }
@@ -302,7 +334,7 @@ fn roots_are_data_blocks_and_count_once(rt: HostRuntime) -> Result<(), Fail> {
         alloc,
         [
             directory(alloc, &[])?,
-            directory(alloc, &[folder(*b"aa", 8)])?,
+            directory(alloc, &[folder(b"aa", 8)])?,
         ],
     )?;
     let mut flash = flash_with(alloc, &[], &nodes)?;
@@ -337,7 +369,7 @@ fn a_failing_read_is_told_and_the_next_try_is_whole(rt: HostRuntime) -> Result<(
     let nodes = Vec::from_array(
         alloc,
         [
-            directory(alloc, &[folder(*b"aa", 9)])?,
+            directory(alloc, &[folder(b"aa", 9)])?,
             directory(alloc, &[])?,
         ],
     )?;

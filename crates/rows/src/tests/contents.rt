@@ -99,80 +99,119 @@ fn record_with(alloc: Global, place: usize, byte: u8) -> Result<SimFlash, Fault>
     Ok(flash)
 }
 
+/// A content that was put on a formatted flash.
+#[derive(Clone, Copy)]
+enum Content {
+    DirectoryBelowItself,
+    Names(&'static [u8], &'static [u8]),
+    HeadWithIndex(u32),
+    HeadWithPointer(u32),
+    File { head: u32, length: u32 },
+    FilesWithOneHead,
+    HeadWithMoreBytes,
+    Levels(u32),
+    SameRecordTwice,
+    RecordWith { place: usize, byte: u8 },
+}
+
+impl Content {
+    /// The flash that holds it.
+    fn flash(self, alloc: Global) -> Result<SimFlash, Fault> {
+        match self {
+            Content::DirectoryBelowItself => directory_below_itself(alloc),
+            Content::Names(first, second) => names_in_order(alloc, first, second),
+            Content::HeadWithIndex(index) => head_with_index(alloc, index),
+            Content::HeadWithPointer(block) => head_with_pointer(alloc, block),
+            Content::File { head, length } => file_of(alloc, head, length),
+            Content::FilesWithOneHead => files_with_one_head(alloc),
+            Content::HeadWithMoreBytes => head_with_more_bytes(alloc),
+            Content::Levels(count) => levels(alloc, count),
+            Content::SameRecordTwice => same_record_twice(alloc),
+            Content::RecordWith { place, byte } => record_with(alloc, place, byte),
+        }
+    }
+}
+
+const DAMAGED: Option<Fault> = Some(Fault::Damaged);
+
+/// Contents of nodes, each with what a mount refuses it for.
+const NODES: [(&str, Content, Option<Fault>); 14] = [
+    (
+        "a directory below itself",
+        Content::DirectoryBelowItself,
+        DAMAGED,
+    ),
+    ("names that ascend", Content::Names(b"a", b"b"), None),
+    ("names that descend", Content::Names(b"b", b"a"), DAMAGED),
+    ("one name twice", Content::Names(b"a", b"a"), DAMAGED),
+    ("a head of index 0", Content::HeadWithIndex(0), None),
+    ("a head of index 1", Content::HeadWithIndex(1), DAMAGED),
+    ("a pointer to index 0", Content::HeadWithPointer(10), None),
+    ("a pointer to index 1", Content::HeadWithPointer(9), DAMAGED),
+    (
+        "length 2 and no head",
+        Content::File { head: 0, length: 2 },
+        DAMAGED,
+    ),
+    (
+        "length 0 and a head",
+        Content::File { head: 9, length: 0 },
+        DAMAGED,
+    ),
+    ("files with one head", Content::FilesWithOneHead, None),
+    (
+        "more bytes than the length",
+        Content::HeadWithMoreBytes,
+        None,
+    ),
+    ("16 levels", Content::Levels(16), None),
+    ("17 levels", Content::Levels(17), DAMAGED),
+];
+
 #[test]
 fn trees_are_looked_at_whole(rt: HostRuntime) -> Result<(), Fail> {
-    let alloc = rt.alloc();
-    let damaged = Some(Fault::Damaged);
-    for (name, mut flash, wanted) in [
-        (
-            "a directory below itself",
-            directory_below_itself(alloc)?,
-            damaged,
-        ),
-        (
-            "names that ascend",
-            names_in_order(alloc, b"a", b"b")?,
-            None,
-        ),
-        (
-            "names that descend",
-            names_in_order(alloc, b"b", b"a")?,
-            damaged,
-        ),
-        (
-            "one name twice",
-            names_in_order(alloc, b"a", b"a")?,
-            damaged,
-        ),
-        ("a head of index 0", head_with_index(alloc, 0)?, None),
-        ("a head of index 1", head_with_index(alloc, 1)?, damaged),
-        ("a pointer to index 0", head_with_pointer(alloc, 10)?, None),
-        (
-            "a pointer to index 1",
-            head_with_pointer(alloc, 9)?,
-            damaged,
-        ),
-        ("length 2 and no head", file_of(alloc, 0, 2)?, damaged),
-        ("length 0 and a head", file_of(alloc, 9, 0)?, damaged),
-        ("files with one head", files_with_one_head(alloc)?, None),
-        (
-            "more bytes than the length",
-            head_with_more_bytes(alloc)?,
-            None,
-        ),
-        ("16 levels", levels(alloc, 16)?, None),
-        ("17 levels", levels(alloc, 17)?, damaged),
-    ] {
-        assert_eq!(rt; Fs::mount(alloc, &mut flash).err(), wanted, "{name}");
+    for (name, content, wanted) in NODES {
+        let mut flash = content.flash(rt.alloc())?;
+        assert_eq!(rt; Fs::mount(rt.alloc(), &mut flash).err(), wanted, "{name}");
     }
     Ok(())
 }
 
+/// Contents of the newest record, each with what a mount refuses it for.
+const RECORDS: [(&str, Content, Option<Fault>); 6] = [
+    ("the record twice", Content::SameRecordTwice, DAMAGED),
+    (
+        "1 version kept at most",
+        Content::RecordWith { place: 36, byte: 1 },
+        DAMAGED,
+    ),
+    (
+        "2 versions kept at most",
+        Content::RecordWith { place: 36, byte: 2 },
+        None,
+    ),
+    (
+        "a cursor past the versions",
+        Content::RecordWith { place: 38, byte: 1 },
+        DAMAGED,
+    ),
+    (
+        "format 3",
+        Content::RecordWith { place: 20, byte: 3 },
+        DAMAGED,
+    ),
+    (
+        "pages of 512 bytes",
+        Content::RecordWith { place: 25, byte: 2 },
+        Some(Fault::BadGeometry),
+    ),
+];
+
 #[test]
 fn the_newest_record_has_to_be_lawful(rt: HostRuntime) -> Result<(), Fail> {
-    let alloc = rt.alloc();
-    let damaged = Some(Fault::Damaged);
-    for (name, mut flash, wanted) in [
-        ("the record twice", same_record_twice(alloc)?, damaged),
-        (
-            "1 version kept at most",
-            record_with(alloc, 36, 1)?,
-            damaged,
-        ),
-        ("2 versions kept at most", record_with(alloc, 36, 2)?, None),
-        (
-            "a cursor past the versions",
-            record_with(alloc, 38, 1)?,
-            damaged,
-        ),
-        ("format 3", record_with(alloc, 20, 3)?, damaged),
-        (
-            "pages of 512 bytes",
-            record_with(alloc, 25, 2)?,
-            Some(Fault::BadGeometry),
-        ),
-    ] {
-        assert_eq!(rt; Fs::mount(alloc, &mut flash).err(), wanted, "{name}");
+    for (name, content, wanted) in RECORDS {
+        let mut flash = content.flash(rt.alloc())?;
+        assert_eq!(rt; Fs::mount(rt.alloc(), &mut flash).err(), wanted, "{name}");
     }
     Ok(())
 }

@@ -71,7 +71,7 @@ const LONG_RECORD: &[&str] = &[
 pub const SYNCED_DIRECTORIES: &[&str] = &["deep 4", "sync"];
 
 /// The calls, with the most nodes that each may write.
-pub const MEASURES: [Measure; 22] = [
+pub const MEASURES: [Measure; 24] = [
     Measure {
         name: "mkdir at depth 1",
         before: &[],
@@ -172,6 +172,18 @@ pub const MEASURES: [Measure; 22] = [
         name: "stat of a directory, depth 16",
         before: &["deep 16"],
         call: "stat /a/a/a/a/a/a/a/a/a/a/a/a/a/a/a/a",
+        nodes: 0,
+    },
+    Measure {
+        name: "df of five versions, 15 directories",
+        before: &["deep 4"],
+        call: "df",
+        nodes: 0,
+    },
+    Measure {
+        name: "df with a file of 1 MiB",
+        before: FILE_OF_1_MIB,
+        call: "df",
         nodes: 0,
     },
     Measure {

@@ -106,7 +106,7 @@ impl Pass {
     }
 
     /// Reads all blocks that remain.
-    pub(crate) fn read_all<N: Nodes>(&mut self, nodes: &mut N) -> Result<(), Fault>
+    pub fn read_all<N: Nodes>(&mut self, nodes: &mut N) -> Result<(), Fault>
         requires sound { N.is_sound nodes.old }
         requires blocks { self.old.blocks ≡ N.blocks nodes.old }
         requires pass { IsPass (N.node nodes.old) self.old }

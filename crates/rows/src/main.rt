@@ -6,8 +6,6 @@
 mod error;
 mod row;
 mod runs;
-#[cfg(test)]
-mod tests;
 
 use anyhow::{Context, Result};
 use error::RowError;

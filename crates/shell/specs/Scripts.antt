@@ -1,5 +1,5 @@
 -- Scripts: what each line does and is answered, and what was read, carried out and written where a script ends.
-use Rattle.std.specs.Prelude.{◌≡◌, ℕ, suc, Option, Some, None, Result, Ok, Err, IfSome, List, [], ◌∷◌, ◌++◌, take, ◌⊎◌, if◌then◌else◌}
+use Rattle.std.specs.Prelude.{◌≡◌, ℕ, suc, Option, Some, None, Result, Ok, Err, IfSome, List, [], ◌∷◌, ◌++◌, take, ◌⊎◌}
 use Rattle.std.specs.List.{flat_map}
 use Rattle.std.specs.Io.KnownBytes.{Consumes, IsAtEnd, Appends}
 use Rattle.history_machine.specs.History.{Past}
@@ -17,16 +17,15 @@ use Rattle.script.specs.Replies.{text_of}
 use Rattle.script.specs.Streams.{TakesLine, TakesPart, lines_of}
 use Rattle.script.specs.declared.lines.Line.{Line}
 use Rattle.script.specs.declared.answers.LineAnswer.{LineAnswer}
-use Rattle.undofs.specs.Built.{is_built}
 use Rattle.upkeep.specs.Mounts.{MountCause}
 use Rattle.upkeep.specs.Saved.{saved_trees}
 use Rattle.undofs.specs.Runs.{World, Mounts, Happens}
 use Rattle.undofs.specs.Sessions.{Session}
 use Rattle.shell.specs.declared.scripts.ScriptFault.{ScriptFault}
 
--- the event that a line asks for: a call that is built, or a restart
+-- the event that a line asks for: a call, or a restart
 abbrev pub event_of : Line → Option Event
-event_of (Line.Call call) = if is_built call then Some (Event.Call call) else None
+event_of (Line.Call call) = Some (Event.Call call)
 event_of Line.Restart = Some Event.Restart
 event_of _ = None
 
@@ -42,7 +41,7 @@ Plans old k kind answer new =
     ⊎ ((answer ≡ LineAnswer.Told (Answer.Refused Fault.Invalid)) × IsFull old k kind × (new ≡ old))
 
 -- the answer to a line that asks for no event: a refused path or name is refused; a fault is planned as the line says; and
--- what has no form of a line, or is not built, is told so
+-- what has no form of a line, and a step of reclaiming, is told so
 abbrev pub IsStillAnswer : Line → Schedule → LineAnswer → Schedule → Type 0
 IsStillAnswer (Line.Refused fault) old answer new = (answer ≡ LineAnswer.Told (Answer.Refused fault)) × (new ≡ old)
 IsStillAnswer (Line.PlanFault (suc k) kind) old answer new = Plans old (suc k) kind answer new

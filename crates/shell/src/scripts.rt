@@ -12,7 +12,7 @@ use script::{Line, LineAnswer, LineReader, Taken, print_answer, read_line, write
 use std::alloc::Global;
 use std::io::{Read, Write};
 use thiserror::Error;
-use undofs::{System, is_built, mount, serve};
+use undofs::{System, mount, serve};
 
 /// Why a script did not run to its end.
 #[derive(Clone, Copy, Debug, PartialEq, Eq, Error)]
@@ -103,7 +103,7 @@ fn next<R: Read>(
     }
 }
 
-/// Carries out what a line asks. What is not built yet has no form of a line.
+/// Carries out what a line asks. A step of reclaiming is not built yet, and has no form of a line.
 fn carry_out(
     alloc: Global,
     flash: &mut SimFlash,
@@ -115,12 +115,7 @@ fn carry_out(
     ensures does { Does line (seat flash.old system.old) result (seat flash.new system.new) }
 {
     match line {
-        Line::Call(call) => {
-            if !is_built(&call) {
-                return LineAnswer::Syntax;
-            }
-            LineAnswer::Told(serve(alloc, flash, system, &Event::Call(call)))
-        }
+        Line::Call(call) => LineAnswer::Told(serve(alloc, flash, system, &Event::Call(call))),
         Line::Restart => LineAnswer::Told(serve(alloc, flash, system, &Event::Restart)),
         Line::Refused(fault) => LineAnswer::Told(Answer::Refused(fault)),
         Line::PlanFault { k, kind } => plan_fault(flash, k, kind),

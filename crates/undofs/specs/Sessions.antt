@@ -11,13 +11,7 @@ use Rattle.flash_model.specs.Device.{Device}
 use Rattle.flash_model.specs.Geometry.{IsGeometry}
 use Rattle.upkeep.specs.Saved.{saved_trees, IsWhole}
 use Rattle.upkeep.specs.declared.systems.System.{System}
-use Rattle.undofs.specs.Built.{is_built}
 use Rattle.undofs.specs.Runs.{World, Shows, IsSaved, Mounts, Happens, Run}
-
--- an event whose call is built
-abbrev pub IsBuilt : Event → Type 0
-IsBuilt (Event.Call call) = is_built call ≡ true
-IsBuilt Event.Restart = ⊤
 
 -- a flash of lawful sizes has a newest record, each version and checkpoint of which has a tree
 pub record IsSound (d : Device) : Type 0 where

@@ -8,5 +8,5 @@ mod system;
 pub use fs_types::{Answer, Event};
 pub use promises::laws;
 pub use sessions::{run_session, serve};
-pub use system::{Fs, is_built};
+pub use system::Fs;
 pub use upkeep::{System, format, mount};

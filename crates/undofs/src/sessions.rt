@@ -1,7 +1,7 @@
 //! Sessions: calls and restarts on a flash, each with its answer.
-ghost use Rattle.std.specs.Prelude.{◌≡◌, ◌+◌, ◌<◌, ◌≤◌, [], ◌∷◌, ◌++◌, All, IfSome, vec_len, vec_capacity};
+ghost use Rattle.std.specs.Prelude.{◌≡◌, ◌+◌, ◌<◌, ◌≤◌, [], ◌∷◌, ◌++◌, IfSome, vec_len, vec_capacity};
 ghost use Rattle.upkeep.specs.Systems.{IsSystem};
-ghost use Rattle.undofs.specs.Sessions.{IsBuilt, Serves, Starts, Logs};
+ghost use Rattle.undofs.specs.Sessions.{Serves, Starts, Logs};
 
 use flash_model::Flash;
 use fs_types::{Answer, Call, Event, Fault};
@@ -20,8 +20,7 @@ pub fn serve<F: Flash>(
     system: &mut Option<System>,
     event: &Event,
 ) -> Answer
-    requires mounted { IfSome system.old (IsSystem (F.device flash.old)) }
-    requires built { IsBuilt event.now }
+    requires { IfSome system.old (IsSystem (F.device flash.old)) }
     ensures mounted { IfSome system.new (IsSystem (F.device flash.new)) }
     ensures serves { Serves (F.device flash.old) system.old event.now result (F.device flash.new) system.new }
 {
@@ -41,8 +40,7 @@ fn serve_call<F: Flash>(
     system: &mut Option<System>,
     call: &Call,
 ) -> Answer
-    requires mounted { IfSome system.old (IsSystem (F.device flash.old)) }
-    requires built { IsBuilt (Event.Call call.now) }
+    requires { IfSome system.old (IsSystem (F.device flash.old)) }
     ensures mounted { IfSome system.new (IsSystem (F.device flash.new)) }
     ensures serves { Serves (F.device flash.old) system.old (Event.Call call.now) result (F.device flash.new) system.new }
 {
@@ -82,7 +80,6 @@ pub fn run_session<F: Flash>(
     events: &[Event],
     log: &mut Vec<Answer>,
 ) -> Result<(), Fault>
-    requires { All IsBuilt events.now }
     ensures { Logs (F.device flash.old) log.old.items events.now result (F.device flash.new) log.new.items }
 {
     log.reserve(events.len() + 1)?;

@@ -1,6 +1,5 @@
 //! A mounted file system.
-ghost use Rattle.std.specs.Prelude.{◌≡◌, true};
-ghost use Rattle.undofs.specs.Built.{is_built};
+ghost use Rattle.std.specs.Prelude.{◌≡◌};
 ghost use Rattle.working_state.specs.Steps.{replied, empty};
 ghost use Rattle.upkeep.specs.Systems.{IsSystem};
 ghost use Rattle.upkeep.specs.Props.{system-prop};
@@ -22,13 +21,6 @@ pub struct Fs<'f, F: Flash> {
     flash: &'f mut F,
     system: System,
     ghost mounted: { IsSystem (F.device flash.now) system } by { system-prop (F.device flash.now) system },
-}
-
-/// Whether the call is built by now.
-pub fn is_built(call: &Call) -> bool
-    ensures { result ≡ is_built call.now }
-{
-    !matches!(call, Call::Df)
 }
 
 impl<'f, F: Flash> Fs<'f, F> {
@@ -295,11 +287,18 @@ impl<'f, F: Flash> Fs<'f, F> {
         self.system.state.log(alloc)
     }
 
-    /// Carries out a call that is built, and answers its reply. Its step says what that of each call
+    /// How much of the flash is used ([`System::df`]).
+    pub fn df(&mut self, alloc: Global) -> Result<Reply, Fault>
+        ensures step { Steps self.old Call.Df result self.new }
+        ensures same_flash { flash_name self.new ≡ flash_name self.old }
+    {
+        self.system.df(alloc, self.flash)
+    }
+
+    /// Carries out a call, and answers its reply. Its step says what that of each call
     /// says: a call that makes no version changes no page, and those on the history, `close` and `log`
     /// do no device operation.
     pub fn call(&mut self, alloc: Global, call: &Call) -> Result<Reply, Fault>
-        requires { is_built call.now ≡ true }
         ensures step { Steps self.old call.now result self.new }
         ensures pages { KeepsAllPages self.old self.new }
         ensures same_flash { flash_name self.new ≡ flash_name self.old }

@@ -3,6 +3,7 @@ pub mod Committed
 pub mod Formatting
 pub mod LawfulContents
 pub mod MountedSystems
+pub mod Measured
 pub mod Mounting
 pub mod Restored
 pub mod SameNodes

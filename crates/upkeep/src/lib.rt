@@ -7,6 +7,7 @@ mod formats;
 mod mounts;
 mod reaching;
 mod restoring;
+mod spaces;
 mod systems;
 
 pub use contents::record_of;

@@ -56,7 +56,7 @@ fn load<F: Flash>(alloc: Global, flash: &mut F, saved: &Record) -> Result<State,
     ensures why { IfErr result (RootsCause (F.device flash.old) (roots_of (history_of saved.now)) (F.device flash.new)) }
 {
     let history = restore_history(alloc, saved)?;
-    let roots = list_roots(alloc, saved)?;
+    let roots = list_roots(alloc, &history)?;
     let mut storage = unused_storage(alloc, saved)?;
     use_reached(alloc, flash, &mut storage, &roots)?;
     Ok(State {

@@ -9,13 +9,15 @@ ghost use Rattle.node_store.specs.Stores.{IsSound, Follows};
 ghost use Rattle.block_trees.specs.Reached.{Reached};
 ghost use Rattle.reclaim.specs.Verified.{AreRoots};
 ghost use Rattle.working_state.specs.Leaves.{HasLooked};
+ghost use Rattle.working_state.specs.Seen.{seen_of};
+ghost use Rattle.working_state.specs.Worked.{ReadCause};
 ghost use Rattle.upkeep.specs.Mounts.{RootsCause};
 
 use allocator::Marks;
 use flash_model::Flash;
 use fs_types::Fault;
 use node_store::{Nodes, Storage, Store};
-use reclaim::verify;
+use reclaim::{Pass, verify};
 use std::alloc::Global;
 
 /// The blocks that roots reach, each of which has a tree.
@@ -56,6 +58,46 @@ fn reached_on<F: Flash>(
 {
     let mut store = Store::new(flash, storage);
     reached_in(alloc, &mut store, roots)
+}
+
+/// The blocks that roots reach, each of which is known to have a tree: they are read once.
+fn marked_in<F: Flash>(
+    alloc: Global,
+    store: &mut Store<'_, F>,
+    roots: &[u32],
+) -> Result<Marks, Fault>
+    requires sound { IsSound F.device store.old }
+    requires trees { AreRoots (block_bytes (F.device store.old.flash.now).geometry) (node_of (F.device store.old.flash.now)) roots.now }
+    ensures follows { Follows F.device store.old store.new }
+    ensures reached { IfOk result (λ marks. (b : ℕ) → (set.contains marks.members b ≡ true) ↔ Reached (node_of (F.device store.old.flash.now)) roots.now b) }
+    ensures blocks { IfOk result (λ marks. marks.blocks ≡ (F.device store.old.flash.now).geometry.blocks) }
+    ensures looked { HasLooked (F.device store.old.flash.now) store.old.storage.now (F.device store.new.flash.now) store.new.storage.now }
+    ensures why { IfErr result (λ fault. ReadCause (seen_of (F.device store.old.flash.now) store.old.storage.now) fault (seen_of (F.device store.new.flash.now) store.new.storage.now)) }
+{
+    let mut pass = Pass::start(alloc, store.block_count(), roots)?;
+    pass.read_all(store)?;
+    Ok(pass.finish())
+}
+
+/// The same, on a flash.
+pub(crate) fn marked_on<F: Flash>(
+    alloc: Global,
+    flash: &mut F,
+    storage: &mut Storage,
+    roots: &[u32],
+) -> Result<Marks, Fault>
+    requires lawful { IsGeometry (F.device flash.old).geometry }
+    requires ring_blocks { storage.old.ring.blocks ≡ (F.device flash.old).geometry.blocks }
+    requires page_len { vec_len storage.old.page ≡ (F.device flash.old).geometry.page }
+    requires node_room { block_bytes (F.device flash.old).geometry ≤ vec_capacity storage.old.node }
+    requires trees { AreRoots (block_bytes (F.device flash.old).geometry) (node_of (F.device flash.old)) roots.now }
+    ensures reached { IfOk result (λ marks. (b : ℕ) → (set.contains marks.members b ≡ true) ↔ Reached (node_of (F.device flash.old)) roots.now b) }
+    ensures blocks { IfOk result (λ marks. marks.blocks ≡ (F.device flash.old).geometry.blocks) }
+    ensures looked { HasLooked (F.device flash.old) storage.old (F.device flash.new) storage.new }
+    ensures why { IfErr result (λ fault. ReadCause (seen_of (F.device flash.old) storage.old) fault (seen_of (F.device flash.new) storage.new)) }
+{
+    let mut store = Store::new(flash, storage);
+    marked_in(alloc, &mut store, roots)
 }
 
 /// Makes exactly the blocks used that roots reach, where no block was noted; `Damaged` where a root has

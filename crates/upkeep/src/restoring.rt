@@ -67,11 +67,11 @@ pub(crate) fn restore_history(alloc: Global, saved: &Record) -> Result<History<u
 }
 
 /// The roots of all versions and checkpoints.
-pub(crate) fn list_roots(alloc: Global, saved: &Record) -> Result<Vec<u32>, AllocError>
-    ensures { IfOk result (λ roots. roots.items ≡ roots_of (history_of saved.now)) }
+pub(crate) fn list_roots(alloc: Global, history: &History<u32>) -> Result<Vec<u32>, AllocError>
+    ensures { IfOk result (λ roots. roots.items ≡ roots_of history.now) }
 {
-    let mut roots = version_roots(alloc, saved.versions.as_slice())?;
-    push_roots(&mut roots, saved.checkpoints.as_slice())?;
+    let mut roots = version_roots(alloc, history.versions())?;
+    push_roots(&mut roots, history.checkpoints())?;
     Ok(roots)
 }
 
@@ -81,11 +81,11 @@ fn version_roots(alloc: Global, versions: &[Version<u32>]) -> Result<Vec<u32>, A
     versions.iter().map(|version| version.root).collect(alloc)
 }
 
-fn push_roots(roots: &mut Vec<u32>, checkpoints: &[Checkpoint]) -> Result<(), AllocError>
-    ensures { OnOk result (roots.new.items ≡ roots.old.items ++ map (λ c. c.root) checkpoints.now) }
+fn push_roots(roots: &mut Vec<u32>, checkpoints: &BTreeMap<CpName, u32>) -> Result<(), AllocError>
+    ensures { OnOk result (roots.new.items ≡ roots.old.items ++ map (λ e. e.1) checkpoints.now.entries) }
 {
-    for checkpoint in checkpoints {
-        roots.push(checkpoint.root)?;
+    for (_name, root) in checkpoints {
+        roots.push(*root)?;
     }
     Ok(())
 }

@@ -5,12 +5,13 @@ ghost use Rattle.fs_types.specs.declared.faults.Fault.{Fault};
 ghost use Rattle.allocator.specs.Ring.{AreDataBlocks};
 ghost use Rattle.read_only.specs.Modes.{is_read_only};
 ghost use Rattle.record_format.specs.Payloads.{is_record};
-ghost use Rattle.working_state.specs.Steps.{replied, empty, tells_space};
+ghost use Rattle.working_state.specs.Steps.{replied, empty};
 ghost use Rattle.upkeep.specs.Contents.{record_of};
 ghost use Rattle.upkeep.specs.Systems.{IsSystem};
 ghost use Rattle.upkeep.specs.Commits.{Saves, SaveCause, SystemStep};
 
 use crate::contents::record_of;
+use crate::spaces::df;
 use calls::carry_out;
 use commit_pair::Anchors;
 use flash_model::{Flash, Geometry};
@@ -65,21 +66,33 @@ impl System {
         self.commit(alloc, flash)
     }
 
-    /// Carries out a call other than `df`, which is not built yet, and answers its reply.
+    /// How much of the flash is used: [`Reply::Df`]. Free is a data block that is neither bad nor
+    /// reached by a version or a checkpoint. Their nodes are read, each once, and nothing is written.
+    ///
+    /// [`Fault::ReadFailed`], [`Fault::PowerCut`], [`Fault::NoMemory`].
+    pub fn df<F: Flash>(&mut self, alloc: Global, flash: &mut F) -> Result<Reply, Fault>
+        requires { IsSystem (F.device flash.old) self.old }
+        ensures system { IsSystem (F.device flash.new) self.new }
+        ensures step { SystemStep (F.device flash.old) self.old Call.Df result (F.device flash.new) self.new }
+    {
+        df(&mut self.state, alloc, flash)
+    }
+
+    /// Carries out a call, and answers its reply.
     pub fn call<F: Flash>(
         &mut self,
         alloc: Global,
         flash: &mut F,
         call: &Call,
     ) -> Result<Reply, Fault>
-        requires system { IsSystem (F.device flash.old) self.old }
-        requires tells { tells_space call.now ≡ false }
+        requires { IsSystem (F.device flash.old) self.old }
         ensures system { IsSystem (F.device flash.new) self.new }
         ensures step { SystemStep (F.device flash.old) self.old call.now result (F.device flash.new) self.new }
     {
         match call {
             Call::Sync => self.sync(alloc, flash)?,
             Call::Fsync { descriptor } => self.fsync(alloc, flash, *descriptor)?,
+            Call::Df => return self.df(alloc, flash),
             _ => return carry_out(&mut self.state, alloc, flash, call),
         }
         Ok(Reply::Empty)

@@ -17,7 +17,7 @@ returns-clause-loaded g c =
     let e = g.F.Flash.device c.use_reached.new.flash in
     let ring = c.use_reached.ensures.ring in
     let begun = c.in_ok-storage.ensures.ring in
-    let roots : c.deref.result.now ≡ roots_of (history_of c.args.saved.now) = c.deref.ensures.value ∙ c.in_ok-roots.ensures in
+    let roots : c.deref.result.now ≡ roots_of (history_of c.args.saved.now) = c.deref.ensures.value ∙ c.in_ok-roots.ensures ∙ ap roots_of c.in_ok-history.ensures.history in
     built_loaded d e c.args.saved.now (record { history = c.in_ok-history.history; storage = c.use_reached.new.storage; files = c.new.result; is_off = false })
     (record {
       lawful = c.requires.lawful;

@@ -5,7 +5,7 @@ use Rattle.std.specs.Option.{is_some}
 use Rattle.std.specs.Prelude.{not}
 use Rattle.std.proofs.lemmas.Bool.{both_ways}
 use Rattle.record_format.specs.declared.records.Record.{Record}
-use Rattle.rows.proofs.tests.commits.commit_again.Goals as goal
+use Rattle.tests.proofs.commits.commit_again.Goals as goal
 
 some_is : (o : Option Record) (b : Bool) → is_some o ≡ not b → b ≡ false → o ≢ None
 some_is None b is off = λ e. let n : not b ≡ not false = ap (λ t. not t) off in absurd cc

@@ -2,7 +2,7 @@ use Rattle.std.proofs.Common.{◌≡◌, ℕ, ◌<◌, true}
 use Rattle.std.specs.FinSet as set
 use Rattle.flash_model.specs.Simulation.{device_of}
 use Rattle.commit_pair.specs.Remembering.{MayCommit}
-use Rattle.rows.proofs.tests.commits.commit_all.Given as goal
+use Rattle.tests.proofs.commits.commit_all.Given as goal
 
 abbrev pub invariant-loop-n : goal.invariant-loop-n
 invariant-loop-n l = record {

@@ -1,7 +1,7 @@
 //! Passes over three nodes in memory, in steps of one, two and three reads.
 ghost use Rattle.std.specs.Prelude.{◌≡◌, ℕ, List, IfOk, option_map};
 ghost use Rattle.reclaim.specs.Passes.{IsPass};
-ghost use Rattle.rows.specs.Contents.{content_of};
+ghost use Rattle.tests.specs.Contents.{content_of};
 
 use allocator::{Marks, Ring};
 use bad_blocks::BadBlocks;
@@ -55,7 +55,7 @@ impl ThreeNodes {
 impl Nodes for ThreeNodes {
     ghost use Rattle.std.specs.Prelude.{true, unwrap_or, [], refl, ◌≡◌};
     ghost use Rattle.node_store.specs.FrameLaws.{Looks_on, Works_on, Looks_works};
-    ghost use Rattle.rows.specs.Contents.{content_of, content_whole, content_low, content_high};
+    ghost use Rattle.tests.specs.Contents.{content_of, content_whole, content_low, content_high};
 
     ghost node = { λ _ b. content_of b };
 

@@ -2,7 +2,7 @@ use Rattle.std.proofs.Common.{◌≡◌, ap, ◌∙◌, inl, inr, arith, rules}
 use Rattle.std.specs.FinSet as set
 use Rattle.std.specs.Ordering.{nat_cmp}
 use Rattle.std.proofs.lemmas.Bool.{cases_Bool}
-use Rattle.rows.proofs.tests.commits.commit_all.Goals as goal
+use Rattle.tests.proofs.commits.commit_all.Goals as goal
 
 pub clear-requires-clause-good : goal.clear-requires-clause-good
 clear-requires-clause-good c = λ b lt. ap (λ (s : set.FinSet nat_cmp). set.contains s b) c.new.ensures ∙ set.contains-empty nat_cmp b

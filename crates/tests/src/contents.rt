@@ -1,7 +1,7 @@
 //! What a mount answers of contents that were put on a formatted flash, and what is mounted of them.
-use crate::tests::mounts::{formatted, told};
-use crate::tests::records::FRESH;
-use crate::tests::verifications::{
+use crate::mounts::{formatted, told};
+use crate::records::FRESH;
+use crate::verifications::{
     Entry, FULL, body, directory, file, folder, put, put_all, shared_directories,
 };
 use flash_model::{Geometry, SimFlash};

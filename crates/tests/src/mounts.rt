@@ -1,7 +1,7 @@
 //! File systems that are made on a flash and mounted, and what of them is mounted again.
 use bitflags::Flags;
 use flash_model::{FaultKind, Flash, Geometry, PageView, PlannedFault, SimFlash};
-use fs_types::{CpName, Fault, OpenFlags, Path};
+use fs_types::{CpName, Fault, OpenFlags, Path, Reply};
 use shell::run_script;
 use std::alloc::Global;
 use std::test::Fail;
@@ -123,6 +123,27 @@ fn what_was_synced_is_mounted(rt: HostRuntime) -> Result<(), Fail> {
     assert_eq!(rt; state.history.checkpoints().len(), 1);
     assert_eq!(rt; state.storage.ring.last(), 10);
     assert!(rt; state.storage.ring.is_used(8) && !state.storage.ring.is_used(11));
+    Ok(())
+}
+
+/// What `df` tells: data blocks, bad ones, free ones, and anchors that work.
+fn space(alloc: Global, flash: &mut SimFlash) -> Result<[u64; 4], Fault> {
+    let mut system = Fs::mount(alloc, flash)?;
+    match system.df(alloc)? {
+        Reply::Df {
+            blocks,
+            bad,
+            free,
+            anchors,
+        } => Ok([blocks, bad, free, anchors]),
+        _ => Err(Fault::Damaged),
+    }
+}
+
+#[test]
+fn a_new_system_has_one_block_in_use(rt: HostRuntime) -> Result<(), Fail> {
+    let mut flash = formatted(rt.alloc(), SIZES, 8)?;
+    assert_eq!(rt; space(rt.alloc(), &mut flash), Ok([24, 0, 23, 8]));
     Ok(())
 }
 

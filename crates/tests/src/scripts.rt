@@ -1,5 +1,5 @@
 //! What stands written where a script does not run to its end, and the statuses of the program.
-use crate::tests::mounts::formatted;
+use crate::mounts::formatted;
 use flash_model::{Flash, Geometry, PageView, SimFlash};
 use fs_types::Fault;
 use shell::{ScriptFault, run_script, tool};

@@ -1,14 +1,11 @@
 //! Sessions of calls and restarts, with ample memory: their whole logs.
-ghost use Rattle.std.specs.Prelude.{All, IfOk};
-ghost use Rattle.undofs.specs.Sessions.{IsBuilt};
-
-use crate::tests::mounts::formatted;
+use crate::mounts::formatted;
 use flash_model::{FaultKind, Geometry, Planned, PlannedFault, SimFlash};
 use fs_types::{Answer, Event, Fault};
 use script::{Line, LineAnswer, print_answer, read_line};
 use std::alloc::Global;
 use std::test::Fail;
-use undofs::{format, is_built, run_session};
+use undofs::{format, run_session};
 
 const SIZES: Geometry = Geometry {
     page: 256,
@@ -17,20 +14,16 @@ const SIZES: Geometry = Geometry {
 };
 
 /// The event that a line of a script spells.
-fn event_of(alloc: Global, line: &str) -> Result<Event, Fault>
-    ensures { IfOk result (λ event. IsBuilt event) }
-{
+fn event_of(alloc: Global, line: &str) -> Result<Event, Fault> {
     match read_line(alloc, line.as_bytes())? {
-        Line::Call(call) if is_built(&call) => Ok(Event::Call(call)),
+        Line::Call(call) => Ok(Event::Call(call)),
         Line::Restart => Ok(Event::Restart),
         _ => Err(Fault::Invalid),
     }
 }
 
 /// The events that the lines of a script spell.
-fn events_of(alloc: Global, script: &str) -> Result<Vec<Event>, Fault>
-    ensures { IfOk result (λ events. All IsBuilt events.items) }
-{
+fn events_of(alloc: Global, script: &str) -> Result<Vec<Event>, Fault> {
     let mut events = Vec::new(alloc);
     for line in script.lines() {
         events.push(event_of(alloc, line)?)?;

@@ -1,7 +1,7 @@
 use Rattle.std.proofs.Common.{◌≡◌}
 use Rattle.reclaim.specs.Passes.{IsPass}
-use Rattle.rows.specs.Contents.{content_of}
-use Rattle.rows.proofs.tests.passes.marks_in_steps.Given as goal
+use Rattle.tests.specs.Contents.{content_of}
+use Rattle.tests.proofs.passes.marks_in_steps.Given as goal
 
 -- a pass over the nodes
 abbrev pub invariant-loop-steps : goal.invariant-loop-steps

@@ -1,0 +1,180 @@
+-- What `df` tells: the roots of a history, the blocks that they reach, and its step.
+use Rattle.std.proofs.Common.{◌≡◌, ◌≢◌, inl, inr, ℕ, zero, suc, ◌-◌, ◌<◌, ◌≤◌, Bool, true, false, ◌||◌, not, Some, None, Result, Ok, Err, List, [], ◌∷◌, ◌++◌, count_by, map, refl, sym, ap, subst, ◌∙◌, arith}
+use Rattle.std.proofs.lemmas.Bool.{cases_lt, both_ways, true≢false, and_parts}
+use Rattle.std.proofs.lemmas.List.Elements.{Contains-append_left, Contains-append_right, Contains-append_cases}
+use Rattle.std.specs.Prelude.{◌↔◌, ◌⊎◌, Contains, IfOk, IfErr}
+use Rattle.std.specs.FinSet as set
+use Rattle.std.specs.Ordering.{nat_cmp}
+use Rattle.history_machine.specs.History.{Past}
+use Rattle.history_machine.specs.Machine.{Machine, Space, answer, reply_of}
+use Rattle.fs_types.specs.declared.calls.Call.{Call}
+use Rattle.fs_types.specs.declared.calls.Reply.{Reply}
+use Rattle.fs_types.specs.declared.faults.Fault.{Fault}
+use Rattle.fs_types.specs.declared.faults.Fault.TheVariants.{ReadFailed, PowerCut, NoMemory, Damaged}
+use Rattle.flash_model.specs.Device.{Device}
+use Rattle.flash_model.specs.declared.sizes.Geometry.{Geometry}
+use Rattle.flash_model.specs.Geometry.{IsGeometry, block_bytes}
+use Rattle.read_only.specs.Modes.{bad_anchors}
+use Rattle.allocator.specs.Ring.{IsDataBlock, data_blocks}
+use Rattle.node_format.specs.Headers.{body_header}
+use Rattle.node_store.specs.NodeLaws.{node_of-anchor, node_of-beyond}
+use Rattle.node_store.specs.NodePages.{first_data, node_of}
+use Rattle.node_store.specs.Faults.{IsReadFault}
+use Rattle.node_store.specs.ReadingLaws.{OnlyReads_nodes}
+use Rattle.node_store.specs.Stores.{Causes}
+use Rattle.node_store.specs.declared.stores.Store.{Store}
+use Rattle.block_trees.specs.Bodies.{Blocks}
+use Rattle.block_trees.specs.Reached.{Reached, IsFirst, IsNamed}
+use Rattle.reclaim.specs.Verified.{AreRoots}
+use Rattle.reclaim.proofs.Soundness.{trees_hold_nodes}
+use Rattle.working_state.specs.Moments.{Moment, machine_at, seen_at, storage_at, IsMountedAt, IsRefused, IsStep, moment}
+use Rattle.working_state.specs.Mounted.{IsMounted, StateStep}
+use Rattle.working_state.specs.Roots.{HasRoot, IsReached, IsSpace}
+use Rattle.working_state.specs.Seen.{seen_of, seen_on, machine_on}
+use Rattle.working_state.specs.Steps.{replied, is_cut, is_cut_answer, MayRefuse, IsDone, CallStep}
+use Rattle.working_state.specs.Worked.{IsLooked, ReadCause}
+use Rattle.working_state.specs.declared.state.State.{State}
+use Rattle.working_state.proofs.Refusals.{refused_step, remembering, remembered_mounted}
+use Rattle.working_state.proofs.Standing.{looked_worked, looked_leaves, worked_later, worked_machine, worked_mounted}
+use Rattle.upkeep.specs.Mounts.{roots_of}
+use Rattle.upkeep.proofs.Syncs.{reached_from}
+
+-- a root with a tree is a data block
+pub roots_hold_data : (d : Device) (roots : List ℕ) → AreRoots (block_bytes d.geometry) (node_of d) roots → (b : ℕ) → Contains roots b → IsDataBlock d.geometry.blocks b
+roots_hold_data d roots trees b has =
+    let some = trees_hold_nodes (block_bytes d.geometry - body_header) (node_of d) roots trees b (IsFirst has) in
+    (low (cases_lt b 8) some, high (cases_lt b d.geometry.blocks) some)
+  where
+    low : (b < 8) ⊎ (8 ≤ b) → node_of d b ≢ None → 8 ≤ b
+    low (inl below) some = absurd (some (node_of-anchor d b below))
+    low (inr is) some = is
+
+    high : (b < d.geometry.blocks) ⊎ (d.geometry.blocks ≤ b) → node_of d b ≢ None → b < d.geometry.blocks
+    high (inl is) some = is
+    high (inr beyond) some = absurd (some (node_of-beyond d b beyond))
+
+-- what one of them reaches the roots reach
+reached_to : (f : Blocks) (roots : List ℕ) (root b : ℕ) → Contains roots root → Reached f (root ∷ []) b → Reached f roots b
+reached_to f roots root b has (IsFirst first) = IsFirst (subst (Contains roots) (only first) has)
+  where
+    only : {b : ℕ} → Contains (root ∷ []) b → root ≡ b
+    only (zero, below, is) = is
+    only (suc k, below, is) = absurd (omega arith)
+reached_to f roots root b has (IsNamed {block = c} reached names) = IsNamed (reached_to f roots root c has reached) names
+
+-- the roots of a state are those of its history
+pub listed_root : (s : State) (root : ℕ) → HasRoot s root ↔ Contains (roots_of s.history) root
+listed_root s root = (
+  λ has. elim has [
+    | inl version ↦ Contains-append_left (map (λ v. v.root) s.history.versions) (map (λ e. e.1) s.history.checkpoints) root version
+    | inr checkpoint ↦ Contains-append_right (map (λ v. v.root) s.history.versions) (map (λ e. e.1) s.history.checkpoints) root checkpoint
+  ],
+  Contains-append_cases (map (λ v. v.root) s.history.versions) (map (λ e. e.1) s.history.checkpoints) root,
+)
+
+pub listed_reached : (d : Device) (s : State) (b : ℕ) → Reached (node_of d) (roots_of s.history) b ↔ IsReached d s b
+listed_reached d s b = (
+  λ reached. let from = reached_from (node_of d) (roots_of s.history) b reached in (from.0, (listed_root s from.0).1 from.1, from.2),
+  λ (root, has, reached). reached_to (node_of d) (roots_of s.history) root b ((listed_root s root).0 has) reached,
+)
+
+-- each root of a mounted state has a tree
+pub mounted_roots : (d : Device) (s : State) → IsMounted d s → AreRoots (block_bytes d.geometry) (node_of d) (roots_of s.history)
+mounted_roots d s m root has = (m.roots root ((listed_root s root).1 has)).rooted
+
+-- the space of a flash, by the blocks that its roots reach
+pub space_told : (a b : Moment) (blocks : ℕ) (reached : set.FinSet nat_cmp) (reply : Reply) → IsMountedAt a → IsLooked a b → blocks ≡ a.device.geometry.blocks
+    → ((block : ℕ) → (set.contains reached block ≡ true) ↔ Reached (node_of a.device) (roots_of a.state.history) block)
+    → reply ≡ Reply.Df (blocks - first_data) (count_by (set.contains b.state.storage.bad) (data_blocks blocks)) (count_by (λ block. not (set.contains b.state.storage.bad block || set.contains reached block)) (data_blocks blocks)) (first_data - bad_anchors b.state.storage.bad)
+    → (space : Space) × IsSpace b.device b.state space × (reply_of space (machine_at a) Call.Df ≡ reply)
+space_told a b blocks reached reply m l many marked says =
+    let same : blocks ≡ b.device.geometry.blocks = many ∙ ap (λ (g : Geometry). g.blocks) (sym l.untouched.device.geometry) in (
+      record {
+        blocks = blocks - first_data;
+        bad = count_by (set.contains b.state.storage.bad) (data_blocks blocks);
+        free = count_by (λ block. not (set.contains b.state.storage.bad block || set.contains reached block)) (data_blocks blocks);
+        anchors = first_data - bad_anchors b.state.storage.bad;
+      },
+      record {
+        blocks = ap (λ n. n - first_data) same;
+        bad = ap (λ n. count_by (set.contains b.state.storage.bad) (data_blocks n)) same;
+        reached = reached;
+        are_reached = λ block. subst (λ (f : Blocks). (set.contains reached block ≡ true) ↔ ((root : ℕ) × HasRoot b.state root × Reached f (root ∷ []) block)) (sym (OnlyReads_nodes a.device b.device m.lawful l.untouched.device))
+            (subst (λ (h : Past ℕ). (set.contains reached block ≡ true) ↔ IsReached a.device (record b.state { history = h }) block) (sym l.rest.history)
+            (λ is. (listed_reached a.device a.state block).0 ((marked block).0 is), λ is. (marked block).1 ((listed_reached a.device a.state block).1 is)));
+        free = ap (λ n. count_by (λ block. not (set.contains b.state.storage.bad block || set.contains reached block)) (data_blocks n)) same;
+        anchors = refl;
+      },
+      sym says,
+    )
+
+-- why the blocks that roots reach are not marked
+pub marking_why : {F : Type 0} (device : F → Device) (s t : Store F) (roots : List ℕ) (fault : Fault) → AreRoots (block_bytes (device s.flash.now).geometry) (node_of (device s.flash.now)) roots → IsReadFault fault
+    → (fault ≡ Damaged → (b : ℕ) × Reached (node_of (device s.flash.now)) roots b × (node_of (device s.flash.now) b ≡ None)) → (fault ≢ Damaged → Causes device s t fault)
+    → ReadCause (seen_of (device s.flash.now) s.storage.now) fault (seen_of (device t.flash.now) t.storage.now)
+marking_why device s t roots ReadFailed trees is damaged why = (why (λ e. cc)).reason
+marking_why device s t roots PowerCut trees is damaged why = (why (λ e. cc)).reason
+marking_why device s t roots NoMemory trees is damaged why = tt
+marking_why device s t roots Damaged trees is damaged why =
+    let (b, reached, none) = damaged refl in
+    absurd (trees_hold_nodes (block_bytes (device s.flash.now).geometry - body_header) (node_of (device s.flash.now)) roots trees b reached none)
+marking_why device s t roots _ trees is damaged why = absurd (true≢false (sym is))
+
+-- ---- the step
+
+-- what was measured, or why it was not
+pub record IsMeasured (a b : Moment) (result : Result Reply Fault) : Type 0 where
+  pub looked : IsLooked a b
+  pub told : IfOk result (λ reply. (space : Space) × IsSpace b.device b.state space × (reply_of space (machine_at a) Call.Df ≡ reply))
+  pub why : IfErr result (λ fault. ReadCause (seen_at a) fault (seen_at b))
+
+module _ (a b : Moment) (m : IsMountedAt a) where
+  may_refuse : (fault : Fault) → ReadCause (seen_at a) fault (seen_at b) → MayRefuse (seen_at a) (machine_at a) Call.Df fault (seen_at b)
+  may_refuse ReadFailed why = (refl, why)
+  may_refuse PowerCut why = (refl, why)
+  may_refuse NoMemory why = refl
+  may_refuse _ why = absurd why
+
+  measured_step : (result : Result Reply Fault) → IsMeasured a b result → IsStep a Call.Df result b (is_cut_answer result)
+  measured_step (Ok reply) is = record {
+    later = worked_later a b (looked_worked a b is.looked);
+    answers = (
+      refl,
+      record {
+        accepted = refl;
+        answered = λ space told. absurd (true≢false told);
+        leaves = worked_machine a b m (looked_worked a b is.looked);
+        writable = λ writes. absurd (true≢false (sym writes));
+        serial_left = λ makes. absurd (true≢false (sym makes));
+      },
+      refl,
+    );
+  }
+  measured_step (Err fault) is = refused_step a b Call.Df fault m (looked_worked a b is.looked) (inr (may_refuse fault is.why))
+
+  as_replied : (result : Result Reply Fault) → replied (λ (x : Reply). x) result ≡ result
+  as_replied (Ok reply) = refl
+  as_replied (Err fault) = refl
+
+  module _ (result : Result Reply Fault) (is : IsMeasured a b result) where
+    pub measured_mounted : IsMounted b.device (remembering b.state result)
+    measured_mounted =
+        remembered_mounted (λ (x : Reply). x) a b (remembering b.state result) Call.Df result refl (worked_mounted a b m (looked_worked a b is.looked))
+        (subst (λ r. IsStep a Call.Df r b (is_cut_answer result)) (sym (as_replied result)) (measured_step result is))
+
+    abbrev StepFrom : Bool → Bool → Type 0
+    StepFrom off off' = CallStep (seen_at a) (machine_at a) off Call.Df result (seen_at b) (machine_at b) off'
+
+    told_answer : (r : Result Reply Fault) → IfOk r (λ reply. (space : Space) × IsSpace b.device b.state space × (reply_of space (machine_at a) Call.Df ≡ reply))
+        → IfOk r (λ reply. (space : Space) × IsSpace b.device (remembering b.state result) space × (answer space (machine_at a) Call.Df ≡ Ok reply))
+    told_answer (Ok reply) (space, is_space, says) = (space, record { blocks = is_space.blocks; bad = is_space.bad; reached = is_space.reached; are_reached = is_space.are_reached; free = is_space.free; anchors = is_space.anchors }, ap Ok says)
+    told_answer (Err fault) none = tt
+
+    pub measured : a.state.is_off ≡ false → StateStep a.device a.state Call.Df result b.device (remembering b.state result)
+    measured on = record {
+      step = subst (λ o. StepFrom o (b.state.is_off || is_cut_answer result)) (sym on)
+          (subst (λ o. StepFrom false (o || is_cut_answer result)) (sym (is.looked.rest.is_off ∙ on)) (measured_step result is));
+      leaves = looked_leaves a b Call.Df is.looked refl;
+      told = λ tells. told_answer result is.told;
+      stopped = λ off. absurd (both_ways a.state.is_off on off);
+    }

@@ -25,9 +25,10 @@ use Rattle.working_state.specs.Changes.{IsUnwritten}
 use Rattle.read_only.specs.Modes.{is_read_only}
 use Rattle.working_state.specs.Steps.{is_light, last_serial, Refuses}
 use Rattle.working_state.specs.Mounted.{IsStanding}
+use Rattle.working_state.specs.Roots.{ReachesNew}
 use Rattle.working_state.specs.Worked.{IsWorked, IsLooked}
-use Rattle.working_state.proofs.Roots.{after_change, at_history}
-use Rattle.working_state.proofs.Standing.{keeps, AllStand, worked_trees, worked_machine, worked_later, worked_mounted, looked_worked, worked_on}
+use Rattle.working_state.proofs.Roots.{AllRoots, ReachesBefore, after_change, at_history, with_history, all_reach}
+use Rattle.working_state.proofs.Standing.{keeps, AllStand, worked_trees, worked_machine, worked_later, worked_mounted, worked_before, looked_worked, worked_on}
 use Rattle.working_state.proofs.PathCalls.{present_tree_is, present_stands}
 use Rattle.working_state.proofs.Refusals.{write_refuses, cause_later}
 use Rattle.working_state.proofs.Steps.{writes-version, still_machine}
@@ -151,3 +152,11 @@ changed_mounted a c to call tree result h files pushes m w new paths step =
       machine = still_machine (seen_at a) (seen_at (changed_at c h files)) (machine_at a) (machine_at (changed_at c h files)) false false call result m.machine paths step;
       off = mounted.off;
     }
+
+-- what the roots reach after a change, where what the new one reaches was reached before, or not used
+pub changed_reaches : (a c : Moment) (to : ℕ) (h : Past ℕ) (files : Descriptors) → h ≡ changed c.state.history to → IsMountedAt a → IsWorked a c → ReachesBefore a.device a.state c.device to
+    → ReachesNew a.device a.state c.device (changed_at c h files).state
+changed_reaches a c to h files pushes m w here =
+    let before : ℕ → Type 0 = ReachesBefore a.device a.state c.device in
+    all_reach a.device a.state c.device (changed_at c h files).state
+    (subst (λ (p : Past ℕ). AllRoots before (with_history c.state p)) (sym pushes) (after_change before c.state to (worked_before a c m w) here))

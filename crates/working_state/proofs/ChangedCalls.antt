@@ -1,5 +1,5 @@
 -- What a change leaves: each answer of a call that is a change by an edit.
-use Rattle.std.proofs.Common.{◌≡◌, ℕ, zero, suc, ◌+◌, ◌<◌, ◌≤◌, true, false, Some, None, Result, Ok, Err, refl, sym, ap, subst, ◌∙◌, inl, inr, arith}
+use Rattle.std.proofs.Common.{◌≡◌, ℕ, zero, suc, ◌+◌, ◌<◌, ◌≤◌, true, false, Some, None, [], ◌∷◌, Result, Ok, Err, refl, sym, ap, subst, ◌∙◌, inl, inr, arith}
 use Rattle.std.specs.Prelude.{is_some, nat_le, ◌||◌, IfOk, IfErr}
 use Rattle.std.specs.FinSet as set
 use Rattle.history_machine.specs.History.{Past, present_root}
@@ -14,26 +14,29 @@ use Rattle.flash_model.specs.Device.{Device}
 use Rattle.node_store.specs.declared.storage.Storage.{Storage}
 use Rattle.node_store.specs.NodePages.{node_of}
 use Rattle.node_store.specs.Storage as parts
-use Rattle.allocator.specs.Ring.{free_count}
+use Rattle.allocator.specs.Ring.{Ring, free_count}
 use Rattle.node_store.specs.declared.stores.Store.{Store}
 use Rattle.node_store.specs.Stores.{Follows, Causes}
+use Rattle.block_trees.specs.Reached.{Reached}
 use Rattle.block_trees.specs.Trees.{IsRoot, root_tree}
 use Rattle.tree_edits.specs.declared.edits.Edit.{Edit}
 use Rattle.tree_edits.specs.Edits.{need, source}
 use Rattle.tree_edits.specs.Roots.{IsNewRoot}
 use Rattle.directory.specs.Trails.{IsChangeFault}
 use Rattle.working_state.specs.Moments.{Moment, machine_at, seen_at, IsMountedAt, capacity_at, moment}
-use Rattle.working_state.specs.Changes.{IsReady, edited_tree, WorkRefuses, IsPushed, ChangeCause, IsChanged}
+use Rattle.working_state.specs.Changes.{IsReady, edited_tree, ReachesFrom, WorkRefuses, IsPushed, ChangeCause, IsChanged}
 use Rattle.working_state.specs.Leaves.{HasWritten, is_still, Leaves}
 use Rattle.working_state.specs.Mounted.{IsStanding}
 use Rattle.working_state.specs.Opening.{IsAnswered}
+use Rattle.working_state.specs.Roots.{HasRoot}
 use Rattle.working_state.specs.Seen.{capacity_of, tree_on, seen_of}
 use Rattle.read_only.specs.Modes.{bad_anchors}
 use Rattle.working_state.specs.Steps.{empty, replied, is_light, is_cut, is_cut_answer, MayRefuse, Refuses}
 use Rattle.working_state.specs.Worked.{IsWorked, IsLooked, WorkCause}
-use Rattle.working_state.proofs.ChangeSteps.{makes, needs_all, later_stands, later_writable, later_serial, writing_refuses, HasNewTree, changed_step, changed_mounted}
+use Rattle.working_state.proofs.ChangeSteps.{makes, needs_all, later_stands, later_writable, later_serial, writing_refuses, HasNewTree, changed_step, changed_mounted, changed_reaches}
 use Rattle.working_state.proofs.OpenCalls.{refused_work}
-use Rattle.working_state.proofs.Standing.{same_capacity, looked_worked, written_leaves, worked_on, worked_mounted, worked_pages}
+use Rattle.working_state.proofs.Roots.{ReachesBefore, of_present}
+use Rattle.working_state.proofs.Standing.{same_capacity, looked_worked, written_leaves, worked_on, worked_mounted, worked_pages, worked_reach}
 use Rattle.working_state.proofs.Steps.{writes-version}
 
 -- ---- the state as it was
@@ -86,6 +89,11 @@ pub shows_result : (d : Device) (s : Storage) (e : Device) (t : Storage) (most f
     → IfOk result (λ to. IsNewRoot (capacity_of d) (node_of d) (set.contains s.ring.used) (node_of e) (set.contains t.ring.used) from to tree) → IfOk result (λ to. tree_on e to ≡ tree)
 shows_result d s e t most from tree (Ok to) w new = root_shows d s e t most from to tree w new
 shows_result d s e t most from tree (Err fault) w new = tt
+
+pub reached_result : (d : Device) (s : Storage) (e : Device) (t : Storage) (from : ℕ) (tree : Tree) (result : Result ℕ Fault)
+    → IfOk result (λ to. IsNewRoot (capacity_of d) (node_of d) (set.contains s.ring.used) (node_of e) (set.contains t.ring.used) from to tree) → IfOk result (ReachesFrom d s from e)
+reached_result d s e t from tree (Ok to) new = new.reached
+reached_result d s e t from tree (Err fault) new = tt
 
 -- ---- what a store says of itself
 
@@ -160,10 +168,22 @@ change_leaves a b f st call edit l w moves version few =
     let all = needs_all (capacity_at a) (machine_at a) call version in
     written_leaves a b f st call (need (capacity_at b) edit) l w moves version (omega arith)
 
+-- the edit is one of the tree that it is applied to
+abbrev IsOfTree : Edit → Type 0
+IsOfTree edit = (root : ℕ) → source root edit ≡ root
+
+-- what the new root reaches was reached by the present one, or not used
+pushed_reach : (a b : Moment) (f : Device) (from root to : ℕ) → IsMountedAt a → IsLooked a b → HasRoot a.state root → from ≡ root → ReachesFrom b.device b.state.storage from f to
+    → ReachesBefore a.device a.state f to
+pushed_reach a b f from root to m l has same reaches block reached = elim (reaches block reached) [
+  | inl was ↦ worked_reach a b root m (looked_worked a b l) has block (subst (λ (r : ℕ). Reached (node_of b.device) (r ∷ []) block) same was)
+  | inr fresh ↦ inr (subst (λ (r : Ring). set.contains r.used block ≡ false) l.untouched.ring fresh)
+]
+
 pub pushed_answer : (a b : Moment) (f : Device) (st : Storage) (h : Past ℕ) (files : Descriptors) (call : Call) (edit : Edit) (reply : Reply) → IsMountedAt a → IsLooked a b
-    → IsChangeBy a call (edited_tree b.device edit) reply → NeedsFew b edit a call → HasWritten b.device b.state.storage (need (capacity_at b) edit) f st → IsPushed b.device b.state.history b.state.storage edit f h st → files ≡ descriptors_after (machine_at a) call
+    → IsChangeBy a call (edited_tree b.device edit) reply → NeedsFew b edit a call → HasWritten b.device b.state.storage (need (capacity_at b) edit) f st → IsPushed b.device b.state.history b.state.storage edit f h st → files ≡ descriptors_after (machine_at a) call → IsOfTree edit
     → IsAnswered a call (Ok reply) (moment f (record b.state { storage = st; history = h; files = files })) false
-pushed_answer a b f st h files call edit reply m l by few written pushed opens =
+pushed_answer a b f st h files call edit reply m l by few written pushed opens own =
     let c : Moment = moment f (record b.state { storage = st }) in
     let w = written_worked b f st (need (capacity_at b) edit) written in
     let all = worked_on a b c (looked_worked a b l) w in
@@ -177,6 +197,8 @@ pushed_answer a b f st h files call edit reply m l by few written pushed opens =
       leaves = change_leaves a b f st call edit l written by.moves (makes (machine_at a) call by.fine (ap is_some (by.after pushed.root present))) few;
       is_off = all.rest.is_off;
       pages = worked_pages a c m all;
+      reached = changed_reaches a c pushed.to h files pushed.pushed m all
+          (pushed_reach a b f (source pushed.root edit) pushed.root pushed.to m l (of_present (HasRoot a.state) a.state pushed.root (λ root has. has) present) (own pushed.root) pushed.reached);
     }
 
 cause_refuses : (a b : Moment) (f : Device) (st : Storage) (root : ℕ) (call : Call) {edit : Edit} (made : ℕ → Tree) (reply : Reply) (fault : Fault) → present_root a.state.history ≡ Some root → IsLooked a b
@@ -202,21 +224,21 @@ refused_change a b f st h root call {edit} made reply fault m is l by few writte
 
 -- a change that answers nothing, and leaves the open files
 pub change_answer : (a b : Moment) (f : Device) (st : Storage) (h : Past ℕ) (root : ℕ) (call : Call) (edit : Edit) (result : Result (Unit {0}) Fault) → IsMountedAt a → present_root a.state.history ≡ Some root
-    → IsLooked a b → IsChangeBy a call (edited_tree b.device edit) Reply.Empty → NeedsFew b edit a call → descriptors_after (machine_at a) call ≡ a.state.files → IsChanged b.device b.state.history b.state.storage edit result f h st
+    → IsLooked a b → IsChangeBy a call (edited_tree b.device edit) Reply.Empty → NeedsFew b edit a call → descriptors_after (machine_at a) call ≡ a.state.files → IsOfTree edit → IsChanged b.device b.state.history b.state.storage edit result f h st
     → IsAnswered a call (replied empty result) (moment f (record b.state { storage = st; history = h })) (is_cut_answer result)
-change_answer a b f st h root call edit (Ok x) m is l by few files changes =
-    pushed_answer a b f st h b.state.files call edit Reply.Empty m l by few changes.written changes.ends (l.rest.files ∙ sym files)
-change_answer a b f st h root call edit (Err fault) m is l by few files changes =
+change_answer a b f st h root call edit (Ok x) m is l by few files own changes =
+    pushed_answer a b f st h b.state.files call edit Reply.Empty m l by few changes.written changes.ends (l.rest.files ∙ sym files) own
+change_answer a b f st h root call edit (Err fault) m is l by few files own changes =
     refused_change a b f st h root call (edited_tree b.device edit) Reply.Empty fault m is l by few changes.written changes.ends
 
 -- the same, where the edit is that of the change
 
 pub pushed_by : (a b : Moment) (f : Device) (st : Storage) (h : Past ℕ) (files : Descriptors) (call : Call) {edit : Edit} (reply : Reply) → IsPushed b.device b.state.history b.state.storage edit f h st
-    → IsChangeBy a call (edited_tree b.device edit) reply → NeedsFew b edit a call → HasWritten b.device b.state.storage (need (capacity_at b) edit) f st → IsMountedAt a → IsLooked a b → files ≡ descriptors_after (machine_at a) call
+    → IsChangeBy a call (edited_tree b.device edit) reply → NeedsFew b edit a call → HasWritten b.device b.state.storage (need (capacity_at b) edit) f st → IsMountedAt a → IsLooked a b → files ≡ descriptors_after (machine_at a) call → IsOfTree edit
     → IsAnswered a call (Ok reply) (moment f (record b.state { storage = st; history = h; files = files })) false
-pushed_by a b f st h files call {edit} reply pushed by few written m l opens = pushed_answer a b f st h files call edit reply m l by few written pushed opens
+pushed_by a b f st h files call {edit} reply pushed by few written m l opens own = pushed_answer a b f st h files call edit reply m l by few written pushed opens own
 
 pub change_by : (a b : Moment) (f : Device) (st : Storage) (h : Past ℕ) (root : ℕ) (call : Call) {edit : Edit} (result : Result (Unit {0}) Fault) → IsChanged b.device b.state.history b.state.storage edit result f h st
-    → IsChangeBy a call (edited_tree b.device edit) Reply.Empty → NeedsFew b edit a call → IsMountedAt a → present_root a.state.history ≡ Some root → IsLooked a b → descriptors_after (machine_at a) call ≡ a.state.files
+    → IsChangeBy a call (edited_tree b.device edit) Reply.Empty → NeedsFew b edit a call → IsMountedAt a → present_root a.state.history ≡ Some root → IsLooked a b → descriptors_after (machine_at a) call ≡ a.state.files → IsOfTree edit
     → IsAnswered a call (replied empty result) (moment f (record b.state { storage = st; history = h })) (is_cut_answer result)
-change_by a b f st h root call {edit} result changes by few m is l files = change_answer a b f st h root call edit result m is l by few files changes
+change_by a b f st h root call {edit} result changes by few m is l files own = change_answer a b f st h root call edit result m is l by few files own changes

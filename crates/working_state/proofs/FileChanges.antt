@@ -42,7 +42,7 @@ use Rattle.working_state.proofs.ChangeSteps.{makes, later_tree}
 use Rattle.working_state.proofs.MovedEntries.{read_cause}
 use Rattle.working_state.proofs.OpenCalls.{present_is}
 use Rattle.working_state.proofs.PathCalls.{OnlyReads, present_stands, read_done}
-use Rattle.working_state.proofs.Standing.{same_capacity, worked_machine, worked_mounted, worked_pages, looked_worked, looked_leaves}
+use Rattle.working_state.proofs.Standing.{same_capacity, worked_machine, worked_mounted, worked_pages, worked_reaches, looked_worked, looked_leaves}
 
 -- What a path leads to, looked up.
 
@@ -157,6 +157,7 @@ same_answer a b call reply m l reads fine replies moves =
       leaves = looked_leaves a b call l moves;
       is_off = w.rest.is_off;
       pages = worked_pages a b m w;
+      reached = worked_reaches a b m w;
     }
 
 pub looked_itself : (a : Moment) → IsLooked a a

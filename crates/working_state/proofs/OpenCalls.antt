@@ -32,7 +32,7 @@ use Rattle.working_state.specs.Opening.{found_refusal, changes_found, IsAnswered
 use Rattle.working_state.specs.Worked.{IsWorked, IsLooked, WorkCause}
 use Rattle.working_state.proofs.PathCalls.{present_tree_is, present_stands}
 use Rattle.working_state.proofs.Refusals.{read_refuses, refused_step, never}
-use Rattle.working_state.proofs.Standing.{AllStand, worked_machine, worked_later, worked_mounted, worked_pages, looked_worked, looked_leaves}
+use Rattle.working_state.proofs.Standing.{AllStand, worked_machine, worked_later, worked_mounted, worked_pages, worked_reaches, looked_worked, looked_leaves}
 use Rattle.working_state.proofs.Steps.{still_machine}
 
 -- ---- refusals
@@ -169,6 +169,7 @@ refused_work a b call fault m w leaves refuses = record {
   leaves = leaves;
   is_off = w.rest.is_off;
   pages = worked_pages a b m w;
+  reached = worked_reaches a b m w;
 }
 
 -- one that was refused before anything was written
@@ -219,7 +220,7 @@ pub opened_answer : (a b : Moment) (path : Path) (flags : OpenFlags) (descriptor
     → files ≡ opened b.state.files descriptor (record { path = path; flags = flags })
     → IsAnswered a (Call.Open path flags) (Ok (Reply.Fd descriptor)) (moment b.device (record b.state { files = files })) false
 opened_answer a b path flags descriptor files m l lawful fine same free is =
-    record { mounted = mounted_at b b.state.history files mid mid.roots machine; step = step; leaves = looked_leaves a b call l refl; is_off = l.rest.is_off; pages = worked_pages a b m w }
+    record { mounted = mounted_at b b.state.history files mid mid.roots machine; step = step; leaves = looked_leaves a b call l refl; is_off = l.rest.is_off; pages = worked_pages a b m w; reached = worked_reaches a b m w }
   where
     call : Call
     call = Call.Open path flags

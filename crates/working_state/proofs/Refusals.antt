@@ -11,6 +11,7 @@ use Rattle.directory.specs.Lookups.{is_path_fault, IsLookupFault}
 use Rattle.directory.specs.Trails.{IsChangeFault}
 use Rattle.working_state.specs.Moments.{Moment, machine_at, seen_at, IsMountedAt, Steps, IsRefused, IsStep, moment}
 use Rattle.working_state.specs.Leaves.{Leaves}
+use Rattle.working_state.specs.Roots.{ReachesNew}
 use Rattle.working_state.specs.Seen.{Seen}
 use Rattle.working_state.specs.Steps.{last_serial, replied, is_light, is_writing, is_cut, is_cut_answer, MayRefuse, IsLater, CallStep, tells_space}
 use Rattle.working_state.specs.Mounted.{IsMounted}
@@ -76,14 +77,15 @@ remembering t result = record t { is_off = t.is_off || is_cut_answer result }
 pub remembered_step : {T : Type 0} (f : T → Reply) (a b : Moment) (u : State) (call : Call) (result again : Result T Fault)
     → again ≡ result → a.state.is_off ≡ false → b.state.is_off ≡ a.state.is_off → u ≡ remembering b.state result
     → IsStep a call (replied f result) b (is_cut_answer result)
-    → Leaves (machine_at a) call a.device a.state.storage b.device b.state.storage → tells_space call ≡ false → Steps a call (replied f again) (moment b.device u)
-remembered_step f a b u call result again told on same is step leaves plain =
+    → Leaves (machine_at a) call a.device a.state.storage b.device b.state.storage → ReachesNew a.device a.state b.device b.state → tells_space call ≡ false → Steps a call (replied f again) (moment b.device u)
+remembered_step f a b u call result again told on same is step leaves reached plain =
     subst (λ r. Steps a call (replied f r) (moment b.device u)) (sym told)
     (subst (λ v. Steps a call (replied f result) (moment b.device v)) (sym is) (record {
       step = subst (λ o. StepFrom o (b.state.is_off || is_cut_answer result)) (sym on)
           (subst (λ o. StepFrom false (o || is_cut_answer result)) (sym (same ∙ on)) step);
       leaves = leaves;
       told = λ space. absurd (both_ways (tells_space call) plain space);
+      reached = reached;
       stopped = λ off. absurd (both_ways a.state.is_off on off);
     }))
   where

@@ -22,7 +22,7 @@ use Rattle.working_state.proofs.ChangeSteps.{later_tree}
 use Rattle.working_state.proofs.ChangedCalls.{IsChangeBy}
 use Rattle.working_state.proofs.MovedEntries.{PlaceRefused, PlaceFound, MoveRefused, read_later, read_may}
 use Rattle.working_state.proofs.PathCalls.{OnlyReads, read_done}
-use Rattle.working_state.proofs.Standing.{looked_worked, looked_leaves, worked_later, worked_machine, worked_mounted, worked_pages}
+use Rattle.working_state.proofs.Standing.{looked_worked, looked_leaves, worked_later, worked_machine, worked_mounted, worked_pages, worked_reaches}
 
 -- Refusals.
 
@@ -97,4 +97,4 @@ pub same_answer : (a b : Moment) (old new : Path) → IsMountedAt a → IsLooked
     → IsAnswered a (Call.Rename old new) (Ok Reply.Empty) b false
 same_answer a b old new m l fine same =
     let w = looked_worked a b l in
-    record { mounted = worked_mounted a b m w; step = same_step a b old new m l fine same; leaves = looked_leaves a b (Call.Rename old new) l refl; is_off = w.rest.is_off; pages = worked_pages a b m w }
+    record { mounted = worked_mounted a b m w; step = same_step a b old new m l fine same; leaves = looked_leaves a b (Call.Rename old new) l refl; is_off = w.rest.is_off; pages = worked_pages a b m w; reached = worked_reaches a b m w }

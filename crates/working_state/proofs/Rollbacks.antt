@@ -12,11 +12,12 @@ use Rattle.flash_model.specs.Device.{Device}
 use Rattle.node_store.specs.declared.storage.Storage.{Storage}
 use Rattle.tree_edits.specs.declared.edits.Edit.TheVariants.{Restore}
 use Rattle.working_state.specs.Moments.{Moment, moment, machine_at, IsMountedAt, Steps, tree_at}
-use Rattle.working_state.specs.Changes.{IsReadOnly, ChangeEnds, ChangeCause, IsChanged}
+use Rattle.working_state.specs.Changes.{ReachesFrom, IsReadOnly, ChangeEnds, ChangeCause, IsChanged}
 use Rattle.working_state.specs.Mounted.{IsStanding}
+use Rattle.working_state.specs.Roots.{HasRoot, ReachesNew}
 use Rattle.working_state.specs.Seen.{tree_on}
 use Rattle.working_state.specs.Steps.{replied, empty}
-use Rattle.working_state.proofs.Roots.{after_change, at_history}
+use Rattle.working_state.proofs.Roots.{AllRoots, ReachesBefore, of_checkpoint, after_change, at_history, with_history, all_reach}
 use Rattle.working_state.proofs.Standing.{AllStand}
 use Rattle.working_state.proofs.Steps.{mounted_by, done, refused_change, rollback-accepted, rollback-makes, rollback-leaves}
 use Rattle.history_machine.specs.Machine.{machine_with}
@@ -31,12 +32,25 @@ module _ (a : Moment) (f : Device) (st : Storage) (h : Past ℕ) (name : Name) (
       ap (λ (x : Past Tree). machine_with x a.state.files)
       (sym (changed-map (tree_at a) a.state.history root) ∙ ap (changed (map_roots (tree_at a) a.state.history)) (sym same) ∙ changed-map (tree_at a) a.state.history to)
 
+  -- what the roots reach after a change to a root that reaches what the checkpoint's does, or blocks that were not used
+  rolled_reaches : (to : ℕ) → checkpoint_root a.state.history name ≡ Some root → ReachesFrom a.device a.state.storage root a.device to → ReachesNew a.device a.state a.device (with_history a.state (changed a.state.history to))
+  rolled_reaches to there reaches =
+      let has : HasRoot a.state root = of_checkpoint (HasRoot a.state) a.state name root (λ _ has. has) there in
+      let own : AllRoots (ReachesBefore a.device a.state a.device) a.state = λ other is block reached. inl (other, is, reached) in
+      all_reach a.device a.state a.device (with_history a.state (changed a.state.history to))
+      (after_change (ReachesBefore a.device a.state a.device) a.state to own (λ block reached. elim (reaches block reached) [
+        | inl was ↦ inl (root, has, was)
+        | inr fresh ↦ inr fresh
+      ]))
+
   rolled_step : (result : Result (Unit {0}) Fault) → a.state.is_off ≡ false → any_open a.state.files ≡ false → checkpoint_root a.state.history name ≡ Some root → f ≡ a.device → st ≡ a.state.storage → ChangeEnds a.device a.state.history a.state.storage (Restore root) result f h st
       → Steps a call (replied empty result) (at_history a h)
   rolled_step (Ok x) on none there same kept pushed =
       let shows : tree_at a pushed.to ≡ tree_at a root = subst (λ (e : Device). tree_on e pushed.to ≡ tree_at a root) same pushed.shows in
+      let reached : ReachesFrom a.device a.state.storage root a.device pushed.to = subst (λ (e : Device). ReachesFrom a.device a.state.storage root e pushed.to) same pushed.reached in
       subst (λ (p : Past ℕ). Steps a call (Ok Reply.Empty) (at_history a p)) (sym pushed.pushed)
-      (done a call (changed a.state.history pushed.to) Reply.Empty on refl (rollback-accepted a name root none there) (λ _. refl) (rollback-leaves a name root none there ∙ same_machine pushed.to shows) (λ _. pushed.writable) (λ _. pushed.serial_left))
+      (done a call (changed a.state.history pushed.to) Reply.Empty on refl (rollback-accepted a name root none there) (λ _. refl) (rollback-leaves a name root none there ∙ same_machine pushed.to shows)
+      (rolled_reaches pushed.to there reached) (λ _. pushed.writable) (λ _. pushed.serial_left))
   rolled_step (Err fault) on none there same kept ends = subst (λ (p : Past ℕ). Steps a call (Err fault) (at_history a p)) (sym ends.0) (by ends.1)
     where
       by : ChangeCause a.device a.state.history a.state.storage (Restore root) fault f st → Steps a call (Err fault) a

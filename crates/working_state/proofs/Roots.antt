@@ -1,20 +1,24 @@
 -- What holds of each root of a state holds of each root that a call leaves.
-use Rattle.std.proofs.Common.{◌≡◌, ℕ, ◌+◌, ◌<◌, Bool, true, false, cond, Option, Some, None, List, [], ◌∷◌, length, map, take, get_or, inl, inr, sym, ap, refl, ◌∙◌, subst, arith}
+use Rattle.std.proofs.Common.{◌≡◌, ◌⊎◌, ℕ, ◌+◌, ◌<◌, Bool, true, false, cond, Option, Some, None, List, [], ◌∷◌, length, map, take, get_or, inl, inr, sym, ap, refl, ◌∙◌, subst, arith}
 use Rattle.std.proofs.lemmas.List.Elements.{All-push, All-take, All-drop, All-head, All-tail, All-contains, All-map}
 use Rattle.std.proofs.lemmas.List.{length-map, get_or-map}
 use Rattle.std.proofs.lemmas.Option.{get_or_from_slice_get, slice_get_within}
 use Rattle.std.specs.Prelude.{All, Contains, slice_get, unwrap_or}
 use Rattle.std.specs.Option.{option_map}
 use Rattle.std.specs.BTreeMap.{insert_entry, is_at}
+use Rattle.std.specs.FinSet as set
 use Rattle.std.specs.Map.{lookup}
 use Rattle.fs_types.specs.Names.{Name, name_cmp}
 use Rattle.fs_types.specs.declared.calls.Version.{Version}
 use Rattle.history_machine.specs.History.{Past, present_root, checkpoint_root, changed, forgotten, with_checkpoint, without_checkpoint}
+use Rattle.flash_model.specs.Device.{Device}
+use Rattle.node_store.specs.NodePages.{node_of}
+use Rattle.block_trees.specs.Reached.{Reached}
 use Rattle.plain_trees.proofs.Beneath.{None≢Some, same_Some}
 use Rattle.history_machine.proofs.Checkpoints.{all-inserted, all-removed}
 use Rattle.history_machine.proofs.Versions.{by_change, checkpoints-changed, grown, version}
 use Rattle.working_state.specs.Moments.{Moment, moment}
-use Rattle.working_state.specs.Roots.{HasRoot}
+use Rattle.working_state.specs.Roots.{HasRoot, IsReached, ReachesNew}
 use Rattle.working_state.specs.declared.state.State.{State}
 
 -- a history with this root, if any, under a name
@@ -129,3 +133,16 @@ module _ (P : ℕ → Type 0) where
 
   pub after_removal : (s : State) (name : Name) → AllRoots s → AllRoots (with_history s (without_checkpoint s.history name))
   after_removal s name all = all_roots (with_history s (without_checkpoint s.history name)) (of_versions s all) (kept_without_checkpoint P s.history name (of_checkpoints s all))
+
+-- The blocks that the roots of a state reach.
+
+-- what a root reaches was reached before, or is in a block that was not used
+abbrev pub ReachesBefore : Device → State → Device → ℕ → Type 0
+ReachesBefore old s new root = (block : ℕ) → Reached (node_of new) (root ∷ []) block → IsReached old s block ⊎ (set.contains s.storage.ring.used block ≡ false)
+
+pub all_reach : (old : Device) (s : State) (new : Device) (t : State) → AllRoots (ReachesBefore old s new) t → ReachesNew old s new t
+all_reach old s new t all block (root, has, reached) = all root has block reached
+
+-- the flash stays, and each root was one before
+pub same_reach : (d : Device) (s t : State) → AllRoots (HasRoot s) t → ReachesNew d s d t
+same_reach d s t were = all_reach d s d t (λ root has block reached. inl (root, were root has, reached))

@@ -1,5 +1,5 @@
 -- What stands still stands after reads and writes of nodes, and the machine is the same.
-use Rattle.std.proofs.Common.{◌≡◌, ℕ, ◌-◌, ◌≤◌, true, false, refl, sym, ap, subst, ◌∙◌, arith}
+use Rattle.std.proofs.Common.{◌≡◌, ℕ, ◌-◌, ◌≤◌, true, false, refl, sym, ap, subst, ◌∙◌, inl, arith}
 use Rattle.std.proofs.lemmas.Bool.{both_ways}
 use Rattle.std.specs.Prelude.{vec_capacity}
 use Rattle.std.specs.FinSet as set
@@ -25,11 +25,12 @@ use Rattle.block_trees.proofs.Frames.{frame_law}
 use Rattle.working_state.specs.Moments.{Moment, machine_at, seen_at, storage_at, IsMountedAt, capacity_at, tree_at, moment}
 use Rattle.working_state.specs.Leaves.{HasLooked, HasWritten, is_still, Leaves}
 use Rattle.working_state.specs.Seen.{capacity_of, tree_on}
+use Rattle.working_state.specs.Roots.{HasRoot, ReachesNew}
 use Rattle.working_state.specs.Steps.{IsLater}
 use Rattle.working_state.specs.Mounted.{IsStanding, KeepsPages}
 use Rattle.working_state.specs.Worked.{IsSameBut, IsWorked, IsLooked}
 use Rattle.working_state.specs.declared.state.State.{State}
-use Rattle.working_state.proofs.Roots.{AllRoots, of_versions, of_checkpoints, at_history}
+use Rattle.working_state.proofs.Roots.{AllRoots, ReachesBefore, of_versions, of_checkpoints, at_history, with_history, all_reach}
 use Rattle.working_state.proofs.BadCounts.{len-within, stays_read_only}
 
 -- Blocks and roots.
@@ -187,3 +188,13 @@ worked_later a b w = record {
 
 pub worked_pages : (a b : Moment) → IsMountedAt a → IsWorked a b → KeepsPages a.device a.state b.device
 worked_pages a b m w p (root, has, reached) = w.evolved.kept_pages p ((m.roots root has).held root refl (block_of a.device p) reached)
+
+-- a root that was reaches what it did
+pub worked_reach : (a b : Moment) (root : ℕ) → IsMountedAt a → IsWorked a b → HasRoot a.state root → ReachesBefore a.device a.state b.device root
+worked_reach a b root m w has block reached = inl (root, has, (frame (storage_at a) (storage_at b) m.lawful w.evolved).reached root block (m.roots root has).held reached)
+
+pub worked_before : (a b : Moment) → IsMountedAt a → IsWorked a b → AllRoots (ReachesBefore a.device a.state b.device) b.state
+worked_before a b m w root has = worked_reach a b root m w (subst (λ (h : Past ℕ). HasRoot (with_history b.state h) root) w.rest.history has)
+
+pub worked_reaches : (a b : Moment) → IsMountedAt a → IsWorked a b → ReachesNew a.device a.state b.device b.state
+worked_reaches a b m w = all_reach a.device a.state b.device b.state (worked_before a b m w)

@@ -20,12 +20,12 @@ use Rattle.history.specs.Answers.{answer}
 use Rattle.working_state.specs.Moments.{Moment, machine_at, seen_at, IsMountedAt, Steps, tree_at, moment}
 use Rattle.working_state.specs.Changes.{IsReadOnly, IsOverflow}
 use Rattle.working_state.specs.Leaves.{Leaves}
-use Rattle.working_state.specs.Roots.{IsSpace}
+use Rattle.working_state.specs.Roots.{HasRoot, IsSpace, ReachesNew}
 use Rattle.working_state.specs.Seen.{Seen}
 use Rattle.read_only.specs.Modes.{is_read_only}
 use Rattle.working_state.specs.Steps.{last_serial, replied, empty, is_cut, is_writing, is_for_record, tells_space, MayRefuse, Answers, IsLater, CallStep}
 use Rattle.working_state.specs.declared.state.State.{State}
-use Rattle.working_state.proofs.Roots.{with_history, at_history}
+use Rattle.working_state.proofs.Roots.{with_history, at_history, same_reach, after_checkpoint}
 use Rattle.working_state.proofs.Standing.{AllStand, still_leaves}
 
 same-later : (old : Seen) → IsLater old old
@@ -39,19 +39,23 @@ module _ (a : Moment) (call : Call) where
   abbrev TellsSpace : Result Reply Fault → State → Type 0
   TellsSpace result t = IfOk result (λ reply. (space : Space) × IsSpace a.device t space × (answer_of space before call (refusal before call) ≡ Ok reply))
 
+  stays : ReachesNew a.device a.state a.device a.state
+  stays = same_reach a.device a.state a.state (λ root has. has)
+
   -- a call that does no device operation, and is answered so
-  pub still_step : (t : State) (result : Result Reply Fault) → t.storage ≡ a.state.storage → (a.state.is_off ≡ true → t ≡ a.state) → (tells_space call ≡ true → TellsSpace result t) → CallStep (seen_at a) before a.state.is_off call result (seen_at (moment a.device t)) (machine_at (moment a.device t)) t.is_off → Steps a call result (moment a.device t)
-  still_step t result same stopped told step = record {
+  pub still_step : (t : State) (result : Result Reply Fault) → t.storage ≡ a.state.storage → (a.state.is_off ≡ true → t ≡ a.state) → (tells_space call ≡ true → TellsSpace result t) → ReachesNew a.device a.state a.device t → CallStep (seen_at a) before a.state.is_off call result (seen_at (moment a.device t)) (machine_at (moment a.device t)) t.is_off → Steps a call result (moment a.device t)
+  still_step t result same stopped told reached step = record {
     step = step;
     told = told;
     leaves = subst (λ (x : Storage). Leaves before call a.device a.state.storage a.device x) (sym same) (still_leaves before a.device a.state.storage call);
+    reached = reached;
     stopped = λ off. (refl, stopped off);
   }
 
   -- a call that was carried out
-  pub done : (p : Past ℕ) (reply : Reply) → a.state.is_off ≡ false → tells_space call ≡ false → refusal before call ≡ None → ((space : Space) → reply_of space before call ≡ reply) → machine_of before call None ≡ machine_at (at_history a p)
+  pub done : (p : Past ℕ) (reply : Reply) → a.state.is_off ≡ false → tells_space call ≡ false → refusal before call ≡ None → ((space : Space) → reply_of space before call ≡ reply) → machine_of before call None ≡ machine_at (at_history a p) → ReachesNew a.device a.state a.device (with_history a.state p)
       → (is_writing before call ≡ true → is_read_only a.state.storage.bad ≡ false) → (makes_version before call ≡ true → a.state.history.next < last_serial) → Steps a call (Ok reply) (at_history a p)
-  done p reply on plain ok tells leaves writable serial = still_step (with_history a.state p) (Ok reply) refl (λ off. absurd (both_ways a.state.is_off on off)) (λ space. absurd (both_ways (tells_space call) plain space)) (record {
+  done p reply on plain ok tells leaves reached writable serial = still_step (with_history a.state p) (Ok reply) refl (λ off. absurd (both_ways a.state.is_off on off)) (λ space. absurd (both_ways (tells_space call) plain space)) reached (record {
     later = same-later (seen_at a);
     answers = (
       on,
@@ -68,14 +72,14 @@ module _ (a : Moment) (call : Call) where
 
   -- a call that was refused
   pub refused : (fault : Fault) → a.state.is_off ≡ false → is_cut fault ≡ false → (refusal before call ≡ Some fault) ⊎ MayRefuse (seen_at a) before call fault (seen_at a) → Steps a call (Err fault) a
-  refused fault on no_cut why = still_step a.state (Err fault) refl (λ _. refl) (λ _. tt) (record {
+  refused fault on no_cut why = still_step a.state (Err fault) refl (λ _. refl) (λ _. tt) stays (record {
     later = same-later (seen_at a);
     answers = subst (λ off. Answers (seen_at a) before off call (Err fault) (seen_at a) before off) (sym on) (why, refl, sym no_cut);
   })
 
   -- a call where an earlier one answered that the power is off
   pub off_step : (fault : Fault) → (fault ≡ PowerCut) × (a.state.is_off ≡ true) → Steps a call (Err fault) a
-  off_step fault why = still_step a.state (Err fault) refl (λ _. refl) (λ _. tt) (record {
+  off_step fault why = still_step a.state (Err fault) refl (λ _. refl) (λ _. tt) stays (record {
     later = same-later (seen_at a);
     answers = subst (λ off. Answers (seen_at a) before off call (Err fault) (seen_at a) before off) (sym why.1) (why.0, refl, refl, refl);
   })
@@ -174,7 +178,8 @@ pub checkpointed : (a : Moment) (name : Name) (result : Result (Unit {0}) Fault)
     → Steps a (Call.Checkpoint name) (replied empty result) (at_history a p)
 checkpointed a name (Ok x) p on writable free ok why err =
     subst (λ q. Steps a (Call.Checkpoint name) (Ok Reply.Empty) (at_history a q)) (sym ok)
-    (done a (Call.Checkpoint name) (with_checkpoint a.state.history name) Reply.Empty on refl (checkpoint_refusal-map (tree_at a) a.state.history name ∙ free) (λ _. refl) (ap (λ (h : Past Tree). machine_with h a.state.files) (with_checkpoint-map (tree_at a) a.state.history name)) (λ _. writable) (λ e. absurd (never _ e)))
+    (done a (Call.Checkpoint name) (with_checkpoint a.state.history name) Reply.Empty on refl (checkpoint_refusal-map (tree_at a) a.state.history name ∙ free) (λ _. refl) (ap (λ (h : Past Tree). machine_with h a.state.files) (with_checkpoint-map (tree_at a) a.state.history name))
+    (same_reach a.device a.state (with_history a.state (with_checkpoint a.state.history name)) (after_checkpoint (HasRoot a.state) a.state name (λ root has. has))) (λ _. writable) (λ e. absurd (never _ e)))
 checkpointed a name (Err fault) p on writable free ok why err =
     let want : fault ≡ Fault.NoMemory = why ∙ ap (λ o. unwrap_or o Fault.NoMemory) free in
     subst (λ q. Steps a (Call.Checkpoint name) (Err fault) (at_history a q)) (sym err)

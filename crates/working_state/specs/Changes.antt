@@ -1,5 +1,5 @@
 -- Changes: an edit of the present tree is written, and its root becomes the present version.
-use Rattle.std.specs.Prelude.{◌≡◌, ◌⊎◌, ℕ, ◌+◌, ◌<◌, ◌≤◌, true, false, Some, Result, Ok, Err, IfOk, IfErr, vec_len, vec_capacity}
+use Rattle.std.specs.Prelude.{◌≡◌, ◌⊎◌, ℕ, ◌+◌, ◌<◌, ◌≤◌, true, false, Some, [], ◌∷◌, Result, Ok, Err, IfOk, IfErr, vec_len, vec_capacity}
 use Rattle.std.specs.FinSet as set
 use Rattle.history_machine.specs.History.{Past, present_root, changed}
 use Rattle.plain_trees.specs.Trees.{Tree}
@@ -10,9 +10,10 @@ use Rattle.flash_model.specs.Geometry.{IsGeometry, block_bytes}
 use Rattle.allocator.specs.Ring.{free_count}
 use Rattle.node_store.specs.declared.storage.Storage.{Storage}
 use Rattle.node_store.specs.NodePages.{node_of}
+use Rattle.block_trees.specs.Reached.{Reached}
 use Rattle.directory.specs.Trails.{IsChangeFault}
 use Rattle.tree_edits.specs.declared.edits.Edit.{Edit}
-use Rattle.tree_edits.specs.Edits.{IsEditable, effect, need}
+use Rattle.tree_edits.specs.Edits.{IsEditable, source, effect, need}
 use Rattle.working_state.specs.Leaves.{HasWritten}
 use Rattle.working_state.specs.Mounted.{IsStanding}
 use Rattle.working_state.specs.Seen.{capacity_of, tree_on, seen_of}
@@ -43,17 +44,23 @@ pub record WorkRefuses (old : Device) (s : Storage) (edit : Edit) (fault : Fault
   pub why : WorkCause (seen_of old s) fault (seen_of new t)
   pub few_free : fault ≡ FlashFull → free_count s.ring s.bad + set.len s.bad < set.len t.bad + need (capacity_of old) edit
 
--- an edit of the tree of a root was written, so many nodes at most: the new root stands and has the edited tree, or a
--- read or write was refused for its cause; where no node is needed, flash and storage are as they were
+-- what a root reaches was reached by another before, or is in a block that was not used
+abbrev pub ReachesFrom : Device → Storage → ℕ → Device → ℕ → Type 0
+ReachesFrom old s from new to = (block : ℕ) → Reached (node_of new) (to ∷ []) block → Reached (node_of old) (from ∷ []) block ⊎ (set.contains s.ring.used block ≡ false)
+
+-- an edit of the tree of a root was written, so many nodes at most: the new root stands, has the edited tree and reaches
+-- what the source of the edit did, or blocks that were not used; or a read or write was refused for its cause; where no
+-- node is needed, flash and storage are as they were
 pub record IsTried (old : Device) (s : Storage) (edit : Edit) (root : ℕ) (result : Result ℕ Fault) (new : Device) (t : Storage) : Type 0 where
   pub written : HasWritten old s (need (capacity_of old) edit) new t
   pub stands : IfOk result (IsStanding new t.ring)
   pub shows : IfOk result (λ to. tree_on new to ≡ edited_tree old edit root)
+  pub reached : IfOk result (ReachesFrom old s (source root edit) new)
   pub refused : IfErr result (λ fault. WorkRefuses old s edit fault new t)
   pub still : need (capacity_of old) edit ≡ 0 → (new ≡ old) × (t ≡ s)
 
--- a root stands that has the edited tree of the present root, and is the present root now; read-only mode was off and is,
--- and a serial was left
+-- a root stands that has the edited tree of the present root and reaches what the source of the edit did, or blocks that
+-- were not used, and is the present root now; read-only mode was off and is, and a serial was left
 pub record IsPushed (old : Device) (h : Past ℕ) (s : Storage) (edit : Edit) (new : Device) (i : Past ℕ) (t : Storage) : Type 0 where
   pub root : ℕ
   pub to : ℕ
@@ -61,6 +68,7 @@ pub record IsPushed (old : Device) (h : Past ℕ) (s : Storage) (edit : Edit) (n
   pub pushed : i ≡ changed h to
   pub stands : IsStanding new t.ring to
   pub shows : tree_on new to ≡ edited_tree old edit root
+  pub reached : ReachesFrom old s (source root edit) new to
   pub writable : is_read_only s.bad ≡ false
   pub stays_writable : is_read_only t.bad ≡ false
   pub serial_left : h.next < last_serial

@@ -13,7 +13,7 @@ use Rattle.node_store.specs.NodePages.{node_of}
 use Rattle.block_trees.specs.Trees.{IsRoot}
 use Rattle.block_trees.specs.Reached.{IsHeld}
 use Rattle.working_state.specs.Leaves.{Leaves}
-use Rattle.working_state.specs.Roots.{HasRoot, IsReached, IsSpace}
+use Rattle.working_state.specs.Roots.{HasRoot, IsReached, ReachesNew, IsSpace}
 use Rattle.working_state.specs.Seen.{capacity_of, seen_on, machine_on}
 use Rattle.working_state.specs.Steps.{tells_space, CallStep}
 use Rattle.working_state.specs.declared.state.State.{State}
@@ -35,12 +35,14 @@ pub record IsMounted (device : Device) (state : State) : Type 0 where
   pub machine : IsMachine (machine_on device state)
   pub off : state.is_off ≡ true → device.powered ≡ false
 
--- a call's step, as it is seen of the flash and the state before and after, and what it leaves of them. What `df` tells is
--- the space that is left. Once a call has answered that the power is off, nothing changes
+-- a call's step, as it is seen of the flash and the state before and after, and what it leaves of them, and which blocks
+-- the versions and checkpoints reach then. What `df` tells is the space that is left. Once a call has answered that the
+-- power is off, nothing changes
 pub record StateStep (old : Device) (s : State) (call : Call) (result : Result Reply Fault) (new : Device) (t : State) : Type 0 where
   pub step : CallStep (seen_on old s) (machine_on old s) s.is_off call result (seen_on new t) (machine_on new t) t.is_off
   pub leaves : Leaves (machine_on old s) call old s.storage new t.storage
   pub told : tells_space call ≡ true → IfOk result (λ reply. (space : Space) × IsSpace new t space × (answer space (machine_on old s) call ≡ Ok reply))
+  pub reached : ReachesNew old s new t
   pub stopped : s.is_off ≡ true → (new ≡ old) × (t ≡ s)
 
 -- no page changed of a block that a version or a checkpoint reaches

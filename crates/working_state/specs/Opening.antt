@@ -11,6 +11,7 @@ use Rattle.directory.specs.declared.lookups.Found.TheVariants.{Missing, File, Di
 use Rattle.working_state.specs.Leaves.{Leaves}
 use Rattle.working_state.specs.Moments.{Moment, machine_at, IsMountedAt, IsStep}
 use Rattle.working_state.specs.Mounted.{KeepsPages}
+use Rattle.working_state.specs.Roots.{ReachesNew}
 
 -- why what was found is not opened
 abbrev pub found_refusal : OpenFlags → Found → Option Fault
@@ -24,11 +25,12 @@ changes_found flags (Missing is_full) = true
 changes_found flags (File head size) = truncates flags && nat_lt 0 size
 changes_found flags (Dir block) = false
 
--- a call's step where no call answered before that the power is off, and what it leaves: the system stays mounted, and no
--- page changed of a block that a version or a checkpoint reaches
+-- a call's step where no call answered before that the power is off, and what it leaves: the system stays mounted, no
+-- page changed of a block that a version or a checkpoint reaches, and what they reach now was reached before, or not used
 pub record IsAnswered (old : Moment) (call : Call) (result : Result Reply Fault) (new : Moment) (off : Bool) : Type 0 where
   pub mounted : IsMountedAt new
   pub step : IsStep old call result new off
   pub leaves : Leaves (machine_at old) call old.device old.state.storage new.device new.state.storage
   pub is_off : new.state.is_off ≡ old.state.is_off
   pub pages : KeepsPages old.device old.state new.device
+  pub reached : ReachesNew old.device old.state new.device new.state

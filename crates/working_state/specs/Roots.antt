@@ -1,5 +1,5 @@
 -- The roots of a state, the blocks that they reach, and the space that `df` tells.
-use Rattle.std.specs.Prelude.{◌≡◌, ◌⊎◌, ◌↔◌, ℕ, ◌-◌, true, not, ◌||◌, Contains, count_by, map, [], ◌∷◌}
+use Rattle.std.specs.Prelude.{◌≡◌, ◌⊎◌, ◌↔◌, ℕ, ◌-◌, true, false, not, ◌||◌, Contains, count_by, map, [], ◌∷◌}
 use Rattle.std.specs.FinSet as set
 use Rattle.std.specs.Ordering.{nat_cmp}
 use Rattle.history_machine.specs.Machine.{Space}
@@ -17,6 +17,10 @@ HasRoot s root = Contains (map (λ v. v.root) s.history.versions) root ⊎ Conta
 -- a version or a checkpoint reaches this block
 abbrev pub IsReached : Device → State → ℕ → Type 0
 IsReached d s block = (root : ℕ) × HasRoot s root × Reached (node_of d) (root ∷ []) block
+
+-- what a version or a checkpoint reaches now was reached by one before, or is in a block that was not used
+abbrev pub ReachesNew : Device → State → Device → State → Type 0
+ReachesNew old s new t = (block : ℕ) → IsReached new t block → IsReached old s block ⊎ (set.contains s.storage.ring.used block ≡ false)
 
 -- the data blocks, the bad ones among them, those that are neither bad nor reached, and the anchors that work
 pub record IsSpace (d : Device) (s : State) (space : Space) : Type 0 where

@@ -40,4 +40,4 @@ returns g c =
     let b : Moment = moment (g.F.Flash.device c.check_missing.new.flash) c.check_missing.new.self in
     let looked = c.check_missing.ensures.looked in
     change_by a b (g.F.Flash.device c.change.new.flash) c.change.new.storage c.change.new.history c.root-root.result (Call.Mkdir c.args.path.now) c.change.result c.change.ensures
-    (mkdir_change a b c.args.path.now c.requires looked c.in_ok-trail.ensures.accepted c.in_ok-trail.ensures.lawful) (omega arith) c.requires c.root-root.ensures looked refl
+    (mkdir_change a b c.args.path.now c.requires looked c.in_ok-trail.ensures.accepted c.in_ok-trail.ensures.lawful) (omega arith) c.requires c.root-root.ensures looked refl (λ _. refl)

@@ -9,7 +9,8 @@ use Rattle.fs_types.specs.declared.calls.Reply.{Reply}
 use Rattle.working_state.specs.Moments.{moment}
 use Rattle.working_state.specs.Mounted.{IsStanding}
 use Rattle.working_state.specs.Seen.{tree_on}
-use Rattle.working_state.proofs.Roots.{after_forget}
+use Rattle.working_state.specs.Roots.{HasRoot}
+use Rattle.working_state.proofs.Roots.{after_forget, same_reach, with_history}
 use Rattle.working_state.specs.Steps.{empty}
 use Rattle.working_state.proofs.Steps.{refused_off, mounted_after, answered, done, refused, never, no_cut, forget-no_cut}
 use Rattle.working_state.proofs.state.State.forget.Goals as goal
@@ -26,7 +27,7 @@ returns-clause-step c = λ device.
     let count = c.args.count in
     let r = forget_refusal s.history count in
     answered (moment device s) (Call.Forget count) r c.forget.result (forgotten s.history count) c.forget.new.self c.forget.ensures.answer c.forget.ensures.ok c.forget.ensures.err
-    (λ ok. done (moment device s) (Call.Forget count) (forgotten s.history count) Reply.Empty c.in_ok-check_power.ensures.ok refl ok (λ _. refl) (ap (λ (h : Past Tree). machine_with h s.files) (forgotten-map (tree_on device) s.history count)) (λ _. c.in_ok-check_writable.ensures.ok) (λ e. absurd (never _ e)))
+    (λ ok. done (moment device s) (Call.Forget count) (forgotten s.history count) Reply.Empty c.in_ok-check_power.ensures.ok refl ok (λ _. refl) (ap (λ (h : Past Tree). machine_with h s.files) (forgotten-map (tree_on device) s.history count)) (same_reach device s (with_history s (forgotten s.history count)) (after_forget (HasRoot s) s count (λ root has. has))) (λ _. c.in_ok-check_writable.ensures.ok) (λ e. absurd (never _ e)))
     (λ fault e. refused (moment device s) (Call.Forget count) fault c.in_ok-check_power.ensures.ok (no_cut r fault (forget-no_cut s.history count) e) (inl e))
 
 pub returns-clause-mounted : goal.returns-clause-mounted

@@ -9,6 +9,7 @@ use Rattle.fs_types.specs.declared.calls.Reply.{Reply}
 use Rattle.working_state.specs.Moments.{moment, machine_at}
 use Rattle.working_state.specs.Seen.{tree_on}
 use Rattle.working_state.specs.Steps.{empty}
+use Rattle.working_state.proofs.Roots.{same_reach, with_history}
 use Rattle.working_state.proofs.Steps.{refused_off, mounted_after, answered, done, refused_open, refused, may_travel, no_cut, serial-no_cut, never}
 use Rattle.working_state.proofs.state.State.goto.Goals as goal
 use Rattle.history_machine.specs.Machine.{machine_with}
@@ -30,7 +31,7 @@ returns-clause-step c = λ device.
     let r = serial_refusal s.history c.args.serial in
     let same = may_travel (machine_at (moment device s)) _ c.in_ok-check_none_open.ensures.ok ∙ serial_refusal-map (tree_on device) s.history c.args.serial in
     answered (moment device s) (Call.Goto c.args.serial) r c.goto.result (gone_to s.history c.args.serial) c.goto.new.self c.goto.ensures.answer c.goto.ensures.ok c.goto.ensures.err
-    (λ ok. done (moment device s) (Call.Goto c.args.serial) (gone_to s.history c.args.serial) Reply.Empty c.in_ok-check_power.ensures.ok refl (same ∙ ok) (λ _. refl) (ap (λ (h : Past Tree). machine_with h s.files) (gone_to-map (tree_on device) s.history c.args.serial)) (λ e. absurd (never _ e)) (λ e. absurd (never _ e)))
+    (λ ok. done (moment device s) (Call.Goto c.args.serial) (gone_to s.history c.args.serial) Reply.Empty c.in_ok-check_power.ensures.ok refl (same ∙ ok) (λ _. refl) (ap (λ (h : Past Tree). machine_with h s.files) (gone_to-map (tree_on device) s.history c.args.serial)) (same_reach device s (with_history s (gone_to s.history c.args.serial)) (λ root has. has)) (λ e. absurd (never _ e)) (λ e. absurd (never _ e)))
     (λ fault e. refused (moment device s) (Call.Goto c.args.serial) fault c.in_ok-check_power.ensures.ok (no_cut r fault (serial-no_cut s.history c.args.serial) e) (inl (same ∙ e)))
 
 pub returns-clause-mounted : goal.returns-clause-mounted

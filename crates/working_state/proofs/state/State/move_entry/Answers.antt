@@ -42,7 +42,7 @@ returns g c =
     let looked = c.check_rename.ensures.looked in
     let movable = (subst (IsToMove (node_of (g.F.Flash.device c.check_rename.new.flash)) c.root-root.result c.args.old.now c.args.new.now) c.in-Some.is c.in_ok-moves.ensures.movable) in
     change_by a b (g.F.Flash.device c.change.new.flash) c.change.new.storage c.change.new.history c.root-root.result (Call.Rename c.args.old.now c.args.new.now) c.change.result c.change.ensures
-    (rename_change a b c.args.old.now c.args.new.now c.requires looked c.in_ok-moves.ensures.accepted movable.0 movable.1.lawful) (omega arith) c.requires c.root-root.ensures looked refl
+    (rename_change a b c.args.old.now c.args.new.now c.requires looked c.in_ok-moves.ensures.accepted movable.0 movable.1.lawful) (omega arith) c.requires c.root-root.ensures looked refl (λ _. refl)
 
 pub returns-in_default : goal.returns-in_default
 returns-in_default g c =

@@ -99,4 +99,4 @@ returns g c =
     let opens : c.open-2.new.self ≡ opened b.state.files descriptor (record { path = path; flags = flags }) =
     c.open-2.ensures ∙ ap (λ (f : Descriptor). opened b.state.files descriptor f) (c.new-file.ensures ∙ ap (λ p. record { path = p; flags = flags }) c.in_ok-clone.ensures) in
     pushed_by a b f c.change.new.storage c.change.new.history c.open-2.new.self call (Reply.Fd descriptor) c.in_ok-change.ensures.ends by (omega arith) c.in_ok-change.ensures.written c.requires looked
-    (open_descriptors a b path flags descriptor c.open-2.new.self looked ok.descriptor opens)
+    (open_descriptors a b path flags descriptor c.open-2.new.self looked ok.descriptor opens) (λ _. refl)

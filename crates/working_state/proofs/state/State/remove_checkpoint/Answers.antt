@@ -11,7 +11,8 @@ use Rattle.fs_types.specs.declared.faults.Fault.{Fault}
 use Rattle.working_state.specs.Moments.{moment}
 use Rattle.working_state.specs.Mounted.{IsStanding}
 use Rattle.working_state.specs.Seen.{tree_on}
-use Rattle.working_state.proofs.Roots.{after_removal}
+use Rattle.working_state.specs.Roots.{HasRoot}
+use Rattle.working_state.proofs.Roots.{after_removal, same_reach, with_history}
 use Rattle.working_state.specs.Steps.{empty}
 use Rattle.working_state.proofs.Steps.{refused_off, mounted_after, answered, done, refused, refused_record, never, no_cut, name-no_cut}
 use Rattle.working_state.proofs.state.State.remove_checkpoint.Goals as goal
@@ -45,7 +46,7 @@ returns-clause-step c = λ device.
     let r = name_refusal s.history name in
     let same = name_refusal-map (tree_on device) s.history name in
     answered (moment device s) (Call.RemoveCheckpoint name) r c.remove_checkpoint.result (without_checkpoint s.history name) c.remove_checkpoint.new.self c.remove_checkpoint.ensures.answer c.remove_checkpoint.ensures.ok c.remove_checkpoint.ensures.err
-    (λ ok. done (moment device s) (Call.RemoveCheckpoint name) (without_checkpoint s.history name) Reply.Empty c.in_ok-check_power.ensures.ok refl (same ∙ ok) (λ _. refl) (ap (λ (h : Past Tree). machine_with h s.files) (without_checkpoint-map (tree_on device) s.history name)) (λ _. c.in_ok-check_writable.ensures.ok) (λ e. absurd (never _ e)))
+    (λ ok. done (moment device s) (Call.RemoveCheckpoint name) (without_checkpoint s.history name) Reply.Empty c.in_ok-check_power.ensures.ok refl (same ∙ ok) (λ _. refl) (ap (λ (h : Past Tree). machine_with h s.files) (without_checkpoint-map (tree_on device) s.history name)) (same_reach device s (with_history s (without_checkpoint s.history name)) (after_removal (HasRoot s) s name (λ root has. has))) (λ _. c.in_ok-check_writable.ensures.ok) (λ e. absurd (never _ e)))
     (λ fault e. refused (moment device s) (Call.RemoveCheckpoint name) fault c.in_ok-check_power.ensures.ok (no_cut r fault (name-no_cut s.history name) e) (inl (same ∙ e)))
 
 pub returns-clause-mounted : goal.returns-clause-mounted

@@ -43,4 +43,4 @@ returns g c =
     let b : Moment = moment (g.F.Flash.device c.check_empty.new.flash) c.check_empty.new.self in
     let looked = c.check_empty.ensures.looked in
     change_by a b (g.F.Flash.device c.change.new.flash) c.change.new.storage c.change.new.history c.root-root.result (Call.Rmdir c.args.path.now) c.change.result c.change.ensures
-    (rmdir_change a b c.args.path.now c.requires looked c.in_ok-trail.ensures.accepted c.in_ok-trail.ensures.lawful c.in_ok-trail.ensures.below) (omega arith) c.requires c.root-root.ensures looked refl
+    (rmdir_change a b c.args.path.now c.requires looked c.in_ok-trail.ensures.accepted c.in_ok-trail.ensures.lawful c.in_ok-trail.ensures.below) (omega arith) c.requires c.root-root.ensures looked refl (λ _. refl)

@@ -45,4 +45,4 @@ returns g c =
     let looked = c.check_file.ensures.looked in
     change_by a b (g.F.Flash.device c.change.new.flash) c.change.new.storage c.change.new.history c.root-root.result (Call.Unlink c.args.path.now) c.change.result c.change.ensures
     (unlink_change a b c.args.path.now c.requires looked c.in_ok-trail.ensures.accepted c.in_ok-trail.ensures.lawful
-    (file_below (node_of (g.F.Flash.device c.check_file.new.flash)) c.root-root.result c.args.path.now c.in_ok-trail.ensures.found.0 c.in_ok-trail.ensures.found.1 c.in_ok-trail.ensures.found.2)) (omega arith) c.requires c.root-root.ensures looked refl
+    (file_below (node_of (g.F.Flash.device c.check_file.new.flash)) c.root-root.result c.args.path.now c.in_ok-trail.ensures.found.0 c.in_ok-trail.ensures.found.1 c.in_ok-trail.ensures.found.2)) (omega arith) c.requires c.root-root.ensures looked refl (λ _. refl)

@@ -93,4 +93,4 @@ returns g c =
     let f = g.F.Flash.device c.change.new.flash in
     let by = changes.file_change a b call path (λ old. resized old c.args.size) Reply.Empty c.requires looked change (λ space. refl) in
     change_by a b f c.change.new.storage c.change.new.history c.root-root.result call c.change.result c.change.ensures by
-    (changes.ftruncate_few a b c.args.descriptor c.args.size path c.in_ok-body.body.head c.in_ok-body.body.length c.requires looked c.in_ok-path.ensures.path there) c.requires c.root-root.ensures looked refl
+    (changes.ftruncate_few a b c.args.descriptor c.args.size path c.in_ok-body.body.head c.in_ok-body.body.length c.requires looked c.in_ok-path.ensures.path there) c.requires c.root-root.ensures looked refl (λ _. refl)

@@ -9,6 +9,7 @@ use Rattle.fs_types.specs.declared.calls.Reply.{Reply}
 use Rattle.working_state.specs.Moments.{moment, machine_at}
 use Rattle.working_state.specs.Seen.{tree_on}
 use Rattle.working_state.specs.Steps.{empty}
+use Rattle.working_state.proofs.Roots.{same_reach, with_history}
 use Rattle.working_state.proofs.Steps.{refused_off, mounted_after, answered, done, refused_open, refused, may_travel, no_cut, undo-no_cut, never}
 use Rattle.working_state.proofs.state.State.undo.Goals as goal
 use Rattle.history_machine.specs.Machine.{machine_with}
@@ -30,7 +31,7 @@ returns-clause-step c = λ device.
     let r = undo_refusal s.history in
     let same = may_travel (machine_at (moment device s)) _ c.in_ok-check_none_open.ensures.ok ∙ undo_refusal-map (tree_on device) s.history in
     answered (moment device s) Call.Undo r c.undo.result (undone s.history) c.undo.new.self c.undo.ensures.answer c.undo.ensures.ok c.undo.ensures.err
-    (λ ok. done (moment device s) Call.Undo (undone s.history) Reply.Empty c.in_ok-check_power.ensures.ok refl (same ∙ ok) (λ _. refl) (ap (λ (h : Past Tree). machine_with h s.files) (undone-map (tree_on device) s.history)) (λ e. absurd (never _ e)) (λ e. absurd (never _ e)))
+    (λ ok. done (moment device s) Call.Undo (undone s.history) Reply.Empty c.in_ok-check_power.ensures.ok refl (same ∙ ok) (λ _. refl) (ap (λ (h : Past Tree). machine_with h s.files) (undone-map (tree_on device) s.history)) (same_reach device s (with_history s (undone s.history)) (λ root has. has)) (λ e. absurd (never _ e)) (λ e. absurd (never _ e)))
     (λ fault e. refused (moment device s) Call.Undo fault c.in_ok-check_power.ensures.ok (no_cut r fault (undo-no_cut s.history) e) (inl (same ∙ e)))
 
 pub returns-clause-mounted : goal.returns-clause-mounted

@@ -106,4 +106,4 @@ returns g c =
     let body = c.in_ok-body.body in
     let there = changes.later_body a b c.root-root.result path body.head body.length c.requires c.root-root.ensures (looked_worked a b looked) c.in_ok-body.ensures.found in
     let few = changes.pwrite_few a b c.args.descriptor c.args.offset c.args.bytes.now path body.head body.length c.requires looked c.in_ok-path.ensures.path there in
-    pushed_by a b f c.change.new.storage c.change.new.history b.state.files call (Reply.Count (length c.args.bytes.now)) c.in_ok-change.ensures.ends by few c.in_ok-change.ensures.written c.requires looked looked.rest.files
+    pushed_by a b f c.change.new.storage c.change.new.history b.state.files call (Reply.Count (length c.args.bytes.now)) c.in_ok-change.ensures.ends by few c.in_ok-change.ensures.written c.requires looked looked.rest.files (λ _. refl)

@@ -35,7 +35,7 @@ use Rattle.working_state.specs.Steps.{replied, is_cut, is_cut_answer, MayRefuse,
 use Rattle.working_state.specs.Worked.{IsLooked, ReadCause}
 use Rattle.working_state.specs.declared.state.State.{State}
 use Rattle.working_state.proofs.Refusals.{refused_step, remembering, remembered_mounted}
-use Rattle.working_state.proofs.Standing.{looked_worked, looked_leaves, worked_later, worked_machine, worked_mounted}
+use Rattle.working_state.proofs.Standing.{looked_worked, worked_reaches, looked_leaves, worked_later, worked_machine, worked_mounted}
 use Rattle.upkeep.specs.Mounts.{roots_of}
 use Rattle.upkeep.proofs.Syncs.{reached_from}
 
@@ -176,5 +176,6 @@ module _ (a b : Moment) (m : IsMountedAt a) where
           (subst (λ o. StepFrom false (o || is_cut_answer result)) (sym (is.looked.rest.is_off ∙ on)) (measured_step result is));
       leaves = looked_leaves a b Call.Df is.looked refl;
       told = λ tells. told_answer result is.told;
+      reached = worked_reaches a b m (looked_worked a b is.looked);
       stopped = λ off. absurd (both_ways a.state.is_off on off);
     }

@@ -97,6 +97,13 @@ only_name words = do
   bytes ← given (text_from word)
   name_of bytes
 
+abbrev pub path_in_view : List ℕ → List (List ℕ) → Result (Path × View) Misread
+path_in_view bytes words = do
+  named ← named_view words
+  path ← path_of bytes
+  view ← view_of named
+  Ok (path, view)
+
 abbrev pub path_and_view : List (List ℕ) → Result (Path × View) Misread
 path_and_view words = do
   parts ← one_word_and_view words

@@ -1,7 +1,7 @@
 //! Lines by the words after the first.
 ghost use Rattle.std.specs.Prelude.{◌≡◌, ◌≢◌, Ok, Err, IfOk, IfErr, map};
 ghost use Rattle.script.specs.declared.misread.Misread.TheVariants.{NoMemory};
-ghost use Rattle.script.specs.Lines.{fault_line, open_line, pread_line, pwrite_line, ftruncate_line, rename_line, read_line, only_number, only_path, only_name, path_and_view, stat_line, list_line};
+ghost use Rattle.script.specs.Lines.{fault_line, open_line, pread_line, pwrite_line, ftruncate_line, rename_line, read_line, only_number, only_path, only_name, path_and_view, path_in_view, stat_line, list_line};
 
 use crate::arguments::{
     named_view, one_word, one_word_and_view, parse_name, parse_path, three_words,
@@ -90,9 +90,7 @@ pub fn read(alloc: Global, words: &[&[u8]]) -> Result<Line, Misread>
     let path = text(alloc, path)?;
     let offset = number(offset)?;
     let count = number(count)?;
-    let view = named_view(alloc, view)?;
-    let path = parse_path(alloc, path.as_slice())?;
-    let view = view_of(&view)?;
+    let (path, view) = path_in_view(alloc, path.as_slice(), view)?;
     Ok(Line::Call(Call::ReadAt {
         view,
         path,
@@ -133,8 +131,16 @@ fn path_and_view(alloc: Global, words: &[&[u8]]) -> Result<(Path, View), Misread
 {
     let (path, view) = one_word_and_view(words)?;
     let path = text(alloc, path)?;
+    path_in_view(alloc, path.as_slice(), view)
+}
+
+/// A path, and the view that words name.
+fn path_in_view(alloc: Global, path: &[u8], view: &[&[u8]]) -> Result<(Path, View), Misread>
+    ensures ok { IfOk result (λ p. path_in_view path.now (map (λ w. w.now) view.now) ≡ Ok p) }
+    ensures err { IfErr result (λ e. e ≢ NoMemory → path_in_view path.now (map (λ w. w.now) view.now) ≡ Err e) }
+{
     let view = named_view(alloc, view)?;
-    let path = parse_path(alloc, path.as_slice())?;
+    let path = parse_path(alloc, path)?;
     let view = view_of(&view)?;
     Ok((path, view))
 }

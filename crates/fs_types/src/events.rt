@@ -7,6 +7,8 @@ use crate::faults::Fault;
 pub enum Event {
     /// A call.
     Call(Call),
+    /// A step of reclaiming, which reads so many blocks at most.
+    ReclaimStep(u64),
     /// The power is put on, and the system is mounted anew.
     Restart,
 }

@@ -245,10 +245,17 @@ read_and_marked f g p held m block bytes names pass below same is at named marke
 
 -- ---- the laws
 
-reached_same : (old new : Blocks) (roots : List ℕ) → Agrees roots old new → {b : ℕ} → Reached old roots b → Reached new roots b
+pub reached_same : (old new : Blocks) (roots : List ℕ) → Agrees roots old new → {b : ℕ} → Reached old roots b → Reached new roots b
 reached_same old new roots same {b} (IsFirst first) = IsFirst first
 reached_same old new roots same {b} (IsNamed {block = block} reached names) =
     IsNamed (reached_same old new roots same reached) (subst (λ (o : Option (List ℕ)). Names o b) (sym (same block reached)) names)
+
+-- and back: what is reached later was reached before
+pub reached_back : (old new : Blocks) (roots : List ℕ) → Agrees roots old new → {b : ℕ} → Reached new roots b → Reached old roots b
+reached_back old new roots same {b} (IsFirst first) = IsFirst first
+reached_back old new roots same {b} (IsNamed {block = block} reached names) =
+    let there = reached_back old new roots same reached in
+    IsNamed there (subst (λ (o : Option (List ℕ)). Names o b) (same block there) names)
 
 pub pass_stays : PassStays
 pass_stays old new p same pass = record {

@@ -76,8 +76,7 @@ impl Pass {
     pub fn step<N: Nodes>(&mut self, nodes: &mut N, budget: u64) -> Result<bool, Fault>
         requires sound { N.is_sound nodes.old }
         requires blocks { self.old.blocks ≡ N.blocks nodes.old }
-        requires pass { IsPass (N.node nodes.old) self.old }
-        ensures pass { OnOk result (IsPass (N.node nodes.new) self.new) }
+        ensures pass { IsPass (N.node nodes.old) self.old → OnOk result (IsPass (N.node nodes.new) self.new) }
         ensures same { (self.new.blocks ≡ self.old.blocks) × (self.new.roots ≡ self.old.roots) }
         ensures begins { Begins self.old.order self.new.order }
 
@@ -88,10 +87,10 @@ impl Pass {
         ensures reads { N.reads nodes.new ≤ N.reads nodes.old + budget }
 
         // Whatever is answered, each read was of another block that the roots reach.
-        ensures seen { HasRead (N.node nodes.old) self.old (N.reads nodes.old) (N.reads nodes.new) }
+        ensures seen { IsPass (N.node nodes.old) self.old → HasRead (N.node nodes.old) self.old (N.reads nodes.old) (N.reads nodes.new) }
 
         // Damaged where a block that the roots reach has no node, and only there.
-        ensures damaged { IsErrOf result Fault.Damaged → (b : ℕ) × Reached (N.node nodes.old) self.old.roots b × (N.node nodes.old b ≡ None) }
+        ensures damaged { IsPass (N.node nodes.old) self.old → IsErrOf result Fault.Damaged → (b : ℕ) × Reached (N.node nodes.old) self.old.roots b × (N.node nodes.old b ≡ None) }
         ensures why { IfErr result (λ fault. fault ≢ Fault.Damaged → N.causes nodes.old nodes.new fault) }
         ensures faults { IfErr result IsReadFault }
         ensures looks { OnlyLooks N.node N.kept N.writes N.follows N.is_sound N.limit N.blocks nodes.old nodes.new }
@@ -157,12 +156,11 @@ impl Pass {
         requires sound { N.is_sound nodes.old }
         requires blocks { self.old.blocks ≡ N.blocks nodes.old }
         requires left { self.old.next < length self.old.order }
-        requires pass { IsPass (N.node nodes.old) self.old }
-        ensures pass { OnOk result (IsPass (N.node nodes.new) self.new) }
+        ensures pass { IsPass (N.node nodes.old) self.old → OnOk result (IsPass (N.node nodes.new) self.new) }
         ensures next { OnOk result (self.new.next ≡ self.old.next + 1) }
         ensures same { (self.new.blocks ≡ self.old.blocks) × (self.new.roots ≡ self.old.roots) }
         ensures begins { Begins self.old.order self.new.order }
-        ensures damaged { IsErrOf result Fault.Damaged → (b : ℕ) × Reached (N.node nodes.old) self.old.roots b × (N.node nodes.old b ≡ None) }
+        ensures damaged { IsPass (N.node nodes.old) self.old → IsErrOf result Fault.Damaged → (b : ℕ) × Reached (N.node nodes.old) self.old.roots b × (N.node nodes.old b ≡ None) }
         ensures why { IfErr result (λ fault. fault ≢ Fault.Damaged → N.causes nodes.old nodes.new fault) }
         ensures faults { IfErr result IsReadFault }
         ensures looks { OnlyLooks N.node N.kept N.writes N.follows N.is_sound N.limit N.blocks nodes.old nodes.new }

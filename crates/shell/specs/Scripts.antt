@@ -23,9 +23,10 @@ use Rattle.undofs.specs.Runs.{World, Mounts, Happens}
 use Rattle.undofs.specs.Sessions.{Session}
 use Rattle.shell.specs.declared.scripts.ScriptFault.{ScriptFault}
 
--- the event that a line asks for: a call, or a restart
+-- the event that a line asks for: a call, a step of reclaiming, or a restart
 abbrev pub event_of : Line → Option Event
 event_of (Line.Call call) = Some (Event.Call call)
+event_of (Line.ReclaimStep budget) = Some (Event.ReclaimStep budget)
 event_of Line.Restart = Some Event.Restart
 event_of _ = None
 
@@ -41,7 +42,7 @@ Plans old k kind answer new =
     ⊎ ((answer ≡ LineAnswer.Told (Answer.Refused Fault.Invalid)) × IsFull old k kind × (new ≡ old))
 
 -- the answer to a line that asks for no event: a refused path or name is refused; a fault is planned as the line says; and
--- what has no form of a line, and a step of reclaiming, is told so
+-- what has no form of a line is told so
 abbrev pub IsStillAnswer : Line → Schedule → LineAnswer → Schedule → Type 0
 IsStillAnswer (Line.Refused fault) old answer new = (answer ≡ LineAnswer.Told (Answer.Refused fault)) × (new ≡ old)
 IsStillAnswer (Line.PlanFault (suc k) kind) old answer new = Plans old (suc k) kind answer new

@@ -103,7 +103,7 @@ fn next<R: Read>(
     }
 }
 
-/// Carries out what a line asks. A step of reclaiming is not built yet, and has no form of a line.
+/// Carries out what a line asks.
 fn carry_out(
     alloc: Global,
     flash: &mut SimFlash,
@@ -116,10 +116,13 @@ fn carry_out(
 {
     match line {
         Line::Call(call) => LineAnswer::Told(serve(alloc, flash, system, &Event::Call(call))),
+        Line::ReclaimStep(budget) => {
+            LineAnswer::Told(serve(alloc, flash, system, &Event::ReclaimStep(budget)))
+        }
         Line::Restart => LineAnswer::Told(serve(alloc, flash, system, &Event::Restart)),
         Line::Refused(fault) => LineAnswer::Told(Answer::Refused(fault)),
         Line::PlanFault { k, kind } => plan_fault(flash, k, kind),
-        Line::ReclaimStep(_) | Line::Syntax => LineAnswer::Syntax,
+        Line::Syntax => LineAnswer::Syntax,
     }
 }
 

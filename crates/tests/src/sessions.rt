@@ -1,4 +1,4 @@
-//! Sessions of calls and restarts, with ample memory: their whole logs.
+//! Sessions of calls, steps of reclaiming and restarts, with ample memory: their whole logs.
 use crate::mounts::formatted;
 use flash_model::{FaultKind, Geometry, Planned, PlannedFault, SimFlash};
 use fs_types::{Answer, Event, Fault};
@@ -17,6 +17,7 @@ const SIZES: Geometry = Geometry {
 fn event_of(alloc: Global, line: &str) -> Result<Event, Fault> {
     match read_line(alloc, line.as_bytes())? {
         Line::Call(call) => Ok(Event::Call(call)),
+        Line::ReclaimStep(budget) => Ok(Event::ReclaimStep(budget)),
         Line::Restart => Ok(Event::Restart),
         _ => Err(Fault::Invalid),
     }
@@ -72,7 +73,7 @@ fn a_restart_follows_a_sync_that_was_cut(rt: HostRuntime) -> Result<(), Fail> {
 }
 
 /// Scripts of sessions on a formatted flash, each with its log.
-const SESSIONS: [(&str, &str); 5] = [
+const SESSIONS: [(&str, &str); 6] = [
     ("", "mounted\n"),
     (
         "mkdir /a\nsync\nmkdir /b\nrestart\nls /\nlog\n",
@@ -85,6 +86,10 @@ const SESSIONS: [(&str, &str); 5] = [
     (
         "mkdir /a\ncheckpoint v\nsync\nrmdir /a\ncheckpoint w\nrestart\nls / =v\nls / =w\nrmcheckpoint v\nrestart\nls / =v\nrollback v\n",
         "mounted\nok\nok\nok\nok\nok\nmounted\nentries 1 a/\nerr NOSUCHVERSION 20\nok\nmounted\nentries 1 a/\nok\n",
+    ),
+    (
+        "mkdir /a\nreclaim 2\nreclaim 2\nreclaim 3\nreclaim 0\n",
+        "mounted\nok\nmore\ndone\ndone\nmore\n",
     ),
     (
         "restart\nmkdir /a\nmkdir /b\nundo\nsync\nredo\nrestart\nrestart\nls /\nredo\nls /\n",

@@ -1,5 +1,5 @@
 -- What a system shows after a run.
-use Rattle.std.proofs.Common.{◌≡◌, ℕ, zero, suc, ◌≤◌, Bool, true, false, Ok, List, [], ◌∷◌, ◌++◌, length, take, refl, sym, ap, subst, ◌∙◌, ◌⊎◌, inl, inr, arith}
+use Rattle.std.proofs.Common.{◌≡◌, ℕ, zero, suc, ◌≤◌, Bool, true, false, Result, Ok, Err, List, [], ◌∷◌, ◌++◌, length, take, refl, sym, ap, subst, ◌∙◌, ◌⊎◌, inl, inr, arith}
 use Rattle.std.specs.Prelude.{Contains, if◌then◌else◌}
 use Rattle.std.proofs.lemmas.List.{take-append-le, length-append, take_all}
 use Rattle.std.proofs.lemmas.List.Elements.{Contains-append_cases}
@@ -8,9 +8,10 @@ use Rattle.plain_trees.specs.Trees.{Tree}
 use Rattle.history_machine.specs.Machine.{Machine, mounted, next, after}
 use Rattle.fs_types.specs.declared.calls.Call.{Call}
 use Rattle.fs_types.specs.declared.calls.Reply.{Reply}
+use Rattle.fs_types.specs.declared.faults.Fault.{Fault}
 use Rattle.working_state.specs.Seen.{machine_on}
 use Rattle.working_state.specs.Steps.{is_sync}
-use Rattle.undofs.specs.Runs.{World, Shows, found_after, Happens, Run}
+use Rattle.undofs.specs.Runs.{World, Shows, found_after, ReclaimsOn, Happens, Run}
 use Rattle.undofs.specs.Courses.{Course, no_calls, with_call, Goes, Leads, after_mounts, after_course, CourseLaw}
 use Rattle.fs_types.specs.declared.events.Event.{Event}
 use Rattle.fs_types.specs.declared.events.Answer.{Answer}
@@ -104,6 +105,14 @@ accepts m w v c call reply stands here =
     on true = omega (arith, longer c call)
     on false = omega (arith, longer c call, stands.within)
 
+-- a step of reclaiming
+reclaims : (m : Machine) (w v : World) (c : Course) (budget : ℕ) (result : Result Bool Fault) → Stands m w c → ReclaimsOn w budget result v → Stands m v c
+reclaims m w v c budget result stands here = record {
+  shown = λ n is. sym (shown v n here.after is here.is) ∙ here.step.stays.machine ∙ stands.shown (machine_on w.device here.before.state) (here.before, here.was, refl);
+  found = λ h has. stands.found h (subst (λ (x : List (Past Tree)). Contains x h) here.found has);
+  within = stands.within;
+}
+
 -- a step after which no call is more
 goes : (m : Machine) (w v : World) (c : Course) (event : Event) (answer : Answer) → Stands m w c → Happens w event answer v → (d : Course) × Goes c event answer d × Stands m v d
 goes m w v c (Event.Call call) (Answer.Done reply) stands here = (with_call c call, refl, accepts m w v c call reply stands here)
@@ -120,6 +129,10 @@ goes m w v c (Event.Call call) (Answer.Refused fault) stands here =
     )
 goes m w v c (Event.Call call) Answer.Mounted stands here = absurd here
 goes m w v c (Event.Call call) Answer.Unmounted stands here = (c, refl, subst (λ (x : World). Stands m x c) (sym here.1) stands)
+goes m w v c (Event.ReclaimStep budget) (Answer.Done reply) stands here = (c, refl, reclaims m w v c budget (Ok here.0) stands here.2)
+goes m w v c (Event.ReclaimStep budget) (Answer.Refused fault) stands here = (c, refl, reclaims m w v c budget (Err fault) stands here)
+goes m w v c (Event.ReclaimStep budget) Answer.Mounted stands here = absurd here
+goes m w v c (Event.ReclaimStep budget) Answer.Unmounted stands here = (c, refl, subst (λ (x : World). Stands m x c) (sym here.1) stands)
 goes m w v c Event.Restart (Answer.Done reply) stands here = absurd here
 goes m w v c Event.Restart (Answer.Refused fault) stands here = (
   c,

@@ -1,5 +1,5 @@
 -- What is shown after a session on a flash that was formatted, and what is given back from there.
-use Rattle.std.proofs.Common.{◌≡◌, ℕ, zero, suc, Bool, true, false, Some, None, List, [], ◌∷◌, refl, sym, ap, subst, ◌∙◌, arith}
+use Rattle.std.proofs.Common.{◌≡◌, ℕ, zero, suc, Bool, true, false, Some, None, Result, Ok, Err, List, [], ◌∷◌, refl, sym, ap, subst, ◌∙◌, arith}
 use Rattle.std.specs.Prelude.{Contains, IsOk}
 use Rattle.std.specs.Option.{option_map}
 use Rattle.history_machine.specs.Descriptors.{any_open}
@@ -10,13 +10,14 @@ use Rattle.plain_trees.specs.Trees.{Tree, bare}
 use Rattle.fs_types.specs.declared.calls.Call.{Call}
 use Rattle.fs_types.specs.declared.events.Event.{Event}
 use Rattle.fs_types.specs.declared.events.Answer.{Answer}
+use Rattle.fs_types.specs.declared.faults.Fault.{Fault}
 use Rattle.fs_types.specs.declared.faults.Fault.TheVariants.{Busy}
 use Rattle.flash_model.specs.Device.{Device}
 use Rattle.working_state.specs.Seen.{machine_on}
 use Rattle.upkeep.specs.Mounts.{trees_of}
 use Rattle.upkeep.specs.Systems.{IsSystem}
 use Rattle.upkeep.specs.declared.systems.System.{System}
-use Rattle.undofs.specs.Runs.{World, Shows, Happens, Mounts, Run, AreCalls, accepted}
+use Rattle.undofs.specs.Runs.{World, Shows, Happens, ReclaimsOn, Mounts, Run, NoneRestarts, accepted}
 use Rattle.undofs.specs.Headline.{Accepts, Answers, GivesBack, HeadlineLaw}
 use Rattle.undofs.proofs.CourseLaws.{course_law}
 use Rattle.undofs.proofs.RunLaws.{shown, refused_keeps, not_both}
@@ -29,7 +30,11 @@ accepts_next w v m call is (reply, here) =
     let was = shown w m here.before is here.was in
     (ap (λ (x : Machine). refusal x call) (sym was) ∙ done.accepted, (here.after, here.is, done.leaves ∙ ap (λ (x : Machine). next x call) was))
 
-shows_after : (w : World) (m : Machine) (events : List Event) (answers : List Answer) (v : World) → Shows w m → AreCalls events → Run w events answers v → Shows v (after m (accepted events answers))
+-- a step of reclaiming leaves what is shown
+reclaim_shows : (w v : World) (m : Machine) (budget : ℕ) (result : Result Bool Fault) → Shows w m → ReclaimsOn w budget result v → Shows v m
+reclaim_shows w v m budget result is here = (here.after, here.is, here.step.stays.machine ∙ shown w m here.before is here.was)
+
+shows_after : (w : World) (m : Machine) (events : List Event) (answers : List Answer) (v : World) → Shows w m → NoneRestarts events → Run w events answers v → Shows v (after m (accepted events answers))
 shows_after w m [] [] v is calls run = subst (λ (x : World). Shows x m) (sym run) is
 shows_after w m [] (answer ∷ answers) v is calls run = absurd run
 shows_after w m (event ∷ events) [] v is calls run = absurd run
@@ -40,6 +45,12 @@ shows_after w m (Event.Call call ∷ events) (Answer.Refused fault ∷ answers) 
     shows_after between m events answers v (here.after, here.is, stays) calls rest
 shows_after w m (Event.Call call ∷ events) (Answer.Mounted ∷ answers) v is calls (between, here, rest) = absurd here
 shows_after w m (Event.Call call ∷ events) (Answer.Unmounted ∷ answers) v is calls (between, here, rest) = absurd (not_both w is.0 is.1 here.0)
+shows_after w m (Event.ReclaimStep budget ∷ events) (Answer.Done reply ∷ answers) v is calls (between, here, rest) =
+    shows_after between m events answers v (reclaim_shows w between m budget (Ok here.0) is here.2) calls rest
+shows_after w m (Event.ReclaimStep budget ∷ events) (Answer.Refused fault ∷ answers) v is calls (between, here, rest) =
+    shows_after between m events answers v (reclaim_shows w between m budget (Err fault) is here) calls rest
+shows_after w m (Event.ReclaimStep budget ∷ events) (Answer.Mounted ∷ answers) v is calls (between, here, rest) = absurd here
+shows_after w m (Event.ReclaimStep budget ∷ events) (Answer.Unmounted ∷ answers) v is calls (between, here, rest) = absurd (not_both w is.0 is.1 here.0)
 shows_after w m (Event.Restart ∷ events) (answer ∷ answers) v is calls run = absurd calls
 
 answers_after : (w v : World) (m : Machine) (calls : List Call) → Shows w m → Answers w calls v → Shows v (after m calls)
@@ -110,6 +121,10 @@ holds_on w (event ∷ events) (answer ∷ answers) v holds (between, here, rest)
     next_holds (Event.Call call) (Answer.Refused fault) here = λ s is. the_system between here.after s here.is here.mounted is
     next_holds (Event.Call call) Answer.Mounted here = absurd here
     next_holds (Event.Call call) Answer.Unmounted here = subst Holds (sym here.1) holds
+    next_holds (Event.ReclaimStep budget) (Answer.Done reply) here = λ s is. the_system between here.2.after s here.2.is here.2.mounted is
+    next_holds (Event.ReclaimStep budget) (Answer.Refused fault) here = λ s is. the_system between here.after s here.is here.mounted is
+    next_holds (Event.ReclaimStep budget) Answer.Mounted here = absurd here
+    next_holds (Event.ReclaimStep budget) Answer.Unmounted here = subst Holds (sym here.1) holds
     next_holds Event.Restart (Answer.Done reply) here = absurd here
     next_holds Event.Restart (Answer.Refused fault) here = λ s is. absurd (not_both between s is here.0)
     next_holds Event.Restart Answer.Mounted here = λ s is. the_system between here.system s here.is here.mounted is

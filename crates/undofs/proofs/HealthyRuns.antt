@@ -94,6 +94,7 @@ failures_grow w (Event.Call call ∷ events) (Answer.Unmounted ∷ answers) v ca
     let same : between.device.failures ≡ w.device.failures = ap (λ (x : World). x.device.failures) here.1 in
     let later = failures_grow between events answers v calls rest in
     omega arith
+failures_grow w (Event.ReclaimStep budget ∷ events) (answer ∷ answers) v calls run = absurd calls
 failures_grow w (Event.Restart ∷ events) (answer ∷ answers) v calls run = absurd calls
 
 -- what is answered from a machine on, where so many blocks are free
@@ -145,6 +146,7 @@ healthy w s m (Event.Call call ∷ events) (Answer.Refused fault ∷ answers) v 
     (healthy between here.after m events answers v here.is stays calls rest (omega arith) still)
 healthy w s m (Event.Call call ∷ events) (Answer.Mounted ∷ answers) v is shows calls (between, here, rest) none writable = absurd here
 healthy w s m (Event.Call call ∷ events) (Answer.Unmounted ∷ answers) v is shows calls (between, here, rest) none writable = absurd (let gone = here.0 in cc)
+healthy w s m (Event.ReclaimStep budget ∷ events) (answer ∷ answers) v is shows calls run none writable = absurd calls
 healthy w s m (Event.Restart ∷ events) (answer ∷ answers) v is shows calls run none writable = absurd calls
 
 pub healthy_law : HealthyLaw

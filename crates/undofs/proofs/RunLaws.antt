@@ -61,6 +61,12 @@ stopped w (Event.Call call ∷ events) (Answer.Mounted ∷ answers) v stops (bet
 stopped w (Event.Call call ∷ events) (Answer.Unmounted ∷ answers) v stops (between, here, rest) none =
     let on = stopped between events answers v (ap (λ (x : World). x.system) here.1 ∙ stops) rest none.1 in
     (on.0 ∙ ap (λ (x : World). x.found) here.1, on.1)
+stopped w (Event.ReclaimStep budget ∷ events) (Answer.Done reply ∷ answers) v stops (between, here, rest) none = absurd (not_both w here.2.before here.2.was stops)
+stopped w (Event.ReclaimStep budget ∷ events) (Answer.Refused fault ∷ answers) v stops (between, here, rest) none = absurd (not_both w here.before here.was stops)
+stopped w (Event.ReclaimStep budget ∷ events) (Answer.Mounted ∷ answers) v stops (between, here, rest) none = absurd here
+stopped w (Event.ReclaimStep budget ∷ events) (Answer.Unmounted ∷ answers) v stops (between, here, rest) none =
+    let on = stopped between events answers v (ap (λ (x : World). x.system) here.1 ∙ stops) rest none.1 in
+    (on.0 ∙ ap (λ (x : World). x.found) here.1, on.1)
 stopped w (Event.Restart ∷ events) (Answer.Done reply ∷ answers) v stops (between, here, rest) none = absurd here
 stopped w (Event.Restart ∷ events) (Answer.Refused fault ∷ answers) v stops (between, here, rest) none =
     let on = stopped between events answers v here.0 rest none.1 in
@@ -87,6 +93,14 @@ grows w m (Event.Call call ∷ events) (Answer.Refused fault ∷ answers) v is (
     ∙ ap (λ (x : List (Past Tree)). x ++ later m (accepted events answers)) here.found
 grows w m (Event.Call call ∷ events) (Answer.Mounted ∷ answers) v is (between, here, rest) none = absurd here
 grows w m (Event.Call call ∷ events) (Answer.Unmounted ∷ answers) v is (between, here, rest) none = absurd (not_both w is.0 is.1 here.0)
+grows w m (Event.ReclaimStep budget ∷ events) (Answer.Done reply ∷ answers) v is (between, here, rest) none =
+    grows between m events answers v (here.2.after, here.2.is, here.2.step.stays.machine ∙ shown w m here.2.before is here.2.was) rest none.1
+    ∙ ap (λ (x : List (Past Tree)). x ++ later m (accepted events answers)) here.2.found
+grows w m (Event.ReclaimStep budget ∷ events) (Answer.Refused fault ∷ answers) v is (between, here, rest) none =
+    grows between m events answers v (here.after, here.is, here.step.stays.machine ∙ shown w m here.before is here.was) rest none.1
+    ∙ ap (λ (x : List (Past Tree)). x ++ later m (accepted events answers)) here.found
+grows w m (Event.ReclaimStep budget ∷ events) (Answer.Mounted ∷ answers) v is (between, here, rest) none = absurd here
+grows w m (Event.ReclaimStep budget ∷ events) (Answer.Unmounted ∷ answers) v is (between, here, rest) none = absurd (not_both w is.0 is.1 here.0)
 grows w m (Event.Restart ∷ events) (Answer.Done reply ∷ answers) v is (between, here, rest) none = absurd here
 grows w m (Event.Restart ∷ events) (Answer.Refused fault ∷ answers) v is (between, here, rest) none =
     let on = stopped between events answers v here.0 rest none.1 in
@@ -107,6 +121,10 @@ commit_law w v (Event.Call call) (Answer.Done reply) here sync = (machine_on v.d
 commit_law w v (Event.Call call) (Answer.Refused fault) here sync = absurd (cc)
 commit_law w v (Event.Call call) Answer.Mounted here sync = absurd here
 commit_law w v (Event.Call call) Answer.Unmounted here sync = absurd (cc)
+commit_law w v (Event.ReclaimStep budget) (Answer.Done reply) here sync = absurd (cc)
+commit_law w v (Event.ReclaimStep budget) (Answer.Refused fault) here sync = absurd (cc)
+commit_law w v (Event.ReclaimStep budget) Answer.Mounted here sync = absurd here
+commit_law w v (Event.ReclaimStep budget) Answer.Unmounted here sync = absurd (cc)
 commit_law w v Event.Restart (Answer.Done reply) here sync = absurd here
 commit_law w v Event.Restart (Answer.Refused fault) here sync = absurd (cc)
 commit_law w v Event.Restart Answer.Mounted here sync = (mounted here.history, (here.system, here.is, here.machine), here.alone)

@@ -1,4 +1,4 @@
--- What a call, a mount and a restart leave of a world.
+-- What a call, a step of reclaiming, a mount and a restart leave of a world.
 use Rattle.std.proofs.Common.{◌≡◌, ◌⊎◌, inl, inr, ℕ, Bool, true, false, Option, Some, None, Result, Ok, Err, List, [], ◌∷◌, ◌++◌, refl, sym, ap, subst, ◌∙◌, arith}
 use Rattle.std.proofs.lemmas.Bool.{true≢false, cases_eq}
 use Rattle.std.proofs.lemmas.List.Elements.{Contains-append_left, Contains-push}
@@ -26,12 +26,13 @@ use Rattle.working_state.specs.Seen.{machine_on}
 use Rattle.working_state.specs.Steps.{is_sync}
 use Rattle.upkeep.specs.Commits.{SystemStep}
 use Rattle.upkeep.specs.Mounts.{trees_of, IsMountOf, MountCause}
+use Rattle.upkeep.specs.Reclaiming.{Reclaims}
 use Rattle.upkeep.specs.Saved.{record_in, saved_on, saved_trees, IsWhole}
 use Rattle.upkeep.specs.Systems.{IsSystem}
 use Rattle.upkeep.specs.declared.systems.System.{System}
 use Rattle.upkeep.proofs.SameRecords.{still_saved, same_trees, still_whole}
 use Rattle.upkeep.proofs.Syncs.{sync_syncs, fsync_syncs}
-use Rattle.undofs.specs.Runs.{Shows, IsSaved, found_after, put_on, MayRefuseMount, Mounts}
+use Rattle.undofs.specs.Runs.{Shows, IsSaved, found_after, ReclaimsOn, put_on, MayRefuseMount, Mounts}
 use Rattle.undofs.specs.Sessions.{Stands, world, Serves, Starts}
 use Rattle.undofs.proofs.RunLaws.{shown, refused_keeps}
 
@@ -119,6 +120,33 @@ call_serves d m call (Err fault) e n step system found stands =
 -- without a system nothing is done
 pub unmounted_serves : (d : Device) (call : Call) → Serves d None (Event.Call call) Answer.Unmounted d None
 unmounted_serves d call found stands = (found, (refl, refl), stands)
+
+-- ---- after a step of reclaiming
+
+abbrev pub step_answer : Result Bool Fault → Answer
+step_answer (Ok done) = Answer.Done (Reply.Step done)
+step_answer (Err fault) = Answer.Refused fault
+
+module _ (d : Device) (m : System) (budget : ℕ) (e : Device) (n : System) (found : List (Past Tree)) (stands : Stands (world d (Some m) found)) where
+  step_saved : (result : Result Bool Fault) → Reclaims d m budget result e n → IsSaved e found
+  step_saved result step = stays_saved d e stands.lawful step.stays.reads.geometry step.stays.reads.pages found stands.saved
+
+  step_happens : (result : Result Bool Fault) → Reclaims d m budget result e n → IsSystem e n → ReclaimsOn (world d (Some m) found) budget result (world e (Some n) found)
+  step_happens result step system = record { before = m; after = n; was = refl; is = refl; step = step; mounted = system; found = refl; saved = step_saved result step }
+
+  step_stands : (result : Result Bool Fault) → Reclaims d m budget result e n → IsSystem e n → Stands (world e (Some n) found)
+  step_stands result step system = record {
+    lawful = system.mounted.lawful;
+    saved = step_saved result step;
+    shown = shows_system e n found (subst (λ (x : Machine). Contains found x.history) (sym step.stays.machine) (stands.shown (machine_on d m.state) (m, refl, refl)));
+  }
+
+pub step_serves : (d : Device) (m : System) (budget : ℕ) (result : Result Bool Fault) (e : Device) (n : System) → Reclaims d m budget result e n → IsSystem e n
+    → Serves d (Some m) (Event.ReclaimStep budget) (step_answer result) e (Some n)
+step_serves d m budget (Ok done) e n step system found stands =
+    (found, (done, refl, step_happens d m budget e n found stands (Ok done) step system), step_stands d m budget e n found stands (Ok done) step system)
+step_serves d m budget (Err fault) e n step system found stands =
+    (found, step_happens d m budget e n found stands (Err fault) step system, step_stands d m budget e n found stands (Err fault) step system)
 
 -- ---- after a mount
 

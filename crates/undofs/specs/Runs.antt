@@ -1,4 +1,4 @@
--- Runs of calls and restarts: what each event answers, and the world that it leaves.
+-- Runs of calls, steps of reclaiming and restarts: what each event answers, and the world that it leaves.
 use Rattle.std.specs.Prelude.{◌≡◌, ◌≢◌, ℕ, ◌+◌, ◌<◌, ◌≤◌, Bool, true, false, Option, Some, None, Result, Ok, Err, List, [], ◌∷◌, ◌++◌, length, take, Contains, ⊤, if◌then◌else◌}
 use Rattle.history_machine.specs.History.{Past}
 use Rattle.plain_trees.specs.Trees.{Tree}
@@ -13,6 +13,7 @@ use Rattle.working_state.specs.Seen.{capacity_of, seen_on, machine_on}
 use Rattle.working_state.specs.Steps.{is_sync}
 use Rattle.upkeep.specs.Commits.{SystemStep}
 use Rattle.upkeep.specs.Mounts.{IsMountOf}
+use Rattle.upkeep.specs.Reclaiming.{Reclaims}
 use Rattle.upkeep.specs.Saved.{saved_trees, IsWhole}
 use Rattle.upkeep.specs.Systems.{IsSystem}
 use Rattle.upkeep.specs.declared.systems.System.{System}
@@ -55,6 +56,17 @@ pub record Calls (w : World) (call : Call) (result : Result Reply Fault) (v : Wo
   pub found : v.found ≡ found_after call result w.found (machine_on v.device after.state).history
   pub saved : IsSaved v.device v.found
 
+-- a step of reclaiming on a mounted system: it only reads, and the machine and what a restart may find are as they were
+pub record ReclaimsOn (w : World) (budget : ℕ) (result : Result Bool Fault) (v : World) : Type 0 where
+  pub before : System
+  pub after : System
+  pub was : w.system ≡ Some before
+  pub is : v.system ≡ Some after
+  pub step : Reclaims w.device before budget result v.device after
+  pub mounted : IsSystem v.device after
+  pub found : v.found ≡ w.found
+  pub saved : IsSaved v.device v.found
+
 -- the same flash with the power on
 abbrev pub put_on : Device → Device
 put_on d = record d { powered = true }
@@ -94,6 +106,10 @@ Happens w (Event.Call call) (Answer.Done reply) v = Calls w call (Ok reply) v
 Happens w (Event.Call call) (Answer.Refused fault) v = Calls w call (Err fault) v
 Happens w (Event.Call call) Answer.Mounted v = ⊥
 Happens w (Event.Call call) Answer.Unmounted v = (w.system ≡ None) × (v ≡ w)
+Happens w (Event.ReclaimStep budget) (Answer.Done reply) v = (done : Bool) × (reply ≡ Reply.Step done) × ReclaimsOn w budget (Ok done) v
+Happens w (Event.ReclaimStep budget) (Answer.Refused fault) v = ReclaimsOn w budget (Err fault) v
+Happens w (Event.ReclaimStep budget) Answer.Mounted v = ⊥
+Happens w (Event.ReclaimStep budget) Answer.Unmounted v = (w.system ≡ None) × (v ≡ w)
 Happens w Event.Restart answer v = Mounts (put_on w.device) w.found answer v
 
 -- events in order, each with its answer: from the first world to the last
@@ -135,7 +151,13 @@ PrefixLaw = (w v u : World) (m : Machine) (events : List Event) (answers : List 
 abbrev pub AreCalls : List Event → Type 0
 AreCalls [] = ⊤
 AreCalls (Event.Call call ∷ events) = AreCalls events
-AreCalls (Event.Restart ∷ events) = ⊥
+AreCalls (event ∷ events) = ⊥
+
+-- none of the events is a restart
+abbrev pub NoneRestarts : List Event → Type 0
+NoneRestarts [] = ⊤
+NoneRestarts (Event.Restart ∷ events) = ⊥
+NoneRestarts (event ∷ events) = NoneRestarts events
 
 -- how many nodes calls need at most that were answered so, each on the machine that those before it left
 abbrev pub nodes_needed : ℕ → Machine → List Event → List Answer → ℕ

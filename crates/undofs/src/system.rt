@@ -30,6 +30,7 @@ impl<'f, F: Flash> Fs<'f, F> {
     ghost use Rattle.flash_model.specs.Reading.{OnlyReads};
     ghost use Rattle.upkeep.specs.Moments.{moment};
     ghost use Rattle.upkeep.specs.Mounts.{IsMountOf};
+    ghost use Rattle.upkeep.specs.Reclaiming.{Reclaims};
     ghost use Rattle.undofs.specs.Systems.{moment_of, Steps, KeepsAllPages, flash_name};
 
     /// Mounts what the newest record of a flash holds, as [`mount`] does.
@@ -293,6 +294,15 @@ impl<'f, F: Flash> Fs<'f, F> {
         ensures same_flash { flash_name self.new ≡ flash_name self.old }
     {
         self.system.df(alloc, self.flash)
+    }
+
+    /// Takes a step of reclaiming: reads `budget` blocks more of those in use, or all that remain, and
+    /// then the others are free ([`System::reclaim_step`]). Whether none remained.
+    pub fn reclaim_step(&mut self, alloc: Global, budget: u64) -> Result<bool, Fault>
+        ensures step { Reclaims (F.device self.old.flash.now) self.old.system budget result (F.device self.new.flash.now) self.new.system }
+        ensures same_flash { flash_name self.new ≡ flash_name self.old }
+    {
+        self.system.reclaim_step(alloc, self.flash, budget)
     }
 
     /// Carries out a call, and answers its reply. Its step says what that of each call

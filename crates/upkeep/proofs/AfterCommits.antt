@@ -1,7 +1,7 @@
 -- A system after a commit: it is mounted as before, and the newest record is the working history, or what it was.
 use Rattle.std.proofs.Common.{◌≡◌, ◌≢◌, ◌⊎◌, inl, inr, ℕ, ◌+◌, ◌<◌, ◌≤◌, Bool, true, false, ◌||◌, Option, Some, None, Result, Ok, Err, map, refl, sym, ap, subst, ◌∙◌, arith}
 use Rattle.std.proofs.lemmas.Bool.{true≢false}
-use Rattle.std.specs.Prelude.{is_some, Contains, ◌/◌, vec_len, vec_capacity}
+use Rattle.std.specs.Prelude.{is_some, IfSome, Contains, ◌/◌, vec_len, vec_capacity}
 use Rattle.std.specs.FinSet as set
 use Rattle.std.specs.Ordering.{nat_cmp}
 use Rattle.std.specs.Option.{option_map}
@@ -29,7 +29,7 @@ use Rattle.working_state.specs.declared.state.State.{State}
 use Rattle.upkeep.specs.Mounts.{history_of, roots_of, trees_of}
 use Rattle.upkeep.specs.Saved.{saved_on, saved_trees}
 use Rattle.upkeep.specs.Commits.{record_on, Saves}
-use Rattle.upkeep.specs.Systems.{IsSystem, IsKnown}
+use Rattle.upkeep.specs.Systems.{IsSystem, IsKnown, IsRunning}
 use Rattle.upkeep.specs.declared.systems.System.{System}
 use Rattle.upkeep.proofs.SameNodes.{HasSameData, same_tree, stands_too}
 use Rattle.upkeep.proofs.Committed.{same_saved, IsNewly, newly_saved}
@@ -69,7 +69,7 @@ module _ {T : Type 0} (d e : Device) (m n : System) (result : Result T Fault) (s
   pub same : HasSameData d e
   same = record { lawful = s.mounted.lawful; geometry = saves.only_anchors.geometry; data_pages = saves.only_anchors.data_pages }
 
-  same_history : n.state.history ≡ m.state.history
+  pub same_history : n.state.history ≡ m.state.history
   same_history = ap (λ (t : State). t.history) saves.state
 
   same_ring : n.state.storage.ring ≡ m.state.storage.ring
@@ -138,11 +138,15 @@ module _ {T : Type 0} (d e : Device) (m n : System) (result : Result T Fault) (s
       on true was = s.listed b was (subst (λ (t : State). set.contains t.storage.ring.used b ≡ false) saves.state unused)
       on false new = let anchor : b < first_data = saves.only_anchors.bad_anchor b bad new in let sizes = s.mounted.lawful in omega arith
 
-  pub is_system : (n.state.is_off ≡ true → e.powered ≡ false) → (is_cut_answer result ≡ false → KnowsNewest e n.state.storage.bad n.anchors) → IsSystem e n
-  is_system off place = record {
+  pub is_system : (n.state.is_off ≡ true → e.powered ≡ false) → (is_cut_answer result ≡ false → KnowsNewest e n.state.storage.bad n.anchors)
+      → (is_cut_answer result ≡ false → (r : Record) → saved_on e ≡ Some r → n.record_roots.items ≡ roots_of (history_of r))
+      → (m.state.is_off ≡ false → IfSome n.pass (IsRunning e n)) → IsSystem e n
+  is_system off place roots passing = record {
     mounted = is_mounted off;
     saved = λ on. is_saved saved_after (off_was on).0;
     stands = λ on. stands_after saved_after (off_was on).0;
+    roots = λ on. roots (off_was on).1;
+    passing = λ on. passing (off_was on).0;
     known = λ on. known e n.state.storage.bad n.anchors (place (off_was on).1);
     listed = listed_after;
   }

@@ -6,6 +6,8 @@ pub mod MountedSystems
 pub mod Measured
 pub mod Mounting
 pub mod Restored
+pub mod Passing
+pub mod Running
 pub mod SameNodes
 pub mod SameRecords
 pub mod StateSteps

@@ -1,19 +1,19 @@
 -- What `df` tells: the roots of a history, the blocks that they reach, and its step.
-use Rattle.std.proofs.Common.{◌≡◌, ◌≢◌, inl, inr, ℕ, zero, suc, ◌-◌, ◌<◌, ◌≤◌, Bool, true, false, ◌||◌, not, Some, None, Result, Ok, Err, List, [], ◌∷◌, ◌++◌, count_by, map, refl, sym, ap, subst, ◌∙◌, arith}
-use Rattle.std.proofs.lemmas.Bool.{cases_lt, both_ways, true≢false, and_parts}
+use Rattle.std.proofs.Common.{◌≡◌, ◌≢◌, inl, inr, ℕ, zero, suc, ◌-◌, ◌<◌, ◌≤◌, Bool, true, false, ◌||◌, not, None, Result, Ok, Err, List, [], ◌∷◌, count_by, map, refl, sym, ap, subst, ◌∙◌, arith}
+use Rattle.std.proofs.lemmas.Bool.{cases_lt, both_ways, true≢false}
 use Rattle.std.proofs.lemmas.List.Elements.{Contains-append_left, Contains-append_right, Contains-append_cases}
 use Rattle.std.specs.Prelude.{◌↔◌, ◌⊎◌, Contains, IfOk, IfErr}
 use Rattle.std.specs.FinSet as set
 use Rattle.std.specs.Ordering.{nat_cmp}
 use Rattle.history_machine.specs.History.{Past}
-use Rattle.history_machine.specs.Machine.{Machine, Space, answer, reply_of}
+use Rattle.history_machine.specs.Machine.{Space, answer, reply_of}
 use Rattle.fs_types.specs.declared.calls.Call.{Call}
 use Rattle.fs_types.specs.declared.calls.Reply.{Reply}
 use Rattle.fs_types.specs.declared.faults.Fault.{Fault}
 use Rattle.fs_types.specs.declared.faults.Fault.TheVariants.{ReadFailed, PowerCut, NoMemory, Damaged}
 use Rattle.flash_model.specs.Device.{Device}
 use Rattle.flash_model.specs.declared.sizes.Geometry.{Geometry}
-use Rattle.flash_model.specs.Geometry.{IsGeometry, block_bytes}
+use Rattle.flash_model.specs.Geometry.{block_bytes}
 use Rattle.read_only.specs.Modes.{bad_anchors}
 use Rattle.allocator.specs.Ring.{IsDataBlock, data_blocks}
 use Rattle.node_format.specs.Headers.{body_header}
@@ -27,11 +27,11 @@ use Rattle.block_trees.specs.Bodies.{Blocks}
 use Rattle.block_trees.specs.Reached.{Reached, IsFirst, IsNamed}
 use Rattle.reclaim.specs.Verified.{AreRoots}
 use Rattle.reclaim.proofs.Soundness.{trees_hold_nodes}
-use Rattle.working_state.specs.Moments.{Moment, machine_at, seen_at, storage_at, IsMountedAt, IsRefused, IsStep, moment}
+use Rattle.working_state.specs.Moments.{Moment, machine_at, seen_at, IsMountedAt, IsStep}
 use Rattle.working_state.specs.Mounted.{IsMounted, StateStep}
 use Rattle.working_state.specs.Roots.{HasRoot, IsReached, IsSpace}
-use Rattle.working_state.specs.Seen.{seen_of, seen_on, machine_on}
-use Rattle.working_state.specs.Steps.{replied, is_cut, is_cut_answer, MayRefuse, IsDone, CallStep}
+use Rattle.working_state.specs.Seen.{seen_of}
+use Rattle.working_state.specs.Steps.{replied, is_cut_answer, MayRefuse, CallStep}
 use Rattle.working_state.specs.Worked.{IsLooked, ReadCause}
 use Rattle.working_state.specs.declared.state.State.{State}
 use Rattle.working_state.proofs.Refusals.{refused_step, remembering, remembered_mounted}
@@ -54,7 +54,7 @@ roots_hold_data d roots trees b has =
     high (inr beyond) some = absurd (some (node_of-beyond d b beyond))
 
 -- what one of them reaches the roots reach
-reached_to : (f : Blocks) (roots : List ℕ) (root b : ℕ) → Contains roots root → Reached f (root ∷ []) b → Reached f roots b
+pub reached_to : (f : Blocks) (roots : List ℕ) (root b : ℕ) → Contains roots root → Reached f (root ∷ []) b → Reached f roots b
 reached_to f roots root b has (IsFirst first) = IsFirst (subst (Contains roots) (only first) has)
   where
     only : {b : ℕ} → Contains (root ∷ []) b → root ≡ b

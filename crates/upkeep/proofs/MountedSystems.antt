@@ -1,8 +1,8 @@
 -- What a mount makes is a system.
-use Rattle.std.proofs.Common.{◌≡◌, ℕ, ◌<◌, Bool, true, false, ◌||◌, Some, List, [], ◌∷◌, map, refl, sym, ap, subst, ◌∙◌, nat_eq}
+use Rattle.std.proofs.Common.{◌≡◌, ℕ, ◌<◌, Bool, true, false, ◌||◌, Option, Some, None, List, [], ◌∷◌, map, refl, sym, ap, subst, ◌∙◌, nat_eq}
 use Rattle.std.proofs.lemmas.Bool.{true≢false, ltb-true, eqb-true}
 use Rattle.std.proofs.lemmas.List.Elements.{Contains-append_cases}
-use Rattle.std.specs.Prelude.{is_some, Contains, nat_lt}
+use Rattle.std.specs.Prelude.{is_some, IfSome, Contains, nat_lt}
 use Rattle.std.specs.FinSet as set
 use Rattle.std.specs.List.{list_all, list_any}
 use Rattle.std.specs.Ordering.{nat_cmp}
@@ -10,6 +10,7 @@ use Rattle.history_machine.specs.History.{Past}
 use Rattle.flash_model.specs.declared.sizes.Geometry.{Geometry}
 use Rattle.flash_model.specs.Device.{Device}
 use Rattle.flash_model.specs.Reading.{OnlyReads}
+use Rattle.reclaim.specs.Passes.{Pass}
 use Rattle.record_format.specs.declared.records.Record.{Record}
 use Rattle.record_format.specs.Payloads.{is_record, has_counts, has_versions, has_checkpoints, numbers_ascend}
 use Rattle.record_format.proofs.LawfulRecords.{both_true}
@@ -17,7 +18,7 @@ use Rattle.commit_pair.specs.Parts.{newest_on}
 use Rattle.working_state.specs.Roots.{HasRoot}
 use Rattle.upkeep.specs.Mounts.{history_of, roots_of, IsMountOf}
 use Rattle.upkeep.specs.Saved.{record_in, saved_on}
-use Rattle.upkeep.specs.Systems.{IsSystem}
+use Rattle.upkeep.specs.Systems.{IsSystem, IsRunning}
 use Rattle.upkeep.specs.declared.systems.System.{System}
 use Rattle.upkeep.proofs.AfterCommits.{known}
 use Rattle.upkeep.proofs.Committed.{same_saved}
@@ -38,11 +39,13 @@ below n q (b ∷ bs) any all = on (nat_eq b q) refl any (λ others. below n q bs
 some_record : (a b : Record) → Some a ≡ Some b → a ≡ b
 some_record a b e = cc
 
-pub mounted_system : (d e : Device) (m : System) → OnlyReads d e → IsMountOf d e m → IsSystem e m
-mounted_system d e m reads mount = record {
+pub mounted_system : (d e : Device) (m : System) → OnlyReads d e → IsMountOf d e m → m.record_roots.items ≡ roots_of m.state.history → m.pass ≡ None → IsSystem e m
+mounted_system d e m reads mount listing no_pass = record {
   mounted = mount.loaded.mounted;
   saved = λ on. ap is_some saved;
   stands = λ on r is root has. mount.loaded.mounted.roots root (has_root (subst (λ (x : Record). Contains (roots_of (history_of x)) root) (some_record r mount.newest (sym is ∙ saved)) has));
+  roots = λ on r is. listing ∙ ap roots_of mount.loaded.history ∙ ap (λ (x : Record). roots_of (history_of x)) (some_record mount.newest r (sym saved ∙ is));
+  passing = λ on. subst (λ (o : Option Pass). IfSome o (IsRunning e m)) (sym no_pass) tt;
   known = λ on. known e m.state.storage.bad m.anchors mount.remembers;
   listed = λ b bad unused. listed b bad;
 }

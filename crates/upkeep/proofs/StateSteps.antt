@@ -1,7 +1,7 @@
 -- A step of the working state is one of the system: it leaves the newest record.
-use Rattle.std.proofs.Common.{◌≡◌, inl, ℕ, ◌<◌, Bool, true, false, Option, Some, None, Result, Ok, Err, map, refl, sym, ap, subst, ◌∙◌}
+use Rattle.std.proofs.Common.{◌≡◌, inl, inr, ℕ, ◌<◌, Bool, true, false, Option, Some, None, Result, Ok, Err, map, refl, sym, ap, subst, ◌∙◌}
 use Rattle.std.proofs.lemmas.Bool.{true≢false}
-use Rattle.std.specs.Prelude.{is_some, Contains}
+use Rattle.std.specs.Prelude.{◌⊎◌, is_some, IfSome, Contains}
 use Rattle.std.specs.FinSet as set
 use Rattle.std.specs.Option.{option_map}
 use Rattle.fs_types.specs.Names.{Name}
@@ -14,7 +14,10 @@ use Rattle.flash_model.specs.declared.sizes.Geometry.{Geometry}
 use Rattle.flash_model.specs.Device.{Device, block_of}
 use Rattle.node_store.specs.NodePages.{node_of}
 use Rattle.node_store.specs.Storage.{Storage, storage, Evolved}
+use Rattle.node_store.specs.StoreLaws.{Evolved_node}
 use Rattle.block_trees.specs.Reached.{Reached}
+use Rattle.reclaim.specs.Passes.{Pass}
+use Rattle.reclaim.proofs.Marking.{reached_back}
 use Rattle.record_format.specs.declared.records.Record.{Record}
 use Rattle.commit_pair.specs.Newest.{remembered}
 use Rattle.commit_pair.proofs.NewestLaws.{only_anchors_matter}
@@ -22,21 +25,23 @@ use Rattle.commit_pair.proofs.Beginning.{still_may_commit}
 use Rattle.working_state.specs.Seen.{seen_on, tree_on, machine_on}
 use Rattle.working_state.specs.Steps.{is_sync, Answers}
 use Rattle.working_state.specs.Mounted.{IsStanding, IsMounted, StateStep, KeepsPages}
+use Rattle.working_state.specs.Roots.{IsReached}
 use Rattle.working_state.specs.declared.state.State.{State}
 use Rattle.working_state.proofs.Standing.{still_stands, same_tree}
 use Rattle.upkeep.specs.Mounts.{history_of, roots_of, trees_of}
 use Rattle.upkeep.specs.Saved.{saved_on, saved_trees, IsWhole}
 use Rattle.upkeep.specs.Commits.{SystemStep}
-use Rattle.upkeep.specs.Systems.{IsSystem}
+use Rattle.upkeep.specs.Systems.{IsSystem, IsRunning, MustStay}
 use Rattle.upkeep.specs.declared.systems.System.{System}
 use Rattle.upkeep.proofs.AfterCommits.{knows, known, is_newest, not_none}
 use Rattle.upkeep.proofs.Committed.{same_saved}
 use Rattle.upkeep.proofs.Mounting.{contains_front, contains_back}
+use Rattle.upkeep.proofs.Running.{running_on}
 use Rattle.upkeep.proofs.Syncs.{reached_from}
 
 -- the system with another working state
 abbrev pub with_state : System → State → System
-with_state m t = record { state = t; anchors = m.anchors }
+with_state m t = record m { state = t }
 
 module _ (d e : Device) (m : System) (t : State) (call : Call) (result : Result Reply Fault) (s : IsSystem d m) (step : StateStep d m.state call result e t) where
   abbrev was : Storage
@@ -75,11 +80,38 @@ module _ (d e : Device) (m : System) (t : State) (call : Call) (result : Result 
       on true there = s.listed b there (unused_before (set.contains m.state.storage.ring.used b) refl)
       on false new = absurd (true≢false (sym (evolved.bad_used b bad new) ∙ unused))
 
+  -- what must stay had to before, or was taken
+  still_must : IsMounted e t → m.state.is_off ≡ false → (b : ℕ) → MustStay e (with_state m t) b → MustStay d m b ⊎ (set.contains t.storage.ring.note b ≡ true)
+  still_must mounted on b (inl reached) = elim (step.reached b reached) [
+    | inl before ↦ inl (inl before)
+    | inr fresh ↦ inr (evolved.noted b (reached_used reached) fresh)
+  ]
+    where
+      reached_used : IsReached e t b → set.contains t.storage.ring.used b ≡ true
+      reached_used (root, has, there) = (mounted.roots root has).held root refl b there
+  still_must mounted on b (inr (r, is, reached)) =
+      inl (inr (r, sym as_saved ∙ is, reached_back (node_of d) (node_of e) (roots_of (history_of r)) (λ c there. Evolved_node was now c s.mounted.lawful evolved (record_used c there)) reached))
+    where
+      record_used : (c : ℕ) → Reached (node_of d) (roots_of (history_of r)) c → set.contains m.state.storage.ring.used c ≡ true
+      record_used c there =
+          let from = reached_from (node_of d) (roots_of (history_of r)) c there in
+          (s.stands on r (sym as_saved ∙ is) from.0 from.1).held from.0 refl c from.2
+
+  running : IsMounted e t → m.state.is_off ≡ false → IfSome m.pass (IsRunning e (with_state m t))
+  running mounted on = by m.pass (s.passing on)
+    where
+      by : (o : Option Pass) → IfSome o (IsRunning d m) → IfSome o (IsRunning e (with_state m t))
+      by None none = tt
+      by (Some p) runs =
+          running_on d e m (with_state m t) p evolved.geometry (λ b reached. Evolved_node was now b s.mounted.lawful evolved (runs.held b reached)) evolved.kept evolved.note_stays (still_must mounted on) runs
+
   pub state_system : IsMounted e t → IsSystem e (with_state m t)
   state_system mounted = record {
     mounted = mounted;
     saved = λ on. ap is_some as_saved ∙ s.saved (was_on on);
     stands = λ on r is. stands (was_on on) r (sym as_saved ∙ is);
+    roots = λ on r is. s.roots (was_on on) r (sym as_saved ∙ is);
+    passing = λ on. running mounted (was_on on);
     known = λ on.
         let place = s.known (was_on on) in
         known e t.storage.bad m.anchors (is_newest e t.storage.bad m.anchors (not_none (remembered m.anchors) place.some)

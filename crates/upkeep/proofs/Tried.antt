@@ -1,7 +1,8 @@
 -- What a commit on the anchors makes of a system.
-use Rattle.std.proofs.Common.{◌≡◌, ◌≢◌, ◌+◌, ◌-◌, ◌^◌, Bool, true, false, ◌||◌, None, Result, Ok, Err, refl, sym, ap, subst, ◌∙◌}
+use Rattle.std.proofs.Common.{◌≡◌, ◌≢◌, ℕ, ◌+◌, ◌-◌, ◌^◌, Bool, true, false, ◌||◌, Some, None, Result, Ok, Err, refl, sym, ap, subst, ◌∙◌}
 use Rattle.std.proofs.lemmas.Bool.{true≢false}
-use Rattle.std.specs.Prelude.{OnOk, OnErr, IfErr}
+use Rattle.std.specs.Prelude.{OnOk, OnErr, IfErr, Vec}
+use Rattle.std.specs.declared.alloc.Global.{Global}
 use Rattle.std.specs.FinSet as set
 use Rattle.std.specs.Ordering.{nat_cmp}
 use Rattle.fs_types.specs.declared.faults.Fault.{Fault}
@@ -19,9 +20,13 @@ use Rattle.commit_pair.specs.Remembering.{KnowsNewest, MayCommit, CommitCause}
 use Rattle.working_state.specs.Steps.{is_cut_answer}
 use Rattle.working_state.specs.declared.state.State.{State}
 use Rattle.upkeep.specs.Commits.{record_on, Saves, SaveCause}
+use Rattle.upkeep.specs.Mounts.{history_of, roots_of}
+use Rattle.upkeep.specs.Saved.{saved_on}
 use Rattle.upkeep.specs.Systems.{IsSystem}
 use Rattle.upkeep.specs.declared.systems.System.{System}
 use Rattle.upkeep.proofs.AfterCommits.{is_newest, not_none, is_system}
+use Rattle.upkeep.proofs.Committed.{same_saved, newly_saved}
+use Rattle.upkeep.proofs.Running.{still_running}
 
 -- the state with another bad list, and with its flag
 abbrev pub with_bad : State → set.FinSet nat_cmp → State
@@ -31,7 +36,7 @@ abbrev pub with_cut : State → Bool → State
 with_cut s cut = record s { is_off = s.is_off || cut }
 
 -- what was found of a commit on the anchors
-pub record IsTried {T : Type 0} (d e : Device) (m : System) (anchors : Anchors) (bad : set.FinSet nat_cmp) (answer : Result T Fault) (saved : Record) : Type 0 where
+pub record IsTried {T : Type 0} (d e : Device) (m : System) (anchors : Anchors) (roots : Vec ℕ Global) (bad : set.FinSet nat_cmp) (answer : Result T Fault) (saved : Record) : Type 0 where
   pub says : saved ≡ record_on d m.state
   pub blocks : AreDataBlocks m.state.storage.ring.blocks m.state.storage.ring.used
   pub writable : is_read_only m.state.storage.bad ≡ false
@@ -40,12 +45,14 @@ pub record IsTried {T : Type 0} (d e : Device) (m : System) (anchors : Anchors) 
   pub ready : answer ≢ Err PowerCut → MayCommit e bad anchors
   pub known : OnOk answer (remembered anchors ≢ None)
   pub same : OnErr answer (anchors ≡ m.anchors)
+  pub listed : OnOk answer (roots.items ≡ roots_of m.state.history)
+  pub unlisted : OnErr answer (roots ≡ m.record_roots)
   pub opens : OnOk answer (is_read_only bad ≡ false)
   pub why : IfErr answer (CommitCause d m.state.storage.bad m.anchors e bad)
 
-module _ {T : Type 0} (d e : Device) (m : System) (anchors : Anchors) (bad : set.FinSet nat_cmp) (answer : Result T Fault) (saved : Record) (s : IsSystem d m) (on : m.state.is_off ≡ false) (tried : IsTried d e m anchors bad answer saved) where
+module _ {T : Type 0} (d e : Device) (m : System) (anchors : Anchors) (roots : Vec ℕ Global) (bad : set.FinSet nat_cmp) (answer : Result T Fault) (saved : Record) (s : IsSystem d m) (on : m.state.is_off ≡ false) (tried : IsTried d e m anchors roots bad answer saved) where
   abbrev after : System
-  after = record { state = with_cut (with_bad m.state bad) (is_cut_answer answer); anchors = anchors }
+  after = record { state = with_cut (with_bad m.state bad) (is_cut_answer answer); anchors = anchors; record_roots = roots; pass = m.pass }
 
   -- the newest record was known
   was_known : remembered m.anchors ≢ None
@@ -96,18 +103,35 @@ module _ {T : Type 0} (d e : Device) (m : System) (anchors : Anchors) (bad : set
   cause NoMemory why = tt
   cause _ why = absurd why
 
+  -- the roots of the newest record are known
+  knows_roots : is_cut_answer answer ≡ false → (r : Record) → saved_on e ≡ Some r → roots.items ≡ roots_of (history_of r)
+  knows_roots no_cut r is = by answer no_cut saves.commits tried.listed tried.unlisted
+    where
+      same_record : (a b : Record) → Some a ≡ Some b → a ≡ b
+      same_record a b x = cc
+
+      by : (a : Result T Fault) → is_cut_answer a ≡ false → Commits d.pages e.pages (record_on d m.state) (greatest_on d.geometry d.pages + 1) bad a
+          → OnOk a (roots.items ≡ roots_of m.state.history) → OnErr a (roots ≡ m.record_roots) → roots.items ≡ roots_of (history_of r)
+      by (Ok x) uncut commits listed unlisted =
+          let newly = newly_saved d e m.state _ bad tried.only_anchors.geometry commits in
+          listed ∙ ap roots_of (sym newly.history) ∙ ap (λ (x : Record). roots_of (history_of x)) (same_record newly.newest r (sym newly.saved ∙ is))
+      by (Err PowerCut) uncut commits listed unlisted = absurd (true≢false uncut)
+      by (Err _) uncut commits listed unlisted =
+          ap (λ (v : Vec ℕ Global). v.items) unlisted ∙ s.roots on r (sym (same_saved d e tried.only_anchors.geometry commits.newest) ∙ is)
+
   system_after : IsSystem e after
-  system_after = is_system d e m after answer s saves is_off knows_newest
+  system_after = is_system d e m after answer s saves is_off knows_newest knows_roots (λ was. still_running d e m after answer s saves was refl)
 
   why_after : (r : Result T Fault) → IfErr r (CommitCause d m.state.storage.bad m.anchors e bad) → IfErr r (SaveCause d m e after)
   why_after (Ok x) why = tt
   why_after (Err fault) why = cause fault why
 
-  -- what is promised of a commit that left this state and answered so
-  abbrev IsLeft : State → Result T Fault → Type 0
-  IsLeft t result =
-      let n : System = record { state = t; anchors = anchors } in
-      IsSystem e n × Saves d m result e n × IfErr result (SaveCause d m e n)
+  -- what is promised of a commit that left this system and answered so
+  abbrev IsLeft : System → Result T Fault → Type 0
+  IsLeft n result = IsSystem e n × Saves d m result e n × IfErr result (SaveCause d m e n)
 
-  pub tried_commit : (t : State) (result : Result T Fault) → t ≡ with_cut (with_bad m.state bad) (is_cut_answer answer) → result ≡ answer → IsLeft t result
-  tried_commit t result is same = subst (λ (r : Result T Fault). IsLeft t r) (sym same) (subst (λ (x : State). IsLeft x answer) (sym is) (system_after, saves, why_after answer tried.why))
+  pub tried_commit : (u : System) (t : State) (result : Result T Fault) → u ≡ record { state = with_bad m.state bad; anchors = anchors; record_roots = roots; pass = m.pass }
+      → t ≡ with_cut u.state (is_cut_answer answer) → result ≡ answer → IsLeft (record u { state = t }) result
+  tried_commit u t result was is same =
+      let left : record u { state = t } ≡ after = λ i. record { state = (is ∙ ap (λ (x : System). with_cut x.state (is_cut_answer answer)) was) i; anchors = (was i).anchors; record_roots = (was i).record_roots; pass = (was i).pass } in
+      subst (λ (r : Result T Fault). IsLeft (record u { state = t }) r) (sym same) (subst (λ (n : System). IsLeft n answer) (sym left) (system_after, saves, why_after answer tried.why))

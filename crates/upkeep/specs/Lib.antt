@@ -4,5 +4,6 @@ pub mod Formats
 pub mod Moments
 pub mod Mounts
 pub mod Props
+pub mod Reclaiming
 pub mod Saved
 pub mod Systems

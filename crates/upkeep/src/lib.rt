@@ -6,6 +6,7 @@ mod contents;
 mod formats;
 mod mounts;
 mod reaching;
+mod reclaiming;
 mod restoring;
 mod spaces;
 mod systems;

@@ -89,5 +89,11 @@ pub fn mount<F: Flash>(alloc: Global, flash: &mut F) -> Result<System, Fault>
         return Err(Fault::NoRecord);
     };
     let state = load(alloc, flash, &newest)?;
-    Ok(System { state, anchors })
+    let record_roots = list_roots(alloc, &state.history)?;
+    Ok(System {
+        state,
+        anchors,
+        record_roots,
+        pass: None,
+    })
 }

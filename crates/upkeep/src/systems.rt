@@ -1,5 +1,5 @@
-//! A mounted system: its working state beside the place of the newest record.
-ghost use Rattle.std.specs.Prelude.{◌≡◌, ◌⊎◌, true, false, IfOk, OnOk, IfErr};
+//! A mounted system: its working state beside what is known of the newest record.
+ghost use Rattle.std.specs.Prelude.{◌≡◌, ◌⊎◌, true, false, IfOk, OnOk, OnErr, IfErr};
 ghost use Rattle.fs_types.specs.declared.calls.Call.{Call};
 ghost use Rattle.fs_types.specs.declared.faults.Fault.{Fault};
 ghost use Rattle.allocator.specs.Ring.{AreDataBlocks};
@@ -11,23 +11,30 @@ ghost use Rattle.upkeep.specs.Systems.{IsSystem};
 ghost use Rattle.upkeep.specs.Commits.{Saves, SaveCause, SystemStep};
 
 use crate::contents::record_of;
+use crate::restoring::list_roots;
 use crate::spaces::df;
 use calls::carry_out;
 use commit_pair::Anchors;
 use flash_model::{Flash, Geometry};
 use fs_types::{Call, Fault, Reply};
 use read_only::is_read_only;
+use reclaim::Pass;
 use record_format::Record;
 use std::alloc::Global;
 use working_state::State;
 
-/// A mounted system: its working state, and where the newest record is.
+/// A mounted system: its working state, what is known of the newest record, and the marking that goes
+/// on.
 #[derive(Drop)]
 pub struct System {
     /// The versions and checkpoints, what nodes are kept with, and the open files.
     pub state: State,
     /// The place of the newest record, so that a commit may follow.
     pub anchors: Anchors,
+    /// The roots of the newest record's versions and checkpoints.
+    pub record_roots: Vec<u32>,
+    /// The marking of used blocks that goes on beside the calls, where one was begun.
+    pub pass: Option<Pass>,
 }
 
 impl System {
@@ -108,10 +115,23 @@ impl System {
         ensures why { IfErr result (SaveCause (F.device flash.old) self.old (F.device flash.new) self.new) }
     {
         let saved = self.record(alloc, flash.geometry())?;
+        let roots = list_roots(alloc, &self.state.history)?;
         let answer = self
             .anchors
             .commit(alloc, flash, &mut self.state.storage.bad, &saved);
+        self.remember_roots(&answer, roots);
         self.state.remember_cut(answer)
+    }
+
+    /// These are the roots of the newest record, where it was committed.
+    fn remember_roots(&mut self, answer: &Result<(), Fault>, roots: Vec<u32>)
+        ensures same { self.new ≡ record self.old { record_roots = self.new.record_roots } }
+        ensures newer { OnOk answer.now (self.new.record_roots ≡ roots) }
+        ensures older { OnErr answer.now (self.new.record_roots ≡ self.old.record_roots) }
+    {
+        if answer.is_ok() {
+            self.record_roots = roots;
+        }
     }
 
     /// The record of the working state; [`Fault::ReadOnly`] in read-only mode.

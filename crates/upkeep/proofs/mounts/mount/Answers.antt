@@ -1,4 +1,4 @@
-use Rattle.std.proofs.Common.{rules, Option, sym, subst, ◌∙◌}
+use Rattle.std.proofs.Common.{rules, Option, None, refl, sym, subst, ◌∙◌}
 use Rattle.std.proofs.lemmas.Result.{err_from_is_err_and}
 use Rattle.record_format.specs.declared.records.Record.{Record}
 use Rattle.commit_pair.specs.Newest.{IsNewestRecord}
@@ -38,14 +38,14 @@ mount_of : goal.returns-clause-ok
 mount_of g c =
     let d = g.F.Flash.device c.args.flash.now in
     let newest = subst (λ (o : Option Record). IsNewestRecord d o) c.in-Some.is c.in_ok-newest.ensures.newest in
-    mounts d (g.F.Flash.device c.newest.new.flash) (g.F.Flash.device c.load.new.flash) c.in-Some.newest (record { state = c.in_ok-state.state; anchors = c.newest.new.self }) newest
+    mounts d (g.F.Flash.device c.newest.new.flash) (g.F.Flash.device c.load.new.flash) c.in-Some.newest (record { state = c.in_ok-state.state; anchors = c.newest.new.self; record_roots = c.in_ok-record_roots.record_roots; pass = None }) newest
     c.load.ensures.only_reads c.newest.ensures.uncleared (c.in_ok-newest.ensures.ready (not_none c.in_ok-newest.field-0 c.in-Some.newest c.in-Some.is)) c.in_ok-state.ensures.loaded
 
 pub returns-clause-system : goal.returns-clause-system
 returns-clause-system g c =
     let d = g.F.Flash.device c.args.flash.now in
-    mounted_system d (g.F.Flash.device c.load.new.flash) (record { state = c.in_ok-state.state; anchors = c.newest.new.self })
-    (OnlyReads_on d (g.F.Flash.device c.newest.new.flash) (g.F.Flash.device c.load.new.flash) (as_reads d (g.F.Flash.device c.newest.new.flash) c.newest.ensures.only_reads) c.load.ensures.only_reads) (mount_of g c)
+    mounted_system d (g.F.Flash.device c.load.new.flash) (record { state = c.in_ok-state.state; anchors = c.newest.new.self; record_roots = c.in_ok-record_roots.record_roots; pass = None })
+    (OnlyReads_on d (g.F.Flash.device c.newest.new.flash) (g.F.Flash.device c.load.new.flash) (as_reads d (g.F.Flash.device c.newest.new.flash) c.newest.ensures.only_reads) c.load.ensures.only_reads) (mount_of g c) c.in_ok-record_roots.ensures refl
 
 pub returns-clause-ok : goal.returns-clause-ok
 returns-clause-ok g c = mount_of g c

@@ -6,7 +6,7 @@ use Rattle.reclaim.proofs.passes.Pass.step.Given as goal
 -- a pass that has read so many blocks more
 abbrev pub invariant-loop-done : goal.invariant-loop-done
 invariant-loop-done g l = record {
-  pass : IsPass (g.N.Nodes.node l.nodes) l.self;
+  pass : IsPass (g.N.Nodes.node l.initial.nodes) l.initial.self → IsPass (g.N.Nodes.node l.nodes) l.self;
   size : l.self.blocks ≡ l.initial.self.blocks;
   roots : l.self.roots ≡ l.initial.self.roots;
   begins : Begins l.initial.self.order l.self.order;

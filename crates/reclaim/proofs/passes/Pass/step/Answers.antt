@@ -1,0 +1,13 @@
+use Rattle.std.proofs.Common.{subst, arith}
+use Rattle.block_trees.specs.Bodies.{Blocks}
+use Rattle.reclaim.specs.Passes.{IsPass}
+use Rattle.reclaim.proofs.Costs.{has_read}
+use Rattle.reclaim.proofs.passes.Pass.step.Goals as goal
+
+pub returns-in_err-read_next-clause-seen : goal.returns-in_err-read_next-clause-seen
+returns-in_err-read_next-clause-seen g c marking =
+    let so_far = c.loop-done.invariant in
+    let left = c.is_finished.ensures.left c.if-is_finished.false in
+    has_read (g.N.Nodes.node c.args.nodes.now) c.args.self.now c.loop-done.self (g.N.Nodes.reads c.args.nodes.now) (g.N.Nodes.reads c.read_next.new.nodes)
+    (subst (λ (f : Blocks). IsPass f c.loop-done.self) so_far.looks.same_nodes (so_far.pass marking)) so_far.roots so_far.begins
+    (omega (arith, so_far.next, so_far.reads, left, c.read_next.ensures.reads))

@@ -1,0 +1,115 @@
+//! Steps of reclaiming, with ample memory: what they answer, and which blocks are used then.
+use crate::mounts::{formatted, told};
+use flash_model::{Geometry, SimFlash};
+use fs_types::{Call, Fault, Path};
+use std::alloc::{AllocError, Global};
+use std::test::Fail;
+use undofs::Fs;
+use upkeep::{System, mount};
+
+const SIZES: Geometry = Geometry {
+    page: 256,
+    pages: 16,
+    blocks: 32,
+};
+
+fn mkdir(alloc: Global, path: &[u8]) -> Result<Call, Fault> {
+    Ok(Call::Mkdir {
+        path: Path::parse(alloc, path)?,
+    })
+}
+
+/// The blocks of a flash that a system has as used.
+fn used_blocks(alloc: Global, system: &System) -> Result<Vec<u32>, AllocError> {
+    (0..SIZES.blocks)
+        .filter(|block| system.state.storage.ring.is_used(*block))
+        .collect(alloc)
+}
+
+/// What two steps answer, with a directory made before each, and the blocks that are used then.
+fn steps_across_a_change(alloc: Global) -> Result<(bool, bool, Vec<u32>), Fault> {
+    let mut flash = formatted(alloc, SIZES, 8)?;
+    let mut system = mount(alloc, &mut flash)?;
+    system.call(alloc, &mut flash, &mkdir(alloc, b"/a")?)?;
+    let first = system.reclaim_step(alloc, &mut flash, 2)?;
+    system.call(alloc, &mut flash, &mkdir(alloc, b"/b")?)?;
+    let second = system.reclaim_step(alloc, &mut flash, 1)?;
+    Ok((first, second, used_blocks(alloc, &system)?))
+}
+
+/// Both directories have two nodes, the second ones taken while the marking went on.
+#[test]
+fn blocks_that_are_taken_meanwhile_stay(rt: HostRuntime) -> Result<(), Fail> {
+    let (first, second, used) = steps_across_a_change(rt.alloc())?;
+    assert_eq!(rt; (first, second), (false, true));
+    assert_eq!(rt; used.as_slice(), [8, 9, 10, 11, 12].as_slice());
+    Ok(())
+}
+
+/// The last block taken, on a flash that was full until a step.
+fn last_block(alloc: Global) -> Result<u32, Fault> {
+    let mut flash = formatted(
+        alloc,
+        Geometry {
+            blocks: 16,
+            ..SIZES
+        },
+        8,
+    )?;
+    let mut system = mount(alloc, &mut flash)?;
+    system.call(alloc, &mut flash, &mkdir(alloc, b"/a")?)?;
+    system.call(alloc, &mut flash, &mkdir(alloc, b"/b")?)?;
+    system.call(alloc, &mut flash, &mkdir(alloc, b"/c")?)?;
+    system.call(alloc, &mut flash, &Call::Forget { count: 3 })?;
+    let _is_done = system.reclaim_step(alloc, &mut flash, 5)?;
+    system.call(alloc, &mut flash, &mkdir(alloc, b"/d")?)?;
+    Ok(system.state.storage.ring.last())
+}
+
+/// It takes the last block, and then the first one that no version reaches.
+#[test]
+fn forgotten_blocks_are_taken_again(rt: HostRuntime) -> Result<(), Fail> {
+    assert_eq!(rt; last_block(rt.alloc()), Ok(10));
+    Ok(())
+}
+
+/// What a step answers of a flash that was formatted.
+fn step_all(alloc: Global, flash: &mut SimFlash, budget: u64) -> Result<bool, Fault> {
+    Fs::mount(alloc, flash)?.reclaim_step(alloc, budget)
+}
+
+#[test]
+fn one_block_is_read_of_a_new_system(rt: HostRuntime) -> Result<(), Fail> {
+    let mut flash = formatted(rt.alloc(), SIZES, 8)?;
+    for (budget, is_done) in [(0, false), (1, true), (u64::MAX, true)] {
+        assert_eq!(rt; step_all(rt.alloc(), &mut flash, budget), Ok(is_done));
+    }
+    Ok(())
+}
+
+/// Scripts on a formatted flash whose marking is given up, each with its replies. Three blocks are
+/// reached, so the step of 2 after it would end the one that was begun.
+const GIVEN_UP: [(&str, &str); 3] = [
+    (
+        "mkdir /a\nreclaim 2\nfault 1 read-fail\nreclaim 1\nreclaim 2\nreclaim 1\n",
+        "ok\nmore\nok\nerr EIO 23\nmore\ndone\n",
+    ),
+    (
+        "mkdir /a\nsync\nreclaim 2\nrestart\nreclaim 2\n",
+        "ok\nok\nmore\nmounted\nmore\n",
+    ),
+    (
+        "reclaim 0\nfault 1 read-cut\nreclaim 1\nreclaim 1\nrestart\nreclaim 1\n",
+        "more\nok\nerr POWERCUT 24\nerr POWERCUT 24\nmounted\ndone\n",
+    ),
+];
+
+#[test]
+fn a_marking_is_given_up(rt: HostRuntime) -> Result<(), Fail> {
+    for (script, wanted) in GIVEN_UP {
+        let mut flash = formatted(rt.alloc(), SIZES, 8)?;
+        let replies = told(rt.alloc(), &mut flash, script.as_bytes())?;
+        assert_eq!(rt; replies.as_str(), wanted, "{script}");
+    }
+    Ok(())
+}

@@ -1,0 +1,71 @@
+-- What a step of reclaiming does: a marking of what must stay goes on, and at its end the other blocks are free.
+use Rattle.std.specs.Prelude.{◌≡◌, ◌⊎◌, ℕ, ◌+◌, ◌<◌, ◌≤◌, Bool, true, false, ◌||◌, Some, None, Result, Ok, Err, ◌++◌, length}
+use Rattle.std.specs.FinSet as set
+use Rattle.std.specs.Ordering.{nat_cmp}
+use Rattle.fs_types.specs.declared.faults.Fault.{Fault}
+use Rattle.fs_types.specs.declared.faults.Fault.TheVariants.{PowerCut}
+use Rattle.flash_model.specs.Device.{Device}
+use Rattle.flash_model.specs.Reading.{OnlyReads}
+use Rattle.node_store.specs.NodePages.{node_of}
+use Rattle.block_trees.specs.Reached.{Reached}
+use Rattle.reclaim.specs.Passes.{Pass}
+use Rattle.working_state.specs.Seen.{seen_on, machine_on}
+use Rattle.working_state.specs.Steps.{is_cut_answer}
+use Rattle.working_state.specs.Worked.{ReadCause}
+use Rattle.upkeep.specs.Mounts.{roots_of}
+use Rattle.upkeep.specs.declared.systems.System.{System}
+
+-- the marking that goes on: the one that was begun; else a new one, which has read nothing, of the roots of the working history
+-- and of the newest record, and no block is noted as taken since
+abbrev pub GoesOnFrom : System → Pass → set.FinSet nat_cmp → Type 0
+GoesOnFrom m p note =
+    ((m.pass ≡ Some p) × (note ≡ m.state.storage.ring.note))
+    ⊎ ((m.pass ≡ None) × (p.roots ≡ roots_of m.state.history ++ m.record_roots.items) × (p.next ≡ 0) × (note ≡ set.empty))
+
+-- so many blocks more were read, and some are left
+pub record GoesOn (m : System) (budget : ℕ) (n : System) : Type 0 where
+  pub from : Pass
+  pub to : Pass
+  pub was : GoesOnFrom m from n.state.storage.ring.note
+  pub is : n.pass ≡ Some to
+  pub roots : to.roots ≡ from.roots
+  pub next : to.next ≡ from.next + budget
+  pub left : to.next < length to.order
+  pub used : n.state.storage.ring.used ≡ m.state.storage.ring.used
+
+-- so many blocks more were read at most, and none is left: used are exactly the blocks that the roots reach, and those that
+-- were taken since the marking began
+pub record EndsPass (d : Device) (m : System) (budget : ℕ) (n : System) : Type 0 where
+  pub from : Pass
+  pub to : Pass
+  pub was : GoesOnFrom m from n.state.storage.ring.note
+  pub is : n.pass ≡ None
+  pub roots : to.roots ≡ from.roots
+  pub next : to.next ≤ from.next + budget
+  pub all : to.next ≡ length to.order
+  pub reached : (b : ℕ) → Reached (node_of d) from.roots b → set.contains n.state.storage.ring.used b ≡ true
+  pub taken : (b : ℕ) → set.contains n.state.storage.ring.note b ≡ true → set.contains n.state.storage.ring.used b ≡ true
+  pub only : (b : ℕ) → (Reached (node_of d) from.roots b → ⊥) → set.contains n.state.storage.ring.note b ≡ false → set.contains n.state.storage.ring.used b ≡ false
+
+-- what a step answers: whether no block is left to be read. A refused step leaves no marking, and all used blocks as they were
+abbrev pub StepEnds : Device → System → ℕ → Result Bool Fault → Device → System → Type 0
+StepEnds old m budget (Ok false) new n = GoesOn m budget n
+StepEnds old m budget (Ok true) new n = EndsPass old m budget n
+StepEnds old m budget (Err fault) new n =
+    (n.pass ≡ None) × (n.state.storage.ring.used ≡ m.state.storage.ring.used) × ReadCause (seen_on old m.state) fault (seen_on new n.state)
+
+-- only reads came, and the machine, the bad list, the last block taken and the newest record's place are as they were
+pub record Stays (old : Device) (m : System) (new : Device) (n : System) : Type 0 where
+  pub reads : OnlyReads old new
+  pub machine : machine_on new n.state ≡ machine_on old m.state
+  pub bad : n.state.storage.bad ≡ m.state.storage.bad
+  pub last : n.state.storage.ring.last ≡ m.state.storage.ring.last
+  pub takes : n.state.storage.ring.takes ≡ m.state.storage.ring.takes
+  pub anchors : n.anchors ≡ m.anchors
+
+-- a step of reclaiming, whatever it answers. Once a call has answered that the power is off, nothing changes
+pub record Reclaims (old : Device) (m : System) (budget : ℕ) (result : Result Bool Fault) (new : Device) (n : System) : Type 0 where
+  pub stays : Stays old m new n
+  pub ends : m.state.is_off ≡ false → StepEnds old m budget result new n
+  pub off : n.state.is_off ≡ m.state.is_off || is_cut_answer result
+  pub stopped : m.state.is_off ≡ true → (result ≡ Err PowerCut) × (new ≡ old) × (n ≡ m)

@@ -72,7 +72,8 @@ impl Pass {
 
     /// Reads `budget` blocks that this pass had not read, or all that remain; whether none remains.
     ///
-    /// After a refusal the pass is of no use: no step may follow.
+    /// What is said of a pass holds where this is one over these nodes ([`Pass::start`], and a step that
+    /// was not refused). After a refusal it is of no use: no step may follow.
     pub fn step<N: Nodes>(&mut self, nodes: &mut N, budget: u64) -> Result<bool, Fault>
         requires sound { N.is_sound nodes.old }
         requires blocks { self.old.blocks ≡ N.blocks nodes.old }

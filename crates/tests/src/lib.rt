@@ -29,6 +29,8 @@ mod reclaiming;
 #[cfg(test)]
 mod records;
 #[cfg(test)]
+mod retries;
+#[cfg(test)]
 mod rings;
 #[cfg(test)]
 mod scripts;

@@ -26,7 +26,7 @@ use Rattle.undofs.proofs.RunLaws.{shown, refused_keeps, not_both}
 
 accepts_next : (w v : World) (m : Machine) (call : Call) → Shows w m → Accepts w call v → (refusal m call ≡ None) × Shows v (next m call)
 accepts_next w v m call is (reply, here) =
-    let done = here.step.step.answers.1 in
+    let done = here.step.answers.1 in
     let was = shown w m here.before is here.was in
     (ap (λ (x : Machine). refusal x call) (sym was) ∙ done.accepted, (here.after, here.is, done.leaves ∙ ap (λ (x : Machine). next x call) was))
 
@@ -41,7 +41,7 @@ shows_after w m (event ∷ events) [] v is calls run = absurd run
 shows_after w m (Event.Call call ∷ events) (Answer.Done reply ∷ answers) v is calls (between, here, rest) =
     shows_after between (next m call) events answers v (accepts_next w between m call is (reply, here)).1 calls rest
 shows_after w m (Event.Call call ∷ events) (Answer.Refused fault ∷ answers) v is calls (between, here, rest) =
-    let stays : machine_on between.device here.after.state ≡ m = refused_keeps _ _ here.before.state.is_off call fault _ _ here.after.state.is_off here.step.step.answers ∙ shown w m here.before is here.was in
+    let stays : machine_on between.device here.after.state ≡ m = refused_keeps _ _ _ here.before.state.is_off call fault _ _ here.after.state.is_off here.step.answers ∙ shown w m here.before is here.was in
     shows_after between m events answers v (here.after, here.is, stays) calls rest
 shows_after w m (Event.Call call ∷ events) (Answer.Mounted ∷ answers) v is calls (between, here, rest) = absurd here
 shows_after w m (Event.Call call ∷ events) (Answer.Unmounted ∷ answers) v is calls (between, here, rest) = absurd (not_both w is.0 is.1 here.0)

@@ -24,7 +24,7 @@ use Rattle.commit_pair.specs.Newest.{committed_on}
 use Rattle.commit_pair.proofs.NewestLaws.{found_is_newest}
 use Rattle.working_state.specs.Seen.{machine_on}
 use Rattle.working_state.specs.Steps.{is_sync}
-use Rattle.upkeep.specs.Commits.{SystemStep}
+use Rattle.upkeep.specs.Steps.{SystemStep}
 use Rattle.upkeep.specs.Mounts.{trees_of, IsMountOf, MountCause}
 use Rattle.upkeep.specs.Reclaiming.{Reclaims}
 use Rattle.upkeep.specs.Saved.{record_in, saved_on, saved_trees, IsWhole}
@@ -60,7 +60,7 @@ module _ (d : Device) (m : System) (call : Call) (e : Device) (n : System) (foun
   saved_among : (result : Result Reply Fault) (more : List (Past Tree)) → SystemStep d m call result e n → ((h : Past Tree) → Contains found h → Contains more h) → IsSaved e more
   saved_among result more step keeps = by step.after.either
     where
-      by : (saved_trees e ≡ saved_trees d) ⊎ ((is_sync call ≡ true) × (saved_trees e ≡ Some (machine_on d m.state).history)) → IsSaved e more
+      by : {C : Type 0} → (saved_trees e ≡ saved_trees d) ⊎ (C × (saved_trees e ≡ Some (machine_on d m.state).history)) → IsSaved e more
       by (inl old) = record { history = s.history; saved = old ∙ s.saved; among = keeps s.history s.among; whole = step.after.whole s.whole }
       by (inr new) = record { history = (machine_on d m.state).history; saved = new.1; among = keeps (machine_on d m.state).history working; whole = step.after.whole s.whole }
 
@@ -72,7 +72,7 @@ module _ (d : Device) (m : System) (call : Call) (e : Device) (n : System) (foun
 
       by : (b : Bool) → is_sync call ≡ b → IsSaved e (if is_sync call then now ∷ [] else found ++ now ∷ [])
       by true sync =
-          let done = step.step.answers.1 in
+          let done = step.answers.1 in
           let kept : (machine_on d m.state).history ≡ now = ap (λ (x : Machine). x.history) (sym (done.leaves ∙ sync_keeps (machine_on d m.state) call sync done.accepted)) in
           subst (λ (b : Bool). IsSaved e (if b then now ∷ [] else found ++ now ∷ [])) (sym sync)
           (record { history = now; saved = step.after.synced sync ∙ ap Some kept; among = the_one now; whole = step.after.whole s.whole })
@@ -111,7 +111,7 @@ call_serves d m call (Ok reply) e n step system found stands =
 call_serves d m call (Err fault) e n step system found stands =
     let working = stands.shown (machine_on d m.state) (m, refl, refl) in
     let saved = saved_among d m call e n found stands.saved working (Err fault) found step (λ h has. has) in
-    let same : machine_on e n.state ≡ machine_on d m.state = refused_keeps _ _ m.state.is_off call fault _ _ n.state.is_off step.step.answers in (
+    let same : machine_on e n.state ≡ machine_on d m.state = refused_keeps _ _ _ m.state.is_off call fault _ _ n.state.is_off step.answers in (
       found,
       record { before = m; after = n; was = refl; is = refl; step = step; mounted = system; found = refl; saved = saved },
       record { lawful = system.mounted.lawful; saved = saved; shown = shows_system e n found (subst (λ (x : Machine). Contains found x.history) (sym same) working) },

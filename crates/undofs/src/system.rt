@@ -76,7 +76,7 @@ impl<'f, F: Flash> Fs<'f, F> {
         ensures pages { KeepsAllPages self.old self.new }
         ensures same_flash { flash_name self.new ≡ flash_name self.old }
     {
-        self.system.state.open(alloc, self.flash, path, flags)
+        self.system.open(alloc, self.flash, path, flags)
     }
 
     /// Closes the open file of a descriptor, which is free then.
@@ -102,7 +102,6 @@ impl<'f, F: Flash> Fs<'f, F> {
         ensures same_flash { flash_name self.new ≡ flash_name self.old }
     {
         self.system
-            .state
             .pwrite(alloc, self.flash, descriptor, offset, bytes)
     }
 
@@ -113,9 +112,7 @@ impl<'f, F: Flash> Fs<'f, F> {
         ensures pages { KeepsAllPages self.old self.new }
         ensures same_flash { flash_name self.new ≡ flash_name self.old }
     {
-        self.system
-            .state
-            .ftruncate(alloc, self.flash, descriptor, length)
+        self.system.ftruncate(alloc, self.flash, descriptor, length)
     }
 
     /// What stands at a path of the tree that a view shows: a directory, with its number of entries, or
@@ -185,7 +182,7 @@ impl<'f, F: Flash> Fs<'f, F> {
         ensures pages { KeepsAllPages self.old self.new }
         ensures same_flash { flash_name self.new ≡ flash_name self.old }
     {
-        self.system.state.mkdir(alloc, self.flash, path)
+        self.system.mkdir(alloc, self.flash, path)
     }
 
     /// Removes an empty directory (POSIX.1-2017 `rmdir`). [`Fault::Busy`] for the root.
@@ -194,7 +191,7 @@ impl<'f, F: Flash> Fs<'f, F> {
         ensures pages { KeepsAllPages self.old self.new }
         ensures same_flash { flash_name self.new ≡ flash_name self.old }
     {
-        self.system.state.rmdir(alloc, self.flash, path)
+        self.system.rmdir(alloc, self.flash, path)
     }
 
     /// Removes a file (POSIX.1-2017 `unlink`). [`Fault::NotPermitted`] for a directory, [`Fault::Busy`]
@@ -204,7 +201,7 @@ impl<'f, F: Flash> Fs<'f, F> {
         ensures pages { KeepsAllPages self.old self.new }
         ensures same_flash { flash_name self.new ≡ flash_name self.old }
     {
-        self.system.state.unlink(alloc, self.flash, path)
+        self.system.unlink(alloc, self.flash, path)
     }
 
     /// Moves a file or a directory to another path, in place of a file or an empty directory that
@@ -215,7 +212,7 @@ impl<'f, F: Flash> Fs<'f, F> {
         ensures pages { KeepsAllPages self.old self.new }
         ensures same_flash { flash_name self.new ≡ flash_name self.old }
     {
-        self.system.state.rename(alloc, self.flash, old, new)
+        self.system.rename(alloc, self.flash, old, new)
     }
 
     /// The version before becomes the present one.

@@ -6,6 +6,7 @@ pub mod MountedSystems
 pub mod Measured
 pub mod Mounting
 pub mod Restored
+pub mod Retried
 pub mod Passing
 pub mod Running
 pub mod SameNodes
@@ -13,3 +14,4 @@ pub mod SameRecords
 pub mod StateSteps
 pub mod Syncs
 pub mod Tried
+pub mod Twice

@@ -34,7 +34,7 @@ use Rattle.working_state.specs.Seen.{seen_of}
 use Rattle.working_state.specs.Steps.{replied, is_cut_answer, MayRefuse, CallStep}
 use Rattle.working_state.specs.Worked.{IsLooked, ReadCause}
 use Rattle.working_state.specs.declared.state.State.{State}
-use Rattle.working_state.proofs.Refusals.{refused_step, remembering, remembered_mounted}
+use Rattle.working_state.proofs.Refusals.{in_refusal, refused_step, remembering, remembered_mounted}
 use Rattle.working_state.proofs.Standing.{looked_worked, worked_reaches, looked_leaves, worked_later, worked_machine, worked_mounted}
 use Rattle.upkeep.specs.Mounts.{roots_of}
 use Rattle.upkeep.proofs.Syncs.{reached_from}
@@ -177,5 +177,6 @@ module _ (a b : Moment) (m : IsMountedAt a) where
       leaves = looked_leaves a b Call.Df is.looked refl;
       told = λ tells. told_answer result is.told;
       reached = worked_reaches a b m (looked_worked a b is.looked);
+      refused = in_refusal result is.looked.rest.history;
       stopped = λ off. absurd (both_ways a.state.is_off on off);
     }

@@ -136,7 +136,7 @@ module _ (d e : Device) (m n : System) (s : IsSystem d m) (on : m.state.is_off �
   }
 
   pub kept_stays : Stays d m e n
-  kept_stays = record { reads = k.reads; machine = machine; bad = k.bad; last = k.last; takes = k.takes; anchors = k.anchors }
+  kept_stays = record { reads = k.reads; history = k.history; machine = machine; bad = k.bad; last = k.last; takes = k.takes; anchors = k.anchors }
 
   -- a marking goes on, as long as no block leaves the note and what its roots reach stays used
   pub kept_running : (p : Pass) → ((b : ℕ) → set.contains m.state.storage.ring.used b ≡ true → set.contains n.state.storage.ring.used b ≡ true)
@@ -160,6 +160,7 @@ module _ (d e : Device) (m n : System) (s : IsSystem d m) (on : m.state.is_off �
 pub stays_on : (d e f : Device) (l m n : System) → Stays d l e m → Stays e m f n → Stays d l f n
 stays_on d e f l m n a b = record {
   reads = OnlyReads_on d e f a.reads b.reads;
+  history = b.history ∙ a.history;
   machine = b.machine ∙ a.machine;
   bad = b.bad ∙ a.bad;
   last = b.last ∙ a.last;
@@ -513,7 +514,7 @@ module _ (d e : Device) (m n : System) (budget : ℕ) (answer : Result Bool Faul
 
   is_reclaimed : Reclaims d m budget answer e left
   is_reclaimed = record {
-    stays = record { reads = stays.reads; machine = stays.machine; bad = stays.bad; last = stays.last; takes = stays.takes; anchors = stays.anchors };
+    stays = record { reads = stays.reads; history = stays.history; machine = stays.machine; bad = stays.bad; last = stays.last; takes = stays.takes; anchors = stays.anchors };
     ends = λ _. still_ends answer ends;
     off = ap (λ (b : Bool). b || is_cut_answer answer) (still_on ∙ sym on);
     stopped = λ off. absurd (both_ways m.state.is_off on off);

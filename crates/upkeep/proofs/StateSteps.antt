@@ -30,7 +30,7 @@ use Rattle.working_state.specs.declared.state.State.{State}
 use Rattle.working_state.proofs.Standing.{still_stands, same_tree}
 use Rattle.upkeep.specs.Mounts.{history_of, roots_of, trees_of}
 use Rattle.upkeep.specs.Saved.{saved_on, saved_trees, IsWhole}
-use Rattle.upkeep.specs.Commits.{SystemStep}
+use Rattle.upkeep.specs.Commits.{TriesOnce}
 use Rattle.upkeep.specs.Systems.{IsSystem, IsRunning, MustStay}
 use Rattle.upkeep.specs.declared.systems.System.{System}
 use Rattle.upkeep.proofs.AfterCommits.{knows, known, is_newest, not_none}
@@ -156,12 +156,13 @@ module _ (d e : Device) (m : System) (t : State) (call : Call) (result : Result 
   pages : KeepsPages d m.state e
   pages p (root, has, reached) = evolved.kept_pages p ((s.mounted.roots root has).held root refl (block_of d p) reached)
 
-  pub state_step : is_sync call ≡ false → SystemStep d m call result e (with_state m t)
+  pub state_step : is_sync call ≡ false → TriesOnce d m call result e (with_state m t)
   state_step other = record {
     step = step.step;
     leaves = λ none. step.leaves;
     saves = λ sync. absurd (true≢false (sym sync ∙ other));
     told = step.told;
+    refused = step.refused;
     stopped = λ off. let still = step.stopped off in (still.0, ap (with_state m) still.1);
     pages = pages;
     after = record {
@@ -169,6 +170,6 @@ module _ (d e : Device) (m : System) (t : State) (call : Call) (result : Result 
       synced = λ sync. absurd (true≢false (sym sync ∙ other));
       whole = whole;
       anchors = λ is. evolved.anchor_pages;
-      kept = kept;
+      kept = inl kept;
     };
   }

@@ -2,7 +2,7 @@
 use Rattle.std.proofs.Common.{◌≡◌, ◌⊎◌, inl, inr, ℕ, zero, suc, ◌+◌, ◌-◌, ◌<◌, ◌≤◌, Bool, true, false, cond, ◌||◌, Option, Some, None, Bor, Result, Ok, Err, List, [], ◌∷◌, refl, sym, ap, ◌∙◌, arith}
 use Rattle.std.proofs.lemmas.Bool.{true≢false}
 use Rattle.std.proofs.lemmas.List.Sums.{sum_by-cons}
-use Rattle.std.specs.Prelude.{is_some, Contains, OnOk, IfErr, not, count_by}
+use Rattle.std.specs.Prelude.{is_some, Contains, OnOk, OnErr, IfErr, not, count_by}
 use Rattle.std.specs.List.{range_with_len}
 use Rattle.std.specs.FinSet as set
 use Rattle.std.specs.Ordering.{nat_cmp}
@@ -32,11 +32,11 @@ use Rattle.working_state.proofs.BadCounts.{len-within, stays_read_only}
 use Rattle.working_state.specs.declared.state.State.{State}
 use Rattle.upkeep.specs.Mounts.{history_of, roots_of}
 use Rattle.upkeep.specs.Saved.{saved_on, saved_trees}
-use Rattle.upkeep.specs.Commits.{record_on, Saves, SaveCause, RecordAfter, SystemStep}
+use Rattle.upkeep.specs.Commits.{record_on, Saves, SaveCause, RecordAfter, TriesOnce}
 use Rattle.upkeep.specs.Systems.{IsSystem}
 use Rattle.upkeep.specs.declared.systems.System.{System}
 use Rattle.upkeep.proofs.SameNodes.{same_room}
-use Rattle.upkeep.proofs.AfterCommits.{same, same_machine, saved_after, stands_after, trees_after, newly_trees}
+use Rattle.upkeep.proofs.AfterCommits.{same, same_history, same_machine, saved_after, stands_after, trees_after, newly_trees}
 use Rattle.upkeep.proofs.Committed.{newly_saved}
 
 abbrev failed_reply : Fault → Result Reply Fault
@@ -117,7 +117,7 @@ module _ {T : Type 0} (d e : Device) (m n : System) (result : Result T Fault) (s
       by false false was now = refl
       by false true was now = absurd (let anchor : b < 8 = anchors.bad_anchor b now was in omega arith)
 
-  later : IsLater (seen_on d m.state) (seen_on e n.state)
+  pub later : IsLater (seen_on d m.state) (seen_on e n.state)
   later =
       let free : free_count n.state.storage.ring n.state.storage.bad ≡ free_count m.state.storage.ring m.state.storage.bad =
       ap (λ (t : State). free_count t.storage.ring n.state.storage.bad) saves.state ∙ free_same m.state.storage.ring m.state.storage.bad n.state.storage.bad same_bad in
@@ -170,13 +170,13 @@ module _ {T : Type 0} (d e : Device) (m n : System) (result : Result T Fault) (s
       by (Err fault) c = tt
 
   -- the newest record after it
-  record_after : (call : Call) → is_sync call ≡ true → RecordAfter call (replied empty result) d (machine_on d m.state).history e
+  record_after : (call : Call) → is_sync call ≡ true → RecordAfter (is_sync call ≡ true) call (replied empty result) d (machine_on d m.state).history e
   record_after call sync = record {
     either = by (trees_after d e m n result s saves (saved_after d e m n result s saves) on);
     synced = λ is. synced;
     whole = λ was r is root has. (stands_after d e m n result s saves (saved_after d e m n result s saves) on r is root has).rooted;
-    anchors = λ is. absurd (true≢false (sym sync ∙ is));
-    kept = λ r is p reached. saves.used_pages p (used r is (block_of d p) reached);
+    anchors = λ none. absurd (none sync);
+    kept = inl (λ r is p reached. saves.used_pages p (used r is (block_of d p) reached));
   }
     where
       by : (saved_trees e ≡ saved_trees d) ⊎ (saved_trees e ≡ Some (machine_on d m.state).history) → (saved_trees e ≡ saved_trees d) ⊎ ((is_sync call ≡ true) × (saved_trees e ≡ Some (machine_on d m.state).history))
@@ -220,16 +220,21 @@ module _ {T : Type 0} (d e : Device) (m n : System) (result : Result T Fault) (s
           same_fault e = cc
 
   -- a call that committed
-  pub committed : (call : Call) → IsSyncing (machine_on d m.state) call → IfErr result (SaveCause d m e n) → SystemStep d m call (replied empty result) e n
+  pub committed : (call : Call) → IsSyncing (machine_on d m.state) call → IfErr result (SaveCause d m e n) → TriesOnce d m call (replied empty result) e n
   committed call is why = record {
     step = record { later = later; answers = answers call is why };
     leaves = λ none. absurd (true≢false (sym is.sync ∙ none));
     saves = λ sync. replied_saves;
     told = λ tells. absurd (tells_none call is.sync tells);
+    refused = unchanged result;
     stopped = λ off. absurd (true≢false (sym off ∙ on));
     pages = λ p reached. saves.used_pages p (reached_used (block_of d p) reached);
     after = record_after call is.sync;
   }
+    where
+      unchanged : (r : Result T Fault) → OnErr (replied empty r) (n.state.history ≡ m.state.history)
+      unchanged (Ok x) = tt
+      unchanged (Err fault) = same_history d e m n result s saves
 
 -- ---- calls that were refused before any work
 
@@ -249,13 +254,13 @@ kept_anchors d bad = record {
   list_off = λ off. refl;
 }
 
-kept_record : (d : Device) (m : System) (fault : Fault) (working : Past Tree) (call : Call) → RecordAfter call (Err fault) d working d
+kept_record : (d : Device) (m : System) (fault : Fault) (working : Past Tree) (call : Call) → RecordAfter (is_sync call ≡ true) call (Err fault) d working d
 kept_record d m fault working call = record {
   either = inl refl;
   synced = λ is. tt;
   whole = λ was. was;
   anchors = λ is p low. refl;
-  kept = λ r is p reached. refl;
+  kept = inl (λ r is p reached. refl);
 }
 
 keeps_itself : (d : Device) (m : System) (fault : Fault) → Commits {T = Reply} d.pages d.pages (record_on d m.state) (greatest_on d.geometry d.pages + 1) m.state.storage.bad (Err fault)
@@ -288,12 +293,13 @@ refused_saves d m fault off other = record {
     same_fault e = cc
 
 -- the device is off, as a call told before
-pub off_step : (d : Device) (m : System) (call : Call) → is_sync call ≡ true → m.state.is_off ≡ true → SystemStep d m call (Err PowerCut) d m
+pub off_step : (d : Device) (m : System) (call : Call) → is_sync call ≡ true → m.state.is_off ≡ true → TriesOnce d m call (Err PowerCut) d m
 off_step d m call sync off = record {
   step = record { later = seen_itself (seen_on d m.state); answers = by m.state.is_off off };
   leaves = λ none. absurd (true≢false (sym sync ∙ none));
   saves = λ is. refused_saves d m PowerCut (ap (λ (b : Bool). b || true) off ∙ sym off) (λ e. cc);
   told = λ tells. tt;
+  refused = refl;
   stopped = λ is. (refl, refl);
   pages = λ p reached. refl;
   after = kept_record d m PowerCut _ call;
@@ -304,12 +310,13 @@ off_step d m call sync off = record {
     by false is = absurd (true≢false (sym is))
 
 -- no file is open under the descriptor
-pub closed_step : (d : Device) (m : System) (call : Call) → is_sync call ≡ true → m.state.is_off ≡ false → refusal (machine_on d m.state) call ≡ Some BadDescriptor → SystemStep d m call (Err BadDescriptor) d m
+pub closed_step : (d : Device) (m : System) (call : Call) → is_sync call ≡ true → m.state.is_off ≡ false → refusal (machine_on d m.state) call ≡ Some BadDescriptor → TriesOnce d m call (Err BadDescriptor) d m
 closed_step d m call sync on refused = record {
   step = record { later = seen_itself (seen_on d m.state); answers = by m.state.is_off on };
   leaves = λ none. absurd (true≢false (sym sync ∙ none));
   saves = λ is. refused_saves d m BadDescriptor (ap (λ (b : Bool). b || false) on ∙ sym on) (λ e. cc);
   told = λ tells. tt;
+  refused = refl;
   stopped = λ is. (refl, refl);
   pages = λ p reached. refl;
   after = kept_record d m BadDescriptor _ call;

@@ -1,5 +1,5 @@
--- What a call leaves of the newest record, and the step that a call takes on a mounted system.
-use Rattle.std.specs.Prelude.{◌≡◌, ◌⊎◌, ℕ, ◌+◌, ◌-◌, ◌^◌, ◌<◌, true, false, ◌||◌, Some, Result, Ok, Err, IfOk, OnOk}
+-- What a commit saves, what a call leaves of the newest record, and what a call does that is tried once.
+use Rattle.std.specs.Prelude.{◌≡◌, ◌⊎◌, ℕ, ◌+◌, ◌-◌, ◌^◌, ◌<◌, true, false, ◌||◌, Some, Result, Ok, Err, IfOk, OnOk, OnErr}
 use Rattle.std.specs.FinSet as set
 use Rattle.history_machine.specs.History.{Past}
 use Rattle.history_machine.specs.Machine.{Space, answer}
@@ -50,24 +50,31 @@ SaveCause old m new n PowerCut = new.powered ≡ false
 SaveCause old m new n NoMemory = Unit {0}
 SaveCause old m new n _ = ⊥
 
--- the newest record after a call: it is the one before, or what a sync commits of the working history, as that was before the
--- call; after a sync that answered Ok it is that
-pub record RecordAfter (call : Call) (result : Result Reply Fault) (old : Device) (working : Past Tree) (new : Device) : Type 0 where
-  pub either : (saved_trees new ≡ saved_trees old) ⊎ ((is_sync call ≡ true) × (saved_trees new ≡ Some working))
+-- no page changes of a block that the newest record reaches
+abbrev pub KeepsRecord : Device → Device → Type 0
+KeepsRecord old new = (r : Record) → saved_on old ≡ Some r → (p : ℕ) → Reached (node_of old) (roots_of (history_of r)) (block_of old p) → new.pages p ≡ old.pages p
+
+-- the newest record after a call: it is the one before, or, where the call commits, the working history as that was before it.
+-- After a sync that answered Ok it is that
+pub record RecordAfter (commits : Type 0) (call : Call) (result : Result Reply Fault) (old : Device) (working : Past Tree) (new : Device) : Type 0 where
+  pub either : (saved_trees new ≡ saved_trees old) ⊎ (commits × (saved_trees new ≡ Some working))
   pub synced : is_sync call ≡ true → OnOk result (saved_trees new ≡ Some working)
   -- each of its versions and checkpoints has a tree, as before
   pub whole : IsWhole old → IsWhole new
-  -- no page of an anchor changes but in a sync, and none of a block that the newest record reaches
-  pub anchors : is_sync call ≡ false → (p : ℕ) → block_of old p < first_data → new.pages p ≡ old.pages p
-  pub kept : (r : Record) → saved_on old ≡ Some r → (p : ℕ) → Reached (node_of old) (roots_of (history_of r)) (block_of old p) → new.pages p ≡ old.pages p
+  -- no page of an anchor changes but in a commit
+  pub anchors : (commits → ⊥) → (p : ℕ) → block_of old p < first_data → new.pages p ≡ old.pages p
+  -- no page changes of a block that the newest record reaches, as long as that is the newest
+  pub kept : KeepsRecord old new ⊎ (commits × (saved_trees new ≡ Some working))
 
--- a call's step on a mounted system: that of its working state, and what is left of the flash, the state and the newest record
-pub record SystemStep (old : Device) (m : System) (call : Call) (result : Result Reply Fault) (new : Device) (n : System) : Type 0 where
+-- what a call does that is tried once: the step of its working state, and what is left of the flash, the state and the newest
+-- record
+pub record TriesOnce (old : Device) (m : System) (call : Call) (result : Result Reply Fault) (new : Device) (n : System) : Type 0 where
   pub step : CallStep (seen_on old m.state) (machine_on old m.state) m.state.is_off call result (seen_on new n.state) (machine_on new n.state) n.state.is_off
   pub leaves : is_sync call ≡ false → Leaves (machine_on old m.state) call old m.state.storage new n.state.storage
   pub saves : is_sync call ≡ true → Saves old m result new n
   pub told : tells_space call ≡ true → IfOk result (λ reply. (space : Space) × IsSpace new n.state space × (answer space (machine_on old m.state) call ≡ Ok reply))
+  pub refused : OnErr result (n.state.history ≡ m.state.history)
   pub stopped : m.state.is_off ≡ true → (new ≡ old) × (n ≡ m)
   -- no page changes of a block that a version or a checkpoint reaches
   pub pages : KeepsPages old m.state new
-  pub after : RecordAfter call result old (machine_on old m.state).history new
+  pub after : RecordAfter (is_sync call ≡ true) call result old (machine_on old m.state).history new

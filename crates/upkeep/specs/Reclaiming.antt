@@ -54,9 +54,10 @@ StepEnds old m budget (Ok true) new n = EndsPass old m budget n
 StepEnds old m budget (Err fault) new n =
     (n.pass ≡ None) × (n.state.storage.ring.used ≡ m.state.storage.ring.used) × ReadCause (seen_on old m.state) fault (seen_on new n.state)
 
--- only reads came, and the machine, the bad list, the last block taken and the newest record's place are as they were
+-- only reads came, and the history, the machine, the bad list, the last block taken and the newest record's place are as they were
 pub record Stays (old : Device) (m : System) (new : Device) (n : System) : Type 0 where
   pub reads : OnlyReads old new
+  pub history : n.state.history ≡ m.state.history
   pub machine : machine_on new n.state ≡ machine_on old m.state
   pub bad : n.state.storage.bad ≡ m.state.storage.bad
   pub last : n.state.storage.ring.last ≡ m.state.storage.ring.last

@@ -2,12 +2,14 @@
 //! record, and the record that a history is committed as.
 #![tactic(auto)]
 
+mod changes;
 mod contents;
 mod formats;
 mod mounts;
 mod reaching;
 mod reclaiming;
 mod restoring;
+mod rooms;
 mod spaces;
 mod systems;
 

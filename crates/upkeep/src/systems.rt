@@ -8,7 +8,8 @@ ghost use Rattle.record_format.specs.Payloads.{is_record};
 ghost use Rattle.working_state.specs.Steps.{replied, empty};
 ghost use Rattle.upkeep.specs.Contents.{record_of};
 ghost use Rattle.upkeep.specs.Systems.{IsSystem};
-ghost use Rattle.upkeep.specs.Commits.{Saves, SaveCause, SystemStep};
+ghost use Rattle.upkeep.specs.Commits.{Saves, SaveCause, TriesOnce};
+ghost use Rattle.upkeep.specs.Steps.{SystemStep};
 
 use crate::contents::record_of;
 use crate::restoring::list_roots;
@@ -48,7 +49,7 @@ impl System {
     pub fn sync<F: Flash>(&mut self, alloc: Global, flash: &mut F) -> Result<(), Fault>
         requires { IsSystem (F.device flash.old) self.old }
         ensures system { IsSystem (F.device flash.new) self.new }
-        ensures step { SystemStep (F.device flash.old) self.old Call.Sync (replied empty result) (F.device flash.new) self.new }
+        ensures step { TriesOnce (F.device flash.old) self.old Call.Sync (replied empty result) (F.device flash.new) self.new }
     {
         self.state.check_power()?;
         self.commit(alloc, flash)
@@ -64,7 +65,7 @@ impl System {
     ) -> Result<(), Fault>
         requires { IsSystem (F.device flash.old) self.old }
         ensures system { IsSystem (F.device flash.new) self.new }
-        ensures step { SystemStep (F.device flash.old) self.old (Call.Fsync descriptor) (replied empty result) (F.device flash.new) self.new }
+        ensures step { TriesOnce (F.device flash.old) self.old (Call.Fsync descriptor) (replied empty result) (F.device flash.new) self.new }
     {
         self.state.check_power()?;
         if self.state.files.get(descriptor).is_none() {
@@ -80,12 +81,13 @@ impl System {
     pub fn df<F: Flash>(&mut self, alloc: Global, flash: &mut F) -> Result<Reply, Fault>
         requires { IsSystem (F.device flash.old) self.old }
         ensures system { IsSystem (F.device flash.new) self.new }
-        ensures step { SystemStep (F.device flash.old) self.old Call.Df result (F.device flash.new) self.new }
+        ensures step { TriesOnce (F.device flash.old) self.old Call.Df result (F.device flash.new) self.new }
     {
         df(&mut self.state, alloc, flash)
     }
 
-    /// Carries out a call, and answers its reply.
+    /// Carries out a call, and answers its reply. Where it finds the flash full it is carried out once
+    /// more, after [`System::makes_room`].
     pub fn call<F: Flash>(
         &mut self,
         alloc: Global,
@@ -95,6 +97,24 @@ impl System {
         requires { IsSystem (F.device flash.old) self.old }
         ensures system { IsSystem (F.device flash.new) self.new }
         ensures step { SystemStep (F.device flash.old) self.old call.now result (F.device flash.new) self.new }
+    {
+        let first = self.try_call(alloc, flash, call);
+        if !self.makes_room(alloc, flash, &first)? {
+            return first;
+        }
+        self.try_call(alloc, flash, call)
+    }
+
+    /// Carries out a call once.
+    fn try_call<F: Flash>(
+        &mut self,
+        alloc: Global,
+        flash: &mut F,
+        call: &Call,
+    ) -> Result<Reply, Fault>
+        requires { IsSystem (F.device flash.old) self.old }
+        ensures system { IsSystem (F.device flash.new) self.new }
+        ensures step { TriesOnce (F.device flash.old) self.old call.now result (F.device flash.new) self.new }
     {
         match call {
             Call::Sync => self.sync(alloc, flash)?,
@@ -113,6 +133,7 @@ impl System {
         ensures system { IsSystem (F.device flash.new) self.new }
         ensures saves { Saves (F.device flash.old) self.old result (F.device flash.new) self.new }
         ensures why { IfErr result (SaveCause (F.device flash.old) self.old (F.device flash.new) self.new) }
+        ensures pass { self.new.pass ≡ self.old.pass }
     {
         let saved = self.record(alloc, flash.geometry())?;
         let roots = list_roots(alloc, &self.state.history)?;

@@ -199,6 +199,7 @@ pushed_answer a b f st h files call edit reply m l by few written pushed opens o
       pages = worked_pages a c m all;
       reached = changed_reaches a c pushed.to h files pushed.pushed m all
           (pushed_reach a b f (source pushed.root edit) pushed.root pushed.to m l (of_present (HasRoot a.state) a.state pushed.root (λ root has. has) present) (own pushed.root) pushed.reached);
+      refused = tt;
     }
 
 cause_refuses : (a b : Moment) (f : Device) (st : Storage) (root : ℕ) (call : Call) {edit : Edit} (made : ℕ → Tree) (reply : Reply) (fault : Fault) → present_root a.state.history ≡ Some root → IsLooked a b

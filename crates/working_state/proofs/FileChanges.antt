@@ -158,6 +158,7 @@ same_answer a b call reply m l reads fine replies moves =
       is_off = w.rest.is_off;
       pages = worked_pages a b m w;
       reached = worked_reaches a b m w;
+      refused = tt;
     }
 
 pub looked_itself : (a : Moment) → IsLooked a a

@@ -170,6 +170,7 @@ refused_work a b call fault m w leaves refuses = record {
   is_off = w.rest.is_off;
   pages = worked_pages a b m w;
   reached = worked_reaches a b m w;
+  refused = w.rest.history;
 }
 
 -- one that was refused before anything was written
@@ -220,7 +221,7 @@ pub opened_answer : (a b : Moment) (path : Path) (flags : OpenFlags) (descriptor
     → files ≡ opened b.state.files descriptor (record { path = path; flags = flags })
     → IsAnswered a (Call.Open path flags) (Ok (Reply.Fd descriptor)) (moment b.device (record b.state { files = files })) false
 opened_answer a b path flags descriptor files m l lawful fine same free is =
-    record { mounted = mounted_at b b.state.history files mid mid.roots machine; step = step; leaves = looked_leaves a b call l refl; is_off = l.rest.is_off; pages = worked_pages a b m w; reached = worked_reaches a b m w }
+    record { mounted = mounted_at b b.state.history files mid mid.roots machine; step = step; leaves = looked_leaves a b call l refl; is_off = l.rest.is_off; pages = worked_pages a b m w; reached = worked_reaches a b m w; refused = tt }
   where
     call : Call
     call = Call.Open path flags

@@ -1,7 +1,7 @@
 -- Steps of refused calls, and what is remembered of an answer that the power is off.
-use Rattle.std.proofs.Common.{◌≡◌, ◌+◌, ◌<◌, Bool, true, false, ◌&&◌, ◌||◌, Result, Err, inl, inr, refl, sym, subst, ◌∙◌, arith}
+use Rattle.std.proofs.Common.{◌≡◌, ◌+◌, ◌<◌, Bool, true, false, ◌&&◌, ◌||◌, Result, Ok, Err, inl, inr, refl, sym, subst, ◌∙◌, arith}
 use Rattle.std.proofs.lemmas.Bool.{true≢false, both_ways, and_parts, or_cases}
-use Rattle.std.specs.Prelude.{IsTrue, IfErr}
+use Rattle.std.specs.Prelude.{IsTrue, IfErr, OnErr}
 use Rattle.history_machine.specs.Machine.{Machine, need}
 use Rattle.fs_types.specs.declared.calls.Call.{Call}
 use Rattle.fs_types.specs.declared.calls.Reply.{Reply}
@@ -56,6 +56,11 @@ cause_later old mid new _ later why = absurd why
 
 -- Steps.
 
+-- what holds whatever was answered
+pub in_refusal : {T : Type 0} {P : Type 0} (result : Result T Fault) → P → OnErr result P
+in_refusal (Ok x) holds = tt
+in_refusal (Err fault) holds = holds
+
 -- a refusal of what was answered
 pub at_refusal : {T : Type 0} (a b : Moment) (call : Call) (fault : Fault) (result : Result T Fault) → result ≡ Err fault
     → IsRefused a call fault b → IfErr result (λ x. IsRefused a call x b)
@@ -77,8 +82,8 @@ remembering t result = record t { is_off = t.is_off || is_cut_answer result }
 pub remembered_step : {T : Type 0} (f : T → Reply) (a b : Moment) (u : State) (call : Call) (result again : Result T Fault)
     → again ≡ result → a.state.is_off ≡ false → b.state.is_off ≡ a.state.is_off → u ≡ remembering b.state result
     → IsStep a call (replied f result) b (is_cut_answer result)
-    → Leaves (machine_at a) call a.device a.state.storage b.device b.state.storage → ReachesNew a.device a.state b.device b.state → tells_space call ≡ false → Steps a call (replied f again) (moment b.device u)
-remembered_step f a b u call result again told on same is step leaves reached plain =
+    → Leaves (machine_at a) call a.device a.state.storage b.device b.state.storage → ReachesNew a.device a.state b.device b.state → OnErr (replied f result) (b.state.history ≡ a.state.history) → tells_space call ≡ false → Steps a call (replied f again) (moment b.device u)
+remembered_step f a b u call result again told on same is step leaves reached refused plain =
     subst (λ r. Steps a call (replied f r) (moment b.device u)) (sym told)
     (subst (λ v. Steps a call (replied f result) (moment b.device v)) (sym is) (record {
       step = subst (λ o. StepFrom o (b.state.is_off || is_cut_answer result)) (sym on)
@@ -86,6 +91,7 @@ remembered_step f a b u call result again told on same is step leaves reached pl
       leaves = leaves;
       told = λ space. absurd (both_ways (tells_space call) plain space);
       reached = reached;
+      refused = refused;
       stopped = λ off. absurd (both_ways a.state.is_off on off);
     }))
   where

@@ -97,4 +97,4 @@ pub same_answer : (a b : Moment) (old new : Path) → IsMountedAt a → IsLooked
     → IsAnswered a (Call.Rename old new) (Ok Reply.Empty) b false
 same_answer a b old new m l fine same =
     let w = looked_worked a b l in
-    record { mounted = worked_mounted a b m w; step = same_step a b old new m l fine same; leaves = looked_leaves a b (Call.Rename old new) l refl; is_off = w.rest.is_off; pages = worked_pages a b m w; reached = worked_reaches a b m w }
+    record { mounted = worked_mounted a b m w; step = same_step a b old new m l fine same; leaves = looked_leaves a b (Call.Rename old new) l refl; is_off = w.rest.is_off; pages = worked_pages a b m w; reached = worked_reaches a b m w; refused = tt }

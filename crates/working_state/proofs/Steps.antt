@@ -43,19 +43,20 @@ module _ (a : Moment) (call : Call) where
   stays = same_reach a.device a.state a.state (λ root has. has)
 
   -- a call that does no device operation, and is answered so
-  pub still_step : (t : State) (result : Result Reply Fault) → t.storage ≡ a.state.storage → (a.state.is_off ≡ true → t ≡ a.state) → (tells_space call ≡ true → TellsSpace result t) → ReachesNew a.device a.state a.device t → CallStep (seen_at a) before a.state.is_off call result (seen_at (moment a.device t)) (machine_at (moment a.device t)) t.is_off → Steps a call result (moment a.device t)
-  still_step t result same stopped told reached step = record {
+  pub still_step : (t : State) (result : Result Reply Fault) → t.storage ≡ a.state.storage → (a.state.is_off ≡ true → t ≡ a.state) → (tells_space call ≡ true → TellsSpace result t) → ReachesNew a.device a.state a.device t → OnErr result (t.history ≡ a.state.history) → CallStep (seen_at a) before a.state.is_off call result (seen_at (moment a.device t)) (machine_at (moment a.device t)) t.is_off → Steps a call result (moment a.device t)
+  still_step t result same stopped told reached refused step = record {
     step = step;
     told = told;
     leaves = subst (λ (x : Storage). Leaves before call a.device a.state.storage a.device x) (sym same) (still_leaves before a.device a.state.storage call);
     reached = reached;
+    refused = refused;
     stopped = λ off. (refl, stopped off);
   }
 
   -- a call that was carried out
   pub done : (p : Past ℕ) (reply : Reply) → a.state.is_off ≡ false → tells_space call ≡ false → refusal before call ≡ None → ((space : Space) → reply_of space before call ≡ reply) → machine_of before call None ≡ machine_at (at_history a p) → ReachesNew a.device a.state a.device (with_history a.state p)
       → (is_writing before call ≡ true → is_read_only a.state.storage.bad ≡ false) → (makes_version before call ≡ true → a.state.history.next < last_serial) → Steps a call (Ok reply) (at_history a p)
-  done p reply on plain ok tells leaves reached writable serial = still_step (with_history a.state p) (Ok reply) refl (λ off. absurd (both_ways a.state.is_off on off)) (λ space. absurd (both_ways (tells_space call) plain space)) reached (record {
+  done p reply on plain ok tells leaves reached writable serial = still_step (with_history a.state p) (Ok reply) refl (λ off. absurd (both_ways a.state.is_off on off)) (λ space. absurd (both_ways (tells_space call) plain space)) reached tt (record {
     later = same-later (seen_at a);
     answers = (
       on,
@@ -72,14 +73,14 @@ module _ (a : Moment) (call : Call) where
 
   -- a call that was refused
   pub refused : (fault : Fault) → a.state.is_off ≡ false → is_cut fault ≡ false → (refusal before call ≡ Some fault) ⊎ MayRefuse (seen_at a) before call fault (seen_at a) → Steps a call (Err fault) a
-  refused fault on no_cut why = still_step a.state (Err fault) refl (λ _. refl) (λ _. tt) stays (record {
+  refused fault on no_cut why = still_step a.state (Err fault) refl (λ _. refl) (λ _. tt) stays refl (record {
     later = same-later (seen_at a);
     answers = subst (λ off. Answers (seen_at a) before off call (Err fault) (seen_at a) before off) (sym on) (why, refl, sym no_cut);
   })
 
   -- a call where an earlier one answered that the power is off
   pub off_step : (fault : Fault) → (fault ≡ PowerCut) × (a.state.is_off ≡ true) → Steps a call (Err fault) a
-  off_step fault why = still_step a.state (Err fault) refl (λ _. refl) (λ _. tt) stays (record {
+  off_step fault why = still_step a.state (Err fault) refl (λ _. refl) (λ _. tt) stays refl (record {
     later = same-later (seen_at a);
     answers = subst (λ off. Answers (seen_at a) before off call (Err fault) (seen_at a) before off) (sym why.1) (why.0, refl, refl, refl);
   })

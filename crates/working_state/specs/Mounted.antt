@@ -1,5 +1,5 @@
 -- What holds of a flash and the working state on it between calls.
-use Rattle.std.specs.Prelude.{◌≡◌, ◌≤◌, ℕ, true, false, Result, Ok, vec_len, vec_capacity, IfOk}
+use Rattle.std.specs.Prelude.{◌≡◌, ◌≤◌, ℕ, true, false, Result, Ok, vec_len, vec_capacity, IfOk, OnErr}
 use Rattle.std.specs.FinSet as set
 use Rattle.history_machine.specs.Machine.{IsMachine, Space, answer}
 use Rattle.fs_types.specs.declared.calls.Call.{Call}
@@ -36,13 +36,14 @@ pub record IsMounted (device : Device) (state : State) : Type 0 where
   pub off : state.is_off ≡ true → device.powered ≡ false
 
 -- a call's step, as it is seen of the flash and the state before and after, and what it leaves of them, and which blocks
--- the versions and checkpoints reach then. What `df` tells is the space that is left. Once a call has answered that the
+-- the versions and checkpoints reach then. A refused one leaves the history. What `df` tells is the space that is left. Once a call has answered that the
 -- power is off, nothing changes
 pub record StateStep (old : Device) (s : State) (call : Call) (result : Result Reply Fault) (new : Device) (t : State) : Type 0 where
   pub step : CallStep (seen_on old s) (machine_on old s) s.is_off call result (seen_on new t) (machine_on new t) t.is_off
   pub leaves : Leaves (machine_on old s) call old s.storage new t.storage
   pub told : tells_space call ≡ true → IfOk result (λ reply. (space : Space) × IsSpace new t space × (answer space (machine_on old s) call ≡ Ok reply))
   pub reached : ReachesNew old s new t
+  pub refused : OnErr result (t.history ≡ s.history)
   pub stopped : s.is_off ≡ true → (new ≡ old) × (t ≡ s)
 
 -- no page changed of a block that a version or a checkpoint reaches

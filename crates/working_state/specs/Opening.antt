@@ -1,5 +1,5 @@
 -- Opening a file, by what a look up of its path finds.
-use Rattle.std.specs.Prelude.{◌≡◌, Bool, true, false, not, ◌&&◌, nat_lt, Option, Some, None, Result, if◌then◌else◌}
+use Rattle.std.specs.Prelude.{◌≡◌, Bool, true, false, not, ◌&&◌, nat_lt, Option, Some, None, Result, OnErr, if◌then◌else◌}
 use Rattle.history_machine.specs.Descriptors.{creates, is_exclusive, truncates}
 use Rattle.fs_types.specs.declared.calls.Call.{Call}
 use Rattle.fs_types.specs.declared.calls.Reply.{Reply}
@@ -34,3 +34,4 @@ pub record IsAnswered (old : Moment) (call : Call) (result : Result Reply Fault)
   pub is_off : new.state.is_off ≡ old.state.is_off
   pub pages : KeepsPages old.device old.state new.device
   pub reached : ReachesNew old.device old.state new.device new.state
+  pub refused : OnErr result (new.state.history ≡ old.state.history)

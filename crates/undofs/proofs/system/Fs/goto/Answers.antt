@@ -1,5 +1,6 @@
 use Rattle.std.proofs.Common.{refl}
-use Rattle.upkeep.proofs.StateSteps.{state_system, state_step}
+use Rattle.upkeep.proofs.StateSteps.{with_state, state_system, state_step}
+use Rattle.upkeep.proofs.Twice.{step_once}
 use Rattle.undofs.proofs.system.Fs.goto.Goals as goal
 
 pub invariant_of-self : goal.invariant_of-self
@@ -12,4 +13,4 @@ pub returns-clause-step : goal.returns-clause-step
 returns-clause-step g c =
     let fs = c.args.self.now in
     let d = g.F.Flash.device fs.flash.now in
-    state_step d d fs.system c.goto.new.self _ _ fs.mounted (c.goto.ensures.step d) refl
+    step_once d d fs.system (with_state fs.system c.goto.new.self) _ _ (state_step d d fs.system c.goto.new.self _ _ fs.mounted (c.goto.ensures.step d) refl) (λ capacity x. refl)

@@ -20,4 +20,4 @@ returns-clause-mounted g c =
 pub returns-clause-step : goal.returns-clause-step
 returns-clause-step g c =
     remembered_step empty (moment (g.F.Flash.device c.args.flash.now) c.args.self.now) (moment (g.F.Flash.device c.resize_file-resized.new.flash) c.resize_file-resized.new.self) c.remember_cut.new.self (Call.Ftruncate c.args.descriptor c.args.size)
-    c.resize_file-resized.result c.remember_cut.result c.remember_cut.ensures.same c.in_ok-check_power.ensures.ok c.resize_file-resized.ensures.is_off c.remember_cut.ensures.off c.resize_file-resized.ensures.step c.resize_file-resized.ensures.leaves c.resize_file-resized.ensures.reached refl
+    c.resize_file-resized.result c.remember_cut.result c.remember_cut.ensures.same c.in_ok-check_power.ensures.ok c.resize_file-resized.ensures.is_off c.remember_cut.ensures.off c.resize_file-resized.ensures.step c.resize_file-resized.ensures.leaves c.resize_file-resized.ensures.reached c.resize_file-resized.ensures.refused refl

@@ -20,4 +20,4 @@ returns-clause-mounted g c =
 pub returns-clause-step : goal.returns-clause-step
 returns-clause-step g c =
     remembered_step empty (moment (g.F.Flash.device c.args.flash.now) c.args.self.now) (moment (g.F.Flash.device c.add_directory-made.new.flash) c.add_directory-made.new.self) c.remember_cut.new.self (Call.Mkdir c.args.path.now)
-    c.add_directory-made.result c.remember_cut.result c.remember_cut.ensures.same c.in_ok-check_power.ensures.ok c.add_directory-made.ensures.is_off c.remember_cut.ensures.off c.add_directory-made.ensures.step c.add_directory-made.ensures.leaves c.add_directory-made.ensures.reached refl
+    c.add_directory-made.result c.remember_cut.result c.remember_cut.ensures.same c.in_ok-check_power.ensures.ok c.add_directory-made.ensures.is_off c.remember_cut.ensures.off c.add_directory-made.ensures.step c.add_directory-made.ensures.leaves c.add_directory-made.ensures.reached c.add_directory-made.ensures.refused refl

@@ -20,4 +20,4 @@ returns-clause-mounted g c =
 pub returns-clause-step : goal.returns-clause-step
 returns-clause-step g c =
     remembered_step Reply.Fd (moment (g.F.Flash.device c.args.flash.now) c.args.self.now) (moment (g.F.Flash.device c.open_file-opened.new.flash) c.open_file-opened.new.self) c.remember_cut.new.self (Call.Open c.args.path.now c.args.flags)
-    c.open_file-opened.result c.remember_cut.result c.remember_cut.ensures.same c.in_ok-check_power.ensures.ok c.open_file-opened.ensures.is_off c.remember_cut.ensures.off c.open_file-opened.ensures.step c.open_file-opened.ensures.leaves c.open_file-opened.ensures.reached refl
+    c.open_file-opened.result c.remember_cut.result c.remember_cut.ensures.same c.in_ok-check_power.ensures.ok c.open_file-opened.ensures.is_off c.remember_cut.ensures.off c.open_file-opened.ensures.step c.open_file-opened.ensures.leaves c.open_file-opened.ensures.reached c.open_file-opened.ensures.refused refl

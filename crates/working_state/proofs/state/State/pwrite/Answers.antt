@@ -20,4 +20,4 @@ returns-clause-mounted g c =
 pub returns-clause-step : goal.returns-clause-step
 returns-clause-step g c =
     remembered_step Reply.Count (moment (g.F.Flash.device c.args.flash.now) c.args.self.now) (moment (g.F.Flash.device c.write_file-written.new.flash) c.write_file-written.new.self) c.remember_cut.new.self (Call.Pwrite c.args.descriptor c.args.offset c.args.bytes.now)
-    c.write_file-written.result c.remember_cut.result c.remember_cut.ensures.same c.in_ok-check_power.ensures.ok c.write_file-written.ensures.is_off c.remember_cut.ensures.off c.write_file-written.ensures.step c.write_file-written.ensures.leaves c.write_file-written.ensures.reached refl
+    c.write_file-written.result c.remember_cut.result c.remember_cut.ensures.same c.in_ok-check_power.ensures.ok c.write_file-written.ensures.is_off c.remember_cut.ensures.off c.write_file-written.ensures.step c.write_file-written.ensures.leaves c.write_file-written.ensures.reached c.write_file-written.ensures.refused refl

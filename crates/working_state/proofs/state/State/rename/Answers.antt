@@ -20,4 +20,4 @@ returns-clause-mounted g c =
 pub returns-clause-step : goal.returns-clause-step
 returns-clause-step g c =
     remembered_step empty (moment (g.F.Flash.device c.args.flash.now) c.args.self.now) (moment (g.F.Flash.device c.move_entry-moved.new.flash) c.move_entry-moved.new.self) c.remember_cut.new.self (Call.Rename c.args.old.now c.args.new.now)
-    c.move_entry-moved.result c.remember_cut.result c.remember_cut.ensures.same c.in_ok-check_power.ensures.ok c.move_entry-moved.ensures.is_off c.remember_cut.ensures.off c.move_entry-moved.ensures.step c.move_entry-moved.ensures.leaves c.move_entry-moved.ensures.reached refl
+    c.move_entry-moved.result c.remember_cut.result c.remember_cut.ensures.same c.in_ok-check_power.ensures.ok c.move_entry-moved.ensures.is_off c.remember_cut.ensures.off c.move_entry-moved.ensures.step c.move_entry-moved.ensures.leaves c.move_entry-moved.ensures.reached c.move_entry-moved.ensures.refused refl

@@ -20,4 +20,4 @@ returns-clause-mounted g c =
 pub returns-clause-step : goal.returns-clause-step
 returns-clause-step g c =
     remembered_step empty (moment (g.F.Flash.device c.args.flash.now) c.args.self.now) (moment (g.F.Flash.device c.remove_directory-removed.new.flash) c.remove_directory-removed.new.self) c.remember_cut.new.self (Call.Rmdir c.args.path.now)
-    c.remove_directory-removed.result c.remember_cut.result c.remember_cut.ensures.same c.in_ok-check_power.ensures.ok c.remove_directory-removed.ensures.is_off c.remember_cut.ensures.off c.remove_directory-removed.ensures.step c.remove_directory-removed.ensures.leaves c.remove_directory-removed.ensures.reached refl
+    c.remove_directory-removed.result c.remember_cut.result c.remember_cut.ensures.same c.in_ok-check_power.ensures.ok c.remove_directory-removed.ensures.is_off c.remember_cut.ensures.off c.remove_directory-removed.ensures.step c.remove_directory-removed.ensures.leaves c.remove_directory-removed.ensures.reached c.remove_directory-removed.ensures.refused refl

@@ -20,4 +20,4 @@ returns-clause-mounted g c =
 pub returns-clause-step : goal.returns-clause-step
 returns-clause-step g c =
     remembered_step empty (moment (g.F.Flash.device c.args.flash.now) c.args.self.now) (moment (g.F.Flash.device c.remove_file-removed.new.flash) c.remove_file-removed.new.self) c.remember_cut.new.self (Call.Unlink c.args.path.now)
-    c.remove_file-removed.result c.remember_cut.result c.remember_cut.ensures.same c.in_ok-check_power.ensures.ok c.remove_file-removed.ensures.is_off c.remember_cut.ensures.off c.remove_file-removed.ensures.step c.remove_file-removed.ensures.leaves c.remove_file-removed.ensures.reached refl
+    c.remove_file-removed.result c.remember_cut.result c.remember_cut.ensures.same c.in_ok-check_power.ensures.ok c.remove_file-removed.ensures.is_off c.remember_cut.ensures.off c.remove_file-removed.ensures.step c.remove_file-removed.ensures.leaves c.remove_file-removed.ensures.reached c.remove_file-removed.ensures.refused refl

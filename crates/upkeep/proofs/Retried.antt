@@ -168,14 +168,14 @@ is_full d b m k call first = by m.state.is_off refl first.step.answers
   where
     by : (off : Bool) → m.state.is_off ≡ off → once_only.Answers (seen_on d m.state) (machine_on d m.state) off call (Err FlashFull) (seen_on b k.state) (machine_on b k.state) k.state.is_off → IsFull d m call b k
     by true is h = absurd (let wrong = h.0 in cc)
-    by false is (inl says, same, flag) = absurd (true≢false (own_says (machine_on d m.state) call FlashFull says))
-    by false is (inr why, same, flag) =
+    by false is (inl says, _, _) = absurd (true≢false (own_says (machine_on d m.state) call FlashFull says))
+    by false is (inr why, as_was, flag) =
         let makes = versions (capacity_of d) (machine_on d m.state) call why.0 in
         let some = (changes (machine_on d m.state) call makes).1 in
         record {
           on = is;
           still_on = flag;
-          machine = same;
+          machine = as_was;
           writable = why.1;
           serial_left = why.2;
           writing = writes (machine_on d m.state) call makes;

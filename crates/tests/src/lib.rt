@@ -25,6 +25,8 @@ mod paths;
 #[cfg(test)]
 mod planned_faults;
 #[cfg(test)]
+mod program_words;
+#[cfg(test)]
 mod reclaiming;
 #[cfg(test)]
 mod records;

@@ -1,0 +1,32 @@
+-- The words of the program as they are read: its subcommands and their arguments.
+use Rattle.std.specs.Prelude.{true, Some, pos, codes}
+use Rattle.clap.specs.Words.{App, Rule, Shape, Text, new_app, new_rule, with_rule, with_subcommand}
+use Rattle.clap.specs.declared.builder.action.ArgAction.{ArgAction}
+use Rattle.clap.specs.declared.builder.value_parser.ValueParser.{ValueParser}
+
+-- the file of an image, which has to be named
+abbrev pub image_rule : Rule
+image_rule = record (new_rule (codes "IMAGE")) { required = true; action = Some ArgAction.Set }
+
+-- an option `--NAME NUMBER`, of a number of 32 bits
+abbrev pub number_rule : Text → Rule
+number_rule name = record (new_rule name) { long = Some name; value_names = 1; action = Some ArgAction.Set; parser = Some (ValueParser.Signed (pos 0) (pos 4294967295)) }
+
+-- a subcommand that takes an image
+abbrev pub image_app : Text → App
+image_app name = with_rule (new_app name) image_rule
+
+abbrev pub format_app : App
+format_app = with_rule (with_rule (with_rule (with_rule (image_app (codes "format")) (number_rule (codes "page"))) (number_rule (codes "pages"))) (number_rule (codes "blocks"))) (number_rule (codes "history"))
+
+-- the program before its subcommands: one of them has to be named, by the first word
+abbrev pub bare_top : Shape
+bare_top = record (new_app (codes "uffs")).top { no_binary_name = true; disable_help_subcommand = true; subcommand_required = true }
+
+abbrev pub bare_app : App
+bare_app = record (new_app (codes "uffs")) { top = bare_top }
+
+-- the program
+abbrev pub uffs : App
+uffs = with_subcommand (with_subcommand (with_subcommand (with_subcommand (with_subcommand (with_subcommand bare_app
+    format_app.top) (image_app (codes "run")).top) (image_app (codes "check")).top) (image_app (codes "log")).top) (image_app (codes "df")).top) (new_app (codes "memory")).top

@@ -1,0 +1,58 @@
+-- The job that words ask for.
+use Rattle.std.specs.Prelude.{◌≡◌, ◌^◌, ◌<◌, ℕ, Option, Some, None, List, codes, if◌then◌else◌, option_map, is_some, true}
+use Rattle.std.specs.Borrow.{Bor}
+use Rattle.std.specs.Str.{bytes_eq}
+use Rattle.std.specs.Str.Parse.{IsNumeral, without_leading_plus, digits_value}
+use Rattle.clap.specs.Words.{Row, Text, subcommand_of}
+use Rattle.clap.specs.Walk.{first_of, one_of}
+use Rattle.jobs.specs.Grammar.{uffs}
+use Rattle.jobs.specs.declared.tasks.Task.{Task}
+use Rattle.jobs.specs.declared.tasks.Job.{Job}
+
+-- the subcommand that the words name, with what they say of its arguments
+abbrev pub given : List Text → Option (Text × List Row)
+given words = subcommand_of uffs words
+
+abbrev pub task_named : Text → Option Task
+task_named name = if bytes_eq name (codes "format") then Some Task.Format
+    else if bytes_eq name (codes "run") then Some Task.Run
+    else if bytes_eq name (codes "check") then Some Task.Check
+    else if bytes_eq name (codes "log") then Some Task.Log
+    else if bytes_eq name (codes "df") then Some Task.Df
+    else if bytes_eq name (codes "memory") then Some Task.Memory
+    else None
+
+-- the number of 32 bits that a word spells in decimal digits
+abbrev pub Spells : Text → ℕ → Type 0
+Spells word n = IsNumeral 10 (without_leading_plus word) × (digits_value 10 (without_leading_plus word) ≡ n) × (n < 2 ^ 32)
+
+-- the number is the one that the word of the option spells, and where there is none the default
+abbrev pub IsNumberOf : Option Text → ℕ → ℕ → Type 0
+IsNumberOf (Some word) default n = Spells word n
+IsNumberOf None default n = n ≡ default
+
+-- a job names the image that the words name, and none for `memory`
+pub record IsImageOf (task : Task) (word image : Option Text) : Type 0 where
+  pub memory : task ≡ Task.Memory → image ≡ None
+  pub others : (task ≡ Task.Memory → ⊥) → (is_some image ≡ true) × (image ≡ word)
+
+abbrev pub image_of : Job → Option Text
+image_of job = option_map (λ (s : Bor (List ℕ)). s.now) job.image
+
+-- the job is what a subcommand with its arguments says: numbers that no option gives are 256, 16, 32 and 8
+pub record IsJobOf (name : Text) (rows : List Row) (job : Job) : Type 0 where
+  pub command : task_named name ≡ Some job.command
+  pub image : IsImageOf job.command (first_of (codes "IMAGE") rows) (image_of job)
+  pub page : IsNumberOf (one_of (codes "page") rows) 256 job.page
+  pub pages : IsNumberOf (one_of (codes "pages") rows) 16 job.pages
+  pub blocks : IsNumberOf (one_of (codes "blocks") rows) 32 job.blocks
+  pub history : IsNumberOf (one_of (codes "history") rows) 8 job.history
+
+-- the job is what a subcommand says, where one was named
+abbrev pub SaysJob : Option (Text × List Row) → Job → Type 0
+SaysJob (Some (name, rows)) job = IsJobOf name rows job
+SaysJob None job = ⊥
+
+-- the job is what the words ask for
+abbrev pub AsksFor : List Text → Job → Type 0
+AsksFor words = SaysJob (given words)

@@ -1,0 +1,194 @@
+//! The words of `uffs`: its subcommands, their arguments, and the texts of its help.
+ghost use Rattle.std.specs.Prelude.{◌≡◌, IfOk, codes, false};
+ghost use Rattle.clap.specs.Words.{app_of, rule_of, new_app};
+ghost use Rattle.clap.specs.declared.builder.command.Command.TheViews.{out-Command};
+ghost use Rattle.jobs.specs.Grammar.{uffs, bare_app, format_app, image_app, number_rule};
+
+use clap::{Arg, ArgAction, Command, value_parser};
+use std::alloc::{AllocError, Global};
+
+/// The name of the argument that names the file of an image.
+pub(crate) const IMAGE: &str = "IMAGE";
+
+const PROGRAM_HELP: &str = "Status:
+  0  it ran to its end, whatever the replies
+  1  IMAGE, the input or the output failed, or memory
+  2  the words were refused, or help was asked for
+  3  IMAGE holds no image, or a format or a mount was refused
+
+Example:
+  uffs format disk.image
+  echo 'mkdir /a' | uffs run disk.image";
+
+const FORMAT_HELP: &str =
+    "An image that is there is replaced. Nothing is printed. A refused format leaves IMAGE as it was.
+
+Status: 0 it is written; 1 IMAGE cannot be written, or memory; 2 the words; 3 the sizes or H are
+refused, with their refusal.
+
+Example: uffs format disk.image --blocks 64 --history 16";
+
+const RUN_HELP: &str =
+    "Each line of the input is answered by one line of the output. At the end of the script the image is
+written back. What was not synced by then is lost, and where the script does not run to its end
+IMAGE stays as it was.
+
+Status: 0 the script ran to its end; 1 IMAGE, the input or the output failed, or memory; 2 the
+words; 3 IMAGE holds no image, or its mount was refused.
+
+Example: printf 'mkdir /a\\nsync\\n' | uffs run disk.image";
+
+const CHECK_HELP: &str =
+    "The newest record is read, and every tree that it names. Nothing is written to IMAGE.
+
+Status: 0 it prints ok; 1 IMAGE cannot be read, the output failed, or memory; 2 the words; 3 IMAGE
+holds no image, or its mount was refused.
+
+Example: uffs check disk.image";
+
+const LOG_HELP: &str =
+    "Prints the reply to the line `log`: the next serial, the versions with * before the present one, and
+the checkpoints. Nothing is written to IMAGE.
+
+Status: as of check.
+
+Example: uffs log disk.image";
+
+const DF_HELP: &str =
+    "Prints the reply to the line `df`: the data blocks, the bad and the free ones among them, and the
+anchors that are not bad. Nothing is written to IMAGE.
+
+Status: as of check.
+
+Example: uffs df disk.image";
+
+const MEMORY_HELP: &str =
+    "The flash has 32 blocks of 16 pages of 256 bytes, and 8 versions are kept. No file is read or
+written.
+
+Status: 0 the script ran to its end; 1 the input or the output failed, or memory; 2 the words.
+
+Example: echo 'df' | uffs memory";
+
+/// The program with all its subcommands.
+pub(crate) fn program<'a>(alloc: Global) -> Result<Command<'a>, AllocError>
+    ensures { IfOk result (λ command. app_of command ≡ uffs) }
+{
+    bare_program(alloc)
+        .subcommand(format_command(alloc)?)?
+        .subcommand(image_command(
+            alloc,
+            "run",
+            "Runs the script on standard input on an image",
+            RUN_HELP,
+        )?)?
+        .subcommand(image_command(
+            alloc,
+            "check",
+            "Tells whether an image can be mounted",
+            CHECK_HELP,
+        )?)?
+        .subcommand(image_command(
+            alloc,
+            "log",
+            "Prints the versions and checkpoints of an image",
+            LOG_HELP,
+        )?)?
+        .subcommand(image_command(
+            alloc,
+            "df",
+            "Prints how many blocks of an image are free",
+            DF_HELP,
+        )?)?
+        .subcommand(memory_command(alloc))
+}
+
+/// The program before its subcommands.
+fn bare_program<'a>(alloc: Global) -> Command<'a>
+    ensures { app_of result ≡ bare_app }
+{
+    Command::new(alloc, "uffs")
+        .no_binary_name(true)
+        .disable_help_subcommand(true)
+        .subcommand_required(true)
+        .about("A file system with undo and rollback, on an image of raw flash")
+        .after_help(PROGRAM_HELP)
+}
+
+fn format_command<'a>(alloc: Global) -> Result<Command<'a>, AllocError>
+    ensures app { IfOk result (λ command. app_of command ≡ format_app) }
+    ensures local { IfOk result (λ command. (out-Command command).has_globals ≡ false) }
+{
+    let command = image_command(
+        alloc,
+        "format",
+        "Makes an image with an empty file system",
+        FORMAT_HELP,
+    )?;
+    command
+        .arg(number_arg(
+            alloc,
+            "page",
+            "P",
+            "Bytes of a page: 256, 512, 1024, 2048 or 4096 [default: 256]",
+        ))?
+        .arg(number_arg(
+            alloc,
+            "pages",
+            "K",
+            "Pages of a block, which has 4096 to 262144 bytes [default: 16]",
+        ))?
+        .arg(number_arg(
+            alloc,
+            "blocks",
+            "N",
+            "Blocks, 16 to 65536, in at most 67108864 bytes [default: 32]",
+        ))?
+        .arg(number_arg(
+            alloc,
+            "history",
+            "H",
+            "Versions that are kept, 2 to 64 [default: 8]",
+        ))
+}
+
+/// A subcommand that takes an image.
+fn image_command<'a>(
+    alloc: Global,
+    name: &'a str,
+    about: &'a str,
+    help: &'a str,
+) -> Result<Command<'a>, AllocError>
+    ensures app { IfOk result (λ command. app_of command ≡ image_app name.entry.now) }
+    ensures local { IfOk result (λ command. (out-Command command).has_globals ≡ false) }
+{
+    let command = Command::new(alloc, name).about(about).after_help(help);
+    command.arg(
+        Arg::new(alloc, IMAGE)
+            .required(true)
+            .action(ArgAction::Set)
+            .help("The file of the image"),
+    )
+}
+
+fn memory_command<'a>(alloc: Global) -> Command<'a>
+    ensures app { app_of result ≡ new_app (codes "memory") }
+    ensures local { (out-Command result).has_globals ≡ false }
+{
+    Command::new(alloc, "memory")
+        .about("Runs the script on standard input on a flash in memory")
+        .after_help(MEMORY_HELP)
+}
+
+/// An option that takes a number.
+fn number_arg<'a>(alloc: Global, name: &'a str, value: &'a str, help: &'a str) -> Arg<'a>
+    ensures rule { rule_of result ≡ number_rule name.entry.now }
+    ensures local { result.global ≡ false }
+{
+    Arg::new(alloc, name)
+        .long(name)
+        .value_name(value)
+        .action(ArgAction::Set)
+        .value_parser(value_parser!(u32))
+        .help(help)
+}

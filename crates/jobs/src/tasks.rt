@@ -1,0 +1,35 @@
+//! A job of the program.
+
+/// What is to be done.
+#[derive(Clone, Copy, Debug, PartialEq, Eq)]
+pub enum Task {
+    /// An image is made.
+    Format,
+    /// A script is run on an image.
+    Run,
+    /// An image is mounted.
+    Check,
+    /// The line `log` is run on an image.
+    Log,
+    /// The line `df` is run on an image.
+    Df,
+    /// A script is run on a flash in memory.
+    Memory,
+}
+
+/// A task with what it is to be done on.
+#[derive(Clone, Copy, Debug, PartialEq, Eq)]
+pub struct Job<'a> {
+    /// What is to be done.
+    pub command: Task,
+    /// The file of the image; none for `memory`.
+    pub image: Option<&'a str>,
+    /// Bytes of a page.
+    pub page: u32,
+    /// Pages of a block.
+    pub pages: u32,
+    /// Blocks of the flash.
+    pub blocks: u32,
+    /// Versions that are kept.
+    pub history: u32,
+}

@@ -1,0 +1,21 @@
+//! Jobs that words ask for, with ample memory.
+use jobs::{Job, Task, job};
+use std::test::Fail;
+
+#[test]
+fn words_are_read_as_a_job(rt: HostRuntime) -> Result<(), Fail> {
+    let mut words: Vec<String> = Vec::new(rt.alloc());
+    for word in ["format", "disk.image", "--blocks", "64"] {
+        words.push(String::from_str(rt.alloc(), word)?)?;
+    }
+    let wanted = Job {
+        command: Task::Format,
+        image: Some("disk.image"),
+        page: 256,
+        pages: 16,
+        blocks: 64,
+        history: 8,
+    };
+    assert_eq!(rt; job(rt.alloc(), words.as_slice()).ok(), Some(wanted));
+    Ok(())
+}

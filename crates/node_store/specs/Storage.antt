@@ -51,9 +51,10 @@ pub record Evolved (s t : Storage) : Type 0 where
   -- the note gains each block that became kept, and loses none
   pub noted : (b : ℕ) → is_kept t b ≡ true → is_kept s b ≡ false → set.contains t.ring.note b ≡ true
   pub note_stays : (b : ℕ) → set.contains s.ring.note b ≡ true → set.contains t.ring.note b ≡ true
-  -- the bad list grows by exactly the failures, and by blocks that are worn, which the ring has as used
+  -- the bad list grows by exactly the failures, and by data blocks that are worn, which the ring has as used
   pub stays_bad : (b : ℕ) → set.contains s.bad b ≡ true → set.contains t.bad b ≡ true
   pub bad_used : (b : ℕ) → set.contains t.bad b ≡ true → set.contains s.bad b ≡ false → is_kept t b ≡ true
+  pub bad_data : (b : ℕ) → set.contains t.bad b ≡ true → set.contains s.bad b ≡ false → IsDataBlock s.ring.blocks b
   pub bad_worn : (b : ℕ) → set.contains t.bad b ≡ true → set.contains s.bad b ≡ false → t.device.worn b ≡ true
   pub worn : (b : ℕ) → s.device.worn b ≡ true → t.device.worn b ≡ true
   pub failures : t.device.failures + set.len s.bad ≡ s.device.failures + set.len t.bad

@@ -35,6 +35,7 @@ Evolved_itself s = record {
   note_stays = λ b noted. noted;
   stays_bad = λ b bad. bad;
   bad_used = λ b bad good. absurd (both_ways (set.contains s.bad b) good bad);
+  bad_data = λ b bad good. absurd (both_ways (set.contains s.bad b) good bad);
   bad_worn = λ b bad good. absurd (both_ways (set.contains s.bad b) good bad);
   worn = λ b was. was;
   failures = refl;
@@ -63,6 +64,10 @@ Evolved_on s t u e f =
       bad_used = λ b bad good. elim (cases_Bool (set.contains t.bad b)) [
         | inl then_bad ↦ f.kept b (e.bad_used b then_bad good)
         | inr then_good ↦ f.bad_used b bad then_good
+      ];
+      bad_data = λ b bad good. elim (cases_Bool (set.contains t.bad b)) [
+        | inl then_bad ↦ e.bad_data b then_bad good
+        | inr then_good ↦ subst (λ n. IsDataBlock n b) e.blocks (f.bad_data b bad then_good)
       ];
       bad_worn = λ b bad good. elim (cases_Bool (set.contains t.bad b)) [
         | inl then_bad ↦ f.worn b (e.bad_worn b then_bad good)
@@ -104,6 +109,7 @@ Untouched_evolved s t u = record {
   note_stays = λ b noted. ap (λ (r : Ring). set.contains r.note b) u.ring ∙ noted;
   stays_bad = λ b bad. ap (λ bads. set.contains bads b) u.bad ∙ bad;
   bad_used = λ b bad good. absurd (both_ways (set.contains t.bad b) (ap (λ bads. set.contains bads b) u.bad ∙ good) bad);
+  bad_data = λ b bad good. absurd (both_ways (set.contains t.bad b) (ap (λ bads. set.contains bads b) u.bad ∙ good) bad);
   bad_worn = λ b bad good. absurd (both_ways (set.contains t.bad b) (ap (λ bads. set.contains bads b) u.bad ∙ good) bad);
   worn = λ b was. u.device.worn b ∙ was;
   failures = ap (λ n. n + set.len s.bad) u.device.failures ∙ ap (λ bads. s.device.failures + set.len bads) (sym u.bad);
@@ -132,6 +138,7 @@ took_good s b ring bytes d result take w none = record {
   note_stays = take.note_stays;
   stays_bad = λ c bad. bad;
   bad_used = λ c bad good. absurd (both_ways (set.contains s.bad c) good bad);
+  bad_data = λ c bad good. absurd (both_ways (set.contains s.bad c) good bad);
   bad_worn = λ c bad good. absurd (both_ways (set.contains s.bad c) good bad);
   worn = w.worn;
   failures = let fails = w.failures in omega arith;
@@ -187,6 +194,7 @@ took_bad s b ring bytes d take w = record {
   note_stays = take.note_stays;
   stays_bad = stays_listed s.bad b;
   bad_used = λ c bad good. ap (set.contains ring.used) (new_listed s.bad b c bad good) ∙ take.used;
+  bad_data = λ c bad good. subst (IsDataBlock s.ring.blocks) (sym (new_listed s.bad b c bad good)) take.data_block;
   bad_worn = λ c bad good. ap d.worn (new_listed s.bad b c bad good) ∙ w.ends;
   worn = w.worn;
   failures = let fails = w.failures in let more = len_listed s.bad b take.good in omega arith;

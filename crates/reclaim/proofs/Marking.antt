@@ -314,8 +314,7 @@ no_node f p held names blocks fault pass below is named low high (inr (same, (b,
     none (inr after) (inl inside) = absurd (outside (after, inside))
 
 -- a step that may read more than can be marked ends the pass
-pub all_read : (before after : Pass) (most : ℕ) (answer : Result Bool Fault) (done : Bool) → answer ≡ Ok done
-    → (answer ≡ Ok false → (after.next ≡ before.next + most) × (after.next < length after.order)) → (answer ≡ Ok true → (after.next ≤ before.next + most) × IsFinished after)
-    → length after.order ≤ most → IsFinished after
-all_read before after most answer true is more end few = (end is).1
-all_read before after most answer false is more end few = let left = more is in absurd (omega (arith, left.0, left.1, few))
+pub all_read : (after : Pass) (most : ℕ) (answer : Result Bool Fault) (done : Bool) → answer ≡ Ok done
+    → (answer ≡ Ok true → (after.next ≤ most) × IsFinished after) → (answer ≡ Ok false → ⊥) → IsFinished after
+all_read after most answer true is end not_all = (end is).1
+all_read after most answer false is end not_all = absurd (not_all is)

@@ -1,5 +1,5 @@
 //! A marking of the blocks that roots reach, in steps of so many reads.
-ghost use Rattle.std.specs.Prelude.{◌≡◌, ◌≢◌, ◌↔◌, ℕ, ◌+◌, ◌<◌, ◌≤◌, [], ◌∷◌, List, true, false, length, Contains, IsTrue, OnOk, IfOk, IfErr, IsErrOf, None, Ok, Err};
+ghost use Rattle.std.specs.Prelude.{◌≡◌, ◌≢◌, ◌↔◌, ℕ, ◌+◌, ◌-◌, ◌^◌, ◌<◌, ◌≤◌, [], ◌∷◌, List, true, false, length, Contains, IsTrue, OnOk, IfOk, IfErr, IsErrOf, None, Ok, Err};
 ghost use Rattle.std.specs.FinSet as set;
 ghost use Rattle.allocator.specs.Ring.{IsDataBlock};
 ghost use Rattle.block_trees.specs.Bodies.{Blocks};
@@ -85,6 +85,9 @@ impl Pass {
         ensures read { OnOk result (N.reads nodes.new + self.old.next ≡ N.reads nodes.old + self.new.next) }
         ensures more { result ≡ Ok false → (self.new.next ≡ self.old.next + budget) × (self.new.next < length self.new.order) }
         ensures done { result ≡ Ok true → (self.new.next ≤ self.old.next + budget) × IsFinished self.new }
+
+        // The greatest budget is for all.
+        ensures all { result ≡ Ok false → budget < 2 ^ 64 - 1 }
         ensures reads { N.reads nodes.new ≤ N.reads nodes.old + budget }
 
         // Whatever is answered, each read was of another block that the roots reach.
@@ -102,6 +105,8 @@ impl Pass {
             }
             self.read_next(nodes)?;
         }
+        // The list fits in memory, so it has fewer blocks than the greatest budget.
+        let _ = &self.order;
         Ok(self.is_finished())
     }
 
@@ -121,9 +126,8 @@ impl Pass {
         ensures faults { IfErr result IsReadFault }
         ensures looks { OnlyLooks N.node N.kept N.writes N.follows N.is_sound N.limit N.blocks nodes.old nodes.new }
     {
+        // A step of so many reads leaves no block to be read.
         let _is_finished = self.step(nodes, u64::MAX)?;
-        // The list fits in memory, so a step of so many reads has ended the pass.
-        let _ = &self.order;
         Ok(())
     }
 

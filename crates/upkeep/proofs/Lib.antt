@@ -1,4 +1,5 @@
 pub mod AfterCommits
+pub mod AllMarked
 pub mod Committed
 pub mod Formatting
 pub mod LawfulContents
@@ -11,6 +12,7 @@ pub mod Passing
 pub mod Running
 pub mod SameNodes
 pub mod SameRecords
+pub mod Spent
 pub mod StateSteps
 pub mod Syncs
 pub mod Tried

@@ -508,7 +508,7 @@ module _ (d e : Device) (m n : System) (budget : ℕ) (answer : Result Bool Faul
       by (Err _) cut ends = absurd (true≢false (sym cut))
 
   still_ends : (r : Result Bool Fault) → StepEnds d m budget r e n → StepEnds d m budget r e left
-  still_ends (Ok false) o = record { from = o.from; to = o.to; was = o.was; is = o.is; roots = o.roots; next = o.next; left = o.left; used = o.used }
+  still_ends (Ok false) o = record { from = o.from; to = o.to; was = o.was; is = o.is; roots = o.roots; next = o.next; left = o.left; few = o.few; used = o.used }
   still_ends (Ok true) o = record { from = o.from; to = o.to; was = o.was; is = o.is; roots = o.roots; next = o.next; all = o.all; reached = o.reached; taken = o.taken; only = o.only }
   still_ends (Err fault) o = o
 

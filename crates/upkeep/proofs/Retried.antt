@@ -1,11 +1,13 @@
 -- The step of a call that is tried once, or twice.
-use Rattle.std.proofs.Common.{◌≡◌, ◌≢◌, ◌⊎◌, inl, inr, ℕ, ◌+◌, ◌<◌, ◌≤◌, Bool, true, false, ◌||◌, Option, Some, None, Result, Ok, Err, List, [], ◌∷◌, refl, sym, ap, subst, ◌∙◌, arith}
+use Rattle.std.proofs.Common.{◌≡◌, ◌≢◌, ◌⊎◌, inl, inr, ℕ, ◌+◌, ◌*◌, ◌<◌, ◌≤◌, Bool, true, false, not, ◌||◌, Option, Some, None, Result, Ok, Err, List, [], ◌∷◌, count_by, refl, sym, ap, subst, ◌∙◌, arith}
 use Rattle.std.proofs.lemmas.Bool.{true≢false, both_ways, and_parts}
-use Rattle.std.specs.Prelude.{◌/◌, is_some, if◌then◌else◌}
+use Rattle.std.proofs.lemmas.List.Elements.{Contains-append_cases}
+use Rattle.std.specs.Prelude.{◌/◌, is_some, if◌then◌else◌, Contains}
 use Rattle.std.specs.FinSet as set
 use Rattle.std.specs.Ordering.{nat_cmp}
 use Rattle.history_machine.specs.History.{Past}
-use Rattle.history_machine.specs.Machine.{Machine, makes_version, need, change_need, is_accepted, tree_after}
+use Rattle.allocator.specs.Ring.{data_blocks, free_count, is_busy}
+use Rattle.history_machine.specs.Machine.{Machine, Space, makes_version, need, change_need, is_accepted, tree_after}
 use Rattle.plain_trees.specs.Trees.{Tree}
 use Rattle.fs_types.specs.declared.calls.Call.{Call}
 use Rattle.fs_types.specs.declared.calls.Reply.{Reply}
@@ -18,12 +20,12 @@ use Rattle.node_store.specs.Storage.{storage}
 use Rattle.node_store.specs.StoreLaws.{Evolved_node}
 use Rattle.block_trees.specs.Bodies.{Blocks}
 use Rattle.block_trees.specs.Reached.{Reached}
-use Rattle.reclaim.proofs.Marking.{reached_same}
+use Rattle.reclaim.proofs.Marking.{reached_same, reached_back}
 use Rattle.record_format.specs.declared.records.Record.{Record}
 use Rattle.read_only.specs.Modes.{is_read_only}
 use Rattle.working_state.specs.Leaves.{Leaves}
 use Rattle.working_state.specs.Mounted.{KeepsPages}
-use Rattle.working_state.specs.Roots.{HasRoot, IsReached}
+use Rattle.working_state.specs.Roots.{HasRoot, IsReached, IsSpace}
 use Rattle.working_state.specs.Seen.{Seen, capacity_of, seen_on, machine_on}
 use Rattle.working_state.specs.Steps.{last_serial, is_sync, is_light, is_cut, is_cut_answer, is_writing, tells_space, MayRefuse, Refuses, IsDone, IsLater}
 use Rattle.working_state.specs.Steps as once_only
@@ -33,17 +35,19 @@ use Rattle.working_state.proofs.CutCalls.{own_says}
 use Rattle.upkeep.specs.Mounts.{history_of, roots_of}
 use Rattle.upkeep.specs.Saved.{saved_on, saved_trees, IsWhole}
 use Rattle.upkeep.specs.Commits.{Saves, SaveCause, KeepsRecord, RecordAfter, TriesOnce}
-use Rattle.upkeep.specs.Reclaiming.{Reclaims, Stays, StepEnds}
+use Rattle.upkeep.specs.Reclaiming.{Reclaims, GoesOnFrom, Stays, StepEnds, EndsPass}
 use Rattle.upkeep.specs.Rooms.{unmarked, no_limit, MarksAnew, LacksCommit}
-use Rattle.upkeep.specs.Steps.{TriesAgain, LacksRoom, TriesTwice, IsOfSecond, SystemAnswers, IsAfter, SystemStep}
+use Rattle.upkeep.specs.Steps.{TriesAgain, LacksRoom, TriesTwice, IsOfSecond, SystemAnswers, IsAfter, bad_data, Takes, SystemStep}
 use Rattle.upkeep.specs.Systems.{IsSystem, IsRunning}
 use Rattle.upkeep.specs.declared.systems.System.{System}
 use Rattle.upkeep.proofs.AfterCommits.{same, same_machine, same_history, saved_after, stands_after, trees_after, newly_trees}
-use Rattle.upkeep.proofs.Committed.{newly_saved}
+use Rattle.upkeep.proofs.Committed.{IsNewly, newly_saved}
+use Rattle.upkeep.proofs.Measured.{listed_root}
 use Rattle.upkeep.proofs.Passing.{must_used}
 use Rattle.upkeep.proofs.SameNodes.{HasSameData, same_nodes, same_room}
 use Rattle.upkeep.proofs.SameRecords.{same_trees, still_whole}
-use Rattle.upkeep.proofs.Syncs.{later}
+use Rattle.upkeep.proofs.Spent.{same_bad_data, more_bad, committed_data, committed_takes, once_takes, full_once, free_of_reached}
+use Rattle.upkeep.proofs.Syncs.{later, reached_from}
 
 -- ---- one try
 
@@ -98,18 +102,6 @@ once_bad d e m n call result once = by (is_sync call) refl
     by : (x : Bool) → is_sync call ≡ x → (b : ℕ) → set.contains m.state.storage.bad b ≡ true → set.contains n.state.storage.bad b ≡ true
     by true is = (once.saves is).only_anchors.stays_bad
     by false is = (once.leaves is).written.evolved.stays_bad
-
-pub once_step : (d e : Device) (m n : System) (call : Call) (result : Result Reply Fault) → TriesOnce d m call result e n → result ≢ Err FlashFull → SystemStep d m call result e n
-once_step d e m n call result once other = record {
-  tries = inl (once, other);
-  later = as_after (seen_on d m.state) (seen_on e n.state) once.step.later;
-  answers = as_answers (TriesTwice d m call result e n) (seen_on d m.state) (machine_on d m.state) m.state.is_off call result (seen_on e n.state) (machine_on e n.state) n.state.is_off once.step.answers;
-  bad = once_bad d e m n call result once;
-  told = once.told;
-  stopped = once.stopped;
-  pages = once.pages;
-  after = wider (is_sync call ≡ true) ((is_sync call ≡ true) ⊎ TriesTwice d m call result e n) (λ sync. inl sync) call result d (machine_on d m.state).history e once.after;
-}
 
 -- ---- the first of two
 
@@ -389,9 +381,9 @@ module _ (d b c : Device) (m k q : System) (call : Call) (s : IsSystem d m) (fir
 
   -- ---- the second try
 
-  module _ (e : Device) (n : System) (result : Result Reply Fault) (done : Bool) (room : MarksAnew b k (Ok done) c q) (second : TriesOnce c q call result e n) (twice : Type 0) (is_twice : twice) where
+  module _ (e : Device) (n : System) (result : Result Reply Fault) (room : MarksAnew b k (Ok true) c q) (second : TriesOnce c q call result e n) (twice : Type 0) (is_twice : twice) where
     at : IsBetween d m c q
-    at = made_between (Ok done) room
+    at = made_between (Ok true) room
 
     again_cause : (fault : Fault) → Refuses (seen_on c q.state) (machine_on d m.state) call fault (seen_on e n.state) → Refuses (seen_on d m.state) (machine_on d m.state) call fault (seen_on e n.state) ⊎ (twice × IsOfSecond fault)
     again_cause fault (inl own) = inl (inl own)
@@ -406,7 +398,7 @@ module _ (d b c : Device) (m k q : System) (call : Call) (s : IsSystem d m) (fir
     again_answers : SystemAnswers twice (seen_on d m.state) (machine_on d m.state) m.state.is_off call result (seen_on e n.state) (machine_on e n.state) n.state.is_off
     again_answers =
         subst (λ (off : Bool). SystemAnswers twice (seen_on d m.state) (machine_on d m.state) off call result (seen_on e n.state) (machine_on e n.state) n.state.is_off) (sym facts.on)
-        (by result (subst (λ (off : Bool). once_only.Answers (seen_on c q.state) (machine_on d m.state) off call result (seen_on e n.state) (machine_on e n.state) n.state.is_off) (made_off (Ok done) room)
+        (by result (subst (λ (off : Bool). once_only.Answers (seen_on c q.state) (machine_on d m.state) off call result (seen_on e n.state) (machine_on e n.state) n.state.is_off) (made_off (Ok true) room)
         (subst (λ (x : Machine). once_only.Answers (seen_on c q.state) x q.state.is_off call result (seen_on e n.state) (machine_on e n.state) n.state.is_off) at.machine second.step.answers)))
       where
         by : (r : Result Reply Fault) → once_only.Answers (seen_on c q.state) (machine_on d m.state) false call r (seen_on e n.state) (machine_on e n.state) n.state.is_off
@@ -426,7 +418,7 @@ module _ (d b c : Device) (m k q : System) (call : Call) (s : IsSystem d m) (fir
 
     again_newest : saved_trees e ≡ Some (machine_on d m.state).history
     again_newest = elim second.after.either [
-      | inl was ↦ was ∙ made_newest (Ok done) room
+      | inl was ↦ was ∙ made_newest (Ok true) room
       | inr (sync, newly) ↦ absurd (true≢false (sym sync ∙ facts.no_commit))
     ]
 
@@ -444,6 +436,218 @@ module _ (d b c : Device) (m k q : System) (call : Call) (s : IsSystem d m) (fir
         second.pages p (subst (λ (g : Geometry). IsReached c q.state (p / g.pages)) (sym at.geometry) (at.reaches (block_of d p) reached))
         ∙ at.pages p reached
 
+-- ---- the space of two tries
+
+module _ (d e : Device) (m n : System) (call : Call) (result : Result Reply Fault) (s : IsSystem d m) (both : TriesTwice d m call result e n) where
+  abbrev b : Device
+  b = both.device
+
+  abbrev k : System
+  k = both.system
+
+  abbrev nodes : ℕ
+  nodes = need (capacity_of d) (machine_on d m.state) call
+
+  full_first : IsFull d m call b k
+  full_first = is_full d b m k call both.first
+
+  sizes_first : b.geometry ≡ d.geometry
+  sizes_first = (both.first.leaves full_first.no_commit).written.evolved.geometry
+
+  -- neither a commit nor a marking takes a block, and no data block goes bad in them
+  record IsIdle (x : State) : Type 0 where
+    takes : x.storage.ring.takes ≡ k.state.storage.ring.takes
+    bad : bad_data d x ≡ bad_data d k.state
+
+  committed_idle : {T : Type 0} (r : Result T Fault) (p : Device) (l : System) → Saves b (unmarked k) r p l → IsIdle l.state
+  committed_idle r p l saves = record {
+    takes = committed_takes b p (unmarked k) l r saves;
+    bad = sym (same_bad_data d b l.state sizes_first) ∙ committed_data b p (unmarked k) l r saves ∙ same_bad_data d b k.state sizes_first;
+  }
+
+  made_idle : (r : Result Bool Fault) (c : Device) (q : System) → MarksAnew b k r c q → IsIdle q.state
+  made_idle r c q made =
+      let idle = committed_idle (Ok tt) made.device made.system made.saves in
+      record {
+        takes = made.marks.stays.takes ∙ idle.takes;
+        bad = ap (λ (x : set.FinSet nat_cmp). count_by (set.contains x) (data_blocks d.geometry.blocks)) made.marks.stays.bad ∙ idle.bad;
+      }
+
+  lacks_idle : LacksRoom b k result e n → IsIdle n.state
+  lacks_idle lacks = elim lacks.why [
+    | inl commit ↦ committed_idle (Err lacks.fault) e n commit.saves
+    | inr made ↦ made_idle (Err lacks.fault) e n made
+  ]
+
+  tried_few : free_count m.state.storage.ring m.state.storage.bad + bad_data d m.state < bad_data d n.state + nodes
+  tried_few = by both.rest
+    where
+      few : free_count m.state.storage.ring m.state.storage.bad + bad_data d m.state < bad_data d k.state + nodes
+      few = full_once d b m k call s both.first full_first.no_commit
+
+      by : LacksRoom b k result e n ⊎ TriesAgain b k call result e n → free_count m.state.storage.ring m.state.storage.bad + bad_data d m.state < bad_data d n.state + nodes
+      by (inl lacks) = let bad = (lacks_idle lacks).bad in omega (arith, few, bad)
+      by (inr again) =
+          let bad = (made_idle (Ok true) again.device again.system again.room).bad in
+          let more = more_bad d again.system.state n.state (once_bad again.device e again.system n call result again.second) in
+          omega (arith, few, bad, more)
+
+  module _ (again : TriesAgain b k call result e n) where
+    abbrev c : Device
+    c = again.device
+
+    abbrev q : System
+    q = again.system
+
+    between : IsBetween d m c q
+    between = made_between d b c m k q call s both.first both.full (Ok true) again.room
+
+    same_need : need (capacity_of c) (machine_on c q.state) call ≡ nodes
+    same_need i = need (between.is_later.capacity i) (between.machine i) call
+
+    -- what is used after the marking a version or a checkpoint reaches
+    still_on : again.room.system.state.is_off ≡ false
+    still_on = saved_on_still d b c m k q call s both.first both.full (Ok true) again.room
+
+    ends : EndsPass again.room.device again.room.system no_limit q
+    ends = again.room.marks.ends still_on
+
+    newly : IsNewly again.room.device k.state.history
+    newly = newly_saved b again.room.device k.state _ again.room.system.state.storage.bad again.room.saves.only_anchors.geometry again.room.saves.commits
+
+    -- the roots of the marking are those of the history
+    root_held : (root : ℕ) → Contains ends.from.roots root → Contains (roots_of m.state.history) root
+    root_held root has = by ends.was
+      where
+        l : System
+        l = again.room.system
+
+        history : l.state.history ≡ m.state.history
+        history = (saved_between d b c m k q call s both.first both.full (Ok true) again.room).history
+
+        record_roots : l.record_roots.items ≡ roots_of m.state.history
+        record_roots =
+            again.room.committed.roots still_on newly.newest newly.saved
+            ∙ ap roots_of (newly.history ∙ both.first.refused)
+
+        by : GoesOnFrom l ends.from q.state.storage.ring.note → Contains (roots_of m.state.history) root
+        by (inl (some, _)) = absurd (let none = again.room.anew in cc)
+        by (inr (_, from, _, _)) =
+            elim (Contains-append_cases (roots_of l.state.history) l.record_roots.items root (subst (λ (xs : List ℕ). Contains xs root) from has)) [
+              | inl own ↦ subst (λ (h : Past ℕ). Contains (roots_of h) root) history own
+              | inr saved ↦ subst (λ (xs : List ℕ). Contains xs root) record_roots saved
+            ]
+
+    no_note : (x : ℕ) → set.contains q.state.storage.ring.note x ≡ false
+    no_note x = by ends.was
+      where
+        by : GoesOnFrom again.room.system ends.from q.state.storage.ring.note → set.contains q.state.storage.ring.note x ≡ false
+        by (inl (some, _)) = absurd (let none = again.room.anew in cc)
+        by (inr (_, _, _, empty)) = ap (λ (u : set.FinSet nat_cmp). set.contains u x) empty ∙ set.contains-empty nat_cmp x
+
+    reached_before : (x : ℕ) → Reached (node_of again.room.device) ends.from.roots x → IsReached d m.state x
+    reached_before x reached =
+        let from = reached_from (node_of again.room.device) ends.from.roots x reached in
+        let has = (listed_root m.state from.0).1 (root_held from.0 from.1) in
+        (from.0, has, reached_back (node_of d) (node_of again.room.device) (from.0 ∷ []) (λ y there. same_node y (from.0, has, there)) from.2)
+      where
+        same_node : (y : ℕ) → IsReached d m.state y → node_of again.room.device y ≡ node_of d y
+        same_node y there =
+            ap (λ (f : Blocks). f y) (same_nodes b again.room.device (same b again.room.device (unmarked k) again.room.system (Ok tt) (unmarked_system b k both.full) again.room.saves))
+            ∙ Evolved_node (storage d m.state.storage.bad m.state.storage.ring) (storage b k.state.storage.bad k.state.storage.ring) y s.mounted.lawful (both.first.leaves full_first.no_commit).written.evolved
+            ((s.mounted.roots there.0 there.1).held there.0 refl y there.2)
+
+    used_reached : (space : Space) (is : IsSpace d m.state space) (x : ℕ) → set.contains q.state.storage.ring.used x ≡ true → set.contains is.reached x ≡ true
+    used_reached space is x used = by (set.contains is.reached x) refl
+      where
+        by : (y : Bool) → set.contains is.reached x ≡ y → set.contains is.reached x ≡ true
+        by true there = there
+        by false gone = absurd (both_ways (set.contains q.state.storage.ring.used x)
+            (ends.only x (λ reached. both_ways (set.contains is.reached x) gone ((is.are_reached x).1 (reached_before x reached))) (no_note x)) used)
+
+    again_few : result ≡ Err FlashFull → (space : Space) → IsSpace d m.state space → space.free + space.bad < bad_data d n.state + nodes
+    again_few full space is =
+        let few = full_once c e q n call again.ready (subst (λ (r : Result Reply Fault). TriesOnce c q call r e n) full again.second) full_first.no_commit in
+        let now = same_bad_data d c n.state between.geometry in
+        let then_bad = same_bad_data d c q.state between.geometry in
+        let covers = free_of_reached d.geometry.blocks m.state.storage.bad q.state.storage.bad q.state.storage.ring.used is.reached between.bad (used_reached space is) in
+        let ring : free_count q.state.storage.ring q.state.storage.bad ≡ count_by (λ x. not (is_busy q.state.storage.ring q.state.storage.bad x)) (data_blocks d.geometry.blocks) =
+        ap (λ (k : ℕ). count_by (λ x. not (is_busy q.state.storage.ring q.state.storage.bad x)) (data_blocks k)) (again.ready.mounted.ring_blocks ∙ ap (λ (g : Geometry). g.blocks) between.geometry) in
+        let bad = is.bad in
+        let free = is.free in
+        let needs = same_need in
+        omega (arith, few, now, then_bad, covers, ring, bad, free, needs)
+
+  two_takes : Takes d m.state nodes n.state ⊎ (TriesTwice d m call result e n × (saved_trees e ≡ Some (machine_on d m.state).history) × Takes d m.state (2 * nodes) n.state)
+  two_takes = by both.rest
+    where
+      once : Takes d m.state nodes k.state
+      once = once_takes d b m k call (Err FlashFull) s both.first
+
+      by : LacksRoom b k result e n ⊎ TriesAgain b k call result e n
+          → Takes d m.state nodes n.state ⊎ (TriesTwice d m call result e n × (saved_trees e ≡ Some (machine_on d m.state).history) × Takes d m.state (2 * nodes) n.state)
+      by (inl lacks) = let idle = lacks_idle lacks in let takes = idle.takes in let bad = idle.bad in inl (omega (arith, once, takes, bad))
+      by (inr again) =
+          let idle = made_idle (Ok true) again.device again.system again.room in
+          let takes = idle.takes in
+          let bad = idle.bad in
+          let sizes = (between again).geometry in
+          let now = same_bad_data d again.device n.state sizes in
+          let then_bad = same_bad_data d again.device again.system.state sizes in
+          let needs : need (capacity_of again.device) (machine_on again.device again.system.state) call ≡ nodes = same_need again in
+          let second : n.state.storage.ring.takes + bad_data again.device again.system.state ≤ again.system.state.storage.ring.takes + bad_data again.device n.state + need (capacity_of again.device) (machine_on again.device again.system.state) call =
+          once_takes again.device e again.system n call result again.ready again.second in
+          inr (
+            both,
+            again_newest d b again.device m k again.system call s both.first both.full e n result again.room again.second (TriesTwice d m call result e n) both,
+            omega (arith, once, takes, bad, now, then_bad, needs, second),
+          )
+
+  two_full : result ≡ Err FlashFull → (space : Space) → IsSpace d m.state space → space.free + space.bad < bad_data d n.state + nodes
+  two_full full = by both.rest
+    where
+      no_cause : (x : Seen) (fault : Fault) → fault ≡ FlashFull → (y : Seen) → ReadCause x fault y → ⊥
+      no_cause x FlashFull is y why = why
+      no_cause x _ is y why = absurd cc
+
+      no_save : (x : Device) (u : System) (y : Device) (v : System) (fault : Fault) → fault ≡ FlashFull → SaveCause x u y v fault → ⊥
+      no_save x u y v FlashFull is why = why
+      no_save x u y v _ is why = absurd cc
+
+      by : LacksRoom b k result e n ⊎ TriesAgain b k call result e n → (space : Space) → IsSpace d m.state space → space.free + space.bad < bad_data d n.state + nodes
+      by (inl lacks) = absurd (elim lacks.why [
+        | inl commit ↦ no_save b (unmarked k) e n lacks.fault same_fault commit.why
+        | inr made ↦ no_cause (seen_on made.device made.system.state) lacks.fault same_fault (seen_on e n.state)
+            (made.marks.ends (saved_on_still d b e m k n call s both.first both.full (Err lacks.fault) made)).2
+      ])
+        where
+          same_fault : lacks.fault ≡ FlashFull
+          same_fault = let is = sym lacks.answers ∙ full in cc
+      by (inr again) = again_few again full
+
+few_tried : (d e : Device) (m n : System) (call : Call) (result : Result Reply Fault) → IsSystem d m → TriesTwice d m call result e n
+    → free_count m.state.storage.ring m.state.storage.bad + bad_data d m.state < bad_data d n.state + need (capacity_of d) (machine_on d m.state) call
+few_tried d e m n call result s both = tried_few d e m n call result s both
+
+-- ---- a call that is tried once
+
+pub once_step : (d e : Device) (m n : System) (call : Call) (result : Result Reply Fault) → IsSystem d m → TriesOnce d m call result e n → result ≢ Err FlashFull → SystemStep d m call result e n
+once_step d e m n call result s once other = record {
+  tries = inl (once, other);
+  later = as_after (seen_on d m.state) (seen_on e n.state) once.step.later;
+  answers = as_answers (TriesTwice d m call result e n) (seen_on d m.state) (machine_on d m.state) m.state.is_off call result (seen_on e n.state) (machine_on e n.state) n.state.is_off once.step.answers;
+  bad = once_bad d e m n call result once;
+  told = once.told;
+  stopped = once.stopped;
+  pages = once.pages;
+  space = record {
+    taken = inl (once_takes d e m n call result s once);
+    tried = few_tried d e m n call result s;
+    full = λ is. absurd (other is);
+  };
+  after = wider (is_sync call ≡ true) ((is_sync call ≡ true) ⊎ TriesTwice d m call result e n) (λ sync. inl sync) call result d (machine_on d m.state).history e once.after;
+}
+
 -- ---- two tries
 
 pub twice_step : (d e : Device) (m n : System) (call : Call) (result : Result Reply Fault) → IsSystem d m → TriesTwice d m call result e n → SystemStep d m call result e n
@@ -460,22 +664,24 @@ twice_step d e m n call result s both = by both.rest
       bad = (between_of d both.device e m both.system n call s both.first both.full (TriesTwice d m call result e n) both result lacks).bad;
       told = λ tells. absurd (true≢false (sym tells ∙ is.no_space));
       stopped = λ off. absurd (true≢false (sym off ∙ is.on));
+      space = record { taken = two_takes d e m n call result s both; tried = few_tried d e m n call result s; full = two_full d e m n call result s both };
       pages = (between_of d both.device e m both.system n call s both.first both.full (TriesTwice d m call result e n) both result lacks).pages;
       after = lacks_after d both.device e m both.system n call s both.first both.full (TriesTwice d m call result e n) both result lacks;
     }
     by (inr again) = record {
       tries = inr both;
       later = after_on (seen_on d m.state) (seen_on again.device again.system.state) (seen_on e n.state)
-          (made_between d both.device again.device m both.system again.system call s both.first both.full (Ok again.done) again.room).is_later
+          (made_between d both.device again.device m both.system again.system call s both.first both.full (Ok true) again.room).is_later
           (as_after (seen_on again.device again.system.state) (seen_on e n.state) again.second.step.later);
-      answers = again_answers d both.device again.device m both.system again.system call s both.first both.full e n result again.done again.room again.second (TriesTwice d m call result e n) both;
+      answers = again_answers d both.device again.device m both.system again.system call s both.first both.full e n result again.room again.second (TriesTwice d m call result e n) both;
       bad = λ b there.
           once_bad again.device e again.system n call result again.second b
-          ((made_between d both.device again.device m both.system again.system call s both.first both.full (Ok again.done) again.room).bad b there);
+          ((made_between d both.device again.device m both.system again.system call s both.first both.full (Ok true) again.room).bad b there);
       told = λ tells. absurd (true≢false (sym tells ∙ is.no_space));
       stopped = λ off. absurd (true≢false (sym off ∙ is.on));
-      pages = again_pages d both.device again.device m both.system again.system call s both.first both.full e n result again.done again.room again.second (TriesTwice d m call result e n) both;
-      after = again_after d both.device again.device m both.system again.system call s both.first both.full e n result again.done again.room again.second (TriesTwice d m call result e n) both;
+      space = record { taken = two_takes d e m n call result s both; tried = few_tried d e m n call result s; full = two_full d e m n call result s both };
+      pages = again_pages d both.device again.device m both.system again.system call s both.first both.full e n result again.room again.second (TriesTwice d m call result e n) both;
+      after = again_after d both.device again.device m both.system again.system call s both.first both.full e n result again.room again.second (TriesTwice d m call result e n) both;
     }
 
 -- a call is tried twice only where the free blocks were fewer than the nodes that it needs and the blocks that went bad
@@ -508,7 +714,7 @@ few_free d e m n call result both =
       | inr made ↦ marked_listed (Err lacks.fault) e n made
     ]
     grown (inr again) =
-        let room = marked_listed (Ok again.done) again.device again.system again.room in
+        let room = marked_listed (Ok true) again.device again.system again.room in
         let second = again.second.step.later.listed in
         omega (arith, room, second)
 

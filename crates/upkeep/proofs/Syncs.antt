@@ -82,12 +82,21 @@ copied_some (Some x) some = refl
 
 -- ---- free blocks
 
-same_count : (p q : ℕ → Bool) (s n : ℕ) → ((b : ℕ) → s ≤ b → p b ≡ q b) → count_by p (range_with_len s n) ≡ count_by q (range_with_len s n)
+pub same_count : (p q : ℕ → Bool) (s n : ℕ) → ((b : ℕ) → s ≤ b → p b ≡ q b) → count_by p (range_with_len s n) ≡ count_by q (range_with_len s n)
 same_count p q s zero h = refl
 same_count p q s (suc n) h =
     sum_by-cons (λ x. cond (p x) 1 0) s (range_with_len (s + 1) n)
     ∙ (λ i. cond (h s (omega arith) i) 1 0 + same_count p q (s + 1) n (λ b more. h b (omega arith)) i)
     ∙ sym (sum_by-cons (λ x. cond (q x) 1 0) s (range_with_len (s + 1) n))
+
+-- no data block goes bad where only anchors do
+pub same_data : (d e : Device) (was now : set.FinSet nat_cmp) → OnlyAnchors d was e now → (b : ℕ) → first_data ≤ b → set.contains now b ≡ set.contains was b
+same_data d e was now anchors b least = by (set.contains was b) (set.contains now b) refl refl
+  where
+    by : (x y : Bool) → set.contains was b ≡ x → set.contains now b ≡ y → y ≡ x
+    by true y before after = sym after ∙ anchors.stays_bad b before
+    by false false before after = refl
+    by false true before after = absurd (let anchor : b < 8 = anchors.bad_anchor b after before in omega arith)
 
 -- as many data blocks are free, whatever anchors become bad
 free_same : (ring : Ring) (was now : set.FinSet nat_cmp) → ((b : ℕ) → first_data ≤ b → set.contains now b ≡ set.contains was b) → free_count ring now ≡ free_count ring was
@@ -109,18 +118,10 @@ module _ {T : Type 0} (d e : Device) (m n : System) (result : Result T Fault) (s
   anchors : OnlyAnchors d m.state.storage.bad e n.state.storage.bad
   anchors = saves.only_anchors
 
-  same_bad : (b : ℕ) → first_data ≤ b → set.contains n.state.storage.bad b ≡ set.contains m.state.storage.bad b
-  same_bad b least = by (set.contains m.state.storage.bad b) (set.contains n.state.storage.bad b) refl refl
-    where
-      by : (x y : Bool) → set.contains m.state.storage.bad b ≡ x → set.contains n.state.storage.bad b ≡ y → y ≡ x
-      by true y was now = sym now ∙ anchors.stays_bad b was
-      by false false was now = refl
-      by false true was now = absurd (let anchor : b < 8 = anchors.bad_anchor b now was in omega arith)
-
   pub later : IsLater (seen_on d m.state) (seen_on e n.state)
   later =
       let free : free_count n.state.storage.ring n.state.storage.bad ≡ free_count m.state.storage.ring m.state.storage.bad =
-      ap (λ (t : State). free_count t.storage.ring n.state.storage.bad) saves.state ∙ free_same m.state.storage.ring m.state.storage.bad n.state.storage.bad same_bad in
+      ap (λ (t : State). free_count t.storage.ring n.state.storage.bad) saves.state ∙ free_same m.state.storage.ring m.state.storage.bad n.state.storage.bad (same_data d e m.state.storage.bad n.state.storage.bad anchors) in
       let takes : n.state.storage.ring.takes ≡ m.state.storage.ring.takes = ap (λ (t : State). t.storage.ring.takes) saves.state in
       record {
         capacity = same_room d e (same d e m n result s saves);

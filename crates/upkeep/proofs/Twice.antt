@@ -19,8 +19,8 @@ use Rattle.upkeep.proofs.Retried.{once_step, twice_step, full_on, never_full}
 use Rattle.upkeep.proofs.StateSteps.{with_state, state_system, state_step}
 
 -- a call that needs no node is tried once
-pub step_once : (d e : Device) (m n : System) (call : Call) (result : Result Reply Fault) → TriesOnce d m call result e n → ((capacity : ℕ) (x : Machine) → change_need capacity x call ≡ 0) → SystemStep d m call result e n
-step_once d e m n call result once none = once_step d e m n call result once (never_full d e m n call result once none)
+pub step_once : (d e : Device) (m n : System) (call : Call) (result : Result Reply Fault) → TriesOnce d m call result e n → IsSystem d m → ((capacity : ℕ) (x : Machine) → change_need capacity x call ≡ 0) → SystemStep d m call result e n
+step_once d e m n call result once s none = once_step d e m n call result s once (never_full d e m n call result once none)
 
 -- the flash was full, as the reply tells
 abbrev failed : {T : Type 0} → Fault → Result T Fault
@@ -70,7 +70,7 @@ module _ {T : Type 0} (d b : Device) (m k : System) (call : Call) (first : Resul
   pub is_done : (e : Device) (n : System) (room : Bool) → room ≡ false → MakesRoom first b k (Ok room) e n → SystemStep d m call reply e n
   is_done e n false is_no (other, device, system) =
       subst (λ (x : Device). SystemStep d m call reply x n) (sym device)
-      (subst (λ (x : System). SystemStep d m call reply b x) (sym system) (once_step d b m k call reply tried.once (λ is. other (tried.only is))))
+      (subst (λ (x : System). SystemStep d m call reply b x) (sym system) (once_step d b m k call reply tried.system tried.once (λ is. other (tried.only is))))
   is_done e n true is_no made = absurd (true≢false is_no)
 
   -- no room is made
@@ -84,4 +84,4 @@ module _ {T : Type 0} (d b : Device) (m k : System) (call : Call) (first : Resul
   is_again c e q n false not_no made ready result second = absurd (not_no refl)
   is_again c e q n true not_no (is, made) ready result second =
       twice_step d e m n call result tried.system
-      (record { device = b; system = k; first = was_full is; full = tried.left; rest = inr (record { device = c; system = q; done = made.0; room = made.1; ready = ready; second = second }) })
+      (record { device = b; system = k; first = was_full is; full = tried.left; rest = inr (record { device = c; system = q; room = made; ready = ready; second = second }) })

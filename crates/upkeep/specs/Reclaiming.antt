@@ -1,5 +1,5 @@
 -- What a step of reclaiming does: a marking of what must stay goes on, and at its end the other blocks are free.
-use Rattle.std.specs.Prelude.{◌≡◌, ◌⊎◌, ℕ, ◌+◌, ◌<◌, ◌≤◌, Bool, true, false, ◌||◌, Some, None, Result, Ok, Err, ◌++◌, length}
+use Rattle.std.specs.Prelude.{◌≡◌, ◌⊎◌, ℕ, ◌+◌, ◌-◌, ◌^◌, ◌<◌, ◌≤◌, Bool, true, false, ◌||◌, Some, None, Result, Ok, Err, ◌++◌, length}
 use Rattle.std.specs.FinSet as set
 use Rattle.std.specs.Ordering.{nat_cmp}
 use Rattle.fs_types.specs.declared.faults.Fault.{Fault}
@@ -22,7 +22,7 @@ GoesOnFrom m p note =
     ((m.pass ≡ Some p) × (note ≡ m.state.storage.ring.note))
     ⊎ ((m.pass ≡ None) × (p.roots ≡ roots_of m.state.history ++ m.record_roots.items) × (p.next ≡ 0) × (note ≡ set.empty))
 
--- so many blocks more were read, and some are left
+-- so many blocks more were read, and some are left: the greatest budget is for all
 pub record GoesOn (m : System) (budget : ℕ) (n : System) : Type 0 where
   pub from : Pass
   pub to : Pass
@@ -31,6 +31,7 @@ pub record GoesOn (m : System) (budget : ℕ) (n : System) : Type 0 where
   pub roots : to.roots ≡ from.roots
   pub next : to.next ≡ from.next + budget
   pub left : to.next < length to.order
+  pub few : budget < 2 ^ 64 - 1
   pub used : n.state.storage.ring.used ≡ m.state.storage.ring.used
 
 -- so many blocks more were read at most, and none is left: used are exactly the blocks that the roots reach, and those that

@@ -1,5 +1,5 @@
 //! Reclaiming in steps: blocks that nothing keeps are used again.
-ghost use Rattle.std.specs.Prelude.{◌≡◌, ◌≢◌, ◌<◌, ◌≤◌, ◌+◌, ◌++◌, ℕ, true, false, None, Ok, length, Contains, OnOk, IfOk, IfErr, IsErrOf, vec_len, vec_capacity};
+ghost use Rattle.std.specs.Prelude.{◌≡◌, ◌≢◌, ◌<◌, ◌≤◌, ◌+◌, ◌-◌, ◌^◌, ◌++◌, ℕ, true, false, None, Ok, length, Contains, OnOk, IfOk, IfErr, IsErrOf, vec_len, vec_capacity};
 ghost use Rattle.flash_model.specs.Geometry.{IsGeometry, block_bytes};
 ghost use Rattle.allocator.specs.Ring.{IsDataBlock};
 ghost use Rattle.block_trees.specs.Bodies.{Blocks};
@@ -111,6 +111,7 @@ fn step_on<F: Flash>(
     ensures same { (pass.new.blocks ≡ pass.old.blocks) × (pass.new.roots ≡ pass.old.roots) }
     ensures more { result ≡ Ok false → (pass.new.next ≡ pass.old.next + budget) × (pass.new.next < length pass.new.order) }
     ensures done { result ≡ Ok true → (pass.new.next ≤ pass.old.next + budget) × IsFinished pass.new }
+    ensures all { result ≡ Ok false → budget < 2 ^ 64 - 1 }
     ensures damaged { IsPass (node_of (F.device flash.old)) pass.old → IsErrOf result Fault.Damaged → (b : ℕ) × Reached (node_of (F.device flash.old)) pass.old.roots b × (node_of (F.device flash.old) b ≡ None) }
     ensures looked { HasLooked (F.device flash.old) storage.old (F.device flash.new) storage.new }
     ensures why { IfErr result (λ fault. fault ≢ Fault.Damaged → ReadCause (seen_of (F.device flash.old) storage.old) fault (seen_of (F.device flash.new) storage.new)) }
@@ -128,6 +129,7 @@ fn step_in<F: Flash>(store: &mut Store<'_, F>, pass: &mut Pass, budget: u64) -> 
     ensures same { (pass.new.blocks ≡ pass.old.blocks) × (pass.new.roots ≡ pass.old.roots) }
     ensures more { result ≡ Ok false → (pass.new.next ≡ pass.old.next + budget) × (pass.new.next < length pass.new.order) }
     ensures done { result ≡ Ok true → (pass.new.next ≤ pass.old.next + budget) × IsFinished pass.new }
+    ensures all { result ≡ Ok false → budget < 2 ^ 64 - 1 }
     ensures damaged { IsPass (node_of (F.device store.old.flash.now)) pass.old → IsErrOf result Fault.Damaged → (b : ℕ) × Reached (node_of (F.device store.old.flash.now)) pass.old.roots b × (node_of (F.device store.old.flash.now) b ≡ None) }
     ensures looked { HasLooked (F.device store.old.flash.now) store.old.storage.now (F.device store.new.flash.now) store.new.storage.now }
     ensures why { IfErr result (λ fault. fault ≢ Fault.Damaged → ReadCause (seen_of (F.device store.old.flash.now) store.old.storage.now) fault (seen_of (F.device store.new.flash.now) store.new.storage.now)) }

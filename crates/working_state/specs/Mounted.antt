@@ -36,8 +36,8 @@ pub record IsMounted (device : Device) (state : State) : Type 0 where
   pub off : state.is_off ≡ true → device.powered ≡ false
 
 -- a call's step, as it is seen of the flash and the state before and after, and what it leaves of them, and which blocks
--- the versions and checkpoints reach then. A refused one leaves the history. What `df` tells is the space that is left. Once a call has answered that the
--- power is off, nothing changes
+-- the versions and checkpoints reach then. A refused one leaves the history. What `df` tells is the space that is left. Once
+-- a call has answered that the power is off, nothing changes
 pub record StateStep (old : Device) (s : State) (call : Call) (result : Result Reply Fault) (new : Device) (t : State) : Type 0 where
   pub step : CallStep (seen_on old s) (machine_on old s) s.is_off call result (seen_on new t) (machine_on new t) t.is_off
   pub leaves : Leaves (machine_on old s) call old s.storage new t.storage

@@ -1,6 +1,6 @@
-use Rattle.std.proofs.Common.{subst, arith}
+use Rattle.std.proofs.Common.{◌≡◌, false, length, ap, subst, arith}
 use Rattle.block_trees.specs.Bodies.{Blocks}
-use Rattle.reclaim.specs.Passes.{IsPass}
+use Rattle.reclaim.specs.Passes.{Pass, IsPass}
 use Rattle.reclaim.proofs.Costs.{has_read}
 use Rattle.reclaim.proofs.passes.Pass.step.Goals as goal
 
@@ -11,3 +11,11 @@ returns-in_err-read_next-clause-seen g c marking =
     has_read (g.N.Nodes.node c.args.nodes.now) c.args.self.now c.loop-done.self (g.N.Nodes.reads c.args.nodes.now) (g.N.Nodes.reads c.read_next.new.nodes)
     (subst (λ (f : Blocks). IsPass f c.loop-done.self) so_far.looks.same_nodes (so_far.pass marking)) so_far.roots so_far.begins
     (omega (arith, so_far.next, so_far.reads, left, c.read_next.ensures.reads))
+
+pub returns-clause-all : goal.returns-clause-all
+returns-clause-all g c is =
+    let invariant = c.loop-done.invariant in
+    let ended : c.is_finished-2.result ≡ false = cc in
+    let left = c.is_finished-2.ensures.left ended in
+    let held : length c.self.inside.order.items ≡ length c.loop-done.self.order = ap (λ (p : Pass). length p.order) c.self.view_is in
+    omega (arith, left, held, invariant.next, c.loop-done-test.false, c.self.inside.order.small, c.self.inside.order.ok.0, c.self.inside.order.ok.1)

@@ -1,6 +1,7 @@
 use Rattle.std.proofs.Common.{inl, inr, rules}
 use Rattle.std.proofs.lemmas.Result.{err_from_is_err_and}
 use Rattle.upkeep.specs.Rooms.{MarksAnew, LacksCommit}
+use Rattle.upkeep.proofs.AllMarked.{all_marked}
 use Rattle.upkeep.proofs.systems.System.makes_room.Goals as goal
 
 pub returns-in_err-commit-clause-room : goal.returns-in_err-commit-clause-room
@@ -29,15 +30,12 @@ returns-in_err-reclaim_step-clause-room g c =
 pub returns-clause-room : goal.returns-clause-room
 returns-clause-room g c = (
   search rules,
-  (
-    c.in_ok-reclaim_step.field-0,
-    record {
-      device = g.F.Flash.device c.commit.new.flash;
-      system = c.commit.new.self;
-      saves = c.in_ok-commit.ensures.saves;
-      committed = c.commit.ensures.system;
-      anew = c.commit.ensures.pass;
-      marks = c.in_ok-reclaim_step.ensures.step;
-    },
-  ),
+  record {
+    device = g.F.Flash.device c.commit.new.flash;
+    system = c.commit.new.self;
+    saves = c.in_ok-commit.ensures.saves;
+    committed = c.commit.ensures.system;
+    anew = c.commit.ensures.pass;
+    marks = all_marked (g.F.Flash.device c.commit.new.flash) (g.F.Flash.device c.reclaim_step.new.flash) c.commit.new.self c.reclaim_step.new.self c.in_ok-reclaim_step.field-0 c.in_ok-reclaim_step.ensures.step;
+  },
 )

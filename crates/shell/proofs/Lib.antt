@@ -1,3 +1,7 @@
+pub mod Fronts
+pub mod ImageLemmas
+pub mod MemoryWords
 pub mod ScriptLaws
 pub mod TakenLines
+pub mod ToolLemmas
 pub mod TurnLemmas

@@ -1,3 +1,5 @@
+pub mod Failures
+pub mod Memory
 pub mod Scripts
+pub mod Tools
 pub mod Turns
-pub mod Words

@@ -1,11 +1,20 @@
-//! Scripts run on a flash, and the program's words.
+//! Scripts run on a flash, and the whole program: its words, its image files and its statuses.
 #![tactic(auto)]
 
+mod failures;
+mod files;
+mod host;
+mod images;
 mod laws;
+mod memory;
+mod program;
 mod scripts;
-mod words;
 
+pub use failures::Failure;
+pub use files::{FileFault, ImageFiles, MOST_BYTES};
+pub use host::HostFiles;
+pub use jobs::{Job, Task, job};
 pub use laws::script_laws;
+pub use program::tool;
 pub use script::{Line, LineAnswer, print_answer, read_line};
 pub use scripts::{ScriptFault, run_script};
-pub use words::tool;

@@ -1,6 +1,5 @@
--- What the program's words lead to.
-use Rattle.std.specs.Prelude.{◌≡◌, ◌⊎◌, ℕ, Bool, true, false, Option, Result, Ok, Err, List, [], ◌∷◌, codes}
-use Rattle.std.specs.Str.{bytes_eq}
+-- A script that is run on a flash in memory of its own.
+use Rattle.std.specs.Prelude.{◌≡◌, ◌⊎◌, ℕ, Option, Result, Ok, Err, List, []}
 use Rattle.fs_types.specs.declared.faults.Fault.{Fault}
 use Rattle.flash_model.specs.Simulation.{device_of, plan_of, IsNew}
 use Rattle.flash_model.specs.Plan.{plan_of_entries}
@@ -12,11 +11,6 @@ use Rattle.shell.specs.Scripts.{EndsBy, LineSession}
 use Rattle.script.specs.declared.answers.LineAnswer.{LineAnswer}
 use Rattle.shell.specs.declared.scripts.ScriptFault.{ScriptFault}
 
--- `memory` alone
-abbrev pub is_memory : List (List ℕ) → Bool
-is_memory (word ∷ []) = bytes_eq word (codes "memory")
-is_memory _ = false
-
 -- 1 where the input, the output or memory failed, and 3 where the system was refused
 abbrev pub fault_status : ScriptFault → ℕ
 fault_status (ScriptFault.Mount Fault.NoMemory) = 1
@@ -26,6 +20,10 @@ fault_status _ = 1
 abbrev pub status_of : Result (Unit {0}) ScriptFault → ℕ
 status_of (Ok done) = 0
 status_of (Err fault) = fault_status fault
+
+-- the sizes of the flash of `memory`
+abbrev pub memory_sizes : Geometry
+memory_sizes = record { page = 256; pages = 16; blocks = 32 }
 
 -- a new flash of these sizes, for which no fault is planned
 pub record IsNewFlash (sizes : Geometry) (flash : SimFlash) : Type 0 where
@@ -50,8 +48,3 @@ NewCause sizes fault = (fault ≡ Fault.NoMemory)
 -- how a script ends on a new flash of its own
 abbrev pub EndsInMemory : Geometry → Option (List ℕ) → Option (List ℕ) → Result (Unit {0}) ScriptFault → Option (List ℕ) → Option (List ℕ) → Type 0
 EndsInMemory sizes input left result old new = EndsBy (NewSession sizes) (NewCause sizes) input left result old new
-
--- by whether the words are understood: the script of the input ended with this status; or nothing was read or written
-abbrev pub ToolBy : Geometry → Bool → Option (List ℕ) → Option (List ℕ) → ℕ → Option (List ℕ) → Option (List ℕ) → Type 0
-ToolBy sizes true input left status old new = (result : Result (Unit {0}) ScriptFault) × EndsInMemory sizes input left result old new × (status ≡ status_of result)
-ToolBy sizes false input left status old new = (left ≡ input) × (new ≡ old) × (status ≡ 2)

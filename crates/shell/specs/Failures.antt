@@ -1,0 +1,34 @@
+-- Why a job did not run to its end, by what ended it, and the status of the program.
+use Rattle.std.specs.Prelude.{ℕ, Result, Ok, Err}
+use Rattle.fs_types.specs.declared.faults.Fault.{Fault}
+use Rattle.flash_image.specs.declared.faults.ImageFault.{ImageFault}
+use Rattle.shell.specs.declared.scripts.ScriptFault.{ScriptFault}
+use Rattle.shell.specs.declared.failures.Failure.{Failure}
+
+-- a refused system; want of memory is told alike wherever it comes
+abbrev pub of_system : Fault → Failure
+of_system Fault.NoMemory = Failure.Memory
+of_system fault = Failure.System fault
+
+-- a script that did not run to its end
+abbrev pub of_script : ScriptFault → Failure
+of_script (ScriptFault.Mount fault) = of_system fault
+of_script ScriptFault.Read = Failure.Input
+of_script ScriptFault.Write = Failure.Output
+of_script ScriptFault.Memory = Failure.Memory
+
+-- bytes that are no image
+abbrev pub of_image : ImageFault → Failure
+of_image ImageFault.Memory = Failure.Memory
+of_image fault = Failure.Image fault
+
+-- 3 where the image, a format or a mount was refused, else 1
+abbrev pub failure_status : Failure → ℕ
+failure_status (Failure.Image fault) = 3
+failure_status (Failure.System fault) = 3
+failure_status _ = 1
+
+-- 0 where a job ran to its end
+abbrev pub job_status : Result (Unit {0}) Failure → ℕ
+job_status (Ok done) = 0
+job_status (Err failure) = failure_status failure

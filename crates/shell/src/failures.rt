@@ -1,0 +1,100 @@
+//! Why a job of the program did not run to its end, with its status.
+use crate::scripts::ScriptFault;
+use flash_image::ImageFault;
+use fs_types::Fault;
+use std::io;
+use std::io::Write;
+use thiserror::Error;
+
+/// Why a job did not run to its end.
+#[derive(Clone, Copy, Debug, PartialEq, Eq, Error)]
+pub enum Failure {
+    /// The file of the image could not be read.
+    #[error("the image cannot be read")]
+    CannotRead,
+    /// The file of the image could not be written.
+    #[error("the image cannot be written")]
+    CannotWrite,
+    /// The input failed.
+    #[error("input failed")]
+    Input,
+    /// The output failed.
+    #[error("output failed")]
+    Output,
+    /// Memory could not be had.
+    #[error("out of memory")]
+    Memory,
+    /// The file is no image.
+    #[error("no image: {0}")]
+    Image(ImageFault),
+    /// A format or a mount was refused.
+    #[error("no system: {0}")]
+    System(Fault),
+}
+
+impl Failure {
+    ghost use Rattle.std.specs.Prelude.{◌≡◌};
+    ghost use Rattle.shell.specs.Failures.{failure_status, of_script, of_system, of_image};
+
+    /// By why a script ended.
+    pub(crate) fn of_script(fault: ScriptFault) -> Failure
+        ensures { result ≡ of_script fault }
+    {
+        match fault {
+            ScriptFault::Mount(fault) => Failure::of_system(fault),
+            ScriptFault::Read => Failure::Input,
+            ScriptFault::Write => Failure::Output,
+            ScriptFault::Memory => Failure::Memory,
+        }
+    }
+
+    /// By why there is no system.
+    pub(crate) fn of_system(fault: Fault) -> Failure
+        ensures { result ≡ of_system fault }
+    {
+        match fault {
+            Fault::NoMemory => Failure::Memory,
+            _ => Failure::System(fault),
+        }
+    }
+
+    /// By why a file is no image.
+    pub(crate) fn of_image(fault: ImageFault) -> Failure
+        ensures { result ≡ of_image fault }
+    {
+        match fault {
+            ImageFault::Memory => Failure::Memory,
+            _ => Failure::Image(fault),
+        }
+    }
+
+    /// The status of the program: 3 where the image, a format or a mount was refused, else 1.
+    pub fn status(self) -> u8
+        ensures { result ≡ failure_status self }
+    {
+        match self {
+            Failure::Image(_) | Failure::System(_) => 3,
+            _ => 1,
+        }
+    }
+
+    /// Writes the line that says why, with the name of the file.
+    pub(crate) fn explain<E: Write>(self, name: &str, err: &mut E) {
+        let _ = match self {
+            Failure::CannotRead => writeln!(err, "uffs: cannot read {name}"),
+            Failure::CannotWrite => writeln!(err, "uffs: cannot write {name}"),
+            Failure::Input => writeln!(err, "uffs: input"),
+            Failure::Output => writeln!(err, "uffs: output"),
+            Failure::Memory => writeln!(err, "uffs: ENOMEM 25"),
+            Failure::Image(fault) => writeln!(err, "uffs: image {fault}"),
+            Failure::System(fault) => explain_fault(fault, err),
+        };
+    }
+}
+
+/// Writes the line of a refused system.
+fn explain_fault<E: Write>(fault: Fault, err: &mut E) -> io::Result<()> {
+    let word = fault.word();
+    let number = fault.number();
+    writeln!(err, "uffs: {word} {number}")
+}

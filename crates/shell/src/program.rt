@@ -1,0 +1,122 @@
+//! What the program `uffs` does with its words.
+ghost use Rattle.std.specs.Prelude.{◌≡◌, IsTrue, map, string_bytes};
+ghost use Rattle.clap.specs.Words.{kind_of};
+ghost use Rattle.shell.specs.Tools.{EndsOn, JobEnds, MemoryEnds, ToolEnds, MemoryBy, sizes_of, refused_status, is_memory};
+
+use crate::failures::Failure;
+use crate::files::ImageFiles;
+use crate::images::{check_image, format_image, look_at_image, run_image};
+use crate::memory::run_in_memory;
+use clap::Error;
+use clap::error::ErrorKind;
+use flash_model::Geometry;
+use jobs::{Job, Task, job};
+use std::alloc::Global;
+use std::io::{Read, Write};
+
+/// Carries out the words that follow the program's name, and answers the status.
+///
+/// The subcommands, what each reads and writes, and the lines on `err` are those of docs/scripts.md.
+/// Status 0: the job ran to its end, whatever the replies to a script. 1: the image, the input, the
+/// output or memory failed. 2: the words were refused, or help was asked for. 3: the image, a format
+/// or a mount was refused. Where it is not 0, `err` says why.
+pub fn tool<F: ImageFiles, R: Read, W: Write, E: Write>(
+    files: &mut F,
+    alloc: Global,
+    words: &[String],
+    reader: &mut R,
+    out: &mut W,
+    err: &mut E,
+) -> u8
+    ensures ends { ToolEnds (map string_bytes words.now) (F.held files.old) (F.held files.new) (R.remaining reader.old) (R.remaining reader.new) result (W.contents out.old) (W.contents out.new) }
+    // The word `memory` is understood.
+    ensures memory { IsTrue (is_memory (map string_bytes words.now)) → MemoryBy (R.remaining reader.old) (R.remaining reader.new) result (W.contents out.old) (W.contents out.new) }
+{
+    let job = match job(alloc, words) {
+        Ok(job) => job,
+        Err(error) => return refuse(&error, err),
+    };
+    match carry_out(files, alloc, job, reader, out) {
+        Ok(()) => 0,
+        Err(failure) => {
+            failure.explain(job.image.unwrap_or(""), err);
+            failure.status()
+        }
+    }
+}
+
+/// Says why the words are refused, or gives the help that they ask for, and answers the status.
+fn refuse<E: Write>(error: &Error, err: &mut E) -> u8
+    ensures { result ≡ refused_status (kind_of error.now) }
+{
+    match error.kind() {
+        ErrorKind::OutOfMemory => {
+            Failure::Memory.explain("", err);
+            1
+        }
+        _ => {
+            let _ = write!(err, "{error}");
+            2
+        }
+    }
+}
+
+/// Does a job.
+fn carry_out<F: ImageFiles, R: Read, W: Write>(
+    files: &mut F,
+    alloc: Global,
+    job: Job<'_>,
+    reader: &mut R,
+    out: &mut W,
+) -> Result<(), Failure>
+    ensures { JobEnds job.entry (F.held files.old) (F.held files.new) (R.remaining reader.old) (R.remaining reader.new) result (W.contents out.old) (W.contents out.new) }
+{
+    match job.image {
+        Some(name) => do_task(files, alloc, job, name, reader, out),
+        None => play_in_memory(alloc, reader, out),
+    }
+}
+
+/// Does a task on a file.
+fn do_task<F: ImageFiles, R: Read, W: Write>(
+    files: &mut F,
+    alloc: Global,
+    job: Job<'_>,
+    name: &str,
+    reader: &mut R,
+    out: &mut W,
+) -> Result<(), Failure>
+    ensures { EndsOn job.entry.command job.entry name.now (F.held files.old) (F.held files.new) (R.remaining reader.old) (R.remaining reader.new) result (W.contents out.old) (W.contents out.new) }
+{
+    match job.command {
+        Task::Format => format_image(files, alloc, name, sizes_of(job), job.history),
+        Task::Run => run_image(files, alloc, name, reader, out),
+        Task::Check => check_image(files, alloc, name, out),
+        Task::Log => look_at_image(files, alloc, name, b"log\n", out),
+        Task::Df => look_at_image(files, alloc, name, b"df\n", out),
+        Task::Memory => play_in_memory(alloc, reader, out),
+    }
+}
+
+fn sizes_of(job: Job<'_>) -> Geometry
+    ensures { result ≡ sizes_of job.entry }
+{
+    Geometry {
+        page: job.page,
+        pages: job.pages,
+        blocks: job.blocks,
+    }
+}
+
+fn play_in_memory<R: Read, W: Write>(
+    alloc: Global,
+    reader: &mut R,
+    out: &mut W,
+) -> Result<(), Failure>
+    ensures { MemoryEnds (R.remaining reader.old) (R.remaining reader.new) result (W.contents out.old) (W.contents out.new) }
+{
+    match run_in_memory(alloc, reader, out) {
+        Ok(()) => Ok(()),
+        Err(fault) => Err(Failure::of_script(fault)),
+    }
+}

@@ -1,0 +1,274 @@
+//! The load: a system on a flash, and the plain machine beside it.
+use crate::mounted::{HISTORY, Mounted, Taken};
+use anyhow::{Result, bail, ensure};
+use flash_model::FaultKind;
+use fs_types::{Answer, Call, Fault, Path, Reply, Stat, View};
+use plain_machine::{PlainMachine, Space};
+use script::{Line, LineAnswer, print_answer, read_line};
+use std::alloc::Global;
+
+/// The faults, each planned after the line of its number, for the next operation of its class. Those
+/// after a fiftieth line meet an anchor, since a sync follows; the others a data block, since many are
+/// at hand soon after a thousandth line.
+const FAULTS: [(u64, FaultKind); 12] = [
+    (1_111, FaultKind::EraseFail),
+    (2_000, FaultKind::ProgramFail),
+    (3_111, FaultKind::ProgramFail),
+    (5_111, FaultKind::EraseFail),
+    (6_111, FaultKind::ProgramFail),
+    (7_500, FaultKind::ProgramFail),
+    (9_111, FaultKind::EraseFail),
+    (11_111, FaultKind::ProgramFail),
+    (12_650, FaultKind::ProgramFail),
+    (14_111, FaultKind::EraseFail),
+    (16_111, FaultKind::ProgramFail),
+    (18_000, FaultKind::ProgramFail),
+];
+
+/// The bytes of a file that a node of its body holds: a block's less 80.
+const CAPACITY: u64 = 4016;
+
+/// The plain machine knows nothing of the flash, and is not asked for it.
+const NO_SPACE: Space = Space {
+    blocks: 0,
+    bad: 0,
+    free: 0,
+    anchors: 0,
+};
+
+/// What is counted of the calls.
+#[derive(Clone, Copy, Default)]
+pub struct Counts {
+    /// Calls that were accepted, those that were refused on both sides, and those that found the
+    /// flash full.
+    pub accepted: u64,
+    pub refused: u64,
+    pub full: u64,
+    /// Nodes written, and those needed, where as many blocks were at hand; and how often fewer were.
+    pub written: u64,
+    pub needed: u64,
+    pub tight: u64,
+    /// Blocks erased since the flash was made.
+    pub erased: u64,
+    /// The fewest blocks that were free after a sync or where the flash was full, and the most.
+    pub least_free: u64,
+    pub most_free: u64,
+}
+
+/// A system on a flash, and the plain machine beside it.
+#[derive(Drop)]
+pub struct Load {
+    mounted: Mounted,
+    plain: PlainMachine,
+    counts: Counts,
+}
+
+impl Load {
+    /// A new file system on both sides.
+    pub fn new(alloc: Global) -> Result<Load> {
+        Ok(Load {
+            mounted: Mounted::new(alloc)?,
+            plain: PlainMachine::new(alloc, HISTORY)?,
+            counts: Counts {
+                least_free: u64::MAX,
+                ..Counts::default()
+            },
+        })
+    }
+
+    /// What was counted so far.
+    pub fn counts(&self) -> Counts {
+        Counts {
+            erased: self.mounted.erased(),
+            ..self.counts
+        }
+    }
+
+    /// What is printed for `df`.
+    pub fn space(&mut self, alloc: Global) -> Result<String> {
+        text_of(alloc, self.mounted.call(alloc, &Call::Df))
+    }
+
+    /// Carries out the line of a number, and what comes beside it. A call that finds the flash full is
+    /// asked once more after all older versions are forgotten.
+    pub fn turn(&mut self, alloc: Global, number: u64, line: &str) -> Result<()> {
+        let Line::Call(call) = read_line(alloc, line.as_bytes())? else {
+            bail!("no call");
+        };
+        if !self.ask(alloc, &call)? {
+            let (_, older) = self.log(alloc)?;
+            self.ask(alloc, &Call::Forget { count: older })?;
+            self.ask(alloc, &call)?;
+        }
+        self.mounted.reclaim_step(alloc, 4)?;
+        for (_, kind) in FAULTS.iter().filter(|(after, _)| *after == number) {
+            self.mounted.plan_fault(*kind)?;
+        }
+        if number % 50 == 0 {
+            self.sync(alloc)?;
+        }
+        Ok(())
+    }
+
+    /// Syncs, and notes how many blocks are free.
+    fn sync(&mut self, alloc: Global) -> Result<()> {
+        let answer = self.mounted.call(alloc, &Call::Sync);
+        self.compare(alloc, &Call::Sync, answer)?;
+        self.free(alloc)?;
+        Ok(())
+    }
+
+    /// Asks a call of both sides, and checks the answer and what it took. Whether the flash had room
+    /// for it; else the plain machine is not asked.
+    fn ask(&mut self, alloc: Global, call: &Call) -> Result<bool> {
+        let need = self.need(alloc, call)?;
+        let (answer, taken) = self.mounted.measure(alloc, call);
+        if let Err(Fault::FlashFull) = answer {
+            self.check_full(alloc, need, taken)?;
+            return Ok(false);
+        }
+        let makes_version = self.compare(alloc, call, answer)?;
+        self.check_taken(if makes_version { need } else { 0 }, taken)?;
+        Ok(true)
+    }
+
+    /// Asks the plain machine too, and compares what is printed for both answers. Whether the call
+    /// made a version.
+    fn compare(
+        &mut self,
+        alloc: Global,
+        call: &Call,
+        answer: Result<Reply, Fault>,
+    ) -> Result<bool> {
+        if answer.is_ok() {
+            add(&mut self.counts.accepted, 1);
+        } else {
+            add(&mut self.counts.refused, 1);
+        }
+        let (before, _) = self.log(alloc)?;
+        let plain = text_of(alloc, self.plain.step(alloc, NO_SPACE, call))?;
+        let (after, _) = self.log(alloc)?;
+        let flash = text_of(alloc, answer)?;
+        ensure!(
+            flash == plain,
+            "answered {}, and by the plain machine {}",
+            flash.trim_end(),
+            plain.trim_end()
+        );
+        Ok(before != after)
+    }
+
+    /// A full flash has fewer free blocks than the call needs and than went bad in it. It left the
+    /// history as it was, so that free before it were those that are free now and those bad ones.
+    fn check_full(&mut self, alloc: Global, need: u64, taken: Taken) -> Result<()> {
+        add(&mut self.counts.full, 1);
+        self.check_taken(need, taken)?;
+        let free = self.free(alloc)?;
+        ensure!(free < need, "full with {free} blocks free of {need} needed");
+        Ok(())
+    }
+
+    /// A call takes a block for each node that it needs and for each that goes bad. Where fewer are at
+    /// hand it may commit and begin once more: it writes its nodes twice then, and erases an anchor.
+    fn check_taken(&mut self, need: u64, taken: Taken) -> Result<()> {
+        let mut allowed = need.saturating_add(taken.bad);
+        if taken.at_hand < allowed {
+            allowed = allowed.saturating_add(need).saturating_add(1);
+            add(&mut self.counts.tight, 1);
+        } else {
+            add(&mut self.counts.written, taken.erased);
+            add(&mut self.counts.needed, allowed);
+        }
+        ensure!(
+            taken.erased <= allowed,
+            "{} blocks erased of {allowed} allowed",
+            taken.erased
+        );
+        Ok(())
+    }
+
+    /// How many blocks are free, which is noted.
+    fn free(&mut self, alloc: Global) -> Result<u64> {
+        let Reply::Df { free, .. } = self.mounted.call(alloc, &Call::Df)? else {
+            bail!("no answer to df");
+        };
+        self.counts.least_free = self.counts.least_free.min(free);
+        self.counts.most_free = self.counts.most_free.max(free);
+        Ok(free)
+    }
+
+    /// The next serial, and how many versions lie before the present one.
+    fn log(&mut self, alloc: Global) -> Result<(u64, u64)> {
+        match self.plain.step(alloc, NO_SPACE, &Call::Log)? {
+            Reply::Log { next, cursor, .. } => Ok((next, cursor)),
+            _ => bail!("no answer to log"),
+        }
+    }
+
+    /// The nodes that a call writes at most where it makes a version: each directory from the root to
+    /// what changes, the new one of `mkdir`, and of a file those from the first that changes on.
+    fn need(&mut self, alloc: Global, call: &Call) -> Result<u64> {
+        let need = match call {
+            Call::Mkdir { path } => depth(path).saturating_add(1),
+            Call::Open { path, .. } | Call::Rmdir { path } | Call::Unlink { path } => depth(path),
+            Call::Rename { old, new } => depth(old).saturating_add(depth(new)),
+            Call::Pwrite {
+                descriptor,
+                offset,
+                bytes,
+            } => {
+                let end = offset.saturating_add(bytes.as_slice().len() as u64);
+                let (depth, old) = self.open_file(alloc, *descriptor)?;
+                body(*offset.min(&old), end.max(old)).saturating_add(depth)
+            }
+            Call::Ftruncate { descriptor, length } => {
+                let (depth, old) = self.open_file(alloc, *descriptor)?;
+                let nodes = if old < *length { body(old, *length) } else { 0 };
+                nodes.saturating_add(depth)
+            }
+            _ => 0,
+        };
+        Ok(need)
+    }
+
+    /// The depth and the length of an open file; zeros where none is open.
+    fn open_file(&mut self, alloc: Global, descriptor: u64) -> Result<(u64, u64)> {
+        let Some(path) = self.mounted.path_of(descriptor) else {
+            return Ok((0, 0));
+        };
+        let depth = depth(path);
+        let call = Call::Stat {
+            view: View::Present,
+            path: path.clone()?,
+        };
+        match self.plain.step(alloc, NO_SPACE, &call)? {
+            Reply::Stat(Stat::File(length)) => Ok((depth, length)),
+            _ => bail!("no file is open"),
+        }
+    }
+}
+
+fn depth(path: &Path) -> u64 {
+    path.names().len() as u64
+}
+
+/// The nodes of a file from the one that has the byte at `from` up to its last.
+fn body(from: u64, length: u64) -> u64 {
+    let last = length.saturating_sub(1) / CAPACITY;
+    last.saturating_sub(from / CAPACITY).saturating_add(1)
+}
+
+fn add(count: &mut u64, more: u64) {
+    *count = count.saturating_add(more);
+}
+
+/// What is printed for an answer.
+fn text_of(alloc: Global, answer: Result<Reply, Fault>) -> Result<String> {
+    let answer = match answer {
+        Ok(reply) => Answer::Done(reply),
+        Err(fault) => Answer::Refused(fault),
+    };
+    let mut text = Vec::new(alloc);
+    print_answer(&mut text, &LineAnswer::Told(answer))?;
+    Ok(String::from_utf8(text)?)
+}

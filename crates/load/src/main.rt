@@ -1,0 +1,46 @@
+//! Runs a file system under load: calls by a fixed plan on a small flash, some of whose operations
+//! fail, each beside the plain machine. A step of reclaiming follows each, and a sync each fiftieth. It
+//! prints one line of counts. Where the two sides answer differently, a call takes more blocks than
+//! it may, or finds the flash full where it is not, it ends with an error that tells the call.
+#![tactic(auto)]
+
+mod load;
+mod mounted;
+mod plan;
+
+use anyhow::{Context, Result};
+use load::{Counts, Load};
+use plan::Plan;
+
+/// How many lines of the plan are carried out.
+const LINES: u64 = 20_000;
+
+fn main(rt: HostRuntime) -> Result<()> {
+    let mut load = Load::new(rt.alloc())?;
+    let mut plan = Plan::new();
+    for number in 1..=LINES {
+        let line = plan.next_line(rt.alloc(), number)?;
+        load.turn(rt.alloc(), number, line.as_str())
+            .context(format_args!("line {number}: {line}"))?;
+    }
+    let space = load.space(rt.alloc())?;
+    tell(&rt, load.counts(), space.as_str())
+}
+
+/// Tells what was counted, and what is bad and free at the end.
+fn tell<R: Print>(rt: &R, counts: Counts, space: &str) -> Result<()> {
+    println!(rt;
+        "accepted {}, refused {}, full {}; nodes written {} of {} needed, fewer blocks at hand in {} calls; blocks erased {}; free {} to {}; {}",
+        counts.accepted,
+        counts.refused,
+        counts.full,
+        counts.written,
+        counts.needed,
+        counts.tight,
+        counts.erased,
+        counts.least_free,
+        counts.most_free,
+        space.trim_end()
+    )?;
+    Ok(())
+}

@@ -1,0 +1,148 @@
+//! The plan: lines of a script, drawn by a linear generator.
+use std::alloc::{AllocError, Global};
+
+/// Lines that open the file. `F` stands for the path of a file, and `D` for that of a directory.
+const OPENING: [&str; 3] = ["open F 7", "open F 7", "open F 23"];
+
+/// Lines that write the open file: `AT` stands for a place in it, and `DATA` for bytes.
+const WRITING: [&str; 4] = [
+    "pwrite 0 AT DATA",
+    "pwrite 0 AT DATA",
+    "pwrite 0 AT DATA",
+    "ftruncate 0 AT",
+];
+
+/// Other lines: `N` stands for the name of a checkpoint.
+const OTHER: [&str; 26] = [
+    "mkdir D",
+    "mkdir D",
+    "mkdir D",
+    "rmdir D",
+    "rmdir D",
+    "rmdir D",
+    "unlink F",
+    "unlink F",
+    "rename F F",
+    "rename F F",
+    "rename D D",
+    "rename D D",
+    "undo",
+    "undo",
+    "undo",
+    "redo",
+    "redo",
+    "checkpoint N",
+    "rmcheckpoint N",
+    "rollback N",
+    "forget 1",
+    "ls D",
+    "ls D =N",
+    "stat D",
+    "read F 0 20000",
+    "log",
+];
+
+/// The lines of the plan.
+#[derive(Drop)]
+pub struct Plan {
+    state: u64,
+    /// How many lines come up to the close of the open file.
+    open_lines: u64,
+}
+
+impl Plan {
+    /// The plan from its beginning.
+    pub fn new() -> Plan {
+        Plan {
+            state: 2026,
+            open_lines: 0,
+        }
+    }
+
+    /// The line of a number, from 1 on.
+    pub fn next_line(&mut self, alloc: Global, number: u64) -> Result<String, AllocError> {
+        let mut line = String::new(alloc);
+        let form = match number {
+            1 => "checkpoint empty",
+            _ => self.next_form(number % 1_000),
+        };
+        for word in form.split(' ') {
+            if !line.is_empty() {
+                line.push(' ')?;
+            }
+            self.push_word(&mut line, word)?;
+        }
+        Ok(line)
+    }
+
+    /// The next form: while a file is open each second one or so writes it. Each thousandth goes back
+    /// to the empty tree, so that the tree does not fill the flash for good; no file is open then.
+    fn next_form(&mut self, place: u64) -> &'static str {
+        self.open_lines = self.open_lines.saturating_sub(1);
+        if place == 0 {
+            return "rollback empty";
+        }
+        if self.open_lines == 1 {
+            return "close 0";
+        }
+        if self.open_lines > 1 && self.below(2) == 0 {
+            return self.pick(&WRITING);
+        }
+        if self.open_lines == 0 && place < 980 && self.below(6) == 0 {
+            self.open_lines = self.below(10).saturating_add(2);
+            return self.pick(&OPENING);
+        }
+        self.pick(&OTHER)
+    }
+
+    /// Appends a word of a form, with what stands in its place.
+    fn push_word(&mut self, line: &mut String, word: &str) -> Result<(), AllocError> {
+        match word {
+            "D" => {
+                let depth = self.below(7) / 3 + 1;
+                self.push_directories(line, depth)
+            }
+            "F" => {
+                let depth = self.below(3);
+                self.push_directories(line, depth)?;
+                line.push_str(self.pick(&["/f", "/g"]))
+            }
+            "N" => line.push_str(self.pick(&["v", "w"])),
+            "=N" => line.push_str(self.pick(&["=v", "=w"])),
+            "AT" => write!(line, "{}", self.below(12_000)),
+            "DATA" => self.push_data(line),
+            _ => line.push_str(word),
+        }
+    }
+
+    fn push_directories(&mut self, line: &mut String, depth: u64) -> Result<(), AllocError> {
+        for _ in 0..depth {
+            line.push_str(self.pick(&["/a", "/b"]))?;
+        }
+        Ok(())
+    }
+
+    /// Appends up to 3,000 times the same byte.
+    fn push_data(&mut self, line: &mut String) -> Result<(), AllocError> {
+        let byte = self.pick(&["00", "41", "5a", "ff"]);
+        for _ in 0..=self.below(3_000) {
+            line.push_str(byte)?;
+        }
+        Ok(())
+    }
+
+    /// One of several texts.
+    fn pick(&mut self, texts: &[&'static str]) -> &'static str {
+        let place = self.below(texts.len() as u64);
+        texts.get(place as usize).copied().unwrap_or("log")
+    }
+
+    /// A number below a bound (Knuth's generator for MMIX).
+    fn below(&mut self, bound: u64) -> u64 {
+        self.state = self
+            .state
+            .wrapping_mul(6_364_136_223_846_793_005)
+            .wrapping_add(1_442_695_040_888_963_407);
+        (self.state >> 33) % bound.max(1)
+    }
+}

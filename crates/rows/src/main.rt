@@ -1,6 +1,7 @@
-//! Runs worked rows: scripts with the replies that are expected of them, each on the plain machine
-//! and on a flash in memory that was formatted, as far as these go by now. A row that does not give
-//! its replies is told with what it gave, and the status is 1.
+//! Runs worked rows: scripts with the replies that are expected of them, each on the plain machine,
+//! on a flash in memory that was formatted, as far as these go by now, and by the program `uffs` on
+//! an image that it made, in a file of its own. A row that does not give its replies is told with
+//! what it gave, and the status is 1.
 #![tactic(auto)]
 
 mod error;
@@ -10,32 +11,46 @@ mod runs;
 use anyhow::{Context, Result};
 use error::RowError;
 use row::{Row, Side};
-use runs::{Difference, run_on_flash, run_plain};
-use std::alloc::Global;
-use std::fs;
+use runs::{Difference, run_on_flash, run_on_image, run_plain};
+use shell::HostFiles;
 use std::process::ExitCode;
 use std::rt::{Env, Files};
+use std::{fs, process};
 
 fn main(rt: HostRuntime) -> Result<ExitCode> {
+    let image = image_name(&rt, process::id(rt.process()))?;
     let mut failed = 0u32;
     for name in std::env::args(&rt)?.skip(1) {
-        if !run(&rt, name.as_str())? {
+        if !run(&rt, image.as_str(), name.as_str())? {
             failed = failed.saturating_add(1);
         }
     }
+    fs::remove_file(&rt, image.as_str())?;
     Ok(ExitCode::from(if failed == 0 { 0 } else { 1 }))
 }
 
-/// Runs the row of a file on both sides, and tells whether it gave its replies.
-fn run<R: Files + AllocGlobal + Print>(rt: &R, name: &str) -> Result<bool> {
+/// The name of the file for images, which is this process's alone.
+fn image_name<R: Env + AllocGlobal>(rt: &R, id: u32) -> Result<String> {
+    let folder = std::env::temp_dir(rt)?;
+    let folder = folder.as_str();
+    Ok(format!(in rt.alloc(); "{folder}/rows-{id}.image")?)
+}
+
+/// Runs the row of a file on all sides, and tells whether it gave its replies.
+fn run<R: Files + AllocGlobal + Print>(rt: &R, image: &str, name: &str) -> Result<bool> {
     let text = fs::read_to_string(rt, name).context(format_args!("reading {name}"))?;
-    let alloc = rt.alloc();
-    let plain = run_side(alloc, text.as_str(), Side::Plain).context(format_args!("{name} plain"))?;
-    let flash = run_side(alloc, text.as_str(), Side::Flash).context(format_args!("{name} flash"))?;
-    println!(rt; "{name}: plain {}, flash {}", plain.lines, flash.lines)?;
-    let is_right = plain.difference.is_none() && flash.difference.is_none();
+    let text = text.as_str();
+    let plain = run_side(rt, image, text, Side::Plain).context(format_args!("{name} plain"))?;
+    let flash = run_side(rt, image, text, Side::Flash).context(format_args!("{name} flash"))?;
+    let on_image = run_side(rt, image, text, Side::Image).context(format_args!("{name} image"))?;
+    println!(rt;
+        "{name}: plain {}, flash {}, image {}",
+        plain.lines, flash.lines, on_image.lines
+    )?;
+    let is_right = plain.is_right() && flash.is_right() && on_image.is_right();
     tell(rt, "plain", plain.difference)?;
     tell(rt, "flash", flash.difference)?;
+    tell(rt, "image", on_image.difference)?;
     Ok(is_right)
 }
 
@@ -46,12 +61,25 @@ struct Outcome {
     difference: Option<Difference>,
 }
 
-/// Runs the row of a text on a side.
-fn run_side(alloc: Global, text: &str, side: Side) -> Result<Outcome, RowError> {
+impl Outcome {
+    fn is_right(&self) -> bool {
+        self.difference.is_none()
+    }
+}
+
+/// Runs the row of a text on a side; the image is in the file of this name.
+fn run_side<R: Files + AllocGlobal>(
+    rt: &R,
+    image: &str,
+    text: &str,
+    side: Side,
+) -> Result<Outcome, RowError> {
+    let alloc = rt.alloc();
     let row = Row::read(alloc, text, side)?;
     let difference = match side {
         Side::Plain => run_plain(alloc, &row)?,
         Side::Flash => run_on_flash(alloc, &row)?,
+        Side::Image => run_on_image(&mut HostFiles::new(rt), alloc, image, &row)?,
     };
     Ok(Outcome {
         lines: row.steps.len(),

@@ -11,6 +11,9 @@ pub enum Side {
     Plain,
     /// On a flash in memory.
     Flash,
+    /// By the program, on an image that it made. A plan of faults is no part of an image, so a row
+    /// with one has no line here.
+    Image,
 }
 
 /// A line of a script, with its reply.
@@ -49,6 +52,9 @@ impl<'a> Row<'a> {
         let mut is_skipped = false;
         for text_line in text.lines() {
             if waits(text_line, side) {
+                return Ok(row);
+            }
+            if side == Side::Image && text_line.starts_with("plan: ") {
                 return Ok(row);
             }
             is_skipped = is_skipped || skips(text_line, side);
@@ -112,7 +118,7 @@ impl<'a> Row<'a> {
 fn waits(text_line: &str, side: Side) -> bool {
     match side {
         Side::Plain => text_line.starts_with("plain waits for: "),
-        Side::Flash => text_line.starts_with("flash waits for: "),
+        Side::Flash | Side::Image => text_line.starts_with("flash waits for: "),
     }
 }
 

@@ -1,11 +1,11 @@
-//! A row run on the plain machine, and on a flash in memory.
+//! A row run on the plain machine, on a flash in memory, and by the program on an image.
 use crate::error::RowError;
 use crate::row::{Row, Step};
 use flash_model::SimFlash;
 use fs_types::{Answer, Fault, Reply};
 use plain_machine::{PlainMachine, Space};
 use script::{Line, LineAnswer, print_answer, read_line};
-use shell::run_script;
+use shell::{ImageFiles, run_script, tool};
 use std::alloc::Global;
 use undofs::format;
 
@@ -101,16 +101,74 @@ fn run_as_script(
     row: &Row<'_>,
     flash: &mut SimFlash,
 ) -> Result<Option<Difference>, RowError> {
-    let mut script = String::new(alloc);
-    for step in &row.steps {
-        script.push_str(step.line)?;
-        script.push('\n')?;
-    }
+    let script = script_of(alloc, row)?;
     let mut reader = script.as_bytes();
     let mut written: Vec<u8> = Vec::new(alloc);
     run_script(alloc, &mut reader, &mut written, flash).map_err(|_| RowError::Ended)?;
     let written = String::from_utf8(written).map_err(|_| RowError::Layout)?;
     compare_lines(alloc, row, written.as_str())
+}
+
+/// The lines of a row, each ended by LF.
+fn script_of(alloc: Global, row: &Row<'_>) -> Result<String, RowError> {
+    let mut script = String::new(alloc);
+    for step in &row.steps {
+        script.push_str(step.line)?;
+        script.push('\n')?;
+    }
+    Ok(script)
+}
+
+/// Runs a row by the program on an image of this name, which it makes first, and answers the first
+/// difference.
+pub fn run_on_image<F: ImageFiles>(
+    files: &mut F,
+    alloc: Global,
+    name: &str,
+    row: &Row<'_>,
+) -> Result<Option<Difference>, RowError> {
+    let words = format_words(alloc, name, row)?;
+    call(files, alloc, &words, "")?;
+    let mut words = Vec::new(alloc);
+    words.push("run".to_string(alloc)?)?;
+    words.push(name.to_string(alloc)?)?;
+    let script = script_of(alloc, row)?;
+    let written = call(files, alloc, &words, script.as_str())?;
+    compare_lines(alloc, row, written.as_str())
+}
+
+/// The words that make an image of the sizes of a row.
+fn format_words(alloc: Global, name: &str, row: &Row<'_>) -> Result<Vec<String>, RowError> {
+    let mut words = Vec::new(alloc);
+    words.push("format".to_string(alloc)?)?;
+    words.push(name.to_string(alloc)?)?;
+    for (option, number) in [
+        ("--page", row.geometry.page),
+        ("--pages", row.geometry.pages),
+        ("--blocks", row.geometry.blocks),
+        ("--history", row.history),
+    ] {
+        words.push(option.to_string(alloc)?)?;
+        words.push(number.to_string(alloc)?)?;
+    }
+    Ok(words)
+}
+
+/// Calls the program, which has to run to its end, and gives what it writes.
+fn call<F: ImageFiles>(
+    files: &mut F,
+    alloc: Global,
+    words: &[String],
+    script: &str,
+) -> Result<String, RowError> {
+    let mut reader = script.as_bytes();
+    let mut written: Vec<u8> = Vec::new(alloc);
+    let mut told: Vec<u8> = Vec::new(alloc);
+    let status = tool(files, alloc, words, &mut reader, &mut written, &mut told);
+    if status != 0 {
+        return Err(RowError::Ended);
+    }
+    String::from_utf8(written).map_err(|_| RowError::Layout)
 }
 
 fn compare_lines(

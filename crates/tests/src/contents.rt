@@ -235,14 +235,15 @@ fn bytes_past_the_length_are_never_shown(rt: HostRuntime) -> Result<(), Fail> {
     Ok(())
 }
 
-/// A script on the path of so many names `00`: its directory is removed, and looked at before and after.
+/// A script on the path of so many names `00`: its directory is removed, and looked at before and
+/// after, and first of all what is free.
 fn script_at_depth(alloc: Global, depth: u32) -> Result<String, Fail> {
     let mut path = String::new(alloc);
     for _ in 0..depth {
         path.push_str("/00")?;
     }
     let mut script = String::new(alloc);
-    write!(&mut script, "stat {path}\nrmdir {path}\nstat {path}\n")?;
+    write!(&mut script, "df\nstat {path}\nrmdir {path}\nstat {path}\n")?;
     Ok(script)
 }
 
@@ -252,6 +253,7 @@ fn no_directory_is_removed_below_sixteen_levels(rt: HostRuntime) -> Result<(), F
     let mut flash = levels(rt.alloc(), 16)?;
     let script = script_at_depth(rt.alloc(), 16)?;
     let replies = told(rt.alloc(), &mut flash, script.as_bytes())?;
-    assert_eq!(rt; replies.as_str(), "dir 0\nerr ENOSPC 15\ndir 0\n");
+    let wanted = "df data 24 bad 0 free 7 anchors 8\ndir 0\nerr ENOSPC 15\ndir 0\n";
+    assert_eq!(rt; replies.as_str(), wanted);
     Ok(())
 }

@@ -50,7 +50,7 @@ fn push_many(image: &mut Vec<u8>, byte: u8, count: usize) -> Result<(), AllocErr
 
 /// The image of a formatted flash as it is written out: no block worn, page 0 and page 128 with data, all
 /// others erased.
-fn fresh_image(alloc: Global) -> Result<Vec<u8>, AllocError> {
+pub(crate) fn fresh_image(alloc: Global) -> Result<Vec<u8>, AllocError> {
     let mut image = Vec::new(alloc);
     image.extend_from_slice(&HEADER)?;
     push_many(&mut image, 0, 1)?;
@@ -67,7 +67,7 @@ fn fresh_image(alloc: Global) -> Result<Vec<u8>, AllocError> {
 }
 
 /// The image of a flash of 16 blocks of 16 pages of 256 bytes, all erased.
-fn erased_image(alloc: Global) -> Result<Vec<u8>, AllocError> {
+pub(crate) fn erased_image(alloc: Global) -> Result<Vec<u8>, AllocError> {
     let mut image = Vec::new(alloc);
     image.extend_from_slice(&HEADER[..16])?;
     image.extend_from_slice(&[0x10, 0x00, 0x00, 0x00])?;

@@ -27,6 +27,8 @@ mod planned_faults;
 #[cfg(test)]
 mod program_words;
 #[cfg(test)]
+mod programs;
+#[cfg(test)]
 mod reclaiming;
 #[cfg(test)]
 mod records;

@@ -287,3 +287,25 @@ fn sixteen_syncs_fill_an_anchor(rt: HostRuntime) -> Result<(), Fail> {
     assert_eq!(rt; sequence_on(&flash, 17), None);
     Ok(())
 }
+
+/// Six anchors fail one after the other, and then a page of the seventh, which is in use again after
+/// a restart.
+#[test]
+fn records_go_on_to_the_next_anchor(rt: HostRuntime) -> Result<(), Fail> {
+    let mut flash = formatted(rt.alloc(), SIZES, 8)?;
+    let mut script = String::new(rt.alloc());
+    for _ in 0..7 {
+        script.push_str("fault 1 program-fail\nsync\n")?;
+    }
+    script.push_str("restart\nsync\n")?;
+    let replies = told(rt.alloc(), &mut flash, script.as_bytes())?;
+    assert!(rt;
+        replies
+            .as_str()
+            .ends_with("ok\nok\nok\nerr EROFS 16\nmounted\nok\n")
+    );
+    for (page, sequence) in [(80, Some(6)), (96, Some(7)), (97, None), (98, Some(8))] {
+        assert_eq!(rt; sequence_on(&flash, page), sequence, "{page}");
+    }
+    Ok(())
+}

@@ -46,8 +46,9 @@ fn blocks_that_are_taken_meanwhile_stay(rt: HostRuntime) -> Result<(), Fail> {
     Ok(())
 }
 
-/// The last block taken, on a flash that was full until a step.
-fn last_block(alloc: Global) -> Result<u32, Fault> {
+/// What a directory takes after a step, on a flash that was full until then: whether block 15, the last
+/// block, and how many pages are programmed.
+fn taken_after_a_step(alloc: Global) -> Result<(bool, u32, u64), Fault> {
     let mut flash = formatted(
         alloc,
         Geometry {
@@ -62,14 +63,18 @@ fn last_block(alloc: Global) -> Result<u32, Fault> {
     system.call(alloc, &mut flash, &mkdir(alloc, b"/c")?)?;
     system.call(alloc, &mut flash, &Call::Forget { count: 3 })?;
     let _is_done = system.reclaim_step(alloc, &mut flash, 5)?;
+    let before = flash.counts().programs;
     system.call(alloc, &mut flash, &mkdir(alloc, b"/d")?)?;
-    Ok(system.state.storage.ring.last())
+    let ring = &system.state.storage.ring;
+    let programs = flash.counts().programs.saturating_sub(before);
+    Ok((ring.is_used(15), ring.last(), programs))
 }
 
-/// It takes the last block, and then the first one that no version reaches.
+/// It takes the last block, and then the first one that no version and no record reaches. A page is
+/// programmed for each, and none for a record.
 #[test]
 fn forgotten_blocks_are_taken_again(rt: HostRuntime) -> Result<(), Fail> {
-    assert_eq!(rt; last_block(rt.alloc()), Ok(10));
+    assert_eq!(rt; taken_after_a_step(rt.alloc()), Ok((true, 10, 2)));
     Ok(())
 }
 

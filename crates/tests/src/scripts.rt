@@ -1,8 +1,8 @@
-//! What stands written where a script does not run to its end, and the statuses of the program.
+//! What stands written where a script does not run to its end.
 use crate::mounts::formatted;
 use flash_model::{Flash, Geometry, PageView, SimFlash};
 use fs_types::Fault;
-use shell::{ScriptFault, run_script, tool};
+use shell::{ScriptFault, run_script};
 use std::alloc::Global;
 use std::io;
 use std::io::{ErrorKind, Read, Write};
@@ -16,8 +16,8 @@ const SIZES: Geometry = Geometry {
 
 /// A reader that gives its bytes and then fails.
 #[derive(Drop)]
-struct Broken<'a> {
-    bytes: &'a [u8],
+pub(crate) struct Broken<'a> {
+    pub(crate) bytes: &'a [u8],
 }
 
 impl Read for Broken<'_> {
@@ -31,9 +31,9 @@ impl Read for Broken<'_> {
 
 /// A writer that takes so many bytes and then fails.
 #[derive(Drop)]
-struct Full {
-    bytes: Vec<u8>,
-    room: usize,
+pub(crate) struct Full {
+    pub(crate) bytes: Vec<u8>,
+    pub(crate) room: usize,
 }
 
 impl Write for Full {
@@ -156,31 +156,6 @@ fn want_of_memory_leaves_the_replies_before(rt: HostRuntime) -> Result<(), Fail>
         assert_eq!(rt; ended, Ok(()));
         assert_eq!(rt; out.as_slice(), &b"ok\nentries 1 a/\nok\n"[..]);
     }
-    Ok(())
-}
-
-/// What the program answers to words: the status, and what it writes.
-fn status_of(
-    alloc: Global,
-    words: &[String],
-    script: &[u8],
-) -> Result<(u8, Vec<u8>, Vec<u8>), Fail> {
-    let mut script = script;
-    let mut out: Vec<u8> = Vec::new(alloc);
-    let mut err: Vec<u8> = Vec::new(alloc);
-    let status = tool(alloc, words, &mut script, &mut out, &mut err);
-    Ok((status, out, err))
-}
-
-#[test]
-fn words_are_understood(rt: HostRuntime) -> Result<(), Fail> {
-    let memory = vec![in rt.alloc(); "memory".to_string(rt.alloc())?]?;
-    let (status, out, err) = status_of(rt.alloc(), &memory, b"mkdir /a\nls /\n")?;
-    assert_eq!(rt; (status, err.len()), (0, 0));
-    assert_eq!(rt; out.as_slice(), &b"ok\nentries 1 a/\n"[..]);
-    let (status, out, err) = status_of(rt.alloc(), &[], b"ls /\n")?;
-    assert_eq!(rt; (status, out.len()), (2, 0));
-    assert_eq!(rt; err.as_slice(), &b"usage: uffs memory\n"[..]);
     Ok(())
 }
 

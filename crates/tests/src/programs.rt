@@ -1,0 +1,412 @@
+//! The program, called as its `main` calls it: the statuses, what is written, and the files that it
+//! leaves.
+use crate::images::{erased_image, fresh_image};
+use crate::scripts::{Broken, Full};
+use shell::{FileFault, HostFiles, ImageFiles, MOST_BYTES, tool};
+use std::alloc::{AllocError, Global};
+use std::io::{Read, Write};
+use std::process::Abort;
+use std::rt::Files;
+use std::test::Fail;
+use std::{env, fs, process};
+
+/// One file in memory, whatever its name.
+#[derive(Drop)]
+struct OneFile {
+    bytes: Vec<u8>,
+    is_full: bool,
+}
+
+impl OneFile {
+    fn new(alloc: Global) -> OneFile {
+        OneFile {
+            bytes: Vec::new(alloc),
+            is_full: false,
+        }
+    }
+}
+
+impl ImageFiles for OneFile {
+    ghost use Rattle.std.specs.Prelude.{Some};
+
+    ghost held = { λ file _. Some file.bytes.items };
+
+    fn read(&self, alloc: Global, _name: &str) -> Result<Vec<u8>, FileFault> {
+        let len = self.bytes.len().min(MOST_BYTES as usize);
+        match Vec::from_slice(alloc, &self.bytes[..len]) {
+            Ok(bytes) => Ok(bytes),
+            Err(_) => Err(FileFault::Memory),
+        }
+    }
+
+    fn replace(&mut self, alloc: Global, _name: &str, bytes: &[u8]) -> Result<(), FileFault> {
+        if self.is_full {
+            return Err(FileFault::Failed);
+        }
+        match Vec::from_slice(alloc, bytes) {
+            Ok(copy) => {
+                self.bytes = copy;
+                Ok(())
+            }
+            Err(_) => Err(FileFault::Memory),
+        }
+    }
+}
+
+fn words_of(alloc: Global, words: &[&str]) -> Result<Vec<String>, AllocError> {
+    let mut all = Vec::new(alloc);
+    for word in words {
+        all.push(String::from_str(alloc, word)?)?;
+    }
+    Ok(all)
+}
+
+/// What a call of the program gave.
+#[derive(Drop)]
+struct Outcome {
+    status: u8,
+    out: String,
+    err: String,
+}
+
+fn call<F: ImageFiles>(
+    files: &mut F,
+    alloc: Global,
+    words: &[&str],
+    script: &str,
+) -> Result<Outcome, Fail> {
+    let words = words_of(alloc, words)?;
+    let mut reader = script.as_bytes();
+    let mut out: Vec<u8> = Vec::new(alloc);
+    let mut err: Vec<u8> = Vec::new(alloc);
+    let status = tool(files, alloc, &words, &mut reader, &mut out, &mut err);
+    Ok(Outcome {
+        status,
+        out: String::from_utf8(out)?,
+        err: String::from_utf8(err)?,
+    })
+}
+
+/// Asserts what a call of the program gives: the status and what it writes.
+fn assert_call<R: Abort, F: ImageFiles>(
+    rt: &R,
+    files: &mut F,
+    alloc: Global,
+    words: &[&str],
+    script: &str,
+    wanted: (u8, &str, &str),
+) -> Result<(), Fail> {
+    let given = call(files, alloc, words, script)?;
+    assert_eq!(rt;
+        (given.status, given.out.as_str(), given.err.as_str()),
+        wanted
+    );
+    Ok(())
+}
+
+#[test]
+fn memory_needs_no_image(rt: HostRuntime) -> Result<(), Fail> {
+    let mut files = OneFile::new(rt.alloc());
+    let script = "mkdir /a\nls /\n";
+    let wanted = (0, "ok\nentries 1 a/\n", "");
+    assert_call(&rt, &mut files, rt.alloc(), &["memory"], script, wanted)
+}
+
+#[test]
+fn an_image_is_made_and_looked_at(rt: HostRuntime) -> Result<(), Fail> {
+    let alloc = rt.alloc();
+    let mut files = OneFile::new(alloc);
+    assert_call(&rt, &mut files, alloc, &["format", "x"], "", (0, "", ""))?;
+    let fresh = fresh_image(alloc)?;
+    assert_eq!(rt; files.bytes.as_slice(), fresh.as_slice());
+    assert_call(&rt, &mut files, alloc, &["check", "x"], "", (0, "ok\n", ""))?;
+    let log = "log next 2 dropped 0 versions *1 checkpoints\n";
+    assert_call(&rt, &mut files, alloc, &["log", "x"], "", (0, log, ""))?;
+    let df = "df data 24 bad 0 free 23 anchors 8\n";
+    assert_call(&rt, &mut files, alloc, &["df", "x"], "", (0, df, ""))?;
+    assert_eq!(rt; files.bytes.as_slice(), fresh.as_slice());
+    Ok(())
+}
+
+#[test]
+fn what_was_synced_is_found_again(rt: HostRuntime) -> Result<(), Fail> {
+    let alloc = rt.alloc();
+    let mut files = OneFile::new(alloc);
+    assert_call(&rt, &mut files, alloc, &["format", "x"], "", (0, "", ""))?;
+    let first = "mkdir /a\nsync\nmkdir /b\n";
+    assert_call(
+        &rt,
+        &mut files,
+        alloc,
+        &["run", "x"],
+        first,
+        (0, "ok\nok\nok\n", ""),
+    )?;
+    assert_call(
+        &rt,
+        &mut files,
+        alloc,
+        &["run", "x"],
+        "ls /\n",
+        (0, "entries 1 a/\n", ""),
+    )
+}
+
+#[test]
+fn a_refused_format_leaves_the_image(rt: HostRuntime) -> Result<(), Fail> {
+    let alloc = rt.alloc();
+    let mut files = OneFile::new(alloc);
+    files.bytes = fresh_image(alloc)?;
+    let blocks = ["format", "x", "--blocks", "15"];
+    assert_call(
+        &rt,
+        &mut files,
+        alloc,
+        &blocks,
+        "",
+        (3, "", "uffs: BADGEOMETRY 28\n"),
+    )?;
+    let history = ["format", "x", "--history", "1"];
+    assert_call(
+        &rt,
+        &mut files,
+        alloc,
+        &history,
+        "",
+        (3, "", "uffs: EINVAL 7\n"),
+    )?;
+    files.is_full = true;
+    assert_call(
+        &rt,
+        &mut files,
+        alloc,
+        &["format", "x"],
+        "",
+        (1, "", "uffs: cannot write x\n"),
+    )?;
+    assert_eq!(rt; files.bytes.as_slice(), fresh_image(alloc)?.as_slice());
+    Ok(())
+}
+
+/// The status and the message of a run of the script, and whether the image stays as it was.
+fn run_on<R: Read, W: Write>(
+    alloc: Global,
+    files: &mut OneFile,
+    reader: &mut R,
+    out: &mut W,
+) -> Result<(u8, String, bool), Fail> {
+    let words = words_of(alloc, &["run", "x"])?;
+    let before = Vec::from_slice(alloc, &files.bytes)?;
+    let mut err: Vec<u8> = Vec::new(alloc);
+    let status = tool(files, alloc, &words, reader, out, &mut err);
+    let is_same = files.bytes.as_slice() == before.as_slice();
+    Ok((status, String::from_utf8(err)?, is_same))
+}
+
+#[test]
+fn a_script_that_breaks_off_leaves_the_image(rt: HostRuntime) -> Result<(), Fail> {
+    let alloc = rt.alloc();
+    let mut files = OneFile::new(alloc);
+    files.bytes = fresh_image(alloc)?;
+    let mut reader = Broken {
+        bytes: b"mkdir /a\nsync\n",
+    };
+    let mut out: Vec<u8> = Vec::new(alloc);
+    let (status, err, is_same) = run_on(alloc, &mut files, &mut reader, &mut out)?;
+    assert_eq!(rt; (status, err.as_str(), is_same), (1, "uffs: input\n", true));
+    assert_eq!(rt; out.as_slice(), &b"ok\nok\n"[..]);
+    let mut script: &[u8] = b"mkdir /a\nsync\n";
+    let mut out = Full {
+        bytes: Vec::new(alloc),
+        room: 4,
+    };
+    let (status, err, is_same) = run_on(alloc, &mut files, &mut script, &mut out)?;
+    assert_eq!(rt;
+        (status, err.as_str(), is_same),
+        (1, "uffs: output\n", true)
+    );
+    files.is_full = true;
+    let mut script: &[u8] = b"mkdir /a\nsync\n";
+    let mut out: Vec<u8> = Vec::new(alloc);
+    let (status, err, is_same) = run_on(alloc, &mut files, &mut script, &mut out)?;
+    assert_eq!(rt;
+        (status, err.as_str(), is_same),
+        (1, "uffs: cannot write x\n", true)
+    );
+    assert_eq!(rt; out.as_slice(), &b"ok\nok\n"[..]);
+    Ok(())
+}
+
+/// The bytes, with others from a place on.
+fn with_bytes(bytes: Vec<u8>, place: usize, others: &[u8]) -> Vec<u8> {
+    let mut changed = bytes;
+    for (old, new) in changed.iter_mut().skip(place).zip(others) {
+        *old = *new;
+    }
+    changed
+}
+
+#[test]
+fn an_image_that_is_not_mounted_is_told(rt: HostRuntime) -> Result<(), Fail> {
+    let alloc = rt.alloc();
+    let mut files = OneFile::new(alloc);
+    files.bytes = erased_image(alloc)?;
+    assert_call(
+        &rt,
+        &mut files,
+        alloc,
+        &["check", "x"],
+        "",
+        (3, "", "uffs: NORECORD 27\n"),
+    )?;
+    let loops = b"UFND\x01\0\0\0\x0b\0\0\0\0\0\0\0\x02\x01a\x08\0\0\0\0\0\0\0";
+    files.bytes = with_bytes(fresh_image(alloc)?, 414, loops);
+    assert_call(
+        &rt,
+        &mut files,
+        alloc,
+        &["check", "x"],
+        "",
+        (3, "", "uffs: DAMAGED 26\n"),
+    )?;
+    files.bytes = fresh_image(alloc)?;
+    files.bytes.truncate(100);
+    let truncated = (3, "", "uffs: image Truncated\n");
+    assert_call(&rt, &mut files, alloc, &["check", "x"], "", truncated)?;
+    files.bytes = with_bytes(fresh_image(alloc)?, 0, b"X");
+    assert_call(
+        &rt,
+        &mut files,
+        alloc,
+        &["df", "x"],
+        "",
+        (3, "", "uffs: image NotImage\n"),
+    )
+}
+
+#[test]
+fn words_that_ask_for_no_job_are_told(rt: HostRuntime) -> Result<(), Fail> {
+    let alloc = rt.alloc();
+    let mut files = OneFile::new(alloc);
+    let none: &[&str] = &[];
+    let all = [
+        (none, "Usage: uffs <COMMAND>"),
+        (&["--help"], "Usage: uffs <COMMAND>"),
+        (&["help"], "error: unrecognized subcommand 'help'"),
+        (&["run"], "<IMAGE>"),
+        (&["memory", "x"], "error: unexpected argument 'x' found"),
+        (
+            &["format", "x", "--blocks", "1e"],
+            "error: invalid value '1e' for '--blocks <N>'",
+        ),
+    ];
+    for (words, text) in all {
+        let given = call(&mut files, alloc, words, "ls /\n")?;
+        assert_eq!(rt; (given.status, given.out.len()), (2, 0));
+        assert!(rt; given.err.contains(text), "{text}");
+    }
+    assert_eq!(rt; files.bytes.len(), 0);
+    Ok(())
+}
+
+/// A folder of this process alone, by its name.
+fn folder_of<R: Files>(rt: &R, alloc: Global, top: &str, id: u32) -> Result<String, Fail> {
+    let name = format!(in alloc; "{top}/uffs-tests-{id}")?;
+    fs::create_dir(rt, name.as_str())?;
+    Ok(name)
+}
+
+#[test]
+fn files_of_the_host_are_replaced_whole(rt: HostRuntime) -> Result<(), Fail> {
+    let alloc = rt.alloc();
+    let top = env::temp_dir(&rt)?;
+    let folder = folder_of(&rt, alloc, top.as_str(), process::id(rt.process()))?;
+    let name = format!(in alloc; "{folder}/x")?;
+    let new_name = format!(in alloc; "{folder}/x.new")?;
+    let mut files = HostFiles::new(&rt);
+    let unread = format!(in alloc; "uffs: cannot read {name}\n")?;
+    let run = ["run", name.as_str()];
+    assert_call(
+        &rt,
+        &mut files,
+        alloc,
+        &run,
+        "ls /\n",
+        (1, "", unread.as_str()),
+    )?;
+    assert_call(
+        &rt,
+        &mut files,
+        alloc,
+        &["format", name.as_str()],
+        "",
+        (0, "", ""),
+    )?;
+    assert_eq!(rt;
+        fs::read(&rt, name.as_str())?.as_slice(),
+        fresh_image(alloc)?.as_slice()
+    );
+    assert_call(
+        &rt,
+        &mut files,
+        alloc,
+        &run,
+        "mkdir /a\nsync\n",
+        (0, "ok\nok\n", ""),
+    )?;
+    assert_call(
+        &rt,
+        &mut files,
+        alloc,
+        &run,
+        "ls /\n",
+        (0, "entries 1 a/\n", ""),
+    )?;
+    assert!(rt; !fs::exists(&rt, new_name.as_str())?);
+    fs::remove_dir_all(&rt, folder.as_str())?;
+    Ok(())
+}
+
+#[test]
+fn files_that_cannot_be_written_are_told(rt: HostRuntime) -> Result<(), Fail> {
+    let alloc = rt.alloc();
+    let top = env::temp_dir(&rt)?;
+    let folder = folder_of(&rt, alloc, top.as_str(), process::id(rt.process()))?;
+    let mut files = HostFiles::new(&rt);
+    let missing = format!(in alloc; "{folder}/none/x")?;
+    let unwritten = format!(in alloc; "uffs: cannot write {missing}\n")?;
+    let wanted = (1, "", unwritten.as_str());
+    assert_call(
+        &rt,
+        &mut files,
+        alloc,
+        &["format", missing.as_str()],
+        "",
+        wanted,
+    )?;
+    let new_folder = format!(in alloc; "{folder}.new")?;
+    let unwritten = format!(in alloc; "uffs: cannot write {folder}\n")?;
+    let wanted = (1, "", unwritten.as_str());
+    assert_call(
+        &rt,
+        &mut files,
+        alloc,
+        &["format", folder.as_str()],
+        "",
+        wanted,
+    )?;
+    assert!(rt; !fs::exists(&rt, new_folder.as_str())?);
+    fs::create_dir(&rt, new_folder.as_str())?;
+    assert_call(
+        &rt,
+        &mut files,
+        alloc,
+        &["format", folder.as_str()],
+        "",
+        wanted,
+    )?;
+    assert!(rt; fs::exists(&rt, new_folder.as_str())?);
+    fs::remove_dir_all(&rt, new_folder.as_str())?;
+    fs::remove_dir_all(&rt, folder.as_str())?;
+    Ok(())
+}

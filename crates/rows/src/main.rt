@@ -1,6 +1,6 @@
 //! Runs worked rows: scripts with the replies that are expected of them, each on the plain machine,
 //! on a flash in memory that was formatted, as far as these go by now, and by the program `uffs` on
-//! an image that it made, in a file of its own. A row that does not give its replies is told with
+//! an image that it made, in a folder of its own. A row that does not give its replies is told with
 //! what it gave, and the status is 1.
 #![tactic(auto)]
 
@@ -18,22 +18,30 @@ use std::rt::{Env, Files};
 use std::{fs, process};
 
 fn main(rt: HostRuntime) -> Result<ExitCode> {
-    let image = image_name(&rt, process::id(rt.process()))?;
     let mut failed = 0u32;
     for name in std::env::args(&rt)?.skip(1) {
-        if !run(&rt, image.as_str(), name.as_str())? {
+        if !run_in_folder(&rt, name.as_str())? {
             failed = failed.saturating_add(1);
         }
     }
-    fs::remove_file(&rt, image.as_str())?;
     Ok(ExitCode::from(if failed == 0 { 0 } else { 1 }))
 }
 
-/// The name of the file for images, which is this process's alone.
-fn image_name<R: Env + AllocGlobal>(rt: &R, id: u32) -> Result<String> {
+/// Runs the row of a file, with a new folder for its image, and tells whether it gave its replies.
+fn run_in_folder(rt: &HostRuntime, name: &str) -> Result<bool> {
+    let folder = folder_name(rt, process::id(rt.process()), name)?;
+    fs::create_dir(rt, folder.as_str())?;
+    let image = format!(in rt.alloc(); "{folder}/image")?;
+    let is_right = run(rt, image.as_str(), name)?;
+    fs::remove_dir_all(rt, folder.as_str())?;
+    Ok(is_right)
+}
+
+/// The name of the folder for the image of a row, which is this process's alone.
+fn folder_name<R: Env + AllocGlobal>(rt: &R, id: u32, row: &str) -> Result<String> {
     let folder = std::env::temp_dir(rt)?;
     let folder = folder.as_str();
-    Ok(format!(in rt.alloc(); "{folder}/rows-{id}.image")?)
+    Ok(format!(in rt.alloc(); "{folder}/{id}-{row}")?)
 }
 
 /// Runs the row of a file on all sides, and tells whether it gave its replies.

@@ -32,7 +32,7 @@ impl ImageFiles for OneFile {
     ghost held = { λ file _. Some file.bytes.items };
 
     fn read(&self, alloc: Global, _name: &str) -> Result<Vec<u8>, FileFault> {
-        let len = self.bytes.len().min(MOST_BYTES as usize);
+        let len = (MOST_BYTES as usize).min(self.bytes.len());
         match Vec::from_slice(alloc, &self.bytes[..len]) {
             Ok(bytes) => Ok(bytes),
             Err(_) => Err(FileFault::Memory),

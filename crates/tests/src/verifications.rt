@@ -289,15 +289,20 @@ fn each_pointer_leads_to_its_index(rt: HostRuntime) -> Result<(), Fail> {
 /// The names `00` to `31`, one after the other.
 const NUMBERS: &[u8] = b"0001020304050607080910111213141516171819202122232425262728293031";
 
+/// A directory with 32 entries that all name this block.
+fn directory_of_one(alloc: Global, block: u32) -> Result<Vec<u8>, AllocError> {
+    let mut entries = Vec::new(alloc);
+    for name in NUMBERS.chunks(2) {
+        entries.push(folder(name, block))?;
+    }
+    directory(alloc, &entries)
+}
+
 /// So many directories, each with 32 entries that all name the next one, and an empty one at the end.
 pub(crate) fn shared_directories(alloc: Global, count: u32) -> Result<Vec<Vec<u8>>, AllocError> {
     let mut nodes = Vec::new(alloc);
     for place in 0..count {
-        let mut entries = Vec::new(alloc);
-        for name in NUMBERS.chunks(2) {
-            entries.push(folder(name, place.saturating_add(9)))?;
-        }
-        nodes.push(directory(alloc, &entries)?)?;
+        nodes.push(directory_of_one(alloc, place.saturating_add(9))?)?;
     }
     nodes.push(directory(alloc, &[])?)?;
     Ok(nodes)

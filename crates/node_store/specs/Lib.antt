@@ -6,6 +6,7 @@ pub mod Reading
 pub mod ReadingLaws
 pub mod Writing
 pub mod WritingLaws
+pub mod Fitting
 pub mod Storage
 pub mod StorageLaws
 pub mod Stores

@@ -1,11 +1,11 @@
 -- The laws of a store's states.
-use Rattle.std.specs.Prelude.{◌≡◌, ℕ, ◌≤◌, true, vec_capacity, refl}
+use Rattle.std.specs.Prelude.{◌≡◌, ℕ, true, refl}
 use Rattle.std.specs.FinSet as set
 use Rattle.std.proofs.Common.{sym, ◌∙◌, ap, subst, arith}
 use Rattle.fs_types.specs.declared.faults.Fault.{Fault}
 use Rattle.fs_types.specs.declared.faults.Fault.TheVariants.{FlashFull, ReadOnly, ReadFailed, PowerCut, NoMemory}
 use Rattle.flash_model.specs.declared.sizes.Geometry.{Geometry}
-use Rattle.flash_model.specs.Geometry.{IsGeometry, block_bytes}
+use Rattle.flash_model.specs.Geometry.{IsGeometry}
 use Rattle.flash_model.specs.Device.{Device}
 use Rattle.node_store.specs.declared.stores.Store.{Store}
 use Rattle.node_store.specs.NodePages.{node_of}
@@ -25,8 +25,7 @@ module _ {F : Type 0} (device : F → Device) where
   Follows_itself s = record {
     same_flash = refl;
     same_storage = refl;
-    page_len = refl;
-    node_room = omega arith;
+    fits = λ fits. fits;
     evolved = Evolved_itself (parts device s);
     more_writes = omega arith;
     paid = omega arith;
@@ -38,8 +37,7 @@ module _ {F : Type 0} (device : F → Device) where
   Follows_on s t u f g = record {
     same_flash = g.same_flash ∙ f.same_flash;
     same_storage = g.same_storage ∙ f.same_storage;
-    page_len = g.page_len ∙ f.page_len;
-    node_room = omega arith;
+    fits = λ fits. g.fits (f.fits fits);
     evolved = Evolved_on (parts device s) (parts device t) (parts device u) f.evolved g.evolved;
     more_writes = omega arith;
     paid = omega arith;
@@ -70,6 +68,5 @@ module _ {F : Type 0} (device : F → Device) where
       record {
         lawful = subst IsGeometry (sym same) sound.lawful;
         ring_blocks = f.evolved.blocks ∙ sound.ring_blocks ∙ ap (λ (g : Geometry). g.blocks) (sym same);
-        page_len = f.page_len ∙ sound.page_len ∙ ap (λ (g : Geometry). g.page) (sym same);
-        node_room = subst (λ (g : Geometry). block_bytes g ≤ vec_capacity t.storage.now.node) (sym same) (let room = sound.node_room in let more = f.node_room in omega arith);
+        fits = f.fits sound.fits;
       }

@@ -1,13 +1,14 @@
 -- How the states of a store follow one another.
-use Rattle.std.specs.Prelude.{◌≡◌, ◌+◌, ◌<◌, ◌≤◌, false, vec_len, vec_capacity}
+use Rattle.std.specs.Prelude.{◌≡◌, ◌+◌, ◌<◌, ◌≤◌, false}
 use Rattle.std.specs.FinSet as set
 use Rattle.fs_types.specs.declared.limits.TheConstants.{MAX_BAD_BLOCKS}
 use Rattle.fs_types.specs.declared.faults.Fault.{Fault}
 use Rattle.fs_types.specs.declared.faults.Fault.TheVariants.{FlashFull, ReadOnly, ReadFailed, PowerCut, NoMemory}
-use Rattle.flash_model.specs.Geometry.{IsGeometry, block_bytes}
+use Rattle.flash_model.specs.Geometry.{IsGeometry}
 use Rattle.flash_model.specs.Device.{Device}
 use Rattle.allocator.specs.Ring.{free_count}
 use Rattle.node_store.specs.declared.stores.Store.{Store}
+use Rattle.node_store.specs.Fitting.{Fits, StillFits}
 use Rattle.node_store.specs.Storage.{Storage, storage, Evolved, IsUntouched}
 
 module _ {F : Type 0} (device : F → Device) where
@@ -19,15 +20,13 @@ module _ {F : Type 0} (device : F → Device) where
   pub record IsSound (s : Store F) : Type 0 where
     pub lawful : IsGeometry (device s.flash.now).geometry
     pub ring_blocks : s.storage.now.ring.blocks ≡ (device s.flash.now).geometry.blocks
-    pub page_len : vec_len s.storage.now.page ≡ (device s.flash.now).geometry.page
-    pub node_room : block_bytes (device s.flash.now).geometry ≤ vec_capacity s.storage.now.node
+    pub fits : Fits (device s.flash.now) s.storage.now
 
   -- the second state came of the first by calls
   pub record Follows (s t : Store F) : Type 0 where
     pub same_flash : t.flash.ghost_name ≡ s.flash.ghost_name
     pub same_storage : t.storage.ghost_name ≡ s.storage.ghost_name
-    pub page_len : vec_len t.storage.now.page ≡ vec_len s.storage.now.page
-    pub node_room : vec_capacity s.storage.now.node ≤ vec_capacity t.storage.now.node
+    pub fits : StillFits (device s.flash.now) s.storage.now (device t.flash.now) t.storage.now
     pub evolved : Evolved (parts s) (parts t)
     -- each take beyond those of bad blocks is paid for by a write, and without a write nothing changes
     pub more_writes : s.writes.n ≤ t.writes.n

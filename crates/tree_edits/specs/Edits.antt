@@ -40,7 +40,7 @@ pub record IsMovable (f : Blocks) (root : ℕ) (old : Path) (old_trail : List �
   pub new_way : IsTrail f root new new_trail
   pub stands : leads f (Dir root) old ≡ Some place
   pub shallow : IsShallow f place (MAX_NAMES - length new)
-  pub capacity : same_path (parent_of old) (parent_of new) ≡ false → has_room (look_up f root new) ≡ true
+  pub room : same_path (parent_of old) (parent_of new) ≡ false → has_room (look_up f root new) ≡ true
 
 -- what look ups told of an edit of the tree of a root
 abbrev pub IsEditable : ℕ → Blocks → (ℕ → Bool) → ℕ → Edit → Type 0

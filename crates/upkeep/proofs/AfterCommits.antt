@@ -12,7 +12,8 @@ use Rattle.history_machine.specs.History.{Past, map_roots}
 use Rattle.history_machine.specs.Machine.{IsMachine, machine_with}
 use Rattle.flash_model.specs.declared.sizes.Geometry.{Geometry}
 use Rattle.flash_model.specs.Device.{Device}
-use Rattle.flash_model.specs.Geometry.{IsGeometry, block_bytes}
+use Rattle.flash_model.specs.Geometry.{IsGeometry}
+use Rattle.node_store.specs.Fitting.{still_fits}
 use Rattle.record_format.specs.declared.records.Record.{Record}
 use Rattle.commit_pair.specs.declared.anchors.Anchors.{Anchors}
 use Rattle.commit_pair.specs.declared.best.Found.{Found}
@@ -93,8 +94,9 @@ module _ {T : Type 0} (d e : Device) (m n : System) (result : Result T Fault) (s
   is_mounted off = record {
     lawful = subst IsGeometry (sym same.geometry) s.mounted.lawful;
     ring_blocks = ap (λ (t : State). t.storage.ring.blocks) saves.state ∙ s.mounted.ring_blocks ∙ sym (ap (λ (g : Geometry). g.blocks) same.geometry);
-    page_len = ap (λ (t : State). vec_len t.storage.page) saves.state ∙ s.mounted.page_len ∙ sym (ap (λ (g : Geometry). g.page) same.geometry);
-    node_room = subst (λ (t : State). block_bytes e.geometry ≤ vec_capacity t.storage.node) (sym saves.state) (subst (λ (g : Geometry). block_bytes g ≤ vec_capacity m.state.storage.node) (sym same.geometry) s.mounted.node_room);
+    fits =
+        let capacity : vec_capacity n.state.storage.node ≡ vec_capacity m.state.storage.node = ap (λ (t : State). vec_capacity t.storage.node) saves.state in
+        still_fits d m.state.storage e n.state.storage same.geometry (ap (λ (t : State). vec_len t.storage.page) saves.state) (omega arith) s.mounted.fits;
     roots = λ root has. standing root (s.mounted.roots root (subst (λ (t : State). HasRoot t root) saves.state has));
     machine = subst IsMachine (sym same_machine) s.mounted.machine;
     off = off;

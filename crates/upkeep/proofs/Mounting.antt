@@ -3,7 +3,7 @@ use Rattle.std.proofs.Common.{◌≡◌, ◌≢◌, replicate, inl, inr, ℕ, ze
 use Rattle.std.proofs.lemmas.Bool.{true≢false}
 use Rattle.std.proofs.lemmas.List.Elements.{All-map, Contains-append_left, Contains-append_right}
 use Rattle.std.proofs.lemmas.Cmp.{nat_cmp_total}
-use Rattle.std.specs.Prelude.{◌↔◌, Contains, vec_len, vec_capacity, slice_index_or}
+use Rattle.std.specs.Prelude.{◌↔◌, Contains, slice_index_or}
 use Rattle.std.specs.FinSet as set
 use Rattle.std.specs.List.Sorted.{IsStrictlySortedBy}
 use Rattle.std.specs.Option.{option_map}
@@ -22,6 +22,7 @@ use Rattle.flash_model.specs.Device.{Device, Page}
 use Rattle.flash_model.specs.Geometry.{IsGeometry, block_bytes}
 use Rattle.flash_model.specs.Reading.{OnlyReads}
 use Rattle.node_format.specs.Headers.{body_header}
+use Rattle.node_store.specs.Fitting.{Fits}
 use Rattle.node_store.specs.NodePages.{node_of}
 use Rattle.node_store.specs.ReadingLaws.{OnlyReads_nodes}
 use Rattle.node_store.specs.Faults.{IsReadFault}
@@ -127,8 +128,7 @@ pub record IsBuilt (d e : Device) (r : Record) (s : State) : Type 0 where
   pub ring_blocks : s.storage.ring.blocks ≡ d.geometry.blocks
   pub bad : s.storage.bad ≡ set.from_list r.bad
   pub last : s.storage.ring.last ≡ r.last
-  pub page_len : vec_len s.storage.page ≡ d.geometry.page
-  pub node_room : block_bytes d.geometry ≤ vec_capacity s.storage.node
+  pub fits : Fits e s.storage
   pub files : s.files ≡ none_open
   pub is_on : s.is_off ≡ false
 
@@ -182,8 +182,7 @@ module _ (d e : Device) (r : Record) (s : State) (built : IsBuilt d e r s) where
   is_mounted = record {
     lawful = subst IsGeometry (sym same_sizes) built.lawful;
     ring_blocks = built.ring_blocks ∙ ap (λ (g : Geometry). g.blocks) (sym same_sizes);
-    page_len = built.page_len ∙ ap (λ (g : Geometry). g.page) (sym same_sizes);
-    node_room = subst (λ (g : Geometry). block_bytes g ≤ vec_capacity s.storage.node) (sym same_sizes) built.node_room;
+    fits = built.fits;
     roots = λ root has. stands root (is_named root has);
     machine = is_machine;
     off = λ off. absurd (true≢false (sym off ∙ built.is_on));

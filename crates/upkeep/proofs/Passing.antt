@@ -3,7 +3,7 @@ use Rattle.std.proofs.Common.{◌≡◌, ◌≢◌, inl, inr, ℕ, ◌+◌, ◌-
 use Rattle.std.proofs.lemmas.Bool.{true≢false, both_ways}
 use Rattle.std.proofs.lemmas.Cmp.{nat_cmp_total}
 use Rattle.std.proofs.lemmas.List.Elements.{Contains-append_left, Contains-append_right, Contains-append_cases}
-use Rattle.std.specs.Prelude.{◌↔◌, Contains, IfSome, IsErrOf, is_some, vec_len, vec_capacity, Vec}
+use Rattle.std.specs.Prelude.{◌↔◌, Contains, IfSome, IsErrOf, is_some, Vec}
 use Rattle.std.specs.declared.alloc.Global.{Global}
 use Rattle.std.specs.FinSet as set
 use Rattle.std.specs.Ordering.{nat_cmp}
@@ -18,6 +18,7 @@ use Rattle.flash_model.specs.Reading.{OnlyReads, OnlyReads_itself, OnlyReads_on}
 use Rattle.allocator.specs.BlockSet.{BlockSet}
 use Rattle.allocator.specs.Ring.{Ring, IsDataBlock, AreDataBlocks}
 use Rattle.node_format.specs.Headers.{body_header}
+use Rattle.node_store.specs.Fitting.{Fits, StillFits}
 use Rattle.node_store.specs.NodePages.{node_of}
 use Rattle.node_store.specs.declared.storage.Storage.{Storage}
 use Rattle.block_trees.specs.Bodies.{Blocks}
@@ -63,8 +64,7 @@ pub record Keeps (d e : Device) (m n : System) : Type 0 where
   pub blocks : n.state.storage.ring.blocks ≡ m.state.storage.ring.blocks
   pub last : n.state.storage.ring.last ≡ m.state.storage.ring.last
   pub takes : n.state.storage.ring.takes ≡ m.state.storage.ring.takes
-  pub page_len : vec_len n.state.storage.page ≡ vec_len m.state.storage.page
-  pub node_room : vec_capacity m.state.storage.node ≤ vec_capacity n.state.storage.node
+  pub fits : StillFits d m.state.storage e n.state.storage
   pub anchors : n.anchors ≡ m.anchors
   pub record_roots : n.record_roots ≡ m.record_roots
   pub used : (b : ℕ) → MustStay d m b → set.contains n.state.storage.ring.used b ≡ true
@@ -105,8 +105,7 @@ module _ (d e : Device) (m n : System) (s : IsSystem d m) (on : m.state.is_off �
   kept_mounted = record {
     lawful = subst IsGeometry (sym k.reads.geometry) s.mounted.lawful;
     ring_blocks = k.blocks ∙ s.mounted.ring_blocks ∙ ap (λ (g : Geometry). g.blocks) (sym k.reads.geometry);
-    page_len = k.page_len ∙ s.mounted.page_len ∙ ap (λ (g : Geometry). g.page) (sym k.reads.geometry);
-    node_room = subst (λ (g : Geometry). block_bytes g ≤ vec_capacity n.state.storage.node) (sym k.reads.geometry) (let room = s.mounted.node_room in let more = k.node_room in omega arith);
+    fits = k.fits s.mounted.fits;
     roots = λ root has. let before = had root has in standing root (λ b reached. inl (root, before, reached)) (s.mounted.roots root before);
     machine = subst IsMachine (sym machine) s.mounted.machine;
     off = λ off. absurd (both_ways n.state.is_off k.is_on off);
@@ -222,8 +221,7 @@ module _ (d : Device) (m : System) (s : IsSystem d m) (on : m.state.is_off ≡ f
       blocks = ap (λ (x : System). x.state.storage.ring.blocks) is;
       last = ap (λ (x : System). x.state.storage.ring.last) is;
       takes = ap (λ (x : System). x.state.storage.ring.takes) is;
-      page_len = ap (λ (x : System). vec_len x.state.storage.page) is;
-      node_room = subst (λ (k : ℕ). vec_capacity m.state.storage.node ≤ k) (sym (ap (λ (x : System). vec_capacity x.state.storage.node) is)) (omega arith);
+      fits = λ fits. subst (λ (x : System). Fits d x.state.storage) (sym is) (record { page_len = fits.page_len; node_room = fits.node_room });
       anchors = ap (λ (x : System). x.anchors) is;
       record_roots = ap (λ (x : System). x.record_roots) is;
       used = λ b must. ap (λ (x : System). set.contains x.state.storage.ring.used b) is ∙ must_used d m s on b must;
@@ -267,8 +265,7 @@ module _ (d e : Device) (m : System) (st : Storage) (s : IsSystem d m) (on : m.s
     blocks = ap (λ (r : Ring). r.blocks) l.untouched.ring;
     last = ap (λ (r : Ring). r.last) l.untouched.ring;
     takes = ap (λ (r : Ring). r.takes) l.untouched.ring;
-    page_len = l.page_len;
-    node_room = l.node_room;
+    fits = l.fits;
     anchors = refl;
     record_roots = refl;
     used = λ b must. ap (λ (r : Ring). set.contains r.used b) l.untouched.ring ∙ must_used d m s on b must;
@@ -354,8 +351,7 @@ module _ (d e : Device) (m : System) (st : Storage) (s : IsSystem d m) (on : m.s
           blocks = k.blocks;
           last = k.last;
           takes = k.takes;
-          page_len = k.page_len;
-          node_room = k.node_room;
+          fits = λ fits. let still = k.fits fits in record { page_len = still.page_len; node_room = still.node_room };
           anchors = refl;
           record_roots = refl;
           used = must_install;
@@ -477,8 +473,7 @@ power_system e n off s on is_off = record {
   mounted = record {
     lawful = s.mounted.lawful;
     ring_blocks = s.mounted.ring_blocks;
-    page_len = s.mounted.page_len;
-    node_room = s.mounted.node_room;
+    fits = s.mounted.fits;
     roots = s.mounted.roots;
     machine = s.mounted.machine;
     off = is_off;

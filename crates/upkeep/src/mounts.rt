@@ -1,9 +1,11 @@
 //! Mounting what the newest record of a flash holds.
-ghost use Rattle.std.specs.Prelude.{◌≡◌, ◌≤◌, true, IfOk, IfErr, vec_len, vec_capacity};
+ghost use Rattle.std.specs.Prelude.{◌≡◌, true, IfOk, IfErr};
 ghost use Rattle.std.specs.FinSet as set;
 ghost use Rattle.fs_types.specs.declared.faults.Fault.{Fault};
-ghost use Rattle.flash_model.specs.Geometry.{IsGeometry, block_bytes};
+ghost use Rattle.flash_model.specs.Device.{Device};
+ghost use Rattle.flash_model.specs.Geometry.{IsGeometry};
 ghost use Rattle.flash_model.specs.Reading.{OnlyReads};
+ghost use Rattle.node_store.specs.Fitting.{Fits};
 ghost use Rattle.record_format.specs.Payloads.{is_record};
 ghost use Rattle.upkeep.specs.Mounts.{history_of, roots_of, IsLoaded, IsMountOf, RootsCause, MountCause};
 ghost use Rattle.upkeep.specs.Systems.{IsSystem};
@@ -33,8 +35,7 @@ fn unused_storage(alloc: Global, saved: &Record) -> Result<Storage, Fault>
       last = saved.now.last;
       takes = 0;
     }) }
-    ensures page_len { IfOk result (λ storage. vec_len storage.page ≡ saved.now.geometry.page) }
-    ensures node_room { IfOk result (λ storage. block_bytes saved.now.geometry ≤ vec_capacity storage.node) }
+    ensures fits { IfOk result (λ storage. (device : Device) → device.geometry ≡ saved.now.geometry → Fits device storage) }
     ensures err { IfErr result (λ fault. fault ≡ Fault.NoMemory) }
 {
     let geometry = saved.geometry;

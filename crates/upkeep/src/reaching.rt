@@ -1,8 +1,9 @@
 //! What roots reach, marked as used.
-ghost use Rattle.std.specs.Prelude.{◌≡◌, ◌↔◌, ◌≤◌, ℕ, true, OnOk, IfOk, IfErr, vec_len, vec_capacity};
+ghost use Rattle.std.specs.Prelude.{◌≡◌, ◌↔◌, ℕ, true, OnOk, IfOk, IfErr};
 ghost use Rattle.std.specs.FinSet as set;
 ghost use Rattle.flash_model.specs.Geometry.{IsGeometry, block_bytes};
 ghost use Rattle.flash_model.specs.Reading.{OnlyReads};
+ghost use Rattle.node_store.specs.Fitting.{Fits, StillFits};
 ghost use Rattle.node_store.specs.NodePages.{node_of};
 ghost use Rattle.node_store.specs.Storage as parts;
 ghost use Rattle.node_store.specs.Stores.{IsSound, Follows};
@@ -48,8 +49,7 @@ fn reached_on<F: Flash>(
 ) -> Result<Marks, Fault>
     requires lawful { IsGeometry (F.device flash.old).geometry }
     requires ring_blocks { storage.old.ring.blocks ≡ (F.device flash.old).geometry.blocks }
-    requires page_len { vec_len storage.old.page ≡ (F.device flash.old).geometry.page }
-    requires node_room { block_bytes (F.device flash.old).geometry ≤ vec_capacity storage.old.node }
+    requires fits { Fits (F.device flash.old) storage.old }
     ensures trees { IfOk result (λ _. AreRoots (block_bytes (F.device flash.old).geometry) (node_of (F.device flash.old)) roots.now) }
     ensures reached { IfOk result (λ marks. (b : ℕ) → (set.contains marks.members b ≡ true) ↔ Reached (node_of (F.device flash.old)) roots.now b) }
     ensures blocks { IfOk result (λ marks. marks.blocks ≡ (F.device flash.old).geometry.blocks) }
@@ -88,8 +88,7 @@ pub(crate) fn marked_on<F: Flash>(
 ) -> Result<Marks, Fault>
     requires lawful { IsGeometry (F.device flash.old).geometry }
     requires ring_blocks { storage.old.ring.blocks ≡ (F.device flash.old).geometry.blocks }
-    requires page_len { vec_len storage.old.page ≡ (F.device flash.old).geometry.page }
-    requires node_room { block_bytes (F.device flash.old).geometry ≤ vec_capacity storage.old.node }
+    requires fits { Fits (F.device flash.old) storage.old }
     requires trees { AreRoots (block_bytes (F.device flash.old).geometry) (node_of (F.device flash.old)) roots.now }
     ensures reached { IfOk result (λ marks. (b : ℕ) → (set.contains marks.members b ≡ true) ↔ Reached (node_of (F.device flash.old)) roots.now b) }
     ensures blocks { IfOk result (λ marks. marks.blocks ≡ (F.device flash.old).geometry.blocks) }
@@ -110,15 +109,13 @@ pub(crate) fn use_reached<F: Flash>(
 ) -> Result<(), Fault>
     requires lawful { IsGeometry (F.device flash.old).geometry }
     requires ring_blocks { storage.old.ring.blocks ≡ (F.device flash.old).geometry.blocks }
-    requires page_len { vec_len storage.old.page ≡ (F.device flash.old).geometry.page }
-    requires node_room { block_bytes (F.device flash.old).geometry ≤ vec_capacity storage.old.node }
+    requires fits { Fits (F.device flash.old) storage.old }
     requires unnoted { storage.old.ring.note ≡ set.empty }
     ensures trees { OnOk result (AreRoots (block_bytes (F.device flash.old).geometry) (node_of (F.device flash.old)) roots.now) }
     ensures used { OnOk result ((b : ℕ) → (set.contains storage.new.ring.used b ≡ true) ↔ Reached (node_of (F.device flash.old)) roots.now b) }
     ensures ring { storage.new.ring ≡ record storage.old.ring { used = storage.new.ring.used } }
     ensures bad { storage.new.bad ≡ storage.old.bad }
-    ensures page_len { vec_len storage.new.page ≡ vec_len storage.old.page }
-    ensures node_room { vec_capacity storage.old.node ≤ vec_capacity storage.new.node }
+    ensures fits { StillFits (F.device flash.old) storage.old (F.device flash.new) storage.new }
     ensures only_reads { OnlyReads (F.device flash.old) (F.device flash.new) }
     ensures why { IfErr result (RootsCause (F.device flash.old) roots.now (F.device flash.new)) }
 {

@@ -1,9 +1,10 @@
 //! Reclaiming in steps: blocks that nothing keeps are used again.
-ghost use Rattle.std.specs.Prelude.{◌≡◌, ◌≢◌, ◌<◌, ◌≤◌, ◌+◌, ◌-◌, ◌^◌, ◌++◌, ℕ, true, false, None, Ok, length, Contains, OnOk, IfOk, IfErr, IsErrOf, vec_len, vec_capacity};
-ghost use Rattle.flash_model.specs.Geometry.{IsGeometry, block_bytes};
+ghost use Rattle.std.specs.Prelude.{◌≡◌, ◌≢◌, ◌<◌, ◌≤◌, ◌+◌, ◌-◌, ◌^◌, ◌++◌, ℕ, true, false, None, Ok, length, Contains, OnOk, IfOk, IfErr, IsErrOf};
+ghost use Rattle.flash_model.specs.Geometry.{IsGeometry};
 ghost use Rattle.allocator.specs.Ring.{IsDataBlock};
 ghost use Rattle.block_trees.specs.Bodies.{Blocks};
 ghost use Rattle.block_trees.specs.Reached.{Reached};
+ghost use Rattle.node_store.specs.Fitting.{Fits};
 ghost use Rattle.node_store.specs.NodePages.{node_of};
 ghost use Rattle.node_store.specs.Stores.{IsSound, Follows};
 ghost use Rattle.reclaim.specs.Passes.{IsPass, IsFinished};
@@ -104,8 +105,7 @@ fn step_on<F: Flash>(
 ) -> Result<bool, Fault>
     requires lawful { IsGeometry (F.device flash.old).geometry }
     requires ring_blocks { storage.old.ring.blocks ≡ (F.device flash.old).geometry.blocks }
-    requires page_len { vec_len storage.old.page ≡ (F.device flash.old).geometry.page }
-    requires node_room { block_bytes (F.device flash.old).geometry ≤ vec_capacity storage.old.node }
+    requires fits { Fits (F.device flash.old) storage.old }
     requires blocks { pass.old.blocks ≡ (F.device flash.old).geometry.blocks }
     ensures pass { IsPass (node_of (F.device flash.old)) pass.old → OnOk result (IsPass (node_of (F.device flash.old)) pass.new) }
     ensures same { (pass.new.blocks ≡ pass.old.blocks) × (pass.new.roots ≡ pass.old.roots) }

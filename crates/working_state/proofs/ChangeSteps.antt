@@ -146,8 +146,7 @@ changed_mounted a c to call tree result h files pushes m w new paths step =
     record {
       lawful = mounted.lawful;
       ring_blocks = mounted.ring_blocks;
-      page_len = mounted.page_len;
-      node_room = mounted.node_room;
+      fits = mounted.fits;
       roots = all;
       machine = still_machine (seen_at a) (seen_at (changed_at c h files)) (machine_at a) (machine_at (changed_at c h files)) false false call result m.machine paths step;
       off = mounted.off;

@@ -42,7 +42,7 @@ use Rattle.working_state.proofs.Steps.{writes-version}
 -- ---- the state as it was
 
 pub mounted_ready : (a : Moment) → IsMountedAt a → IsReady a.device a.state.storage
-mounted_ready a m = record { lawful = m.lawful; ring_blocks = m.ring_blocks; page_len = m.page_len; node_room = m.node_room }
+mounted_ready a m = record { lawful = m.lawful; ring_blocks = m.ring_blocks; fits = m.fits }
 
 -- after a look, the system is ready and its present root stands
 
@@ -103,8 +103,7 @@ module _ {F : Type 0} (device : F → Device) where
   follows_written s t most follows few = record {
     evolved = follows.evolved;
     paid = let paid = follows.paid in omega arith;
-    page_len = follows.page_len;
-    node_room = follows.node_room;
+    fits = follows.fits;
   }
 
   cause_work : (s t : Store F) (fault : Fault) → Causes device s t fault → WorkCause (seen_of (device s.flash.now) s.storage.now) fault (seen_of (device t.flash.now) t.storage.now)
@@ -156,7 +155,7 @@ pub record IsChangeBy (a : Moment) (call : Call) (made : ℕ → Tree) (reply : 
 
 -- nodes were written
 written_worked : (b : Moment) (f : Device) (st : Storage) (most : ℕ) → HasWritten b.device b.state.storage most f st → IsWorked b (moment f (record b.state { storage = st }))
-written_worked b f st most w = record { evolved = w.evolved; rest = record { page_len = w.page_len; node_room = w.node_room; history = refl; files = refl; is_off = refl } }
+written_worked b f st most w = record { evolved = w.evolved; fits = w.fits; rest = record { history = refl; files = refl; is_off = refl } }
 
 -- the nodes of the edit are no more than those of the call
 abbrev NeedsFew : Moment → Edit → Moment → Call → Type 0

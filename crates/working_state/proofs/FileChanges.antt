@@ -162,7 +162,7 @@ same_answer a b call reply m l reads fine replies moves =
     }
 
 pub looked_itself : (a : Moment) → IsLooked a a
-looked_itself a = record { untouched = Untouched_itself (storage_at a); rest = record { page_len = refl; node_room = omega arith; history = refl; files = refl; is_off = refl } }
+looked_itself a = record { untouched = Untouched_itself (storage_at a); fits = λ fits. fits; rest = record { history = refl; files = refl; is_off = refl } }
 
 -- the path of an open file
 

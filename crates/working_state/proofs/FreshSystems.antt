@@ -17,11 +17,12 @@ use Rattle.fs_types.specs.declared.faults.Fault.TheVariants.{FlashFull, ReadOnly
 use Rattle.history_machine.proofs.Kept.{machine_law}
 use Rattle.flash_model.specs.Device.{Device}
 use Rattle.flash_model.specs.declared.sizes.Geometry.{Geometry}
-use Rattle.flash_model.specs.Geometry.{IsGeometry, block_bytes}
+use Rattle.flash_model.specs.Geometry.{IsGeometry}
 use Rattle.allocator.specs.Ring.{Ring, IsDataBlock, is_busy, free_count, IsNext}
 use Rattle.allocator.specs.RingLaws.{distance_earlier}
 use Rattle.node_store.specs.declared.storage.Storage.{Storage}
 use Rattle.node_store.specs.NodePages.{first_data, node_of}
+use Rattle.node_store.specs.Fitting.{Fits, still_fits}
 use Rattle.node_store.specs.Storage as parts
 use Rattle.node_store.specs.Storage.{Evolved, Pays, Adds, unpaid}
 use Rattle.node_format.specs.Directories.{directory_at}
@@ -59,15 +60,14 @@ fresh_machine d h files limit root is none empty =
     ∙ ap (λ (t : Tree). fresh limit t) (empty_root (capacity_of d) (node_of d) root empty).1 in
     (λ i. machine_with (history i) (none i))
 
-pub fresh_mounted : (a : Moment) (limit root : ℕ) → a.state.is_off ≡ false → IsGeometry a.device.geometry → a.state.storage.ring.blocks ≡ a.device.geometry.blocks → vec_len a.state.storage.page ≡ a.device.geometry.page → block_bytes a.device.geometry ≤ vec_capacity a.state.storage.node
+pub fresh_mounted : (a : Moment) (limit root : ℕ) → a.state.is_off ≡ false → IsGeometry a.device.geometry → a.state.storage.ring.blocks ≡ a.device.geometry.blocks → Fits a.device a.state.storage
     → 2 ≤ limit → a.state.history ≡ fresh limit root → a.state.files ≡ none_open → entries_in (nodes_at a) root ≡ Some [] → set.contains a.state.storage.ring.used root ≡ true → IsMountedAt a
-fresh_mounted a limit root on lawful blocks len capacity some is none empty kept =
+fresh_mounted a limit root on lawful blocks fits some is none empty kept =
     let all = subst (λ h. AllStand (at_history a h)) (sym is) (fresh_stand a limit root (empty_stands a root empty kept)) in
     record {
       lawful = lawful;
       ring_blocks = blocks;
-      page_len = len;
-      node_room = capacity;
+      fits = fits;
       roots = all;
       machine = subst IsMachine (sym (fresh_machine a.device a.state.history a.state.files limit root is none empty)) (machine_law.first limit some);
       off = λ off. absurd (true≢false (sym off ∙ on));
@@ -145,8 +145,7 @@ pub root_written : (d : Device) (s : Storage) (e : Device) (t : Storage) (result
 root_written d s e t result evolved pays page node = record {
   evolved = evolved;
   paid = let one = unpaid_one result in omega arith;
-  page_len = page;
-  node_room = let same : vec_capacity t.node ≡ vec_capacity s.node = ap vec_capacity node in omega arith;
+  fits = still_fits d s e t evolved.geometry page (let same : vec_capacity t.node ≡ vec_capacity s.node = ap vec_capacity node in omega arith);
 }
 
 pub root_why : (s : parts.Storage) (bytes : List ℕ) (t : parts.Storage) (result : Result ℕ Fault) → Evolved s t → Pays s t (unpaid result) → Adds s bytes t result
@@ -179,16 +178,13 @@ first_root d s e t root ring next =
 
 -- the first moment, once the root is written
 pub written_begun : (d : Device) (was : set.FinSet nat_cmp) (limit : ℕ) (s : Storage) (e : Device) (t : Storage) (h : Past ℕ) (files : Descriptors) (root : ℕ) → IsGeometry d.geometry → s.bad ≡ was
-    → s.ring ≡ unused_ring d.geometry.blocks → vec_len s.page ≡ d.geometry.page → block_bytes d.geometry ≤ vec_capacity s.node → HasWritten d s 1 e t → set.contains t.ring.used root ≡ true
+    → s.ring ≡ unused_ring d.geometry.blocks → Fits d s → HasWritten d s 1 e t → set.contains t.ring.used root ≡ true
     → entries_in (node_of e) root ≡ Some [] → parts.IsNextBlock (parts.storage d s.bad s.ring) (parts.storage e t.bad t.ring) root → 2 ≤ limit → h ≡ fresh limit root → files ≡ none_open
     → IsBegun d was limit (moment e (record { history = h; storage = t; files = files; is_off = false }))
-written_begun d was limit s e t h files root lawful bad ring len capacity written kept empty next some is none =
+written_begun d was limit s e t h files root lawful bad ring fits written kept empty next some is none =
     let state : State = record { history = h; storage = t; files = files; is_off = false } in
     let same = sym written.evolved.geometry in
-    let more = written.node_room in
-    let fits : block_bytes d.geometry ≤ vec_capacity t.node = omega arith in
-    let stands = fresh_mounted (moment e state) limit root refl (subst IsGeometry same lawful) (written.evolved.blocks ∙ ap (λ (r : Ring). r.blocks) ring ∙ ap (λ (g : Geometry). g.blocks) same) (written.page_len ∙ len ∙ ap (λ (g : Geometry). g.page) same)
-    (subst (λ (g : Geometry). block_bytes g ≤ vec_capacity t.node) same fits) some is none empty kept in
+    let stands = fresh_mounted (moment e state) limit root refl (subst IsGeometry same lawful) (written.evolved.blocks ∙ ap (λ (r : Ring). r.blocks) ring ∙ ap (λ (g : Geometry). g.blocks) same) (written.fits fits) some is none empty kept in
     let before : set.len s.bad ≡ set.len was = ap set.len bad in
     let no_takes : s.ring.takes ≡ 0 = ap (λ (r : Ring). r.takes) ring in
     let paid = written.paid in

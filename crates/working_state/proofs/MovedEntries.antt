@@ -374,8 +374,8 @@ pub busy_before : (s t : State) (old new : Path) (busy : Bool) → t.files ≡ s
 busy_before s t old new busy same told = subst (λ ds. (is_open_within ds old || is_open ds new) ≡ busy) same told
 
 -- whether room is lacking, by what was looked up
-pub capacity_is : (tree : Tree) (old new : Path) (full lacks : Bool) → full ≡ lacks_room tree new → (full && not (same_path (parent_of old) (parent_of new))) ≡ lacks → (lacks_room tree new && not (same_path (parent_of old) (parent_of new))) ≡ lacks
-capacity_is tree old new full lacks is told = ap (λ b. b && not (same_path (parent_of old) (parent_of new))) (sym is) ∙ told
+pub room_is : (tree : Tree) (old new : Path) (full lacks : Bool) → full ≡ lacks_room tree new → (full && not (same_path (parent_of old) (parent_of new))) ≡ lacks → (lacks_room tree new && not (same_path (parent_of old) (parent_of new))) ≡ lacks
+room_is tree old new full lacks is told = ap (λ b. b && not (same_path (parent_of old) (parent_of new))) (sym is) ∙ told
 
 -- no path goes on below a file
 pub file_shallow : (f : Blocks) (at : Place) (most head size : ℕ) → at ≡ File head size → IsShallow f at most

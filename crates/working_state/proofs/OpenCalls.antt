@@ -188,8 +188,7 @@ mounted_at : (b : Moment) (h : Past ℕ) (files : Descriptors) → IsMountedAt b
 mounted_at b h files m all machine = record {
   lawful = m.lawful;
   ring_blocks = m.ring_blocks;
-  page_len = m.page_len;
-  node_room = m.node_room;
+  fits = m.fits;
   roots = all;
   machine = machine;
   off = m.off;

@@ -104,8 +104,7 @@ pub remembered_mounted : {T : Type 0} (f : T → Reply) (a b : Moment) (u : Stat
 remembered_mounted f a b u call result is m step = subst (IsMounted b.device) (sym is) (record {
   lawful = m.lawful;
   ring_blocks = m.ring_blocks;
-  page_len = m.page_len;
-  node_room = m.node_room;
+  fits = m.fits;
   roots = m.roots;
   machine = m.machine;
   off = λ off. elim (or_cases b.state.is_off (is_cut_answer result) off) [

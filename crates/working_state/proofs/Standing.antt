@@ -1,7 +1,6 @@
 -- What stands still stands after reads and writes of nodes, and the machine is the same.
 use Rattle.std.proofs.Common.{◌≡◌, ℕ, ◌-◌, ◌≤◌, true, false, refl, sym, ap, subst, ◌∙◌, inl, arith}
 use Rattle.std.proofs.lemmas.Bool.{both_ways}
-use Rattle.std.specs.Prelude.{vec_capacity}
 use Rattle.std.specs.FinSet as set
 use Rattle.history_machine.specs.History.{Past, map_roots}
 use Rattle.history_machine.specs.HistoryMaps.{same-map_roots}
@@ -79,48 +78,45 @@ same_trees s t u lawful e all =
 
 -- a look at nodes leaves the rest of the state
 pub looked_at : (a : Moment) (e : Device) (st : parts.Storage) → HasLooked a.device a.state.storage e st → IsLooked a (moment e (record a.state { storage = st }))
-looked_at a e st l = record { untouched = l.untouched; rest = record { page_len = l.page_len; node_room = l.node_room; history = refl; files = refl; is_off = refl } }
+looked_at a e st l = record { untouched = l.untouched; fits = l.fits; rest = record { history = refl; files = refl; is_off = refl } }
 
 pub looked_worked : (a b : Moment) → IsLooked a b → IsWorked a b
-looked_worked a b l = record { evolved = Untouched_evolved (storage_at a) (storage_at b) l.untouched; rest = l.rest }
+looked_worked a b l = record { evolved = Untouched_evolved (storage_at a) (storage_at b) l.untouched; fits = l.fits; rest = l.rest }
 
 pub worked_itself : (a : Moment) → IsWorked a a
-worked_itself a = record { evolved = Evolved_itself (storage_at a); rest = record { page_len = refl; node_room = omega arith; history = refl; files = refl; is_off = refl } }
+worked_itself a = record { evolved = Evolved_itself (storage_at a); fits = λ fits. fits; rest = record { history = refl; files = refl; is_off = refl } }
 
 same_but_on : (s t u : State) → IsSameBut s t → IsSameBut t u → IsSameBut s u
-same_but_on s t u a b = record { page_len = b.page_len ∙ a.page_len; node_room = omega arith; history = b.history ∙ a.history; files = b.files ∙ a.files; is_off = b.is_off ∙ a.is_off }
+same_but_on s t u a b = record { history = b.history ∙ a.history; files = b.files ∙ a.files; is_off = b.is_off ∙ a.is_off }
 
 pub worked_on : (a b c : Moment) → IsWorked a b → IsWorked b c → IsWorked a c
-worked_on a b c v w = record { evolved = Evolved_on (storage_at a) (storage_at b) (storage_at c) v.evolved w.evolved; rest = same_but_on a.state b.state c.state v.rest w.rest }
+worked_on a b c v w = record { evolved = Evolved_on (storage_at a) (storage_at b) (storage_at c) v.evolved w.evolved; fits = λ fits. w.fits (v.fits fits); rest = same_but_on a.state b.state c.state v.rest w.rest }
 
 pub looked_on : (a b c : Moment) → IsLooked a b → IsLooked b c → IsLooked a c
-looked_on a b c l k = record { untouched = Untouched_on (storage_at a) (storage_at b) (storage_at c) l.untouched k.untouched; rest = same_but_on a.state b.state c.state l.rest k.rest }
+looked_on a b c l k = record { untouched = Untouched_on (storage_at a) (storage_at b) (storage_at c) l.untouched k.untouched; fits = λ fits. k.fits (l.fits fits); rest = same_but_on a.state b.state c.state l.rest k.rest }
 
 -- What is left of what nodes are kept with.
 
 pub none_written : (d : Device) (s : parts.Storage) (most : ℕ) → HasWritten d s most d s
-none_written d s most = record { evolved = Evolved_itself (storage d s.bad s.ring); paid = omega arith; page_len = refl; node_room = omega arith }
+none_written d s most = record { evolved = Evolved_itself (storage d s.bad s.ring); paid = omega arith; fits = λ fits. fits }
 
 none_looked : (d : Device) (s : parts.Storage) → HasLooked d s d s
-none_looked d s = record { untouched = Untouched_itself (storage d s.bad s.ring); page_len = refl; node_room = omega arith }
+none_looked d s = record { untouched = Untouched_itself (storage d s.bad s.ring); fits = λ fits. fits }
 
 -- a look, and then writes of no more nodes
 pub looked_written : (d : Device) (s : parts.Storage) (e : Device) (t : parts.Storage) (f : Device) (u : parts.Storage) (nodes most : ℕ) → HasLooked d s e t → HasWritten e t nodes f u → nodes ≤ most → HasWritten d s most f u
 looked_written d s e t f u nodes most l w few =
     let paid = w.paid in
-    let room = l.node_room in
-    let more = w.node_room in
     let takes = ap (λ (r : Ring). r.takes) l.untouched.ring in
     let bad = ap set.len l.untouched.bad in
     record {
       evolved = Evolved_on (storage d s.bad s.ring) (storage e t.bad t.ring) (storage f u.bad u.ring) (Untouched_evolved (storage d s.bad s.ring) (storage e t.bad t.ring) l.untouched) w.evolved;
       paid = omega arith;
-      page_len = w.page_len ∙ l.page_len;
-      node_room = omega arith;
+      fits = λ fits. w.fits (l.fits fits);
     }
 
 looks : (a b : Moment) → IsLooked a b → HasLooked a.device a.state.storage b.device b.state.storage
-looks a b l = record { untouched = l.untouched; page_len = l.rest.page_len; node_room = l.rest.node_room }
+looks a b l = record { untouched = l.untouched; fits = l.fits }
 
 -- a call that only read
 pub looked_leaves : (a b : Moment) (call : Call) → IsLooked a b → is_still call ≡ false → Leaves (machine_at a) call a.device a.state.storage b.device b.state.storage
@@ -163,8 +159,7 @@ mounted_with a b h m w all machine =
     record {
       lawful = subst IsGeometry same m.lawful;
       ring_blocks = w.evolved.blocks ∙ m.ring_blocks ∙ ap (λ (g : Geometry). g.blocks) same;
-      page_len = w.rest.page_len ∙ m.page_len ∙ ap (λ (g : Geometry). g.page) same;
-      node_room = subst (λ (g : Geometry). block_bytes g ≤ vec_capacity b.state.storage.node) same (let capacity = m.node_room in let more = w.rest.node_room in omega arith);
+      fits = w.fits m.fits;
       roots = all;
       machine = machine;
       off = λ off. let was = m.off (sym w.rest.is_off ∙ off) in ap (λ (x : Device). x.powered) (w.evolved.stays_off was) ∙ was;

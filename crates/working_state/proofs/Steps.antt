@@ -215,8 +215,7 @@ pub mounted_by : (a : Moment) (call : Call) (result : Result Reply Fault) (p : P
 mounted_by a call result p is paths step all = record {
   lawful = is.lawful;
   ring_blocks = is.ring_blocks;
-  page_len = is.page_len;
-  node_room = is.node_room;
+  fits = is.fits;
   roots = all;
   machine = still_machine (seen_at a) (seen_at a) (machine_at a) (machine_at (at_history a p)) a.state.is_off a.state.is_off call result is.machine paths step.step;
   off = is.off;

@@ -1,14 +1,15 @@
 -- Changes: an edit of the present tree is written, and its root becomes the present version.
-use Rattle.std.specs.Prelude.{◌≡◌, ◌⊎◌, ℕ, ◌+◌, ◌<◌, ◌≤◌, true, false, Some, [], ◌∷◌, Result, Ok, Err, IfOk, IfErr, vec_len, vec_capacity}
+use Rattle.std.specs.Prelude.{◌≡◌, ◌⊎◌, ℕ, ◌+◌, ◌<◌, ◌≤◌, true, false, Some, [], ◌∷◌, Result, Ok, Err, IfOk, IfErr}
 use Rattle.std.specs.FinSet as set
 use Rattle.history_machine.specs.History.{Past, present_root, changed}
 use Rattle.plain_trees.specs.Trees.{Tree}
 use Rattle.fs_types.specs.declared.faults.Fault.{Fault}
 use Rattle.fs_types.specs.declared.faults.Fault.TheVariants.{FlashFull, ReadOnly, Overflow}
 use Rattle.flash_model.specs.Device.{Device}
-use Rattle.flash_model.specs.Geometry.{IsGeometry, block_bytes}
+use Rattle.flash_model.specs.Geometry.{IsGeometry}
 use Rattle.allocator.specs.Ring.{free_count}
 use Rattle.node_store.specs.declared.storage.Storage.{Storage}
+use Rattle.node_store.specs.Fitting.{Fits}
 use Rattle.node_store.specs.NodePages.{node_of}
 use Rattle.block_trees.specs.Reached.{Reached}
 use Rattle.directory.specs.Trails.{IsChangeFault}
@@ -21,12 +22,11 @@ use Rattle.read_only.specs.Modes.{is_read_only}
 use Rattle.working_state.specs.Steps.{last_serial}
 use Rattle.working_state.specs.Worked.{WorkCause}
 
--- nodes may be read and written: the sizes are lawful, the ring is of this flash, and there is room for a page and a node
+-- nodes may be read and written: the sizes are lawful, the ring is of this flash, and what nodes are kept with fits it
 pub record IsReady (device : Device) (storage : Storage) : Type 0 where
   pub lawful : IsGeometry device.geometry
   pub ring_blocks : storage.ring.blocks ≡ device.geometry.blocks
-  pub page_len : vec_len storage.page ≡ device.geometry.page
-  pub node_room : block_bytes device.geometry ≤ vec_capacity storage.node
+  pub fits : Fits device storage
 
 -- the edit of a root can be applied
 abbrev pub CanApply : Device → Storage → ℕ → Edit → Type 0

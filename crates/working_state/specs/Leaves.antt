@@ -1,26 +1,25 @@
 -- What calls leave of a flash, and of what nodes are kept with on it.
-use Rattle.std.specs.Prelude.{◌≡◌, ℕ, ◌+◌, ◌≤◌, Bool, true, false, vec_len, vec_capacity}
+use Rattle.std.specs.Prelude.{◌≡◌, ℕ, ◌+◌, ◌≤◌, Bool, true, false}
 use Rattle.std.specs.FinSet as set
 use Rattle.history_machine.specs.Machine.{Machine, makes_version, need}
 use Rattle.fs_types.specs.declared.calls.Call.{Call}
 use Rattle.flash_model.specs.Device.{Device}
 use Rattle.node_store.specs.declared.storage.Storage.{Storage}
+use Rattle.node_store.specs.Fitting.{StillFits}
 use Rattle.node_store.specs.Storage as parts
 use Rattle.working_state.specs.Seen.{capacity_of}
 
 -- nodes were read: all that is kept is as it was
 pub record HasLooked (old : Device) (s : Storage) (new : Device) (t : Storage) : Type 0 where
   pub untouched : parts.IsUntouched (parts.storage old s.bad s.ring) (parts.storage new t.bad t.ring)
-  pub page_len : vec_len t.page ≡ vec_len s.page
-  pub node_room : vec_capacity s.node ≤ vec_capacity t.node
+  pub fits : StillFits old s new t
 
 -- so many nodes were written at most: kept blocks stay, anchors and kept blocks keep their pages, and a block was taken
 -- for each node at most, and one for each that went bad
 pub record HasWritten (old : Device) (s : Storage) (most : ℕ) (new : Device) (t : Storage) : Type 0 where
   pub evolved : parts.Evolved (parts.storage old s.bad s.ring) (parts.storage new t.bad t.ring)
   pub paid : t.ring.takes + set.len s.bad ≤ s.ring.takes + set.len t.bad + most
-  pub page_len : vec_len t.page ≡ vec_len s.page
-  pub node_room : vec_capacity s.node ≤ vec_capacity t.node
+  pub fits : StillFits old s new t
 
 -- calls that do no device operation
 abbrev pub is_still : Call → Bool

@@ -1,14 +1,15 @@
 -- What holds of a flash and the working state on it between calls.
-use Rattle.std.specs.Prelude.{◌≡◌, ◌≤◌, ℕ, true, false, Result, Ok, vec_len, vec_capacity, IfOk, OnErr}
+use Rattle.std.specs.Prelude.{◌≡◌, ℕ, true, false, Result, Ok, IfOk, OnErr}
 use Rattle.std.specs.FinSet as set
 use Rattle.history_machine.specs.Machine.{IsMachine, Space, answer}
 use Rattle.fs_types.specs.declared.calls.Call.{Call}
 use Rattle.fs_types.specs.declared.calls.Reply.{Reply}
 use Rattle.fs_types.specs.declared.faults.Fault.{Fault}
 use Rattle.flash_model.specs.Device.{Device, block_of}
-use Rattle.flash_model.specs.Geometry.{IsGeometry, block_bytes}
+use Rattle.flash_model.specs.Geometry.{IsGeometry}
 use Rattle.allocator.specs.Ring.{Ring}
 use Rattle.node_format.specs.declared.places.Place.TheVariants.{Dir}
+use Rattle.node_store.specs.Fitting.{Fits}
 use Rattle.node_store.specs.NodePages.{node_of}
 use Rattle.block_trees.specs.Trees.{IsRoot}
 use Rattle.block_trees.specs.Reached.{IsHeld}
@@ -23,14 +24,13 @@ pub record IsStanding (device : Device) (ring : Ring) (root : ℕ) : Type 0 wher
   pub held : IsHeld (node_of device) (set.contains ring.used) (Dir root)
   pub rooted : IsRoot (capacity_of device) (node_of device) root
 
--- the sizes are lawful, the ring is of this flash, there is room for a page and for a node, the roots of all versions
+-- the sizes are lawful, the ring is of this flash, what nodes are kept with fits it, the roots of all versions
 -- and checkpoints stand, and what it shows is a machine: so each open file is a file of the present tree. Where a call
 -- answered that the power is off, it is
 pub record IsMounted (device : Device) (state : State) : Type 0 where
   pub lawful : IsGeometry device.geometry
   pub ring_blocks : state.storage.ring.blocks ≡ device.geometry.blocks
-  pub page_len : vec_len state.storage.page ≡ device.geometry.page
-  pub node_room : block_bytes device.geometry ≤ vec_capacity state.storage.node
+  pub fits : Fits device state.storage
   pub roots : (root : ℕ) → HasRoot state root → IsStanding device state.storage.ring root
   pub machine : IsMachine (machine_on device state)
   pub off : state.is_off ≡ true → device.powered ≡ false

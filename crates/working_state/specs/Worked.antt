@@ -1,16 +1,15 @@
 -- What reads and writes of nodes leave of a flash and the working state on it, and why they are refused.
-use Rattle.std.specs.Prelude.{◌≡◌, ◌<◌, ◌≤◌, true, false, vec_len, vec_capacity}
+use Rattle.std.specs.Prelude.{◌≡◌, ◌<◌, true, false}
 use Rattle.fs_types.specs.declared.faults.Fault.{Fault}
 use Rattle.fs_types.specs.declared.faults.Fault.TheVariants.{FlashFull, ReadOnly, ReadFailed, PowerCut, NoMemory}
+use Rattle.node_store.specs.Fitting.{StillFits}
 use Rattle.node_store.specs.Storage.{Evolved, IsUntouched}
 use Rattle.working_state.specs.Moments.{Moment, storage_at}
 use Rattle.working_state.specs.Seen.{Seen}
 use Rattle.working_state.specs.declared.state.State.{State}
 
--- the room for a page and for a node is kept, and the history and the open files are the same
+-- the history and the open files are the same, and whether the power is known to be off
 pub record IsSameBut (s t : State) : Type 0 where
-  pub page_len : vec_len t.storage.page ≡ vec_len s.storage.page
-  pub node_room : vec_capacity s.storage.node ≤ vec_capacity t.storage.node
   pub history : t.history ≡ s.history
   pub files : t.files ≡ s.files
   pub is_off : t.is_off ≡ s.is_off
@@ -18,11 +17,13 @@ pub record IsSameBut (s t : State) : Type 0 where
 -- nodes were read and written
 pub record IsWorked (old new : Moment) : Type 0 where
   pub evolved : Evolved (storage_at old) (storage_at new)
+  pub fits : StillFits old.device old.state.storage new.device new.state.storage
   pub rest : IsSameBut old.state new.state
 
 -- nodes were read
 pub record IsLooked (old new : Moment) : Type 0 where
   pub untouched : IsUntouched (storage_at old) (storage_at new)
+  pub fits : StillFits old.device old.state.storage new.device new.state.storage
   pub rest : IsSameBut old.state new.state
 
 -- why reads and writes of nodes are refused

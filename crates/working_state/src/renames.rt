@@ -164,7 +164,7 @@ impl State {
         ensures lawful { OnOk result (is_path old.now && is_path new.now ≡ true) }
         ensures way { IfOk result (IsTrail (node_of (F.device flash.old)) root new.now) }
         ensures shallow { OnOk result (IsShallow (node_of (F.device flash.old)) place (MAX_NAMES - length new.now)) }
-        ensures capacity { OnOk result (same_path (parent_of old.now) (parent_of new.now) ≡ false → has_room (look_up (node_of (F.device flash.old)) root new.now) ≡ true) }
+        ensures room { OnOk result (same_path (parent_of old.now) (parent_of new.now) ≡ false → has_room (look_up (node_of (F.device flash.old)) root new.now) ≡ true) }
         ensures accepted { OnOk result ((entry : Entry) → is_dir entry ≡ is_dir_place place → rename_refusal (machine_at (moment (F.device flash.old) self.old)) old.now new.now entry ≡ None) }
         ensures refused { IfErr result (λ fault. ((entry : Entry) → is_dir entry ≡ is_dir_place place → rename_refusal (machine_at (moment (F.device flash.old) self.old)) old.now new.now entry ≡ Some fault) ⊎ ReadCause (seen_at (moment (F.device flash.old) self.old)) fault (seen_at (moment (F.device flash.new) self.new))) }
     {
@@ -190,7 +190,7 @@ impl State {
         requires present { present_root self.old.history ≡ Some root }
         ensures looked { IsLooked (moment (F.device flash.old) self.old) (moment (F.device flash.new) self.new) }
         ensures nodes { node_of (F.device flash.new) ≡ node_of (F.device flash.old) }
-        ensures capacity { IfOk result (λ r. r.0 ≡ lacks_room (present_tree (machine_at (moment (F.device flash.old) self.old))) path.now) }
+        ensures room { IfOk result (λ r. r.0 ≡ lacks_room (present_tree (machine_at (moment (F.device flash.old) self.old))) path.now) }
         ensures fits { IfOk result (λ r. r.0 ≡ false → has_room (look_up (node_of (F.device flash.old)) root path.now) ≡ true) }
         ensures way { IfOk result (λ r. IsTrail (node_of (F.device flash.old)) root path.now r.1) }
         ensures allowed { OnOk result ((entry : Entry) → is_dir entry ≡ moves_directory → target_refusal (present_tree (machine_at (moment (F.device flash.old) self.old))) path.now entry ≡ None) }

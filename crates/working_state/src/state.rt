@@ -1,11 +1,13 @@
 //! The working state: all that a mounted system keeps in memory, apart from the flash.
-ghost use Rattle.std.specs.Prelude.{◌≡◌, ℕ, ◌<◌, ◌≤◌, ◌↔◌, ◌⊎◌, true, Some, Err, [], IfOk, IfErr, vec_len, vec_capacity};
+ghost use Rattle.std.specs.Prelude.{◌≡◌, ℕ, ◌<◌, ◌≤◌, ◌↔◌, ◌⊎◌, true, Some, Err, [], IfOk, IfErr};
 ghost use Rattle.std.specs.FinSet as set;
 ghost use Rattle.history_machine.specs.History.{present_root};
 ghost use Rattle.fs_types.specs.declared.limits.TheConstants.{MIN_VERSIONS, MAX_VERSIONS};
 ghost use Rattle.fs_types.specs.declared.faults.Fault.{Fault};
-ghost use Rattle.flash_model.specs.Geometry.{IsGeometry, block_bytes};
+ghost use Rattle.flash_model.specs.Device.{Device};
+ghost use Rattle.flash_model.specs.Geometry.{IsGeometry};
 ghost use Rattle.allocator.specs.Ring.{IsDataBlock};
+ghost use Rattle.node_store.specs.Fitting.{Fits};
 ghost use Rattle.node_store.specs.NodePages.{first_data, node_of};
 ghost use Rattle.node_store.specs.Storage as parts;
 ghost use Rattle.block_trees.specs.Trees.{entries_in};
@@ -83,8 +85,7 @@ fn unused_storage(alloc: Global, geometry: Geometry, bad: BadBlocks) -> Result<S
     requires { IsGeometry geometry }
     ensures bad { IfOk result (λ storage. storage.bad ≡ bad) }
     ensures ring { IfOk result (λ storage. storage.ring ≡ unused_ring geometry.blocks) }
-    ensures page_len { IfOk result (λ storage. vec_len storage.page ≡ geometry.page) }
-    ensures node_room { IfOk result (λ storage. block_bytes geometry ≤ vec_capacity storage.node) }
+    ensures fits { IfOk result (λ storage. (device : Device) → device.geometry ≡ geometry → Fits device storage) }
     ensures err { IfErr result (λ fault. fault ≡ Fault.NoMemory) }
 {
     Ok(Storage {
@@ -99,7 +100,7 @@ fn unused_storage(alloc: Global, geometry: Geometry, bad: BadBlocks) -> Result<S
 fn write_root<F: Flash>(flash: &mut F, storage: &mut Storage) -> Result<u32, Fault>
     requires lawful { IsGeometry (F.device flash.old).geometry }
     requires ring_blocks { storage.old.ring.blocks ≡ (F.device flash.old).geometry.blocks }
-    requires page_len { vec_len storage.old.page ≡ (F.device flash.old).geometry.page }
+    requires fits { Fits (F.device flash.old) storage.old }
     ensures written { HasWritten (F.device flash.old) storage.old 1 (F.device flash.new) storage.new }
     ensures kept { IfOk result (λ root. set.contains storage.new.ring.used root ≡ true) }
     ensures empty { IfOk result (λ root. entries_in (node_of (F.device flash.new)) root ≡ Some []) }

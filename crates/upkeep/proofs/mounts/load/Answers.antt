@@ -1,4 +1,4 @@
-use Rattle.std.proofs.Common.{◌≡◌, true, false, refl, subst, ap, ◌∙◌, ◌≤◌, List, ℕ, arith, vec_capacity}
+use Rattle.std.proofs.Common.{◌≡◌, true, false, refl, subst, ap, ◌∙◌, ◌≤◌, List, ℕ, sym}
 use Rattle.std.specs.FinSet as set
 use Rattle.std.specs.Prelude.{◌↔◌}
 use Rattle.allocator.specs.Ring.{Ring}
@@ -30,11 +30,7 @@ returns-clause-loaded g c =
       ring_blocks = ap (λ (r : Ring). r.blocks) ring ∙ ap (λ (r : Ring). r.blocks) begun ∙ ap (λ (x : Geometry). x.blocks) c.requires.same;
       bad = c.use_reached.ensures.bad ∙ c.in_ok-storage.ensures.bad;
       last = ap (λ (r : Ring). r.last) ring ∙ ap (λ (r : Ring). r.last) begun;
-      page_len = c.use_reached.ensures.page_len ∙ c.in_ok-storage.ensures.page_len ∙ ap (λ (x : Geometry). x.page) c.requires.same;
-      node_room =
-          let before : block_bytes d.geometry ≤ vec_capacity c.in_ok-storage.storage.node = subst (λ (x : Geometry). block_bytes x ≤ vec_capacity c.in_ok-storage.storage.node) c.requires.same c.in_ok-storage.ensures.node_room in
-          let after = c.use_reached.ensures.node_room in
-          omega (arith, before, after);
+      fits = c.use_reached.ensures.fits (c.in_ok-storage.ensures.fits d (sym c.requires.same));
       files = c.new.ensures;
       is_on = refl;
     })

@@ -10,7 +10,7 @@ use Rattle.block_trees.specs.Bodies.{Blocks}
 use Rattle.block_trees.specs.Trees.{leads}
 use Rattle.working_state.specs.Moments.{moment, machine_at, seen_at}
 use Rattle.working_state.proofs.ChangeSteps.{path_within}
-use Rattle.working_state.proofs.MovedEntries.{of_fault, MoveRefused, move_below, move_target, move_then, is_deep, is_shallow, deeper_before, shallow_before, busy_before, deep_refuses, busy_refuses, moves_by, move_room, capacity_is, read_later}
+use Rattle.working_state.proofs.MovedEntries.{of_fault, MoveRefused, move_below, move_target, move_then, is_deep, is_shallow, deeper_before, shallow_before, busy_before, deep_refuses, busy_refuses, moves_by, move_room, room_is, read_later}
 use Rattle.working_state.proofs.Standing.{looked_worked, worked_mounted, worked_later}
 use Rattle.working_state.proofs.state.State.check_move.Goals as goal
 
@@ -76,7 +76,7 @@ returns-in_err-check_room-clause-refused g c =
     (is_shallow (moment (g.F.Flash.device c.args.flash.now) c.args.self.now) c.args.root c.args.old.now c.args.new.now c.args.place c.requires.mounted c.requires.present c.requires.stands (path_within c.args.new.now lawful.1)
     (shallow_before (node_of (g.F.Flash.device c.args.flash.now)) (node_of (g.F.Flash.device c.check_target.new.flash)) c.args.place _ c.check_target.ensures.nodes c.in_ok-check_depth.ensures.shallow))
     (busy_before c.args.self.now c.check_depth.new.self c.args.old.now c.args.new.now false (c.check_depth.ensures.looked.rest.files ∙ c.check_target.ensures.looked.rest.files) c.in_ok-check_closed.ensures.ok)
-    (capacity_is (present_tree (machine_at (moment (g.F.Flash.device c.args.flash.now) c.args.self.now))) c.args.old.now c.args.new.now _ _ c.in_ok-lacks_room.ensures.capacity told.1)
+    (room_is (present_tree (machine_at (moment (g.F.Flash.device c.args.flash.now) c.args.self.now))) c.args.old.now c.args.new.now _ _ c.in_ok-lacks_room.ensures.room told.1)
     ∙ ap Some (sym told.0))))
 
 pub returns-clause-accepted : goal.returns-clause-accepted
@@ -87,12 +87,12 @@ returns-clause-accepted g c =
     (is_shallow (moment (g.F.Flash.device c.args.flash.now) c.args.self.now) c.args.root c.args.old.now c.args.new.now c.args.place c.requires.mounted c.requires.present c.requires.stands (path_within c.args.new.now lawful.1)
     (shallow_before (node_of (g.F.Flash.device c.args.flash.now)) (node_of (g.F.Flash.device c.check_target.new.flash)) c.args.place _ c.check_target.ensures.nodes c.in_ok-check_depth.ensures.shallow))
     (busy_before c.args.self.now c.check_depth.new.self c.args.old.now c.args.new.now false (c.check_depth.ensures.looked.rest.files ∙ c.check_target.ensures.looked.rest.files) c.in_ok-check_closed.ensures.ok)
-    (capacity_is (present_tree (machine_at (moment (g.F.Flash.device c.args.flash.now) c.args.self.now))) c.args.old.now c.args.new.now _ _ c.in_ok-lacks_room.ensures.capacity c.in_ok-check_room.ensures.ok))
+    (room_is (present_tree (machine_at (moment (g.F.Flash.device c.args.flash.now) c.args.self.now))) c.args.old.now c.args.new.now _ _ c.in_ok-lacks_room.ensures.room c.in_ok-check_room.ensures.ok))
 
 pub returns-clause-shallow : goal.returns-clause-shallow
 returns-clause-shallow g c =
     shallow_before (node_of (g.F.Flash.device c.args.flash.now)) (node_of (g.F.Flash.device c.check_target.new.flash)) c.args.place _ c.check_target.ensures.nodes c.in_ok-check_depth.ensures.shallow
 
-pub returns-clause-capacity : goal.returns-clause-capacity
-returns-clause-capacity g c =
+pub returns-clause-room : goal.returns-clause-room
+returns-clause-room g c =
     move_room (node_of (g.F.Flash.device c.args.flash.now)) c.args.root c.args.old.now c.args.new.now _ c.in_ok-check_room.ensures.ok c.in_ok-lacks_room.ensures.fits

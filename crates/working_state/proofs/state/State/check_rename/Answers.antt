@@ -64,7 +64,7 @@ returns-clause-movable g c =
       new_way = ok.way;
       stands = subst (λ f. leads f (Dir c.args.root) old ≡ Some c.in_ok-place.place) (sym c.find_place.ensures.nodes) found.stands;
       shallow = ok.shallow;
-      capacity = ok.capacity;
+      room = ok.room;
     } in
     (sym c.eq.ensures ∙ c.if-eq.false, subst (λ f. IsMovable f c.args.root old c.in_ok-place.old_trail new c.in_ok-new_trail.new_trail c.in_ok-place.place) (sym c.check_move.ensures.nodes) movable)
 

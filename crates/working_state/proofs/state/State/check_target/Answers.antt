@@ -42,8 +42,8 @@ returns-then-branch-gt0-clause-refused g c =
     inl (λ entry kind. target_counted (moment (g.F.Flash.device c.args.flash.now) c.args.self.now) c.args.root c.args.path.now c.requires.mounted c.requires.present (g.F.Flash.device c.find_path.new.flash) _ c.in-Dir.block count.0 c.find_path.ensures.nodes c.in_ok-found.ensures.found c.in-Dir.is count.1 entry (kind ∙ c.if-not-moves_directory.false)
     ∙ ap (λ b. if b then Some NotEmpty else None) (some_counted _ count.0 count.2 c.if-branch-gt0.true))
 
-pub returns-in-Missing-clause-capacity : goal.returns-in-Missing-clause-capacity
-returns-in-Missing-clause-capacity g c = lacks_missing (moment (g.F.Flash.device c.args.flash.now) c.args.self.now) c.args.root c.args.path.now c.requires.mounted c.requires.present _ c.in-Missing.is_full c.in_ok-found.ensures.found c.in-Missing.is
+pub returns-in-Missing-clause-room : goal.returns-in-Missing-clause-room
+returns-in-Missing-clause-room g c = lacks_missing (moment (g.F.Flash.device c.args.flash.now) c.args.self.now) c.args.root c.args.path.now c.requires.mounted c.requires.present _ c.in-Missing.is_full c.in_ok-found.ensures.found c.in-Missing.is
 
 pub returns-in-Missing-clause-fits : goal.returns-in-Missing-clause-fits
 returns-in-Missing-clause-fits g c = λ few. room_by (node_of (g.F.Flash.device c.args.flash.now)) c.args.root c.args.path.now _ (found.Missing c.in-Missing.is_full) c.in_ok-found.ensures.found c.in-Missing.is (ap not few)
@@ -51,8 +51,8 @@ returns-in-Missing-clause-fits g c = λ few. room_by (node_of (g.F.Flash.device 
 pub returns-in-Missing-clause-allowed : goal.returns-in-Missing-clause-allowed
 returns-in-Missing-clause-allowed g c = λ entry kind. target_missing (moment (g.F.Flash.device c.args.flash.now) c.args.self.now) c.args.root c.args.path.now c.requires.mounted c.requires.present _ c.in-Missing.is_full c.in_ok-found.ensures.found c.in-Missing.is entry
 
-pub returns-else-moves_directory-clause-capacity : goal.returns-else-moves_directory-clause-capacity
-returns-else-moves_directory-clause-capacity g c = lacks_file (moment (g.F.Flash.device c.args.flash.now) c.args.self.now) c.args.root c.args.path.now c.requires.mounted c.requires.present _ c.in-File.head c.in-File.length c.in_ok-found.ensures.found c.in-File.is
+pub returns-else-moves_directory-clause-room : goal.returns-else-moves_directory-clause-room
+returns-else-moves_directory-clause-room g c = lacks_file (moment (g.F.Flash.device c.args.flash.now) c.args.self.now) c.args.root c.args.path.now c.requires.mounted c.requires.present _ c.in-File.head c.in-File.length c.in_ok-found.ensures.found c.in-File.is
 
 pub returns-else-moves_directory-clause-fits : goal.returns-else-moves_directory-clause-fits
 returns-else-moves_directory-clause-fits g c = λ few. room_by (node_of (g.F.Flash.device c.args.flash.now)) c.args.root c.args.path.now _ (found.File c.in-File.head c.in-File.length) c.in_ok-found.ensures.found c.in-File.is refl
@@ -60,8 +60,8 @@ returns-else-moves_directory-clause-fits g c = λ few. room_by (node_of (g.F.Fla
 pub returns-else-moves_directory-clause-allowed : goal.returns-else-moves_directory-clause-allowed
 returns-else-moves_directory-clause-allowed g c = λ entry kind. target_file (moment (g.F.Flash.device c.args.flash.now) c.args.self.now) c.args.root c.args.path.now c.requires.mounted c.requires.present _ c.in-File.head c.in-File.length c.in_ok-found.ensures.found c.in-File.is entry (kind ∙ c.if-moves_directory.false)
 
-pub returns-else-branch-gt0-clause-capacity : goal.returns-else-branch-gt0-clause-capacity
-returns-else-branch-gt0-clause-capacity g c = lacks_dir (moment (g.F.Flash.device c.args.flash.now) c.args.self.now) c.args.root c.args.path.now c.requires.mounted c.requires.present _ c.in-Dir.block c.in_ok-found.ensures.found c.in-Dir.is
+pub returns-else-branch-gt0-clause-room : goal.returns-else-branch-gt0-clause-room
+returns-else-branch-gt0-clause-room g c = lacks_dir (moment (g.F.Flash.device c.args.flash.now) c.args.self.now) c.args.root c.args.path.now c.requires.mounted c.requires.present _ c.in-Dir.block c.in_ok-found.ensures.found c.in-Dir.is
 
 pub returns-else-branch-gt0-clause-fits : goal.returns-else-branch-gt0-clause-fits
 returns-else-branch-gt0-clause-fits g c = λ few. room_by (node_of (g.F.Flash.device c.args.flash.now)) c.args.root c.args.path.now _ (found.Dir c.in-Dir.block) c.in_ok-found.ensures.found c.in-Dir.is refl

@@ -1,4 +1,4 @@
-use Rattle.std.proofs.Common.{ap, ◌∙◌}
+use Rattle.std.proofs.Common.{ap, sym, ◌∙◌}
 use Rattle.std.proofs.lemmas.Result.{err_from_is_err_and}
 use Rattle.flash_model.specs.declared.sizes.Geometry.{Geometry}
 use Rattle.working_state.specs.Fresh.{unused_ring}
@@ -10,7 +10,7 @@ returns-clause-begun g c =
     let storage = c.in_ok-storage.ensures in
     let root = c.in_ok-root.ensures in
     written_begun (g.F.Flash.device c.args.flash.now) c.args.bad c.args.limit c.in_ok-storage.storage (g.F.Flash.device c.write_root.new.flash) c.write_root.new.storage c.in_ok-history.history c.new-2.result c.in_ok-root.root c.requires.lawful
-    storage.bad (storage.ring ∙ ap (λ (g : Geometry). unused_ring g.blocks) c.geometry.ensures) (storage.page_len ∙ ap (λ (g : Geometry). g.page) c.geometry.ensures) (rw c.geometry.ensures at storage.node_room)
+    storage.bad (storage.ring ∙ ap (λ (g : Geometry). unused_ring g.blocks) c.geometry.ensures) (storage.fits (g.F.Flash.device c.args.flash.now) (sym c.geometry.ensures))
     root.written root.kept root.empty root.next c.requires.at_least c.in_ok-history.ensures.made c.new-2.ensures
 
 pub returns-in_err-root-clause-why : goal.returns-in_err-root-clause-why

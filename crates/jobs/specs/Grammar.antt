@@ -26,7 +26,11 @@ bare_top = record (new_app (codes "uffs")).top { no_binary_name = true; disable_
 abbrev pub bare_app : App
 bare_app = record (new_app (codes "uffs")) { top = bare_top }
 
+-- a program with the subcommands more that take an image alone
+abbrev pub with_image_apps : App → App
+with_image_apps app = with_subcommand (with_subcommand (with_subcommand (with_subcommand app
+    (image_app (codes "run")).top) (image_app (codes "check")).top) (image_app (codes "log")).top) (image_app (codes "df")).top
+
 -- the program
 abbrev pub uffs : App
-uffs = with_subcommand (with_subcommand (with_subcommand (with_subcommand (with_subcommand (with_subcommand bare_app
-    format_app.top) (image_app (codes "run")).top) (image_app (codes "check")).top) (image_app (codes "log")).top) (image_app (codes "df")).top) (new_app (codes "memory")).top
+uffs = with_subcommand (with_image_apps (with_subcommand bare_app format_app.top)) (new_app (codes "memory")).top

@@ -1,8 +1,8 @@
 //! The words of `uffs`: its subcommands, their arguments, and the texts of its help.
 ghost use Rattle.std.specs.Prelude.{◌≡◌, IfOk, codes, false};
-ghost use Rattle.clap.specs.Words.{app_of, rule_of, new_app};
+ghost use Rattle.clap.specs.Words.{app_of, rule_of, new_app, with_subcommand};
 ghost use Rattle.clap.specs.declared.builder.command.Command.TheViews.{out-Command};
-ghost use Rattle.jobs.specs.Grammar.{uffs, bare_app, format_app, image_app, number_rule};
+ghost use Rattle.jobs.specs.Grammar.{uffs, bare_app, format_app, image_app, with_image_apps, number_rule};
 
 use clap::{Arg, ArgAction, Command, value_parser};
 use std::alloc::{AllocError, Global};
@@ -74,33 +74,55 @@ Example: echo 'df' | uffs memory";
 pub(crate) fn program<'a>(alloc: Global) -> Result<Command<'a>, AllocError>
     ensures { IfOk result (λ command. app_of command ≡ uffs) }
 {
-    bare_program(alloc)
-        .subcommand(format_command(alloc)?)?
-        .subcommand(image_command(
-            alloc,
-            "run",
-            "Runs the script on standard input on an image",
-            RUN_HELP,
-        )?)?
-        .subcommand(image_command(
-            alloc,
-            "check",
-            "Tells whether an image can be mounted",
-            CHECK_HELP,
-        )?)?
-        .subcommand(image_command(
-            alloc,
-            "log",
-            "Prints the versions and checkpoints of an image",
-            LOG_HELP,
-        )?)?
-        .subcommand(image_command(
-            alloc,
-            "df",
-            "Prints how many blocks of an image are free",
-            DF_HELP,
-        )?)?
-        .subcommand(memory_command(alloc))
+    let program = bare_program(alloc).subcommand(format_command(alloc)?)?;
+    with_image_commands(alloc, program)?.subcommand(memory_command(alloc))
+}
+
+/// The program with the subcommands more that take an image alone.
+fn with_image_commands<'a>(alloc: Global, program: Command<'a>) -> Result<Command<'a>, AllocError>
+    ensures { IfOk result (λ command. app_of command ≡ with_image_apps (app_of program.entry)) }
+{
+    let program = with_image_command(
+        alloc,
+        program,
+        "run",
+        "Runs the script on standard input on an image",
+        RUN_HELP,
+    )?;
+    let program = with_image_command(
+        alloc,
+        program,
+        "check",
+        "Tells whether an image can be mounted",
+        CHECK_HELP,
+    )?;
+    let program = with_image_command(
+        alloc,
+        program,
+        "log",
+        "Prints the versions and checkpoints of an image",
+        LOG_HELP,
+    )?;
+    with_image_command(
+        alloc,
+        program,
+        "df",
+        "Prints how many blocks of an image are free",
+        DF_HELP,
+    )
+}
+
+/// The program with a subcommand more that takes an image.
+fn with_image_command<'a>(
+    alloc: Global,
+    program: Command<'a>,
+    name: &'a str,
+    about: &'a str,
+    help: &'a str,
+) -> Result<Command<'a>, AllocError>
+    ensures { IfOk result (λ command. app_of command ≡ with_subcommand (app_of program.entry) (image_app name.entry.now).top) }
+{
+    program.subcommand(image_command(alloc, name, about, help)?)
 }
 
 /// The program before its subcommands.

@@ -175,7 +175,7 @@ committed_is_newest d r sequence bad same is = (
 pub reads_may_commit : (d e : Device) (bad : set.FinSet nat_cmp) (anchors : Anchors) → OnlyReads d e → MayCommit d bad anchors → MayCommit e bad anchors
 reads_may_commit d e bad anchors reads ready = still_may_commit d e bad bad anchors reads.geometry (λ p lt i. (reads.pages i) p) (λ b is. is) ready
 
-reads_keep : (g : Geometry) (was now : ℕ → Page) → now ≡ was → Keeps g was now
+pub reads_keep : (g : Geometry) (was now : ℕ → Page) → now ≡ was → Keeps g was now
 reads_keep g was now same = subst (λ (pages : ℕ → Page). Keeps g was pages) (sym same) (Keeps_itself g was)
 
 pub reads_commit : (d e : Device) (r : Record) (sequence : ℕ) (bad : set.FinSet nat_cmp) (fault : Fault) → OnlyReads d e → Commits {T = Unit {0}} d.pages e.pages r sequence bad (Err fault)

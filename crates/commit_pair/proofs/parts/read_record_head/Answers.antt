@@ -32,3 +32,8 @@ returns-then-branch-clause-only_reads g c =
 pub returns-else-branch-clause-only_reads : goal.returns-else-branch-clause-only_reads
 returns-else-branch-clause-only_reads g c =
     OnlyReads_on (g.F.Flash.device c.args.flash.now) (g.F.Flash.device c.read_head.new.flash) (g.F.Flash.device c.has_parts.new.flash) c.in_ok-first.ensures.only_reads c.in_ok-has_parts.ensures.only_reads
+
+pub returns-in_err-first-clause-why : goal.returns-in_err-first-clause-why
+returns-in_err-first-clause-why g c =
+    let p = err_from_is_err_and c.from_residual.result c.from_residual.ensures.1 in
+    rw (p.1, p.2) c.in_err-first.ensures.why

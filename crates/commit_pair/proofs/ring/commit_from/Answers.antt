@@ -1,8 +1,9 @@
 use Rattle.std.proofs.Common.{ℕ, ◌/◌, ap, ◌∙◌}
+use Rattle.std.proofs.lemmas.Result.{err_from_is_err_and}
 use Rattle.std.proofs.lemmas.Nat.{div-mul-add}
 use Rattle.commit_pair.proofs.Anchoring.{OnlyAnchors_on}
 use Rattle.commit_pair.proofs.Asking.{begun_next, elsewhere_next}
-use Rattle.commit_pair.proofs.Following.{spared, older_on, Commits_on, refused_on}
+use Rattle.commit_pair.proofs.Following.{spared, cut_attempt, older_on, Commits_on, refused_on}
 use Rattle.commit_pair.proofs.ring.commit_from.Goals as goal
 
 pub commit_next-requires-clause-spares : goal.commit_next-requires-clause-spares
@@ -49,3 +50,35 @@ returns-clause-elsewhere g c =
     let first = c.in_ok-tried.ensures in
     elsewhere_next c.args.saved.now.geometry (g.F.Flash.device c.args.flash.now) (g.F.Flash.device c.commit_after.new.flash) (g.F.Flash.device c.commit_next.new.flash) c.args.home c.commit_next.result
     first.only_anchors.geometry (rw c.in_default.is at first.tried) c.commit_next.ensures.asked
+
+pub commit_next-requires-clause-same : goal.commit_next-requires-clause-same
+commit_next-requires-clause-same g c = c.in_ok-tried.ensures.only_anchors.geometry ∙ c.requires.same
+
+pub returns-clause-stands : goal.returns-clause-stands
+returns-clause-stands g c = c.commit_next.ensures.stands
+
+pub returns-clause-open : goal.returns-clause-open
+returns-clause-open g c = c.commit_next.ensures.open
+
+pub returns-clause-why : goal.returns-clause-why
+returns-clause-why g c = c.commit_next.ensures.why
+
+pub returns-in-Some-clause-commits : goal.returns-in-Some-clause-commits
+returns-in-Some-clause-commits g c = (rw c.in-Some.is at c.in_ok-tried.ensures.attempts).0
+
+pub returns-in-Some-clause-stands : goal.returns-in-Some-clause-stands
+returns-in-Some-clause-stands g c = (rw c.in-Some.is at c.in_ok-tried.ensures.attempts).1
+
+pub returns-in-Some-clause-begun : goal.returns-in-Some-clause-begun
+returns-in-Some-clause-begun g c = λ here. rw c.in-Some.is at c.in_ok-tried.ensures.asked
+
+pub returns-in-Some-clause-only_anchors : goal.returns-in-Some-clause-only_anchors
+returns-in-Some-clause-only_anchors g c = c.in_ok-tried.ensures.only_anchors
+
+pub returns-in_err-tried-clause-only_anchors : goal.returns-in_err-tried-clause-only_anchors
+returns-in_err-tried-clause-only_anchors g c = c.in_err-tried.ensures.only_anchors
+
+pub returns-in_err-tried-clause-commits : goal.returns-in_err-tried-clause-commits
+returns-in_err-tried-clause-commits g c =
+    let p = err_from_is_err_and c.from_residual.result c.from_residual.ensures.1 in
+    rw (p.1, p.2, c.in_err-tried.ensures.why.0) (cut_attempt (g.F.Flash.device c.args.flash.now).pages (g.F.Flash.device c.commit_after.new.flash).pages c.args.saved.now c.args.sequence c.commit_after.new.bad c.in_err-tried.field-0.0 c.in_err-tried.ensures.attempts)

@@ -1,8 +1,8 @@
-use Rattle.std.proofs.Common.{◌+◌, ◌%◌, arith}
+use Rattle.std.proofs.Common.{◌+◌, ◌%◌, refl, ◌∙◌, arith}
 use Rattle.std.proofs.lemmas.Result.{err_from_is_err_and}
-use Rattle.commit_pair.proofs.Anchoring.{OnlyAnchors_on}
-use Rattle.commit_pair.proofs.Asking.{Asked_later}
-use Rattle.commit_pair.proofs.Sparing.{Keeps_on}
+use Rattle.commit_pair.proofs.Anchoring.{OnlyAnchors_itself, OnlyAnchors_on}
+use Rattle.commit_pair.proofs.Asking.{Asked_itself, Asked_later}
+use Rattle.commit_pair.proofs.Sparing.{Keeps_itself, Keeps_on}
 use Rattle.commit_pair.proofs.Following.{Untouched_on, spared, older_on, cut_attempt, either_on, one_more_tried, next_is, all_tried}
 use Rattle.commit_pair.proofs.ring.commit_next.Goals as goal
 
@@ -71,3 +71,42 @@ loop-step-preserved g c =
 pub returns-clause-why : goal.returns-clause-why
 returns-clause-why g c =
     all_tried c.loop-step.bad c.args.home c.requires.home (λ k some lt. c.loop-step.invariant.tried k some (let h = c.loop-step-test.false in omega arith))
+
+pub loop-step-init : goal.loop-step-init
+loop-step-init g c =
+    let old = g.F.Flash.device c.args.flash.now in
+    record {
+      only_anchors = OnlyAnchors_itself old c.args.bad.now;
+      asked = Asked_itself old;
+      keeps = Keeps_itself c.args.saved.now.geometry old.pages;
+      untouched = λ p good. refl;
+      tried = λ k some below. absurd (omega arith);
+      room = c.requires.room;
+    }
+
+pub commit_anew-requires-clause-same : goal.commit_anew-requires-clause-same
+commit_anew-requires-clause-same g c = c.loop-step.invariant.only_anchors.geometry ∙ c.requires.same
+
+pub returns-clause-commits : goal.returns-clause-commits
+returns-clause-commits g c = c.loop-step.invariant.keeps
+
+pub returns-clause-untouched : goal.returns-clause-untouched
+returns-clause-untouched g c = λ on. c.loop-step.invariant.untouched
+
+pub returns-clause-only_anchors : goal.returns-clause-only_anchors
+returns-clause-only_anchors g c = c.loop-step.invariant.only_anchors
+
+pub returns-then-is_read_only-clause-commits : goal.returns-then-is_read_only-clause-commits
+returns-then-is_read_only-clause-commits g c = c.loop-step.invariant.keeps
+
+pub returns-then-is_read_only-clause-untouched : goal.returns-then-is_read_only-clause-untouched
+returns-then-is_read_only-clause-untouched g c = λ on. c.loop-step.invariant.untouched
+
+pub returns-then-is_read_only-clause-only_anchors : goal.returns-then-is_read_only-clause-only_anchors
+returns-then-is_read_only-clause-only_anchors g c = c.loop-step.invariant.only_anchors
+
+pub returns-in-Some-clause-commits : goal.returns-in-Some-clause-commits
+returns-in-Some-clause-commits g c = (rw c.in-Some.is at c.in_ok-tried.ensures.attempts).0
+
+pub returns-in-Some-clause-stands : goal.returns-in-Some-clause-stands
+returns-in-Some-clause-stands g c = (rw c.in-Some.is at c.in_ok-tried.ensures.attempts).1

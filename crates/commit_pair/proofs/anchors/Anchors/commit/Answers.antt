@@ -1,9 +1,10 @@
-use Rattle.std.proofs.Common.{◌+◌}
+use Rattle.std.proofs.Common.{◌+◌, ◌∙◌}
 use Rattle.std.proofs.lemmas.Result.{err_from_is_err_and}
 use Rattle.commit_pair.specs.Parts.{greatest_on}
+use Rattle.commit_pair.proofs.Anchoring.{OnlyAnchors_on}
 use Rattle.commit_pair.proofs.Asking.{placed_after}
-use Rattle.commit_pair.proofs.Beginning.{above_all, reads_only_anchors, reads_untouched, reads_may_commit, reads_commit}
-use Rattle.commit_pair.proofs.Following.{refused_on}
+use Rattle.commit_pair.proofs.Beginning.{above_all, reads_only_anchors, reads_untouched, reads_may_commit, reads_keep, reads_commit}
+use Rattle.commit_pair.proofs.Following.{Commits_on, refused_on}
 use Rattle.commit_pair.proofs.anchors.Anchors.commit.Goals as goal
 
 pub commit_as-requires-clause-older : goal.commit_as-requires-clause-older
@@ -42,3 +43,45 @@ returns-then-greatest-clause-ready g c = λ on.
 pub commit_as-requires-clause-ready : goal.commit_as-requires-clause-ready
 commit_as-requires-clause-ready g c =
     reads_may_commit (g.F.Flash.device c.args.flash.now) (g.F.Flash.device c.greatest.new.flash) c.args.bad.now c.args.self.now c.in_ok-greatest.ensures.only_reads c.requires.ready
+
+pub returns-in_err-greatest-clause-only_anchors : goal.returns-in_err-greatest-clause-only_anchors
+returns-in_err-greatest-clause-only_anchors g c =
+    reads_only_anchors (g.F.Flash.device c.args.flash.now) (g.F.Flash.device c.greatest.new.flash) c.args.bad.now c.in_err-greatest.ensures.only_reads
+
+pub returns-then-greatest-clause-only_anchors : goal.returns-then-greatest-clause-only_anchors
+returns-then-greatest-clause-only_anchors g c =
+    reads_only_anchors (g.F.Flash.device c.args.flash.now) (g.F.Flash.device c.greatest.new.flash) c.args.bad.now c.in_ok-greatest.ensures.only_reads
+
+pub returns-then-greatest-clause-untouched : goal.returns-then-greatest-clause-untouched
+returns-then-greatest-clause-untouched g c = λ on.
+    reads_untouched (g.F.Flash.device c.args.flash.now) (g.F.Flash.device c.greatest.new.flash) c.args.bad.now c.in_ok-greatest.ensures.only_reads
+
+pub returns-then-greatest-clause-commits : goal.returns-then-greatest-clause-commits
+returns-then-greatest-clause-commits g c = reads_keep c.args.saved.now.geometry _ _ c.in_ok-greatest.ensures.only_reads.pages
+
+pub commit_as-requires-clause-same : goal.commit_as-requires-clause-same
+commit_as-requires-clause-same g c = c.in_ok-greatest.ensures.only_reads.geometry ∙ c.requires.same
+
+pub returns-clause-only_anchors : goal.returns-clause-only_anchors
+returns-clause-only_anchors g c =
+    let old = g.F.Flash.device c.args.flash.now in
+    let mid = g.F.Flash.device c.greatest.new.flash in
+    OnlyAnchors_on old mid (g.F.Flash.device c.commit_as.new.flash) c.args.bad.now c.args.bad.now c.commit_as.new.bad (reads_only_anchors old mid c.args.bad.now c.in_ok-greatest.ensures.only_reads) c.commit_as.ensures.only_anchors
+
+pub returns-clause-commits : goal.returns-clause-commits
+returns-clause-commits g c =
+    let reads = c.in_ok-greatest.ensures.only_reads in
+    rw (← c.in_ok-greatest.ensures.greatest) (Commits_on (g.F.Flash.device c.args.flash.now).pages (g.F.Flash.device c.greatest.new.flash).pages (g.F.Flash.device c.commit_as.new.flash).pages c.args.saved.now (c.in_ok-greatest.greatest + 1) c.commit_as.new.bad c.commit_as.result
+    (reads_keep c.args.saved.now.geometry _ _ reads.pages) c.commit_as.ensures.commits)
+
+pub returns-clause-ready : goal.returns-clause-ready
+returns-clause-ready g c = c.commit_as.ensures.ready
+
+pub returns-clause-open : goal.returns-clause-open
+returns-clause-open g c = c.commit_as.ensures.open
+
+pub returns-clause-known : goal.returns-clause-known
+returns-clause-known g c = c.commit_as.ensures.known
+
+pub returns-clause-same : goal.returns-clause-same
+returns-clause-same g c = c.commit_as.ensures.same

@@ -55,6 +55,16 @@ pub struct Counts {
     pub most_free: u64,
 }
 
+impl Counts {
+    fn add_answer(&mut self, is_accepted: bool) {
+        if is_accepted {
+            add(&mut self.accepted, 1);
+        } else {
+            add(&mut self.refused, 1);
+        }
+    }
+}
+
 /// A system on a flash, and the plain machine beside it.
 #[derive(Drop)]
 pub struct Load {
@@ -89,23 +99,44 @@ impl Load {
         text_of(alloc, self.mounted.call(alloc, &Call::Df))
     }
 
-    /// Carries out the line of a number, and what comes beside it. A call that finds the flash full is
-    /// asked once more after all older versions are forgotten.
+    /// Carries out the line of a number, and what comes beside it.
     pub fn turn(&mut self, alloc: Global, number: u64, line: &str) -> Result<()> {
-        let Line::Call(call) = read_line(alloc, line.as_bytes())? else {
-            bail!("no call");
-        };
-        if !self.ask(alloc, &call)? {
-            let (_, older) = self.log(alloc)?;
-            self.ask(alloc, &Call::Forget { count: older })?;
-            self.ask(alloc, &call)?;
-        }
+        self.carry_out(alloc, line)?;
         self.mounted.reclaim_step(alloc, 4)?;
-        for (_, kind) in FAULTS.iter().filter(|(after, _)| *after == number) {
-            self.mounted.plan_fault(*kind)?;
-        }
+        self.plan_faults(number)?;
         if number % 50 == 0 {
             self.sync(alloc)?;
+        }
+        Ok(())
+    }
+
+    /// Carries out a line.
+    fn carry_out(&mut self, alloc: Global, line: &str) -> Result<()> {
+        let call = call_of(alloc, line)?;
+        self.ask_with_room(alloc, &call)
+    }
+
+    /// Asks a call, and once more after all older versions are forgotten if it finds the flash full.
+    fn ask_with_room(&mut self, alloc: Global, call: &Call) -> Result<()> {
+        if !self.ask(alloc, call)? {
+            let (_, older) = self.log(alloc)?;
+            self.forget(alloc, older)?;
+            self.ask(alloc, call)?;
+        }
+        Ok(())
+    }
+
+    /// Asks to forget so many versions.
+    fn forget(&mut self, alloc: Global, count: u64) -> Result<bool> {
+        self.ask(alloc, &Call::Forget { count })
+    }
+
+    /// Plans the faults that come after the line of a number.
+    fn plan_faults(&mut self, number: u64) -> Result<()> {
+        for (after, kind) in &FAULTS {
+            if *after == number {
+                self.mounted.plan_fault(*kind)?;
+            }
         }
         Ok(())
     }
@@ -140,21 +171,18 @@ impl Load {
         call: &Call,
         answer: Result<Reply, Fault>,
     ) -> Result<bool> {
-        if answer.is_ok() {
-            add(&mut self.counts.accepted, 1);
-        } else {
-            add(&mut self.counts.refused, 1);
-        }
+        self.counts.add_answer(answer.is_ok());
+        let flash = text_of(alloc, answer)?;
+        self.compare_text(alloc, call, flash.as_str())
+    }
+
+    /// Asks the plain machine, whose answer has to be printed as this text. Whether the call made a
+    /// version.
+    fn compare_text(&mut self, alloc: Global, call: &Call, flash: &str) -> Result<bool> {
         let (before, _) = self.log(alloc)?;
         let plain = text_of(alloc, self.plain.step(alloc, NO_SPACE, call))?;
+        check_same(flash, plain.as_str())?;
         let (after, _) = self.log(alloc)?;
-        let flash = text_of(alloc, answer)?;
-        ensure!(
-            flash == plain,
-            "answered {}, and by the plain machine {}",
-            flash.trim_end(),
-            plain.trim_end()
-        );
         Ok(before != after)
     }
 
@@ -179,10 +207,10 @@ impl Load {
             add(&mut self.counts.written, taken.erased);
             add(&mut self.counts.needed, allowed);
         }
+        let erased = taken.erased;
         ensure!(
-            taken.erased <= allowed,
-            "{} blocks erased of {allowed} allowed",
-            taken.erased
+            erased <= allowed,
+            "{erased} blocks erased of {allowed} allowed"
         );
         Ok(())
     }
@@ -237,15 +265,42 @@ impl Load {
             return Ok((0, 0));
         };
         let depth = depth(path);
-        let call = Call::Stat {
-            view: View::Present,
-            path: path.clone()?,
-        };
-        match self.plain.step(alloc, NO_SPACE, &call)? {
-            Reply::Stat(Stat::File(length)) => Ok((depth, length)),
+        let path = path.clone()?;
+        Ok((depth, self.length_of(alloc, path)?))
+    }
+
+    /// The length of the file at a path.
+    fn length_of(&mut self, alloc: Global, path: Path) -> Result<u64> {
+        match self.stat(alloc, path)? {
+            Reply::Stat(Stat::File(length)) => Ok(length),
             _ => bail!("no file is open"),
         }
     }
+
+    /// What stands at a path.
+    fn stat(&mut self, alloc: Global, path: Path) -> Result<Reply, Fault> {
+        let view = View::Present;
+        self.plain.step(alloc, NO_SPACE, &Call::Stat { view, path })
+    }
+}
+
+/// The call that a line asks.
+fn call_of(alloc: Global, line: &str) -> Result<Call> {
+    match read_line(alloc, line.as_bytes())? {
+        Line::Call(call) => Ok(call),
+        _ => bail!("no call"),
+    }
+}
+
+/// The text of an answer has to be that of the plain machine's.
+fn check_same(flash: &str, plain: &str) -> Result<()> {
+    ensure!(
+        flash == plain,
+        "answered {}, and by the plain machine {}",
+        flash.trim_end(),
+        plain.trim_end()
+    );
+    Ok(())
 }
 
 fn depth(path: &Path) -> u64 {

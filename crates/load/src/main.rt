@@ -11,20 +11,37 @@ mod plan;
 use anyhow::{Context, Result};
 use load::{Counts, Load};
 use plan::Plan;
+use std::alloc::Global;
 
 /// How many lines of the plan are carried out.
 const LINES: u64 = 20_000;
 
 fn main(rt: HostRuntime) -> Result<()> {
     let mut load = Load::new(rt.alloc())?;
+    run(&rt, &mut load)
+}
+
+/// Carries out the plan, and tells what came of it.
+fn run<R: AllocGlobal + Print>(rt: &R, load: &mut Load) -> Result<()> {
+    carry_out(rt.alloc(), load)?;
+    let space = load.space(rt.alloc())?;
+    tell(rt, load.counts(), space.as_str())
+}
+
+/// Carries out the lines of the plan.
+fn carry_out(alloc: Global, load: &mut Load) -> Result<()> {
     let mut plan = Plan::new();
     for number in 1..=LINES {
-        let line = plan.next_line(rt.alloc(), number)?;
-        load.turn(rt.alloc(), number, line.as_str())
-            .context(format_args!("line {number}: {line}"))?;
+        let line = plan.next_line(alloc, number)?;
+        turn(alloc, load, number, line.as_str())?;
     }
-    let space = load.space(rt.alloc())?;
-    tell(&rt, load.counts(), space.as_str())
+    Ok(())
+}
+
+/// Carries out the line of a number; an error tells which it was.
+fn turn(alloc: Global, load: &mut Load, number: u64, line: &str) -> Result<()> {
+    load.turn(alloc, number, line)
+        .context(format_args!("line {number}: {line}"))
 }
 
 /// Tells what was counted, and what is bad and free at the end.

@@ -24,7 +24,7 @@ count_alike p q a (suc n) alike =
     ∙ sym (sum_by-cons (λ c. one_if (q c)) a (range_with_len (a + 1) n))
 
 -- a test that fails at one more place counts one less
-count_less : (p q : ℕ → Bool) (a n b : ℕ) → a ≤ b → b < a + n → p b ≡ true → q b ≡ false
+pub count_less : (p q : ℕ → Bool) (a n b : ℕ) → a ≤ b → b < a + n → p b ≡ true → q b ≡ false
     → ((c : ℕ) → c ≢ b → p c ≡ q c) → count_by q (range_with_len a n) + 1 ≡ count_by p (range_with_len a n)
 count_less p q a zero b low high passes fails others = absurd (omega arith)
 count_less p q a (suc n) b low high passes fails others =

@@ -316,97 +316,102 @@ fn folder_of<R: Files>(rt: &R, alloc: Global, top: &str, id: u32) -> Result<Stri
     Ok(name)
 }
 
-#[test]
-fn files_of_the_host_are_replaced_whole(rt: HostRuntime) -> Result<(), Fail> {
-    let alloc = rt.alloc();
-    let top = env::temp_dir(&rt)?;
-    let folder = folder_of(&rt, alloc, top.as_str(), process::id(rt.process()))?;
-    let name = format!(in alloc; "{folder}/x")?;
-    let new_name = format!(in alloc; "{folder}/x.new")?;
-    let mut files = HostFiles::new(&rt);
+/// Asserts that an image is told as one that cannot be read.
+fn assert_unread<R: Abort, F: ImageFiles>(
+    rt: &R,
+    files: &mut F,
+    alloc: Global,
+    name: &str,
+) -> Result<(), Fail> {
     let unread = format!(in alloc; "uffs: cannot read {name}\n")?;
-    let run = ["run", name.as_str()];
+    let wanted = (1, "", unread.as_str());
+    assert_call(rt, files, alloc, &["run", name], "ls /\n", wanted)
+}
+
+/// Asserts that an image is told as one that cannot be written.
+fn assert_unwritten<R: Abort, F: ImageFiles>(
+    rt: &R,
+    files: &mut F,
+    alloc: Global,
+    name: &str,
+) -> Result<(), Fail> {
+    let unwritten = format!(in alloc; "uffs: cannot write {name}\n")?;
+    let wanted = (1, "", unwritten.as_str());
+    assert_call(rt, files, alloc, &["format", name], "", wanted)
+}
+
+/// Asserts what comes of an image that is made, written and looked at.
+fn assert_kept<R: Abort, F: ImageFiles>(
+    rt: &R,
+    files: &mut F,
+    alloc: Global,
+    name: &str,
+) -> Result<(), Fail> {
+    let run = ["run", name];
     assert_call(
-        &rt,
-        &mut files,
-        alloc,
-        &run,
-        "ls /\n",
-        (1, "", unread.as_str()),
-    )?;
-    assert_call(
-        &rt,
-        &mut files,
-        alloc,
-        &["format", name.as_str()],
-        "",
-        (0, "", ""),
-    )?;
-    assert_eq!(rt;
-        fs::read(&rt, name.as_str())?.as_slice(),
-        fresh_image(alloc)?.as_slice()
-    );
-    assert_call(
-        &rt,
-        &mut files,
+        rt,
+        files,
         alloc,
         &run,
         "mkdir /a\nsync\n",
         (0, "ok\nok\n", ""),
     )?;
-    assert_call(
-        &rt,
-        &mut files,
-        alloc,
-        &run,
-        "ls /\n",
-        (0, "entries 1 a/\n", ""),
-    )?;
-    assert!(rt; !fs::exists(&rt, new_name.as_str())?);
+    assert_call(rt, files, alloc, &run, "ls /\n", (0, "entries 1 a/\n", ""))
+}
+
+/// Asserts that a file of the host is made and replaced, with no other left behind.
+fn assert_replaced<R: Abort + Files + AllocGlobal>(
+    rt: &R,
+    alloc: Global,
+    name: &str,
+) -> Result<(), Fail> {
+    let mut files = HostFiles::new(rt);
+    assert_unread(rt, &mut files, alloc, name)?;
+    assert_call(rt, &mut files, alloc, &["format", name], "", (0, "", ""))?;
+    let fresh = fresh_image(alloc)?;
+    assert_eq!(rt; fs::read(rt, name)?.as_slice(), fresh.as_slice());
+    assert_kept(rt, &mut files, alloc, name)?;
+    let new_name = format!(in alloc; "{name}.new")?;
+    assert!(rt; !fs::exists(rt, new_name.as_str())?);
+    Ok(())
+}
+
+#[test]
+fn files_of_the_host_are_replaced_whole(rt: HostRuntime) -> Result<(), Fail> {
+    let top = env::temp_dir(&rt)?;
+    let id = process::id(rt.process());
+    let folder = folder_of(&rt, rt.alloc(), top.as_str(), id)?;
+    let name = format!(in rt.alloc(); "{folder}/x")?;
+    assert_replaced(&rt, rt.alloc(), name.as_str())?;
     fs::remove_dir_all(&rt, folder.as_str())?;
+    Ok(())
+}
+
+/// Asserts that a folder is never replaced, nor the one that stands at the new file's name.
+fn assert_folders_stay<R: Abort + Files + AllocGlobal>(
+    rt: &R,
+    alloc: Global,
+    folder: &str,
+) -> Result<(), Fail> {
+    let mut files = HostFiles::new(rt);
+    let new_folder = format!(in alloc; "{folder}.new")?;
+    assert_unwritten(rt, &mut files, alloc, folder)?;
+    assert!(rt; !fs::exists(rt, new_folder.as_str())?);
+    fs::create_dir(rt, new_folder.as_str())?;
+    assert_unwritten(rt, &mut files, alloc, folder)?;
+    assert!(rt; fs::exists(rt, new_folder.as_str())?);
+    fs::remove_dir_all(rt, new_folder.as_str())?;
     Ok(())
 }
 
 #[test]
 fn files_that_cannot_be_written_are_told(rt: HostRuntime) -> Result<(), Fail> {
-    let alloc = rt.alloc();
     let top = env::temp_dir(&rt)?;
-    let folder = folder_of(&rt, alloc, top.as_str(), process::id(rt.process()))?;
-    let mut files = HostFiles::new(&rt);
-    let missing = format!(in alloc; "{folder}/none/x")?;
-    let unwritten = format!(in alloc; "uffs: cannot write {missing}\n")?;
-    let wanted = (1, "", unwritten.as_str());
-    assert_call(
-        &rt,
-        &mut files,
-        alloc,
-        &["format", missing.as_str()],
-        "",
-        wanted,
-    )?;
-    let new_folder = format!(in alloc; "{folder}.new")?;
-    let unwritten = format!(in alloc; "uffs: cannot write {folder}\n")?;
-    let wanted = (1, "", unwritten.as_str());
-    assert_call(
-        &rt,
-        &mut files,
-        alloc,
-        &["format", folder.as_str()],
-        "",
-        wanted,
-    )?;
-    assert!(rt; !fs::exists(&rt, new_folder.as_str())?);
-    fs::create_dir(&rt, new_folder.as_str())?;
-    assert_call(
-        &rt,
-        &mut files,
-        alloc,
-        &["format", folder.as_str()],
-        "",
-        wanted,
-    )?;
-    assert!(rt; fs::exists(&rt, new_folder.as_str())?);
-    fs::remove_dir_all(&rt, new_folder.as_str())?;
+    let id = process::id(rt.process());
+    let folder = folder_of(&rt, rt.alloc(), top.as_str(), id)?;
+    let missing = format!(in rt.alloc(); "{folder}/none/x")?;
+    assert_unwritten(&rt, &mut HostFiles::new(&rt), rt.alloc(), missing.as_str())?;
+    assert_folders_stay(&rt, rt.alloc(), folder.as_str())?;
     fs::remove_dir_all(&rt, folder.as_str())?;
     Ok(())
 }

@@ -1,4 +1,7 @@
 //! Steps of reclaiming, with ample memory: what they answer, and which blocks are used then.
+ghost use Rattle.flash_model.specs.Simulation.{device_of};
+ghost use Rattle.upkeep.specs.Systems.{IsSystem};
+
 use crate::mounts::{formatted, told};
 use flash_model::{Geometry, SimFlash};
 use fs_types::{Call, Fault, Path};
@@ -26,13 +29,27 @@ fn used_blocks(alloc: Global, system: &System) -> Result<Vec<u32>, AllocError> {
         .collect(alloc)
 }
 
+/// Makes a directory on a system.
+fn make_directory(
+    alloc: Global,
+    flash: &mut SimFlash,
+    system: &mut System,
+    path: &[u8],
+) -> Result<(), Fault>
+    requires { IsSystem (device_of flash.old) system.old }
+    ensures { IsSystem (device_of flash.new) system.new }
+{
+    system.call(alloc, flash, &mkdir(alloc, path)?)?;
+    Ok(())
+}
+
 /// What two steps answer, with a directory made before each, and the blocks that are used then.
 fn steps_across_a_change(alloc: Global) -> Result<(bool, bool, Vec<u32>), Fault> {
     let mut flash = formatted(alloc, SIZES, 8)?;
     let mut system = mount(alloc, &mut flash)?;
-    system.call(alloc, &mut flash, &mkdir(alloc, b"/a")?)?;
+    make_directory(alloc, &mut flash, &mut system, b"/a")?;
     let first = system.reclaim_step(alloc, &mut flash, 2)?;
-    system.call(alloc, &mut flash, &mkdir(alloc, b"/b")?)?;
+    make_directory(alloc, &mut flash, &mut system, b"/b")?;
     let second = system.reclaim_step(alloc, &mut flash, 1)?;
     Ok((first, second, used_blocks(alloc, &system)?))
 }
@@ -46,28 +63,44 @@ fn blocks_that_are_taken_meanwhile_stay(rt: HostRuntime) -> Result<(), Fail> {
     Ok(())
 }
 
-/// What a directory takes after a step, on a flash that was full until then: whether block 15, the last
-/// block, and how many pages are programmed.
-fn taken_after_a_step(alloc: Global) -> Result<(bool, u32, u64), Fault> {
-    let mut flash = formatted(
-        alloc,
-        Geometry {
-            blocks: 16,
-            ..SIZES
-        },
-        8,
-    )?;
-    let mut system = mount(alloc, &mut flash)?;
-    system.call(alloc, &mut flash, &mkdir(alloc, b"/a")?)?;
-    system.call(alloc, &mut flash, &mkdir(alloc, b"/b")?)?;
-    system.call(alloc, &mut flash, &mkdir(alloc, b"/c")?)?;
-    system.call(alloc, &mut flash, &Call::Forget { count: 3 })?;
-    let _is_done = system.reclaim_step(alloc, &mut flash, 5)?;
+/// Makes three directories on a system, and forgets the versions before the last of them.
+fn fill(alloc: Global, flash: &mut SimFlash, system: &mut System) -> Result<(), Fault>
+    requires { IsSystem (device_of flash.old) system.old }
+    ensures { IsSystem (device_of flash.new) system.new }
+{
+    make_directory(alloc, flash, system, b"/a")?;
+    make_directory(alloc, flash, system, b"/b")?;
+    make_directory(alloc, flash, system, b"/c")?;
+    system.call(alloc, flash, &Call::Forget { count: 3 })?;
+    Ok(())
+}
+
+/// What a directory takes: whether block 15, the last block, and how many pages are programmed.
+fn taken_by_a_directory(
+    alloc: Global,
+    flash: &mut SimFlash,
+    system: &mut System,
+) -> Result<(bool, u32, u64), Fault>
+    requires { IsSystem (device_of flash.old) system.old }
+{
     let before = flash.counts().programs;
-    system.call(alloc, &mut flash, &mkdir(alloc, b"/d")?)?;
+    make_directory(alloc, flash, system, b"/d")?;
     let ring = &system.state.storage.ring;
     let programs = flash.counts().programs.saturating_sub(before);
     Ok((ring.is_used(15), ring.last(), programs))
+}
+
+/// What a directory takes after a step, on a flash that was full until then.
+fn taken_after_a_step(alloc: Global) -> Result<(bool, u32, u64), Fault> {
+    let sizes = Geometry {
+        blocks: 16,
+        ..SIZES
+    };
+    let mut flash = formatted(alloc, sizes, 8)?;
+    let mut system = mount(alloc, &mut flash)?;
+    fill(alloc, &mut flash, &mut system)?;
+    let _is_done = system.reclaim_step(alloc, &mut flash, 5)?;
+    taken_by_a_directory(alloc, &mut flash, &mut system)
 }
 
 /// It takes the last block, and then the first one that no version and no record reaches. A page is

@@ -12,23 +12,34 @@ use flash_model::Counters;
 use measures::{MEASURES, SYNCED_DIRECTORIES, asked_by, asked_by_format, asked_by_mount};
 
 fn main(rt: HostRuntime) -> Result<()> {
-    println!(rt;
-        "{:<42}{:>7}{:>8}{:>10}{:>8}",
-        "call", "nodes", "reads", "programs", "erases"
-    )?;
-    for row in MEASURES {
-        let asked = asked_by(rt.alloc(), &row).context(row.name)?;
-        tell(&rt, row.name, row.nodes, asked)?;
-    }
-    tell(&rt, "format", 1, asked_by_format(rt.alloc())?)?;
-    tell(
+    println!(rt; "call                                        nodes   reads  programs  erases")?;
+    tell_calls(&rt)?;
+    tell_format(&rt)?;
+    tell_mount(&rt, "mount of an empty root", &[])?;
+    tell_mount(
         &rt,
-        "mount of an empty root",
-        0,
-        asked_by_mount(rt.alloc(), &[])?,
-    )?;
-    let synced = asked_by_mount(rt.alloc(), SYNCED_DIRECTORIES)?;
-    tell(&rt, "mount of five versions, 15 directories", 0, synced)
+        "mount of five versions, 15 directories",
+        SYNCED_DIRECTORIES,
+    )
+}
+
+/// Tells what each call asks.
+fn tell_calls<R: AllocGlobal + Print>(rt: &R) -> Result<()> {
+    for row in MEASURES {
+        let asked = asked_by(rt.alloc(), row).context(row.name)?;
+        tell(rt, row.name, row.nodes, asked)?;
+    }
+    Ok(())
+}
+
+/// Tells what a format asks.
+fn tell_format<R: AllocGlobal + Print>(rt: &R) -> Result<()> {
+    tell(rt, "format", 1, asked_by_format(rt.alloc())?)
+}
+
+/// Tells what a mount asks after these lines.
+fn tell_mount<R: AllocGlobal + Print>(rt: &R, name: &str, lines: &[&str]) -> Result<()> {
+    tell(rt, name, 0, asked_by_mount(rt.alloc(), lines)?)
 }
 
 /// Tells what was asked of a flash.

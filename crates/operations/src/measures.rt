@@ -1,8 +1,8 @@
 //! The calls that are measured.
 use crate::error::MeasureError;
 use crate::texts::{counts_after, formatted};
-use flash_model::Counters;
-use std::alloc::Global;
+use flash_model::{Counters, SimFlash};
+use std::alloc::{AllocError, Global};
 
 /// A call that is measured: what is called before, the call, and the nodes that it may write.
 #[derive(Clone, Copy)]
@@ -15,19 +15,40 @@ pub struct Measure {
 
 /// What a call asked of the flash, beyond what the calls before it asked.
 pub fn asked_by(alloc: Global, row: &Measure) -> Result<Counters, MeasureError> {
-    let before = counts_after(alloc, &mut formatted(alloc)?, row.before)?;
+    let before = counts_of(alloc, row.before)?;
+    let lines = lines_of(alloc, row)?;
+    let after = counts_of(alloc, &lines)?;
+    Ok(beyond(after, before))
+}
+
+/// The lines of a measure.
+fn lines_of(alloc: Global, row: &Measure) -> Result<Vec<&'static str>, AllocError> {
     let mut lines = Vec::new(alloc);
     lines.extend_from_slice(row.before)?;
     lines.push(row.call)?;
-    let after = counts_after(alloc, &mut formatted(alloc)?, &lines)?;
-    Ok(beyond(after, before))
+    Ok(lines)
+}
+
+/// What a format, a mount and these lines ask.
+fn counts_of(alloc: Global, lines: &[&str]) -> Result<Counters, MeasureError> {
+    let mut flash = formatted(alloc)?;
+    counts_after(alloc, &mut flash, lines)
 }
 
 /// What a mount asks of a flash on which these lines were carried out.
 pub fn asked_by_mount(alloc: Global, lines: &[&str]) -> Result<Counters, MeasureError> {
     let mut flash = formatted(alloc)?;
-    let before = counts_after(alloc, &mut flash, lines)?;
-    let after = counts_after(alloc, &mut flash, &[])?;
+    asked_by_second_mount(alloc, &mut flash, lines)
+}
+
+/// Carries out lines on a flash, and answers what a mount asks after them.
+fn asked_by_second_mount(
+    alloc: Global,
+    flash: &mut SimFlash,
+    lines: &[&str],
+) -> Result<Counters, MeasureError> {
+    let before = counts_after(alloc, flash, lines)?;
+    let after = counts_after(alloc, flash, &[])?;
     Ok(beyond(after, before))
 }
 
@@ -71,7 +92,7 @@ const LONG_RECORD: &[&str] = &[
 pub const SYNCED_DIRECTORIES: &[&str] = &["deep 4", "sync"];
 
 /// The calls, with the most nodes that each may write.
-pub const MEASURES: [Measure; 24] = [
+pub const MEASURES: &[Measure] = &[
     Measure {
         name: "mkdir at depth 1",
         before: &[],

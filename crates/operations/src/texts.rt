@@ -3,7 +3,7 @@ use crate::error::MeasureError;
 use flash_model::{Counters, Geometry, SimFlash};
 use fs_types::{Call, Path, Sequence};
 use script::{Line, read_line};
-use std::alloc::Global;
+use std::alloc::{AllocError, Global};
 use undofs::{Fs, format};
 
 /// Room for a file of 1 MiB many times over.
@@ -34,10 +34,19 @@ pub fn counts_after(
     lines: &[&str],
 ) -> Result<Counters, MeasureError> {
     let mut system = Fs::mount(alloc, flash)?;
-    for (i, line) in lines.iter().enumerate() {
-        carry_out(alloc, &mut system, line, i)?;
-    }
+    carry_out_lines(alloc, &mut system, lines)?;
     Ok(system.into_flash().counts())
+}
+
+fn carry_out_lines(
+    alloc: Global,
+    system: &mut Fs<'_, SimFlash>,
+    lines: &[&str],
+) -> Result<(), MeasureError> {
+    for (i, line) in lines.iter().enumerate() {
+        carry_out(alloc, system, line, i)?;
+    }
+    Ok(())
 }
 
 fn carry_out(
@@ -49,11 +58,12 @@ fn carry_out(
     if let Some(depth) = number_after(line, "deep ") {
         return make_directories(alloc, system, depth);
     }
-    let call = match number_after(line, "fill ") {
-        Some(count) => fill(alloc, count)?,
-        None => call_of(alloc, line, number)?,
-    };
-    system.call(alloc, &call)?;
+    let call = call_of(alloc, line, number)?;
+    ask(alloc, system, &call)
+}
+
+fn ask(alloc: Global, system: &mut Fs<'_, SimFlash>, call: &Call) -> Result<(), MeasureError> {
+    system.call(alloc, call)?;
     Ok(())
 }
 
@@ -62,7 +72,15 @@ fn number_after(line: &str, word: &str) -> Option<usize> {
     line.strip_prefix(word)?.parse().ok()
 }
 
+/// The call of a line.
 fn call_of(alloc: Global, line: &str, number: usize) -> Result<Call, MeasureError> {
+    match number_after(line, "fill ") {
+        Some(count) => Ok(fill(alloc, count)?),
+        None => call_of_script(alloc, line, number),
+    }
+}
+
+fn call_of_script(alloc: Global, line: &str, number: usize) -> Result<Call, MeasureError> {
     match read_line(alloc, line.as_bytes())? {
         Line::Call(call) => Ok(call),
         _ => Err(MeasureError::Line(number)),
@@ -70,7 +88,7 @@ fn call_of(alloc: Global, line: &str, number: usize) -> Result<Call, MeasureErro
 }
 
 /// Writes so many bytes at the start of descriptor 0.
-fn fill(alloc: Global, count: usize) -> Result<Call, MeasureError> {
+fn fill(alloc: Global, count: usize) -> Result<Call, AllocError> {
     let bytes = vec![in alloc; b'A'; count]?;
     Ok(Call::Pwrite {
         descriptor: 0,
@@ -88,7 +106,17 @@ fn make_directories(
     let mut text = String::new(alloc);
     for _ in 0..depth {
         text.push_str("/a")?;
-        system.mkdir(alloc, &Path::parse(alloc, text.as_bytes())?)?;
+        make_directory(alloc, system, text.as_str())?;
     }
+    Ok(())
+}
+
+fn make_directory(
+    alloc: Global,
+    system: &mut Fs<'_, SimFlash>,
+    path: &str,
+) -> Result<(), MeasureError> {
+    let path = Path::parse(alloc, path.as_bytes())?;
+    system.mkdir(alloc, &path)?;
     Ok(())
 }

@@ -11,7 +11,7 @@ mod runs;
 use anyhow::{Context, Result};
 use error::RowError;
 use row::{Row, Side};
-use runs::{Difference, run_on_flash, run_on_image, run_plain};
+use runs::{append_difference, run_on_flash, run_on_image, run_plain};
 use shell::HostFiles;
 use std::process::ExitCode;
 use std::rt::{Env, Files};
@@ -31,8 +31,7 @@ fn main(rt: HostRuntime) -> Result<ExitCode> {
 fn run_in_folder(rt: &HostRuntime, name: &str) -> Result<bool> {
     let folder = folder_name(rt, process::id(rt.process()), name)?;
     fs::create_dir(rt, folder.as_str())?;
-    let image = format!(in rt.alloc(); "{folder}/image")?;
-    let is_right = run(rt, image.as_str(), name)?;
+    let is_right = run(rt, folder.as_str(), name)?;
     fs::remove_dir_all(rt, folder.as_str())?;
     Ok(is_right)
 }
@@ -44,61 +43,71 @@ fn folder_name<R: Env + AllocGlobal>(rt: &R, id: u32, row: &str) -> Result<Strin
     Ok(format!(in rt.alloc(); "{folder}/{id}-{row}")?)
 }
 
-/// Runs the row of a file on all sides, and tells whether it gave its replies.
-fn run<R: Files + AllocGlobal + Print>(rt: &R, image: &str, name: &str) -> Result<bool> {
+/// A row as its file gives it, and the name of its image.
+#[derive(Clone, Copy)]
+struct Source<'a> {
+    name: &'a str,
+    text: &'a str,
+    image: &'a str,
+}
+
+/// Runs the row of a file, with its image in a folder, and tells whether it gave its replies.
+fn run<R: Files + AllocGlobal + Print>(rt: &R, folder: &str, name: &str) -> Result<bool> {
     let text = fs::read_to_string(rt, name).context(format_args!("reading {name}"))?;
-    let text = text.as_str();
-    let plain = run_side(rt, image, text, Side::Plain).context(format_args!("{name} plain"))?;
-    let flash = run_side(rt, image, text, Side::Flash).context(format_args!("{name} flash"))?;
-    let on_image = run_side(rt, image, text, Side::Image).context(format_args!("{name} image"))?;
-    println!(rt;
-        "{name}: plain {}, flash {}, image {}",
-        plain.lines, flash.lines, on_image.lines
-    )?;
-    let is_right = plain.is_right() && flash.is_right() && on_image.is_right();
-    tell(rt, "plain", plain.difference)?;
-    tell(rt, "flash", flash.difference)?;
-    tell(rt, "image", on_image.difference)?;
-    Ok(is_right)
+    let image = format!(in rt.alloc(); "{folder}/image")?;
+    let source = Source {
+        name,
+        text: text.as_str(),
+        image: image.as_str(),
+    };
+    run_sides(rt, &source)
 }
 
-/// What a side made of a row: how many lines it ran, and the first difference.
-#[derive(Drop)]
-struct Outcome {
-    lines: usize,
-    difference: Option<Difference>,
+/// Runs a row on all sides, and tells whether it gave its replies.
+fn run_sides<R: Files + AllocGlobal + Print>(rt: &R, source: &Source<'_>) -> Result<bool> {
+    let mut differences = String::new(rt.alloc());
+    let plain = run_side(rt, source, Side::Plain, &mut differences)?;
+    let flash = run_side(rt, source, Side::Flash, &mut differences)?;
+    let image = run_side(rt, source, Side::Image, &mut differences)?;
+    let name = source.name;
+    println!(rt; "{name}: plain {plain}, flash {flash}, image {image}")?;
+    print!(rt; "{differences}")?;
+    Ok(differences.is_empty())
 }
 
-impl Outcome {
-    fn is_right(&self) -> bool {
-        self.difference.is_none()
-    }
-}
-
-/// Runs the row of a text on a side; the image is in the file of this name.
+/// Runs a row on a side, and answers how many lines it ran. A difference is appended, and an error
+/// tells the row and the side.
 fn run_side<R: Files + AllocGlobal>(
     rt: &R,
-    image: &str,
-    text: &str,
+    source: &Source<'_>,
     side: Side,
-) -> Result<Outcome, RowError> {
-    let alloc = rt.alloc();
-    let row = Row::read(alloc, text, side)?;
-    let difference = match side {
-        Side::Plain => run_plain(alloc, &row)?,
-        Side::Flash => run_on_flash(alloc, &row)?,
-        Side::Image => run_on_image(&mut HostFiles::new(rt), alloc, image, &row)?,
-    };
-    Ok(Outcome {
-        lines: row.steps.len(),
-        difference,
-    })
+    differences: &mut String,
+) -> Result<usize> {
+    try_side(rt, source, side, differences).context(format_args!("{} {}", source.name, side.name()))
 }
 
-/// Tells what a side gave that was not expected.
-fn tell<R: Print>(rt: &R, side: &str, difference: Option<Difference>) -> Result<()> {
-    if let Some(Difference { line, answer }) = difference {
-        println!(rt; "  {side}: {line} -> {answer}")?;
+fn try_side<R: Files + AllocGlobal>(
+    rt: &R,
+    source: &Source<'_>,
+    side: Side,
+    differences: &mut String,
+) -> Result<usize, RowError> {
+    let row = Row::read(rt.alloc(), source.text, side)?;
+    let written = written_on(rt, source.image, &row, side)?;
+    append_difference(differences, &row, side, written.as_str())?;
+    Ok(row.steps.len())
+}
+
+/// What a row writes on a side.
+fn written_on<R: Files + AllocGlobal>(
+    rt: &R,
+    image: &str,
+    row: &Row<'_>,
+    side: Side,
+) -> Result<String, RowError> {
+    match side {
+        Side::Plain => run_plain(rt.alloc(), row),
+        Side::Flash => run_on_flash(rt.alloc(), row),
+        Side::Image => run_on_image(&mut HostFiles::new(rt), rt.alloc(), image, row),
     }
-    Ok(())
 }

@@ -1,11 +1,11 @@
 //! A row: a script with the replies that are expected, and what it runs on.
 use crate::error::RowError;
-use flash_model::{Geometry, PlannedFault};
+use flash_model::{FaultKind, Geometry, PlannedFault};
 use script::kind_of;
 use std::alloc::Global;
 
 /// Where a row is run.
-#[derive(Clone, Copy, PartialEq, Eq)]
+#[derive(Clone, Copy)]
 pub enum Side {
     /// On the plain machine.
     Plain,
@@ -14,6 +14,17 @@ pub enum Side {
     /// By the program, on an image that it made. A plan of faults is no part of an image, so a row
     /// with one has no line here.
     Image,
+}
+
+impl Side {
+    /// How the side is named.
+    pub fn name(self) -> &'static str {
+        match self {
+            Side::Plain => "plain",
+            Side::Flash => "flash",
+            Side::Image => "image",
+        }
+    }
 }
 
 /// A line of a script, with its reply.
@@ -48,26 +59,28 @@ impl<'a> Row<'a> {
             plan: Vec::new(alloc),
             steps: Vec::new(alloc),
         };
+        row.take(text, side)?;
+        Ok(row)
+    }
+
+    fn take(&mut self, text: &'a str, side: Side) -> Result<(), RowError> {
         let mut line = None;
         let mut is_skipped = false;
         for text_line in text.lines() {
             if waits(text_line, side) {
-                return Ok(row);
-            }
-            if side == Side::Image && text_line.starts_with("plan: ") {
-                return Ok(row);
+                return Ok(());
             }
             is_skipped = is_skipped || skips(text_line, side);
             if let Some(command) = text_line.strip_prefix("> ") {
                 line = Some(command);
             } else if let Some(reply) = text_line.strip_prefix("< ") {
-                row.add(line.take(), reply, is_skipped)?;
+                self.add(line.take(), reply, is_skipped)?;
                 is_skipped = false;
             } else {
-                row.set(text_line)?;
+                self.set(text_line)?;
             }
         }
-        Ok(row)
+        Ok(())
     }
 
     fn add(
@@ -99,12 +112,10 @@ impl<'a> Row<'a> {
         Ok(())
     }
 
-    /// Plans a run of failures: the kind, the first number and the last.
+    /// Plans a run of failures.
     fn set_plan(&mut self, value: &str) -> Result<(), RowError> {
-        let (kind, range) = value.split_once(" ").ok_or(RowError::Layout)?;
-        let (first, last) = range.split_once(" ").ok_or(RowError::Layout)?;
-        let kind = kind_of(kind.as_bytes()).ok_or(RowError::Layout)?;
-        for number in number(first)?..=number(last)? {
+        let (kind, first, last) = failures_of(value).ok_or(RowError::Layout)?;
+        for number in first..=last {
             self.plan.push(PlannedFault {
                 number: u128::from(number),
                 kind,
@@ -114,11 +125,22 @@ impl<'a> Row<'a> {
     }
 }
 
+/// A run of failures: the kind, the first number and the last.
+fn failures_of(value: &str) -> Option<(FaultKind, u32, u32)> {
+    let (kind, range) = value.split_once(" ")?;
+    let (first, last) = range.split_once(" ")?;
+    let kind = kind_of(kind.as_bytes())?;
+    Some((kind, first.parse().ok()?, last.parse().ok()?))
+}
+
 /// Whether the side does not go past this line yet.
 fn waits(text_line: &str, side: Side) -> bool {
     match side {
         Side::Plain => text_line.starts_with("plain waits for: "),
-        Side::Flash | Side::Image => text_line.starts_with("flash waits for: "),
+        Side::Flash => text_line.starts_with("flash waits for: "),
+        Side::Image => {
+            text_line.starts_with("flash waits for: ") || text_line.starts_with("plan: ")
+        }
     }
 }
 

@@ -1,47 +1,14 @@
-//! A row run on the plain machine, on a flash in memory, and by the program on an image.
+//! What a row writes on the plain machine, on a flash in memory, and by the program on an image: a
+//! line for each of its own.
 use crate::error::RowError;
-use crate::row::{Row, Step};
+use crate::row::{Row, Side};
 use flash_model::SimFlash;
 use fs_types::{Answer, Fault, Reply};
 use plain_machine::{PlainMachine, Space};
 use script::{Line, LineAnswer, print_answer, read_line};
 use shell::{ImageFiles, run_script, tool};
-use std::alloc::Global;
+use std::alloc::{AllocError, Global};
 use undofs::format;
-
-/// What a row gave that was not expected: the line, and what was answered to it.
-#[derive(Drop)]
-pub struct Difference {
-    /// The line.
-    pub line: String,
-    /// What was answered.
-    pub answer: String,
-}
-
-/// Runs a row on the plain machine, and answers the first difference.
-pub fn run_plain(alloc: Global, row: &Row<'_>) -> Result<Option<Difference>, RowError> {
-    let history = row.history as usize;
-    if history < 2 || 64 < history {
-        return Err(RowError::Layout);
-    }
-    let mut machine = PlainMachine::new(alloc, history)?;
-    for step in &row.steps {
-        if let Some(difference) = compare_plain(alloc, &mut machine, step)? {
-            return Ok(Some(difference));
-        }
-    }
-    Ok(None)
-}
-
-/// Carries out a line on the plain machine, and compares its answer.
-fn compare_plain(
-    alloc: Global,
-    machine: &mut PlainMachine,
-    step: &Step<'_>,
-) -> Result<Option<Difference>, RowError> {
-    let answer = answer_plain(alloc, machine, step)?;
-    compare_answer(alloc, step, &answer)
-}
 
 /// What the plain machine knows nothing of: `df` is not run on it.
 const NO_SPACE: Space = Space {
@@ -51,17 +18,41 @@ const NO_SPACE: Space = Space {
     anchors: 0,
 };
 
-fn answer_plain(
+/// Runs a row on the plain machine.
+pub fn run_plain(alloc: Global, row: &Row<'_>) -> Result<String, RowError> {
+    let history = row.history as usize;
+    if history < 2 || 64 < history {
+        return Err(RowError::Layout);
+    }
+    let mut machine = PlainMachine::new(alloc, history)?;
+    run_lines(alloc, &mut machine, row)
+}
+
+fn run_lines(alloc: Global, machine: &mut PlainMachine, row: &Row<'_>) -> Result<String, RowError> {
+    let mut written = Vec::new(alloc);
+    for step in &row.steps {
+        run_line(alloc, machine, step.line, &mut written)?;
+    }
+    text_of(written)
+}
+
+/// Carries out a line on the plain machine, and writes its answer.
+fn run_line(
     alloc: Global,
     machine: &mut PlainMachine,
-    step: &Step<'_>,
-) -> Result<LineAnswer, RowError> {
-    let answer = match read_line(alloc, step.line.as_bytes())? {
-        Line::Call(call) => told(machine.step(alloc, NO_SPACE, &call)),
-        Line::Refused(fault) => told(Err(fault)),
+    line: &str,
+    written: &mut Vec<u8>,
+) -> Result<(), AllocError> {
+    let line = read_line(alloc, line.as_bytes())?;
+    print_answer(written, &answer_of(alloc, machine, &line))
+}
+
+fn answer_of(alloc: Global, machine: &mut PlainMachine, line: &Line) -> LineAnswer {
+    match line {
+        Line::Call(call) => told(machine.step(alloc, NO_SPACE, call)),
+        Line::Refused(fault) => told(Err(*fault)),
         _ => LineAnswer::Syntax,
-    };
-    Ok(answer)
+    }
 }
 
 /// What is told of a call or a step.
@@ -72,45 +63,24 @@ fn told(outcome: Result<Reply, Fault>) -> LineAnswer {
     }
 }
 
-/// Compares an answer with the reply that is expected.
-fn compare_answer(
-    alloc: Global,
-    step: &Step<'_>,
-    answer: &LineAnswer,
-) -> Result<Option<Difference>, RowError> {
-    let mut text = Vec::new(alloc);
-    print_answer(&mut text, answer)?;
-    let text = String::from_utf8(text).map_err(|_| RowError::Layout)?;
-    if text.trim_end() == step.reply {
-        return Ok(None);
-    }
-    Ok(Some(difference_at(alloc, step, text.trim_end())?))
-}
-
-/// Runs a row on a flash in memory that was formatted, as one script, and answers the first
-/// difference.
-pub fn run_on_flash(alloc: Global, row: &Row<'_>) -> Result<Option<Difference>, RowError> {
+/// Runs a row on a flash in memory that was formatted, as one script.
+pub fn run_on_flash(alloc: Global, row: &Row<'_>) -> Result<String, RowError> {
     let mut flash = SimFlash::new(alloc, row.geometry, &row.plan)?;
     format(alloc, &mut flash, row.history)?;
     run_as_script(alloc, row, &mut flash)
 }
 
-/// Runs the lines as one script, and compares all that it writes.
-fn run_as_script(
-    alloc: Global,
-    row: &Row<'_>,
-    flash: &mut SimFlash,
-) -> Result<Option<Difference>, RowError> {
+/// Runs the lines of a row as one script.
+fn run_as_script(alloc: Global, row: &Row<'_>, flash: &mut SimFlash) -> Result<String, RowError> {
     let script = script_of(alloc, row)?;
     let mut reader = script.as_bytes();
     let mut written: Vec<u8> = Vec::new(alloc);
     run_script(alloc, &mut reader, &mut written, flash).map_err(|_| RowError::Ended)?;
-    let written = String::from_utf8(written).map_err(|_| RowError::Layout)?;
-    compare_lines(alloc, row, written.as_str())
+    text_of(written)
 }
 
 /// The lines of a row, each ended by LF.
-fn script_of(alloc: Global, row: &Row<'_>) -> Result<String, RowError> {
+fn script_of(alloc: Global, row: &Row<'_>) -> Result<String, AllocError> {
     let mut script = String::new(alloc);
     for step in &row.steps {
         script.push_str(step.line)?;
@@ -119,39 +89,58 @@ fn script_of(alloc: Global, row: &Row<'_>) -> Result<String, RowError> {
     Ok(script)
 }
 
-/// Runs a row by the program on an image of this name, which it makes first, and answers the first
-/// difference.
+/// Runs a row by the program on an image of this name, which it makes first.
 pub fn run_on_image<F: ImageFiles>(
     files: &mut F,
     alloc: Global,
     name: &str,
     row: &Row<'_>,
-) -> Result<Option<Difference>, RowError> {
-    let words = format_words(alloc, name, row)?;
-    call(files, alloc, &words, "")?;
-    let mut words = Vec::new(alloc);
-    words.push("run".to_string(alloc)?)?;
-    words.push(name.to_string(alloc)?)?;
+) -> Result<String, RowError> {
+    make_image(files, alloc, name, row)?;
+    let words = words_of(alloc, "run", name)?;
     let script = script_of(alloc, row)?;
-    let written = call(files, alloc, &words, script.as_str())?;
-    compare_lines(alloc, row, written.as_str())
+    call(files, alloc, &words, script.as_str())
 }
 
-/// The words that make an image of the sizes of a row.
-fn format_words(alloc: Global, name: &str, row: &Row<'_>) -> Result<Vec<String>, RowError> {
+/// Makes an image of the sizes of a row.
+fn make_image<F: ImageFiles>(
+    files: &mut F,
+    alloc: Global,
+    name: &str,
+    row: &Row<'_>,
+) -> Result<(), RowError> {
+    let mut words = words_of(alloc, "format", name)?;
+    add_sizes(alloc, &mut words, row)?;
+    call(files, alloc, &words, "")?;
+    Ok(())
+}
+
+/// The words that ask something of an image.
+fn words_of(alloc: Global, verb: &str, name: &str) -> Result<Vec<String>, AllocError> {
     let mut words = Vec::new(alloc);
-    words.push("format".to_string(alloc)?)?;
+    words.push(verb.to_string(alloc)?)?;
     words.push(name.to_string(alloc)?)?;
-    for (option, number) in [
-        ("--page", row.geometry.page),
-        ("--pages", row.geometry.pages),
-        ("--blocks", row.geometry.blocks),
-        ("--history", row.history),
-    ] {
-        words.push(option.to_string(alloc)?)?;
-        words.push(number.to_string(alloc)?)?;
-    }
     Ok(words)
+}
+
+/// Adds the sizes of a row to words.
+fn add_sizes(alloc: Global, words: &mut Vec<String>, row: &Row<'_>) -> Result<(), AllocError> {
+    let geometry = row.geometry;
+    add_size(alloc, words, "--page", geometry.page)?;
+    add_size(alloc, words, "--pages", geometry.pages)?;
+    add_size(alloc, words, "--blocks", geometry.blocks)?;
+    add_size(alloc, words, "--history", row.history)
+}
+
+fn add_size(
+    alloc: Global,
+    words: &mut Vec<String>,
+    option: &str,
+    size: u32,
+) -> Result<(), AllocError> {
+    words.push(option.to_string(alloc)?)?;
+    words.push(size.to_string(alloc)?)?;
+    Ok(())
 }
 
 /// Calls the program, which has to run to its end, and gives what it writes.
@@ -168,27 +157,26 @@ fn call<F: ImageFiles>(
     if status != 0 {
         return Err(RowError::Ended);
     }
+    text_of(written)
+}
+
+fn text_of(written: Vec<u8>) -> Result<String, RowError> {
     String::from_utf8(written).map_err(|_| RowError::Layout)
 }
 
-fn compare_lines(
-    alloc: Global,
+/// Appends the first line that was not answered as the row says, with its answer.
+pub fn append_difference(
+    differences: &mut String,
     row: &Row<'_>,
+    side: Side,
     written: &str,
-) -> Result<Option<Difference>, RowError> {
+) -> Result<(), AllocError> {
     let mut answers = written.lines();
     for step in &row.steps {
         let answer = answers.next().unwrap_or("");
         if answer != step.reply {
-            return Ok(Some(difference_at(alloc, step, answer)?));
+            return writeln!(differences, "  {}: {} -> {answer}", side.name(), step.line);
         }
     }
-    Ok(None)
-}
-
-fn difference_at(alloc: Global, step: &Step<'_>, answer: &str) -> Result<Difference, RowError> {
-    Ok(Difference {
-        line: step.line.to_string(alloc)?,
-        answer: answer.to_string(alloc)?,
-    })
+    Ok(())
 }

@@ -316,16 +316,19 @@ fn folder_of<R: Files>(rt: &R, alloc: Global, top: &str, id: u32) -> Result<Stri
     Ok(name)
 }
 
-/// Asserts that an image is told as one that cannot be read.
-fn assert_unread<R: Abort, F: ImageFiles>(
+/// Asserts that the words that ask something of an image have it told as one that cannot be read, or
+/// cannot be written.
+fn assert_cannot<R: Abort, F: ImageFiles>(
     rt: &R,
     files: &mut F,
     alloc: Global,
+    what: &str,
+    verb: &str,
     name: &str,
 ) -> Result<(), Fail> {
-    let unread = format!(in alloc; "uffs: cannot read {name}\n")?;
-    let wanted = (1, "", unread.as_str());
-    assert_call(rt, files, alloc, &["run", name], "ls /\n", wanted)
+    let text = format!(in alloc; "uffs: cannot {what} {name}\n")?;
+    let wanted = (1, "", text.as_str());
+    assert_call(rt, files, alloc, &[verb, name], "", wanted)
 }
 
 /// Asserts that an image is told as one that cannot be written.
@@ -335,9 +338,7 @@ fn assert_unwritten<R: Abort, F: ImageFiles>(
     alloc: Global,
     name: &str,
 ) -> Result<(), Fail> {
-    let unwritten = format!(in alloc; "uffs: cannot write {name}\n")?;
-    let wanted = (1, "", unwritten.as_str());
-    assert_call(rt, files, alloc, &["format", name], "", wanted)
+    assert_cannot(rt, files, alloc, "write", "format", name)
 }
 
 /// Asserts what comes of an image that is made, written and looked at.
@@ -366,7 +367,7 @@ fn assert_replaced<R: Abort + Files + AllocGlobal>(
     name: &str,
 ) -> Result<(), Fail> {
     let mut files = HostFiles::new(rt);
-    assert_unread(rt, &mut files, alloc, name)?;
+    assert_cannot(rt, &mut files, alloc, "read", "run", name)?;
     assert_call(rt, &mut files, alloc, &["format", name], "", (0, "", ""))?;
     let fresh = fresh_image(alloc)?;
     assert_eq!(rt; fs::read(rt, name)?.as_slice(), fresh.as_slice());

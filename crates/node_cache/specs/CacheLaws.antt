@@ -1,0 +1,56 @@
+-- What listing a block first, and taking it out again, leave of a cache.
+use Rattle.std.specs.Prelude.{◌≡◌, ◌≢◌, ℕ, zero, suc, ◌<◌, is_some, nat_eq, List, [], ◌∷◌, take, drop, Some, None, refl}
+use Rattle.std.specs.Cmp.{nat_eq_equiv}
+use Rattle.std.specs.List.{IsDistinct}
+use Rattle.std.specs.Map.{keys_of, lookup, remove_entry}
+use Rattle.std.proofs.Common.{sym, ◌∙◌, ap, inl, inr, arith}
+use Rattle.std.proofs.lemmas.Bool.{cases_Bool, cond-true, cond-false, ne_eqb, eq-eqb, true≢false}
+use Rattle.std.proofs.lemmas.Map.{lookup-remove_entry}
+use Rattle.node_cache.specs.Cache.{NodeCache, node_in, with_first, IsBounded}
+
+module _ {X : Type 0} where
+  -- what is among the first entries is among all
+  pub among_first : (b n : ℕ) (es : List (ℕ × X)) (x : X) → lookup (nat_eq b) (take n es) ≡ Some x → lookup (nat_eq b) es ≡ Some x
+  among_first b zero es x h = cc
+  among_first b (suc n) [] x h = h
+  among_first b (suc n) (e ∷ es) x h =
+      elim (cases_Bool (nat_eq b e.0)) [
+        | inl is ↦ cond-true _ _ _ is ∙ sym (cond-true _ _ _ is) ∙ h
+        | inr is_not ↦ cond-false _ _ _ is_not ∙ among_first b n es x (sym (cond-false _ _ _ is_not) ∙ h)
+      ]
+
+-- what is found once block b is taken out was there, and of another block
+others_stay : (b c : ℕ) (es : List (ℕ × List ℕ)) (x : List ℕ) → IsDistinct nat_eq (keys_of es) → lookup (nat_eq c) (remove_entry (nat_eq b) es) ≡ Some x
+    → (c ≢ b) × (lookup (nat_eq c) es ≡ Some x)
+others_stay b c es x once h =
+    let is = lookup-remove_entry nat_eq_equiv (nat_eq b) (λ x y. nat_eq_equiv.congr b x y) c es once in
+    elim (cases_Bool (nat_eq b c)) [
+      | inl same ↦ let none : lookup (nat_eq c) (remove_entry (nat_eq b) es) ≡ None = is ∙ cond-true _ _ _ same in absurd (true≢false (ap is_some (sym h ∙ none)))
+      | inr apart ↦ (λ same. true≢false (sym (eq-eqb b c (sym same)) ∙ apart), sym (cond-false _ _ _ apart) ∙ sym is ∙ h)
+    ]
+
+module _ (cache : NodeCache) (bounded : IsBounded cache) (b : ℕ) (bytes : List ℕ) where
+  abbrev rest : List (ℕ × List ℕ)
+  rest = remove_entry (nat_eq b) cache.entries
+
+  first_in : (n : ℕ) → 0 < n → lookup (nat_eq b) (take n ((b, bytes) ∷ rest)) ≡ Some bytes
+  first_in zero some = absurd (omega arith)
+  first_in (suc n) some = cond-true _ _ _ (eq-eqb b b refl)
+
+  -- the block that goes first is found with its bytes
+  pub first_here : node_in (with_first cache b bytes) b ≡ Some bytes
+  first_here = first_in cache.room bounded.some
+
+  -- of another block is found what was found
+  pub first_apart : (c : ℕ) (x : List ℕ) → c ≢ b → node_in (with_first cache b bytes) c ≡ Some x → node_in cache c ≡ Some x
+  first_apart c x apart h =
+      let all : lookup (nat_eq c) ((b, bytes) ∷ rest) ≡ Some x = among_first c cache.room ((b, bytes) ∷ rest) x h in
+      (others_stay b c cache.entries x bounded.once (sym (cond-false _ _ _ (ne_eqb c b apart)) ∙ all)).1
+
+  behind : (n c : ℕ) (x : List ℕ) → lookup (nat_eq c) (drop 1 (take n ((b, bytes) ∷ rest))) ≡ Some x → (c ≢ b) × (node_in cache c ≡ Some x)
+  behind zero c x h = cc
+  behind (suc n) c x h = others_stay b c cache.entries x bounded.once (among_first c n rest x h)
+
+  -- what is found once it is taken out again was found before, and is of another block
+  pub taken_out : (c : ℕ) (x : List ℕ) → lookup (nat_eq c) (drop 1 (with_first cache b bytes).entries) ≡ Some x → (c ≢ b) × (node_in cache c ≡ Some x)
+  taken_out c x = behind cache.room c x

@@ -1,0 +1,38 @@
+//! Nodes kept in memory.
+use fs_types::Fault;
+use node_cache::NodeCache;
+use std::test::Fail;
+
+#[test]
+fn a_cache_of_two_keeps_the_nodes_used_last(rt: HostRuntime) -> Result<(), Fail> {
+    let mut cache = NodeCache::new(rt.alloc(), 2)?;
+    let mut nine = Vec::new(rt.alloc());
+    nine.extend_from_slice(b"nine")?;
+    assert_eq!(rt; cache.list_copy(8, b"eight"), Ok(()));
+    assert_eq!(rt; cache.list(9, nine), Ok(()));
+    assert_eq!(rt; cache.first(), b"nine".as_slice());
+    assert!(rt; cache.promote(8));
+    assert_eq!(rt; cache.first(), b"eight".as_slice());
+    assert_eq!(rt; cache.list_copy(10, b"ten"), Ok(()));
+    assert!(rt; !cache.promote(9));
+    assert_eq!(rt; cache.len(), 2);
+    cache.forget_first();
+    assert_eq!(rt; cache.first(), b"eight".as_slice());
+    cache.forget(8);
+    assert_eq!(rt; cache.len(), 0);
+    assert!(rt; cache.first().is_empty());
+    Ok(())
+}
+
+#[test]
+fn a_cache_has_room_for_1_to_64_nodes(rt: HostRuntime) -> Result<(), Fail> {
+    assert_eq!(rt; NodeCache::new(rt.alloc(), 0).err(), Some(Fault::Invalid));
+    assert_eq!(rt; NodeCache::new(rt.alloc(), 65).err(), Some(Fault::Invalid));
+    let mut cache = NodeCache::new(rt.alloc(), 64)?;
+    for block in 8..73 {
+        cache.list_copy(block, b"node")?;
+    }
+    assert_eq!(rt; cache.len(), 64);
+    assert!(rt; !cache.promote(8) && cache.promote(9) && cache.promote(72));
+    Ok(())
+}

@@ -1,5 +1,5 @@
 -- Which blocks are used, and which one is taken next.
-use Rattle.std.specs.Prelude.{◌≡◌, ℕ, ◌+◌, ◌-◌, ◌<◌, ◌≤◌, Bool, true, false, not, ◌||◌, ◌++◌, if◌then◌else◌, nat_lt, List, count_by, Option, Some, None, refl}
+use Rattle.std.specs.Prelude.{◌≡◌, ℕ, ◌+◌, ◌-◌, ◌<◌, ◌≤◌, Bool, true, false, not, ◌||◌, ◌++◌, if◌then◌else◌, nat_lt, List, count_by, find, Option, Some, None, refl}
 use Rattle.std.specs.Coded.{Coded, code_by, coded×, coded_ℕ}
 use Rattle.std.specs.FinSet as set
 use Rattle.std.specs.List.{range_with_len}
@@ -57,6 +57,10 @@ free_count r bad = count_by (λ b. not (is_busy r bad b)) (data_blocks r.blocks)
 -- the data blocks in ring order after `last`: to n - 1, and then from 8 on to `last` itself
 abbrev pub ring_order : ℕ → ℕ → List ℕ
 ring_order n last = range_with_len (last + 1) (n - (last + 1)) ++ range_with_len 8 (last + 1 - 8)
+
+-- the first data block in ring order after the last one taken that is neither used nor bad, none where there is none
+abbrev pub next_free : Ring → set.FinSet nat_cmp → Option ℕ
+next_free r bad = find (λ b. not (is_busy r bad b)) (ring_order r.blocks r.last)
 
 -- how far b comes after `last` in ring order, which goes on at 8 after n - 1: from 1 to n - 8 for `last` itself
 abbrev pub distance : ℕ → ℕ → ℕ → ℕ

@@ -1,7 +1,7 @@
 //! The used blocks of a flash, and the order in which free ones are taken.
 ghost use Rattle.std.specs.Prelude.{◌≡◌, ℕ, ◌+◌, ◌≤◌, true, false, not, find, IfOk, IfErr, IfSome, IfNone};
 ghost use Rattle.std.specs.FinSet as set;
-ghost use Rattle.allocator.specs.Ring.{IsDataBlock, is_busy, free_count as free_blocks, ring_order, IsFirstFree};
+ghost use Rattle.allocator.specs.Ring.{IsDataBlock, is_busy, free_count as free_blocks, ring_order, next_free, IsFirstFree};
 
 use crate::bitmap::BlockSet;
 use crate::marks::Marks;
@@ -132,9 +132,19 @@ impl Ring {
         self.used = marks.and(&self.note);
     }
 
+    /// The first data block in ring order after the last one taken that is neither used nor bad: the
+    /// one that `take` would take. `None` where there is none.
+    pub fn next_free(&self, bad: &BadBlocks) -> Option<u32>
+        ensures next { result ≡ next_free self.now bad.now }
+        ensures first { IsFirstFree (is_busy self.now bad.now) self.now.blocks self.now.last result }
+    {
+        self.first_free(bad, self.last)
+    }
+
     /// Takes the first data block in ring order after the last one taken that is neither used nor
     /// bad, and answers it; it is used from then on. `None` where there is none.
     pub fn take(&mut self, bad: &BadBlocks) -> Option<u32>
+        ensures next { result ≡ next_free self.old bad.now }
         ensures first { IsFirstFree (is_busy self.old bad.now) self.old.blocks self.old.last result }
         ensures taken { IfSome result (λ b. self.new ≡ record self.old {
           used = set.insert self.old.used b;
@@ -165,7 +175,7 @@ impl Ring {
         ensures paid { free_blocks self.new bad.now + self.new.takes
             ≡ free_blocks self.old bad.now + self.old.takes }
     {
-        let next = self.first_free(bad)?;
+        let next = self.next_free(bad)?;
         self.used.insert(next);
         self.note.insert(next);
         self.last = next;
@@ -173,13 +183,15 @@ impl Ring {
         Some(next)
     }
 
-    // The block that is taken next.
-    fn first_free(&self, bad: &BadBlocks) -> Option<u32>
+    // The first free block in ring order after `last`.
+    fn first_free(&self, bad: &BadBlocks, last: u32) -> Option<u32>
+        requires { IsDataBlock self.now.blocks last }
         ensures { result ≡ find (λ b. not (is_busy self.now bad.now b))
-            (ring_order self.now.blocks self.now.last) }
+            (ring_order self.now.blocks last) }
     {
-        (self.last + 1..self.used.blocks())
-            .chain(FIRST..self.last + 1)
+        let end = self.used.blocks();
+        (last + 1..end)
+            .chain(FIRST..last + 1)
             .find(|block| self.is_free(*block, bad))
     }
 

@@ -37,6 +37,7 @@ pub write_refused : (fault : Fault) → IsWriteFault fault → IsChangeFault fau
 write_refused FlashFull is = refl
 write_refused ReadOnly is = refl
 write_refused PowerCut is = refl
+write_refused NoMemory is = refl
 write_refused _ is = absurd (true≢false (sym is))
 
 pub read_refused : (fault : Fault) → IsReadFault fault → (fault ≡ Damaged → ⊥) → IsChangeFault fault

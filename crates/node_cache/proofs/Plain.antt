@@ -1,15 +1,15 @@
 -- The entries of an `LruCache` as plain ones.
-use Rattle.std.specs.Prelude.{◌≡◌, ℕ, zero, suc, ◌-◌, ◌<◌, ◌≤◌, false, is_some, nat_eq, List, [], ◌∷◌, length, take, slice_get, option_map, Option, Some, None, Vec, refl}
+use Rattle.std.specs.Prelude.{◌≡◌, ℕ, zero, suc, ◌-◌, ◌<◌, ◌≤◌, false, is_some, nat_eq, not, Bool, cond, true, List, [], ◌∷◌, length, take, find, slice_get, option_map, Option, Some, None, Vec, refl}
 use Rattle.std.specs.Global.{Global}
 use Rattle.std.specs.List.{IsDistinct}
 use Rattle.std.specs.Map.{keys_of, lookup, lookup_entry, remove_entry}
 use Rattle.std.specs.Option.{option_map_or}
 use Rattle.std.proofs.Common.{sym, ◌∙◌, ap, subst, inl, inr, arith}
-use Rattle.std.proofs.lemmas.Bool.{cases_Bool, cond-true, cond-false, eqb-true, true≢false}
+use Rattle.std.proofs.lemmas.Bool.{cases_Bool, cond-true, cond-false, eqb-true, eq-eqb, true≢false}
 use Rattle.std.proofs.lemmas.Map.Made.{lookup-map_values}
 use Rattle.lru.specs.LruCache.{LruCache, IsValid, put_entries, promoted}
 use Rattle.lru.proofs.CallerLemmas.{Contains-lookup_entry}
-use Rattle.node_cache.specs.Cache.{NodeCache, plain, node_in, with_first, first_bytes, IsBounded}
+use Rattle.node_cache.specs.Cache.{NodeCache, plain, node_in, with_first, with_blocks, first_bytes, IsBounded}
 
 abbrev pub Node : Type 0
 Node = Vec ℕ Global
@@ -150,3 +150,53 @@ first_plain (f ∷ es) e is = cc
 pub none_first : (es : List (ℕ × Node)) → ◌≡◌ {A = Option (ℕ × Node)} None (slice_get es 0) → ◌≡◌ {A = List ℕ} [] (first_bytes (plain es))
 none_first [] is = refl
 none_first (f ∷ es) is = cc
+
+-- the first block that passes a test
+pub found_plain : (t : ℕ → Bool) (es : List (ℕ × Node)) → option_map (λ (e : ℕ × Node). e.0) (find (λ (e : ℕ × Node). t e.0) es) ≡ find t (keys_of (plain es))
+found_plain t [] = refl
+found_plain t (e ∷ es) = elim (cases_Bool (t e.0)) [
+  | inl is ↦ ap (option_map (λ (e : ℕ × Node). e.0)) (cond-true _ (Some e) _ is) ∙ sym (cond-true _ (Some e.0) _ is)
+  | inr is_not ↦ ap (option_map (λ (e : ℕ × Node). e.0)) (cond-false _ (Some e) _ is_not) ∙ found_plain t es ∙ sym (cond-false _ (Some e.0) _ is_not)
+]
+
+-- a block that is not among these is taken out
+pub unused_out : (these : ℕ → Bool) (b : ℕ) (es : List (ℕ × List ℕ)) → these b ≡ false → with_blocks these (remove_entry (nat_eq b) es) ≡ with_blocks these es
+unused_out these b [] out = refl
+unused_out these b (e ∷ es) out = elim (cases_Bool (nat_eq b e.0)) [
+  | inl is ↦ ap (with_blocks these) (cond-true _ _ _ is) ∙ sym (cond-false _ _ _ (ap these (sym (eqb-true b e.0 is)) ∙ out))
+  | inr is_not ↦ ap (with_blocks these) (cond-false _ _ _ is_not) ∙ ap (λ l. cond (these e.0) (e ∷ l) l) (unused_out these b es out)
+]
+
+-- where none is found that is not among these, all are
+pub all_with : (these : ℕ → Bool) (es : List (ℕ × List ℕ)) → find (λ b. not (these b)) (keys_of es) ≡ None → with_blocks these es ≡ es
+all_with these [] none = refl
+all_with these (e ∷ es) none = elim (cases_Bool (these e.0)) [
+  | inl is ↦ cond-true _ _ _ is ∙ ap (λ l. e ∷ l) (all_with these es (sym (cond-false _ (Some e.0) _ (ap not is)) ∙ none))
+  | inr is_not ↦ absurd (true≢false (ap is_some (sym (cond-true _ (Some e.0) _ (ap not is_not)) ∙ none)))
+]
+
+-- what is found passes the test
+pub found_passes : (t : ℕ → Bool) (bs : List ℕ) (b : ℕ) → find t bs ≡ Some b → t b ≡ true
+found_passes t [] b found = cc
+found_passes t (c ∷ bs) b found = elim (cases_Bool (t c)) [
+  | inl is ↦ let same : c ≡ b = cc in ap t (sym same) ∙ is
+  | inr is_not ↦ found_passes t bs b (sym (cond-false _ (Some c) _ is_not) ∙ found)
+]
+
+-- one that is found is one less when it is taken out
+pub shorter : (t : ℕ → Bool) (b : ℕ) (es : List (ℕ × List ℕ)) → find t (keys_of es) ≡ Some b → length (remove_entry (nat_eq b) es) < length es
+shorter t b [] found = cc
+shorter t b (e ∷ es) found = elim (cases_Bool (nat_eq b e.0)) [
+  | inl is ↦ let size = ap (λ (l : List (ℕ × List ℕ)). length l) (cond-true _ es (e ∷ remove_entry (nat_eq b) es) is) in omega (arith, size)
+  | inr is_not ↦ elim (cases_Bool (t e.0)) [
+    | inl passes ↦ let same : Some e.0 ≡ Some b = sym (cond-true _ (Some e.0) _ passes) ∙ found in let key : b ≡ e.0 = cc in absurd (true≢false (sym (eq-eqb b e.0 key) ∙ is_not))
+    | inr fails ↦
+        let size = ap (λ (l : List (ℕ × List ℕ)). length l) (cond-false _ es (e ∷ remove_entry (nat_eq b) es) is_not) in
+        let rest = shorter t b es (sym (cond-false _ (Some e.0) _ fails) ∙ found) in
+        omega (arith, size, rest)
+  ]
+]
+
+pub not_so : (t : Bool) → not t ≡ true → t ≡ false
+not_so false is = refl
+not_so true is = cc

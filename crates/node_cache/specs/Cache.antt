@@ -1,5 +1,5 @@
 -- The nodes that were used last, each with its block.
-use Rattle.std.specs.Prelude.{ℕ, ◌<◌, ◌≤◌, nat_eq, List, [], ◌∷◌, length, take, map, Option, Vec, refl}
+use Rattle.std.specs.Prelude.{ℕ, ◌<◌, ◌≤◌, nat_eq, Bool, List, [], ◌∷◌, length, take, map, filter, Option, Vec, refl}
 use Rattle.std.specs.Coded.{Coded, code_by, coded×, coded_ℕ, coded_list}
 use Rattle.std.specs.Global.{Global}
 use Rattle.std.specs.List.{IsDistinct}
@@ -27,6 +27,10 @@ node_in c b = lookup (nat_eq b) c.entries
 -- a block goes first with these bytes, then the others as they were, as many as there is room for
 abbrev pub with_first : NodeCache → ℕ → List ℕ → NodeCache
 with_first c b bytes = record c { entries = take c.room ((b, bytes) ∷ remove_entry (nat_eq b) c.entries) }
+
+-- the entries of these blocks alone
+abbrev pub with_blocks : (ℕ → Bool) → List (ℕ × List ℕ) → List (ℕ × List ℕ)
+with_blocks these es = filter (λ e. these e.0) es
 
 -- the bytes of the block that is listed first
 abbrev pub first_bytes : List (ℕ × List ℕ) → List ℕ

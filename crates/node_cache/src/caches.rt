@@ -1,9 +1,11 @@
 //! A bounded list of blocks with their nodes, the one that was used last first.
-ghost use Rattle.std.specs.Prelude.{◌≡◌, ◌≢◌, ◌↔◌, ◌⊎◌, ◌<◌, ℕ, List, [], true, false, is_some, nat_eq, length, drop, Some, Err, IfOk, IfErr, OnOk, OnErr};
-ghost use Rattle.std.specs.Map.{remove_entry};
+ghost use Rattle.std.specs.Prelude.{◌≡◌, ◌≢◌, ◌↔◌, ◌⊎◌, ◌<◌, ℕ, List, [], true, false, is_some, nat_eq, length, drop, find, not, Some, Err, IfOk, IfErr, OnOk, OnErr};
+ghost use Rattle.std.specs.FinSet as set;
+ghost use Rattle.std.specs.Map.{keys_of, remove_entry};
 ghost use Rattle.node_cache.specs.declared.caches.TheConstants.{MAX_CACHED_NODES};
-ghost use Rattle.node_cache.specs.Cache.{node_in, with_first, first_bytes, IsBounded};
+ghost use Rattle.node_cache.specs.Cache.{node_in, with_first, with_blocks, first_bytes, IsBounded};
 
+use allocator::Ring;
 use fs_types::Fault;
 use lru::LruCache;
 use std::alloc::Global;
@@ -68,22 +70,11 @@ impl NodeCache {
         ensures value { result ≡ is_some (node_in self.old block) }
         ensures moved { (bytes : List ℕ) → node_in self.old block ≡ Some bytes → self.new ≡ with_first self.old block bytes }
         ensures stays { result ≡ false → self.new ≡ self.old }
+        ensures bounded { IsBounded self.old }
     {
         // No block is listed twice, nor more than there is room for, as its contract tells.
         let _ = self.nodes.len();
         self.nodes.promote(&block)
-    }
-
-    /// Lists a block first with its node.
-    pub fn list(&mut self, block: u32, node: Vec<u8>) -> Result<(), Fault>
-        ensures listed { OnOk result (self.new ≡ with_first self.old block node.items) }
-        ensures same { OnErr result (self.new ≡ self.old) }
-        ensures err { IfErr result (λ fault. fault ≡ Fault.NoMemory) }
-    {
-        // No block is listed twice, nor more than there is room for, as its contract tells.
-        let _ = self.nodes.len();
-        self.nodes.put(block, node)?;
-        Ok(())
     }
 
     /// Lists a block first with a copy of its node.
@@ -91,9 +82,13 @@ impl NodeCache {
         ensures listed { OnOk result (self.new ≡ with_first self.old block bytes.now) }
         ensures same { OnErr result (self.new ≡ self.old) }
         ensures err { IfErr result (λ fault. fault ≡ Fault.NoMemory) }
+        ensures bounded { IsBounded self.old }
     {
+        // No block is listed twice, nor more than there is room for, as its contract tells.
+        let _ = self.nodes.len();
         let node = bytes.to_vec(*self.nodes.allocator())?;
-        self.list(block, node)
+        self.nodes.put(block, node)?;
+        Ok(())
     }
 
     /// Takes the block out that is listed first.
@@ -108,5 +103,32 @@ impl NodeCache {
         ensures { self.new ≡ record self.old { entries = remove_entry (nat_eq block) self.old.entries } }
     {
         self.nodes.pop(&block);
+    }
+
+    /// Takes all blocks out.
+    pub fn clear(&mut self)
+        ensures { self.new ≡ record self.old { entries = [] } }
+    {
+        self.nodes.clear();
+    }
+
+    /// Takes out each block that the ring does not have as used.
+    pub fn forget_unused(&mut self, ring: &Ring)
+        ensures { self.new ≡ record self.old { entries = with_blocks (set.contains ring.now.used) self.old.entries } }
+    {
+        'unused: loop {
+            let Some(block) = self.first_unused(ring) else {
+                return;
+            };
+            self.forget(block);
+        }
+    }
+
+    // The first listed block that the ring does not have as used.
+    fn first_unused(&self, ring: &Ring) -> Option<u32>
+        ensures { result ≡ find (λ b. not (set.contains ring.now.used b)) (keys_of self.now.entries) }
+    {
+        let (block, _) = self.nodes.iter().find(|(block, _)| !ring.is_used(**block))?;
+        Some(*block)
     }
 }

@@ -14,11 +14,12 @@ is_read_fault _ = false
 abbrev pub IsReadFault : Fault → Type 0
 IsReadFault fault = IsTrue (is_read_fault fault)
 
--- the refusals of a write: no block left, a bad list at its limit, and no power
+-- the refusals of a write: no block left, a bad list at its limit, no power, and no memory
 abbrev pub is_write_fault : Fault → Bool
 is_write_fault FlashFull = true
 is_write_fault ReadOnly = true
 is_write_fault PowerCut = true
+is_write_fault NoMemory = true
 is_write_fault _ = false
 
 abbrev pub IsWriteFault : Fault → Type 0

@@ -1,27 +1,34 @@
 -- When what nodes are kept with fits a flash.
-use Rattle.std.specs.Prelude.{◌≡◌, ◌≤◌, vec_len, vec_capacity}
-use Rattle.std.proofs.Common.{sym, ◌∙◌, ap, subst, arith}
-use Rattle.flash_model.specs.declared.sizes.Geometry.{Geometry}
+use Rattle.std.specs.Prelude.{◌≡◌, ◌≤◌, ℕ, true, false, List, Option, Some, None, Result, Ok, Err, slice_get, vec_len, vec_capacity}
+use Rattle.std.specs.FinSet as set
+use Rattle.fs_types.specs.declared.faults.Fault.{Fault}
 use Rattle.flash_model.specs.Device.{Device}
 use Rattle.flash_model.specs.Geometry.{block_bytes}
+use Rattle.node_cache.specs.Cache.{node_in}
+use Rattle.node_store.specs.Caching.{IsTruthful}
 use Rattle.node_store.specs.declared.storage.Storage.{Storage}
 
--- there is room for a page and for a node
+-- there is room for a page and for a node, and what the cache lists the flash holds
 pub record Fits (device : Device) (storage : Storage) : Type 0 where
   pub page_len : vec_len storage.page ≡ device.geometry.page
   pub node_room : block_bytes device.geometry ≤ vec_capacity storage.node
+  pub truthful : IsTruthful device storage.cache
 
--- it fits the flash as it did before
-abbrev pub StillFits : Device → Storage → Device → Storage → Type 0
-StillFits old s new t = Fits old s → Fits new t
+-- it fits the flash as it did before, and there is room for as many nodes
+pub record StillFits (old : Device) (s : Storage) (new : Device) (t : Storage) : Type 0 where
+  pub fits : Fits old s → Fits new t
+  pub same_room : t.cache.room ≡ s.cache.room
 
--- with as much room, on a flash of the same sizes
-pub still_fits : (old : Device) (s : Storage) (new : Device) (t : Storage) → new.geometry ≡ old.geometry → vec_len t.page ≡ vec_len s.page
-    → vec_capacity s.node ≤ vec_capacity t.node → StillFits old s new t
-still_fits old s new t same page room = λ fits.
-    let before = fits.node_room in
-    let after : block_bytes old.geometry ≤ vec_capacity t.node = omega arith in
-    record {
-      page_len = page ∙ fits.page_len ∙ ap (λ (g : Geometry). g.page) (sym same);
-      node_room = subst (λ (g : Geometry). block_bytes g ≤ vec_capacity t.node) (sym same) after;
-    }
+-- the block that was written is listed first with its node
+abbrev pub IsListedFirst : Storage → ℕ → List ℕ → Type 0
+IsListedFirst t b bytes = slice_get t.cache.entries 0 ≡ Some (b, bytes)
+
+-- no block that became used is listed
+abbrev pub ListsNoneTried : Storage → Storage → Type 0
+ListsNoneTried s t = (b : ℕ) → set.contains s.ring.used b ≡ false → set.contains t.ring.used b ≡ true → node_in t.cache b ≡ None
+
+-- the same, but for an attempt that wrote its block
+abbrev pub ListsNone : Storage → Storage → Result (Option ℕ) Fault → Type 0
+ListsNone s t (Ok (Some b)) = Unit {0}
+ListsNone s t (Ok None) = ListsNoneTried s t
+ListsNone s t (Err fault) = ListsNoneTried s t

@@ -6,7 +6,10 @@ pub mod Reading
 pub mod ReadingLaws
 pub mod Writing
 pub mod WritingLaws
+pub mod Caching
+pub mod CachingLaws
 pub mod Fitting
+pub mod FittingLaws
 pub mod Storage
 pub mod StorageLaws
 pub mod Stores

@@ -4,7 +4,7 @@ use Rattle.std.specs.FinSet as set
 use Rattle.std.specs.Ordering.{nat_cmp}
 use Rattle.fs_types.specs.declared.limits.TheConstants.{MAX_BAD_BLOCKS}
 use Rattle.fs_types.specs.declared.faults.Fault.{Fault}
-use Rattle.fs_types.specs.declared.faults.Fault.TheVariants.{FlashFull, ReadOnly, PowerCut}
+use Rattle.fs_types.specs.declared.faults.Fault.TheVariants.{FlashFull, ReadOnly, PowerCut, NoMemory}
 use Rattle.flash_model.specs.Device.{Device, block_of}
 use Rattle.allocator.specs.Ring.{Ring, IsDataBlock, IsNext, is_busy, free_count}
 use Rattle.node_store.specs.NodePages.{first_data, node_of, pages_for}
@@ -90,12 +90,13 @@ PassesBad s t =
     (bad : set.FinSet nat_cmp) (b : ℕ) → ((c : ℕ) → set.contains t.bad c ≡ true → set.contains bad c ≡ true)
     → IsNext (is_busy t.ring bad) t.ring.blocks t.ring.last b → IsNext (is_busy s.ring bad) s.ring.blocks s.ring.last b
 
--- a write adds the node, or is refused: no block is free, the bad list is at its limit, or power is off
+-- a write adds the node, or is refused: no block is free, the bad list is at its limit, power is off, or memory is wanted
 abbrev pub Adds : Storage → List ℕ → Storage → Result ℕ Fault → Type 0
 Adds s bytes t (Ok b) = IsAdded s bytes t b
 Adds s bytes t (Err FlashFull) = (free_count t.ring t.bad ≡ 0) × (set.len t.bad < MAX_BAD_BLOCKS)
 Adds s bytes t (Err ReadOnly) = set.len t.bad ≡ MAX_BAD_BLOCKS
 Adds s bytes t (Err PowerCut) = (t.device.powered ≡ false) × (set.len t.bad < MAX_BAD_BLOCKS)
+Adds s bytes t (Err NoMemory) = set.len t.bad < MAX_BAD_BLOCKS
 Adds s bytes t (Err _) = ⊥
 
 -- the takes that no bad block paid for: of the block that was written, or in which power went
@@ -114,10 +115,12 @@ Spends s t bytes =
     t.device.operations + s.ring.takes * (1 + pages_for s.device.geometry.page (length bytes))
     ≤ s.device.operations + t.ring.takes * (1 + pages_for s.device.geometry.page (length bytes))
 
--- an attempt adds the node, or its block is bad and others may be tried, or it is refused as a write is
+-- an attempt adds the node, or its block is bad and others may be tried, or it is refused as a write is. Where memory is
+-- wanted, nothing was done
 abbrev pub Tries : Storage → List ℕ → Storage → Result (Option ℕ) Fault → Type 0
 Tries s bytes t (Ok (Some b)) = IsAdded s bytes t b
 Tries s bytes t (Ok None) = (free_count t.ring t.bad < free_count s.ring s.bad) × (set.len t.bad < MAX_BAD_BLOCKS)
+Tries s bytes t (Err NoMemory) = t ≡ s
 Tries s bytes t (Err fault) = Adds s bytes t (Err fault)
 
 -- which block an attempt takes

@@ -156,7 +156,7 @@ listed bad b c = set.contains-insert nat_cmp_total bad b c ∙ ap (λ t. t || se
 stays_listed : (bad : set.FinSet nat_cmp) (b c : ℕ) → set.contains bad c ≡ true → set.contains (set.insert bad b) c ≡ true
 stays_listed bad b c was = listed bad b c ∙ or_right (eqb c b) (set.contains bad c) was
 
-new_listed : (bad : set.FinSet nat_cmp) (b c : ℕ) → set.contains (set.insert bad b) c ≡ true → set.contains bad c ≡ false → c ≡ b
+pub new_listed : (bad : set.FinSet nat_cmp) (b c : ℕ) → set.contains (set.insert bad b) c ≡ true → set.contains bad c ≡ false → c ≡ b
 new_listed bad b c now good =
     elim (or_cases (eqb c b) (set.contains bad c) (sym (listed bad b c) ∙ now)) [
       | inl same ↦ eqb-true c b same

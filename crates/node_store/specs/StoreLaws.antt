@@ -8,6 +8,7 @@ use Rattle.flash_model.specs.declared.sizes.Geometry.{Geometry}
 use Rattle.flash_model.specs.Geometry.{IsGeometry}
 use Rattle.flash_model.specs.Device.{Device}
 use Rattle.node_store.specs.declared.stores.Store.{Store}
+use Rattle.node_store.specs.FittingLaws.{still_itself, still_on}
 use Rattle.node_store.specs.NodePages.{node_of}
 use Rattle.node_store.specs.NodeLaws.{node_of-same}
 use Rattle.node_store.specs.Storage.{Storage, is_kept, Evolved}
@@ -25,7 +26,7 @@ module _ {F : Type 0} (device : F → Device) where
   Follows_itself s = record {
     same_flash = refl;
     same_storage = refl;
-    fits = λ fits. fits;
+    fits = still_itself (device s.flash.now) s.storage.now;
     evolved = Evolved_itself (parts device s);
     more_writes = omega arith;
     paid = omega arith;
@@ -37,7 +38,7 @@ module _ {F : Type 0} (device : F → Device) where
   Follows_on s t u f g = record {
     same_flash = g.same_flash ∙ f.same_flash;
     same_storage = g.same_storage ∙ f.same_storage;
-    fits = λ fits. g.fits (f.fits fits);
+    fits = still_on (device s.flash.now) s.storage.now (device t.flash.now) t.storage.now (device u.flash.now) u.storage.now f.fits g.fits;
     evolved = Evolved_on (parts device s) (parts device t) (parts device u) f.evolved g.evolved;
     more_writes = omega arith;
     paid = omega arith;
@@ -68,5 +69,5 @@ module _ {F : Type 0} (device : F → Device) where
       record {
         lawful = subst IsGeometry (sym same) sound.lawful;
         ring_blocks = f.evolved.blocks ∙ sound.ring_blocks ∙ ap (λ (g : Geometry). g.blocks) (sym same);
-        fits = f.fits sound.fits;
+        fits = f.fits.fits sound.fits;
       }

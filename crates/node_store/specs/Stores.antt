@@ -7,14 +7,19 @@ use Rattle.fs_types.specs.declared.faults.Fault.TheVariants.{FlashFull, ReadOnly
 use Rattle.flash_model.specs.Geometry.{IsGeometry}
 use Rattle.flash_model.specs.Device.{Device}
 use Rattle.allocator.specs.Ring.{free_count}
+use Rattle.node_store.specs.declared.storage.Storage.{Storage as Kept}
 use Rattle.node_store.specs.declared.stores.Store.{Store}
 use Rattle.node_store.specs.Fitting.{Fits, StillFits}
 use Rattle.node_store.specs.Storage.{Storage, storage, Evolved, IsUntouched}
 
+-- a flash, with which blocks are bad and which are used
+abbrev pub storage_on : Device → Kept → Storage
+storage_on d s = storage d s.bad s.ring
+
 module _ {F : Type 0} (device : F → Device) where
   -- the parts that it works on
   abbrev pub parts : Store F → Storage
-  parts s = storage (device s.flash.now) s.storage.now.bad s.storage.now.ring
+  parts s = storage_on (device s.flash.now) s.storage.now
 
   -- what calls ask of the store, and leave
   pub record IsSound (s : Store F) : Type 0 where

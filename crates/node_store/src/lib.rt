@@ -2,6 +2,7 @@
 #![tactic(auto)]
 
 mod adding;
+mod caching;
 mod nodes;
 mod reading;
 mod storage;

@@ -1,7 +1,7 @@
 //! Nodes in the data blocks of a flash.
 use crate::adding::write_node;
+use crate::caching::read_first;
 use crate::nodes::Nodes;
-use crate::reading::read_node;
 use crate::storage::Storage;
 use counts::Count;
 use flash_model::Flash;
@@ -10,13 +10,16 @@ use fs_types::Fault;
 /// Keeps nodes in the data blocks of a lent flash. The kept blocks are those that the ring has as
 /// used.
 ///
+/// A node is lent from the cache of those that were used last: a listed block is read without the
+/// device, and one that is read or written goes first.
+///
 /// A write takes a block, erases it and programs its pages. A block of which an operation failed
 /// goes into the bad list, and the next one is taken.
 #[derive(Drop)]
 pub struct Store<'a, F: Flash> {
     /// The flash.
     pub flash: &'a mut F,
-    /// The bad and the used blocks, and room for a page and for a node.
+    /// The bad and the used blocks, and the nodes that were used last.
     pub storage: &'a mut Storage,
     /// How many reads were asked.
     pub reads: Count,
@@ -44,9 +47,14 @@ impl<'a, F: Flash> Store<'a, F> {
 }
 
 impl<F: Flash> Nodes for Store<'_, F> {
+    ghost use Rattle.std.specs.Prelude.{◌≡◌, ◌≢◌, ◌+◌, Some, None, OnOk, IfErr, IsErrOf};
+    ghost use Rattle.node_store.specs.Caching.{Fetches};
+    ghost use Rattle.node_store.specs.Faults.{IsReadFault};
+    ghost use Rattle.node_store.specs.Frames.{OnlyLooks};
     ghost use Rattle.std.proofs.Common.{ap};
     ghost use Rattle.std.specs.FinSet as set;
     ghost use Rattle.flash_model.specs.Geometry.{block_bytes as bytes_of_block};
+    ghost use Rattle.node_cache.specs.Cache.{first_bytes};
     ghost use Rattle.node_store.specs.NodePages.{node_of};
     ghost use Rattle.node_store.specs.NodeLaws.{node_of-whole, node_of-anchor, node_of-beyond};
     ghost use Rattle.node_store.specs.StorageLaws.{Evolved_fresh};
@@ -58,7 +66,7 @@ impl<F: Flash> Nodes for Store<'_, F> {
 
     ghost kept = { λ s. set.contains s.storage.now.ring.used };
 
-    ghost shown = { λ s. s.storage.now.node.items };
+    ghost shown = { λ s. first_bytes s.storage.now.cache.entries };
 
     ghost lends = { λ _. Unit {0} };
 
@@ -84,25 +92,30 @@ impl<F: Flash> Nodes for Store<'_, F> {
         self.flash.geometry().blocks
     }
 
-    fn read(&mut self, block: u32) -> Result<(), Fault> {
+    fn read(&mut self, block: u32) -> Result<(), Fault>
+        requires { IsSound F.device self.old }
+        ensures shown { OnOk result (node_of (F.device self.old.flash.now) block ≡ Some (first_bytes self.new.storage.now.cache.entries)) }
+        ensures lends { OnOk result (Unit {0}) }
+        ensures damaged { IsErrOf result Fault.Damaged → node_of (F.device self.old.flash.now) block ≡ None }
+        ensures why { IfErr result (λ fault. fault ≢ Fault.Damaged → Causes F.device self.old self.new fault) }
+        ensures faults { IfErr result IsReadFault }
+        ensures looks { OnlyLooks (λ s. node_of (F.device s.flash.now)) (λ s. set.contains s.storage.now.ring.used) (λ s. s.writes.n) (Follows F.device) (IsSound F.device) (λ s. bytes_of_block (F.device s.flash.now).geometry) (λ s. (F.device s.flash.now).geometry.blocks) self.old self.new }
+        ensures reads { self.new.reads.n ≡ self.old.reads.n + 1 }
+
+        // A listed block is answered without the device, and after Ok the block is listed first.
+        ensures fetches { Fetches (F.device self.old.flash.now) self.old.storage.now.cache block (F.device self.new.flash.now) self.new.storage.now.cache result }
+    {
         self.reads = self.reads.more();
-        let Storage { page, node, .. } = &mut *self.storage;
-        read_node(self.flash, block, page, node)
+        read_first(self.flash, self.storage, block)
     }
 
     fn lent(&self) -> &[u8] {
-        &self.storage.node
+        self.storage.cache.first()
     }
 
     fn write(&mut self, bytes: &[u8]) -> Result<u32, Fault> {
         self.writes = self.writes.more();
-        let Storage {
-            bad,
-            ring,
-            page,
-            ..
-        } = &mut *self.storage;
-        write_node(self.flash, bad, ring, page, bytes)
+        write_node(self.flash, self.storage, bytes)
     }
 
     ghost follows_itself = { Follows_itself F.device };

@@ -1,4 +1,5 @@
 //! Nodes kept in memory.
+use allocator::Ring;
 use fs_types::Fault;
 use node_cache::NodeCache;
 use std::test::Fail;
@@ -6,10 +7,8 @@ use std::test::Fail;
 #[test]
 fn a_cache_of_two_keeps_the_nodes_used_last(rt: HostRuntime) -> Result<(), Fail> {
     let mut cache = NodeCache::new(rt.alloc(), 2)?;
-    let mut nine = Vec::new(rt.alloc());
-    nine.extend_from_slice(b"nine")?;
     assert_eq!(rt; cache.list_copy(8, b"eight"), Ok(()));
-    assert_eq!(rt; cache.list(9, nine), Ok(()));
+    assert_eq!(rt; cache.list_copy(9, b"nine"), Ok(()));
     assert_eq!(rt; cache.first(), b"nine".as_slice());
     assert!(rt; cache.promote(8));
     assert_eq!(rt; cache.first(), b"eight".as_slice());
@@ -34,5 +33,22 @@ fn a_cache_has_room_for_1_to_64_nodes(rt: HostRuntime) -> Result<(), Fail> {
     }
     assert_eq!(rt; cache.len(), 64);
     assert!(rt; !cache.promote(8) && cache.promote(9) && cache.promote(72));
+    Ok(())
+}
+
+#[test]
+fn unused_blocks_leave_the_cache(rt: HostRuntime) -> Result<(), Fail> {
+    let mut ring = Ring::new(rt.alloc(), 16, 15)?;
+    ring.mark_used(9);
+    ring.mark_used(11);
+    let mut cache = NodeCache::new(rt.alloc(), 8)?;
+    for block in 8..13 {
+        cache.list_copy(block, b"node")?;
+    }
+    cache.forget_unused(&ring);
+    assert_eq!(rt; cache.len(), 2);
+    assert!(rt; cache.promote(9) && cache.promote(11));
+    cache.clear();
+    assert_eq!(rt; cache.len(), 0);
     Ok(())
 }

@@ -125,20 +125,22 @@ fn one_block_is_read_of_a_new_system(rt: HostRuntime) -> Result<(), Fail> {
     Ok(())
 }
 
-/// Scripts on a formatted flash whose marking is given up, each with its replies. Three blocks are
-/// reached, so the step of 2 after it would end the one that was begun.
+/// Scripts on a formatted flash whose marking is given up, each with its replies. Nine blocks are
+/// reached by five versions, whose roots are marked first; the directory of the first `mkdir`, which
+/// comes then, is the one that is not in memory. The step of 7 after the refused one would end the
+/// marking that was begun, and so would that of 2 after the restart.
 const GIVEN_UP: [(&str, &str); 3] = [
     (
-        "mkdir /a\nreclaim 2\nfault 1 read-fail\nreclaim 1\nreclaim 2\nreclaim 1\n",
-        "ok\nmore\nok\nerr EIO 23\nmore\ndone\n",
+        "mkdir /a\nmkdir /b\nmkdir /c\nmkdir /d\nreclaim 5\nfault 1 read-fail\nreclaim 1\nreclaim 7\nreclaim 2\n",
+        "ok\nok\nok\nok\nmore\nok\nerr EIO 23\nmore\ndone\n",
     ),
     (
         "mkdir /a\nsync\nreclaim 2\nrestart\nreclaim 2\n",
         "ok\nok\nmore\nmounted\nmore\n",
     ),
     (
-        "reclaim 0\nfault 1 read-cut\nreclaim 1\nreclaim 1\nrestart\nreclaim 1\n",
-        "more\nok\nerr POWERCUT 24\nerr POWERCUT 24\nmounted\ndone\n",
+        "mkdir /a\nmkdir /b\nmkdir /c\nmkdir /d\nreclaim 0\nfault 1 read-cut\nreclaim 6\nreclaim 1\nrestart\nreclaim 1\n",
+        "ok\nok\nok\nok\nmore\nok\nerr POWERCUT 24\nerr POWERCUT 24\nmounted\ndone\n",
     ),
 ];
 

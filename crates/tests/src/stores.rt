@@ -1,8 +1,8 @@
 //! Nodes written to a flash and read back.
-use allocator::Ring;
 use bad_blocks::BadBlocks;
 use flash_model::{FaultKind, Geometry, PlannedFault, SimFlash};
 use fs_types::Fault;
+use node_cache::NodeCache;
 use node_store::{Nodes, Storage, Store};
 use std::test::Fail;
 
@@ -21,12 +21,8 @@ fn a_node_is_written_past_a_block_that_fails(rt: HostRuntime) -> Result<(), Fail
         kind: FaultKind::ProgramFail,
     }];
     let mut flash = SimFlash::new(rt.alloc(), geometry, &plan)?;
-    let mut storage = Storage {
-        bad: BadBlocks::new(),
-        ring: Ring::new(rt.alloc(), 16, 15)?,
-        page: vec![in rt.alloc(); 0; 256]?,
-        node: Vec::with_capacity(rt.alloc(), 4096)?,
-    };
+    let cache = NodeCache::new(rt.alloc(), 2)?;
+    let mut storage = Storage::unused(rt.alloc(), geometry, BadBlocks::new(), 15, cache)?;
     {
         let mut store = Store::new(&mut flash, &mut storage);
         assert_eq!(rt; store.write(&EMPTY), Ok(9));

@@ -1,9 +1,9 @@
 //! Verification of roots on a flash in memory: what it answers, what it marks, and how many reads it
 //! asks.
-use allocator::Ring;
 use bad_blocks::BadBlocks;
 use flash_model::{FaultKind, Flash, Geometry, PageView, PlannedFault, SimFlash};
 use fs_types::Fault;
+use node_cache::NodeCache;
 use node_store::{Storage, Store};
 use reclaim::verify;
 use std::alloc::{AllocError, Global};
@@ -153,12 +153,8 @@ fn told(alloc: Global, flash: &mut SimFlash, roots: &[u32]) -> Result<Outcome, F
         return Err(Fault::BadGeometry);
     }
     let before = flash.counts().reads;
-    let mut storage = Storage {
-        bad: BadBlocks::new(),
-        ring: Ring::new(alloc, 32, 31)?,
-        page: vec![in alloc; 0; sizes.page as usize]?,
-        node: Vec::with_capacity(alloc, sizes.block_bytes())?,
-    };
+    let cache = NodeCache::new(alloc, 1)?;
+    let mut storage = Storage::unused(alloc, sizes, BadBlocks::new(), 31, cache)?;
     let answer = {
         let mut store = Store::new(flash, &mut storage);
         verify(alloc, 32, &mut store, roots)

@@ -1,5 +1,5 @@
 -- A system after a commit: it is mounted as before, and the newest record is the working history, or what it was.
-use Rattle.std.proofs.Common.{◌≡◌, ◌≢◌, ◌⊎◌, inl, inr, ℕ, ◌+◌, ◌<◌, ◌≤◌, Bool, true, false, ◌||◌, Option, Some, None, Result, Ok, Err, map, refl, sym, ap, subst, ◌∙◌, arith}
+use Rattle.std.proofs.Common.{◌≡◌, ◌≢◌, ◌⊎◌, inl, inr, ℕ, ◌+◌, ◌<◌, Bool, true, false, ◌||◌, Option, Some, None, Result, Ok, Err, map, refl, sym, ap, subst, ◌∙◌, arith}
 use Rattle.std.proofs.lemmas.Bool.{true≢false}
 use Rattle.std.specs.Prelude.{is_some, IfSome, Contains, ◌/◌, vec_len, vec_capacity}
 use Rattle.std.specs.FinSet as set
@@ -13,7 +13,9 @@ use Rattle.history_machine.specs.Machine.{IsMachine, machine_with}
 use Rattle.flash_model.specs.declared.sizes.Geometry.{Geometry}
 use Rattle.flash_model.specs.Device.{Device}
 use Rattle.flash_model.specs.Geometry.{IsGeometry}
-use Rattle.node_store.specs.Fitting.{still_fits}
+use Rattle.node_cache.specs.Cache.{NodeCache}
+use Rattle.node_store.specs.Caching.{IsTruthful}
+use Rattle.node_store.specs.FittingLaws.{still_fits}
 use Rattle.record_format.specs.declared.records.Record.{Record}
 use Rattle.commit_pair.specs.declared.anchors.Anchors.{Anchors}
 use Rattle.commit_pair.specs.declared.best.Found.{Found}
@@ -32,7 +34,7 @@ use Rattle.upkeep.specs.Saved.{saved_on, saved_trees}
 use Rattle.upkeep.specs.Commits.{record_on, Saves}
 use Rattle.upkeep.specs.Systems.{IsSystem, IsKnown, IsRunning}
 use Rattle.upkeep.specs.declared.systems.System.{System}
-use Rattle.upkeep.proofs.SameNodes.{HasSameData, same_tree, stands_too}
+use Rattle.upkeep.proofs.SameNodes.{HasSameData, node_is, same_tree, stands_too}
 use Rattle.upkeep.proofs.Committed.{same_saved, IsNewly, newly_saved}
 
 -- ---- places that are known
@@ -96,7 +98,9 @@ module _ {T : Type 0} (d e : Device) (m n : System) (result : Result T Fault) (s
     ring_blocks = ap (λ (t : State). t.storage.ring.blocks) saves.state ∙ s.mounted.ring_blocks ∙ sym (ap (λ (g : Geometry). g.blocks) same.geometry);
     fits =
         let capacity : vec_capacity n.state.storage.node ≡ vec_capacity m.state.storage.node = ap (λ (t : State). vec_capacity t.storage.node) saves.state in
-        still_fits d m.state.storage e n.state.storage same.geometry (ap (λ (t : State). vec_len t.storage.page) saves.state) (omega arith) s.mounted.fits;
+        let cache : n.state.storage.cache ≡ m.state.storage.cache = ap (λ (t : State). t.storage.cache) saves.state in
+        (still_fits d m.state.storage e n.state.storage same.geometry (ap (λ (t : State). vec_len t.storage.page) saves.state) (omega arith) (ap (λ (k : NodeCache). k.room) cache)
+        (λ fits. subst (IsTruthful e) (sym cache) (record { each = λ b bytes is. node_is d e same b ∙ fits.truthful.each b bytes is }))).fits s.mounted.fits;
     roots = λ root has. standing root (s.mounted.roots root (subst (λ (t : State). HasRoot t root) saves.state has));
     machine = subst IsMachine (sym same_machine) s.mounted.machine;
     off = off;

@@ -1,5 +1,5 @@
 -- What a mount has found: the working state that it makes, and why it makes none.
-use Rattle.std.proofs.Common.{◌≡◌, ◌≢◌, replicate, inl, inr, ℕ, zero, suc, ◌-◌, ◌/◌, ◌<◌, ◌≤◌, Bool, true, false, ◌||◌, Option, Some, None, Result, Ok, List, [], ◌∷◌, ◌++◌, length, map, refl, sym, ap, subst, ◌∙◌, arith}
+use Rattle.std.proofs.Common.{◌≡◌, ◌≢◌, replicate, inl, inr, ℕ, zero, suc, ◌-◌, ◌/◌, ◌<◌, Bool, true, false, ◌||◌, Option, Some, None, Result, Ok, List, [], ◌∷◌, ◌++◌, length, map, refl, sym, ap, subst, ◌∙◌, arith}
 use Rattle.std.proofs.lemmas.Bool.{true≢false}
 use Rattle.std.proofs.lemmas.List.Elements.{All-map, Contains-append_left, Contains-append_right}
 use Rattle.std.proofs.lemmas.Cmp.{nat_cmp_total}

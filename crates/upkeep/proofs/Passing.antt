@@ -18,7 +18,8 @@ use Rattle.flash_model.specs.Reading.{OnlyReads, OnlyReads_itself, OnlyReads_on}
 use Rattle.allocator.specs.BlockSet.{BlockSet}
 use Rattle.allocator.specs.Ring.{Ring, IsDataBlock, AreDataBlocks}
 use Rattle.node_format.specs.Headers.{body_header}
-use Rattle.node_store.specs.Fitting.{Fits, StillFits}
+use Rattle.node_store.specs.Fitting.{StillFits}
+use Rattle.node_store.specs.FittingLaws.{still_on}
 use Rattle.node_store.specs.NodePages.{node_of}
 use Rattle.node_store.specs.declared.storage.Storage.{Storage}
 use Rattle.block_trees.specs.Bodies.{Blocks}
@@ -45,6 +46,7 @@ use Rattle.upkeep.specs.Saved.{saved_on}
 use Rattle.upkeep.specs.Systems.{IsSystem, IsRunning, MustStay}
 use Rattle.upkeep.specs.declared.systems.System.{System}
 use Rattle.upkeep.proofs.AfterCommits.{knows, known, is_newest, not_none}
+use Rattle.upkeep.proofs.Installed.{marked_in, with_ring, with_marks}
 use Rattle.upkeep.proofs.Measured.{listed_root, listed_reached, mounted_roots, reached_to, roots_hold_data}
 use Rattle.upkeep.proofs.Running.{running_on}
 use Rattle.upkeep.proofs.SameNodes.{HasSameData, node_is, same_nodes, same_tree, stands_too}
@@ -105,7 +107,7 @@ module _ (d e : Device) (m n : System) (s : IsSystem d m) (on : m.state.is_off �
   kept_mounted = record {
     lawful = subst IsGeometry (sym k.reads.geometry) s.mounted.lawful;
     ring_blocks = k.blocks ∙ s.mounted.ring_blocks ∙ ap (λ (g : Geometry). g.blocks) (sym k.reads.geometry);
-    fits = k.fits s.mounted.fits;
+    fits = k.fits.fits s.mounted.fits;
     roots = λ root has. let before = had root has in standing root (λ b reached. inl (root, before, reached)) (s.mounted.roots root before);
     machine = subst IsMachine (sym machine) s.mounted.machine;
     off = λ off. absurd (both_ways n.state.is_off k.is_on off);
@@ -221,7 +223,7 @@ module _ (d : Device) (m : System) (s : IsSystem d m) (on : m.state.is_off ≡ f
       blocks = ap (λ (x : System). x.state.storage.ring.blocks) is;
       last = ap (λ (x : System). x.state.storage.ring.last) is;
       takes = ap (λ (x : System). x.state.storage.ring.takes) is;
-      fits = λ fits. subst (λ (x : System). Fits d x.state.storage) (sym is) (record { page_len = fits.page_len; node_room = fits.node_room });
+      fits = subst (λ (x : System). StillFits d m.state.storage d x.state.storage) (sym is) (with_ring d m.state.storage (record m.state.storage.ring { note = n.state.storage.ring.note }));
       anchors = ap (λ (x : System). x.anchors) is;
       record_roots = ap (λ (x : System). x.record_roots) is;
       used = λ b must. ap (λ (x : System). set.contains x.state.storage.ring.used b) is ∙ must_used d m s on b must;
@@ -310,12 +312,12 @@ module _ (d e : Device) (m : System) (st : Storage) (s : IsSystem d m) (on : m.s
         by false is = is
         by true is = absurd (running.marking (λ pass. apart ((marked pass b).0 is)))
 
-    -- the marked blocks, and those that were taken since, are used
-    abbrev marked_ring : Ring
-    marked_ring = record st.ring { used = set.union marks.members st.ring.note }
+    -- the marked blocks, and those that were taken since, are used, and of the others no node is kept in memory
+    abbrev marked_storage : Storage
+    marked_storage = marked_in st marks
 
-    abbrev installed : Ring → System
-    installed r = with_storage m (record st { ring = r }) m.pass
+    abbrev installed : Storage → System
+    installed u = with_storage m u m.pass
 
     union_left : (a b : set.FinSet nat_cmp) (x : ℕ) → set.contains a x ≡ true → set.contains (set.union a b) x ≡ true
     union_left a b x is = set.contains-union nat_cmp_total a b x ∙ ap (λ (y : Bool). y || set.contains b x) is
@@ -339,7 +341,7 @@ module _ (d e : Device) (m : System) (st : Storage) (s : IsSystem d m) (on : m.s
             union_right marks.members st.ring.note b
             (ap (λ (x : set.FinSet nat_cmp). set.contains x b) same_note ∙ running.taken b must (λ reached. both_ways (set.contains marks.members b) is (all_marked b reached)))
 
-    installed_keeps : AreDataBlocks st.ring.blocks st.ring.used → Keeps d e m (installed marked_ring)
+    installed_keeps : AreDataBlocks st.ring.blocks st.ring.used → Keeps d e m (installed marked_storage)
     installed_keeps blocks =
         let k = looked_keeps m.pass in
         record {
@@ -351,7 +353,7 @@ module _ (d e : Device) (m : System) (st : Storage) (s : IsSystem d m) (on : m.s
           blocks = k.blocks;
           last = k.last;
           takes = k.takes;
-          fits = λ fits. let still = k.fits fits in record { page_len = still.page_len; node_room = still.node_room };
+          fits = still_on d m.state.storage e st e marked_storage k.fits (with_marks e st marks);
           anchors = refl;
           record_roots = refl;
           used = must_install;
@@ -365,19 +367,19 @@ module _ (d e : Device) (m : System) (st : Storage) (s : IsSystem d m) (on : m.s
             let same : st.ring.blocks ≡ d.geometry.blocks = ap (λ (r : Ring). r.blocks) l.untouched.ring ∙ s.mounted.ring_blocks in
             omega (arith, own.1, same)
 
-    pub ended_system : (r : Ring) → r ≡ marked_ring → AreDataBlocks st.ring.blocks st.ring.used → m.pass ≡ None → IsSystem e (installed r)
-    ended_system r is blocks none =
-        subst (λ (x : Ring). IsSystem e (installed x)) (sym is)
-        (kept_system d e m (installed marked_ring) s on (installed_keeps blocks) (subst (λ (o : Option Pass). IfSome o (IsRunning e (installed marked_ring))) (sym none) tt))
+    pub ended_system : (u : Storage) → u ≡ marked_storage → AreDataBlocks st.ring.blocks st.ring.used → m.pass ≡ None → IsSystem e (installed u)
+    ended_system u is blocks none =
+        subst (λ (x : Storage). IsSystem e (installed x)) (sym is)
+        (kept_system d e m (installed marked_storage) s on (installed_keeps blocks) (subst (λ (o : Option Pass). IfSome o (IsRunning e (installed marked_storage))) (sym none) tt))
 
-    pub ended_stays : (r : Ring) → r ≡ marked_ring → AreDataBlocks st.ring.blocks st.ring.used → Stays d m e (installed r)
-    ended_stays r is blocks = subst (λ (x : Ring). Stays d m e (installed x)) (sym is) (kept_stays d e m (installed marked_ring) s on (installed_keeps blocks))
+    pub ended_stays : (u : Storage) → u ≡ marked_storage → AreDataBlocks st.ring.blocks st.ring.used → Stays d m e (installed u)
+    ended_stays u is blocks = subst (λ (x : Storage). Stays d m e (installed x)) (sym is) (kept_stays d e m (installed marked_storage) s on (installed_keeps blocks))
 
     others_go : (b : ℕ) → (Reached (node_of d) p.roots b → ⊥) → set.contains st.ring.note b ≡ false → set.contains (set.union marks.members st.ring.note) b ≡ false
     others_go b apart unnoted = set.contains-union nat_cmp_total marks.members st.ring.note b ∙ ap (λ (y : Bool). y || set.contains st.ring.note b) (only_marked b apart) ∙ unnoted
 
-    pub ends : (old : System) (budget : ℕ) (r : Ring) → r ≡ marked_ring → GoesOnFrom old p m.state.storage.ring.note → (q.next ≤ p.next + budget) × IsFinished q → m.pass ≡ None → EndsPass d old budget (installed r)
-    ends old budget r is from done none = subst (λ (x : Ring). EndsPass d old budget (installed x)) (sym is) (record {
+    pub ends : (old : System) (budget : ℕ) (u : Storage) → u ≡ marked_storage → GoesOnFrom old p m.state.storage.ring.note → (q.next ≤ p.next + budget) × IsFinished q → m.pass ≡ None → EndsPass d old budget (installed u)
+    ends old budget u is from done none = subst (λ (x : Storage). EndsPass d old budget (installed x)) (sym is) (record {
       from = p;
       to = q;
       was = subst (λ (x : set.FinSet nat_cmp). GoesOnFrom old p x) (sym same_note) from;
@@ -449,19 +451,19 @@ module _ (d e : Device) (m n : System) (p q : Pass) (st : Storage) (t : IsSteppe
   goes_system on_with = going_system d e n st first step_is_on t.looked p q t.same on_with running
 
   -- it ends
-  module _ (marks : BlockSet) (r : Ring) (is : r ≡ record st.ring { used = set.union marks.members st.ring.note }) (blocks : AreDataBlocks st.ring.blocks st.ring.used)
+  module _ (marks : BlockSet) (u : Storage) (is : u ≡ marked_in st marks) (blocks : AreDataBlocks st.ring.blocks st.ring.used)
       (on_with : IsPass (node_of d) p → IsPass (node_of d) q) (exact : (f : Blocks) → IsPass f q → (b : ℕ) → (set.contains marks.members b ≡ true) ↔ Reached f q.roots b) where
     abbrev last : System
-    last = with_storage n (record st { ring = r }) n.pass
+    last = with_storage n u n.pass
 
     pub all_system : IsSystem e last
-    all_system = ended_system d e n st first step_is_on t.looked p q marks running t.same on_with exact r is blocks none
+    all_system = ended_system d e n st first step_is_on t.looked p q marks running t.same on_with exact u is blocks none
 
     pub all_stays : Stays d m e last
-    all_stays = stays_on d d e m n last first_stays (ended_stays d e n st first step_is_on t.looked p q marks running t.same on_with exact r is blocks)
+    all_stays = stays_on d d e m n last first_stays (ended_stays d e n st first step_is_on t.looked p q marks running t.same on_with exact u is blocks)
 
     pub all_ends : (budget : ℕ) → (q.next ≤ p.next + budget) × IsFinished q → EndsPass d m budget last
-    all_ends budget done = ends d e n st first step_is_on t.looked p q marks running t.same on_with exact m budget r is t.from done none
+    all_ends budget done = ends d e n st first step_is_on t.looked p q marks running t.same on_with exact m budget u is t.from done none
 
 -- ---- whether power went
 

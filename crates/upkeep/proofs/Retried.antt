@@ -1,5 +1,5 @@
 -- The step of a call that is tried once, or twice.
-use Rattle.std.proofs.Common.{◌≡◌, ◌≢◌, ◌⊎◌, inl, inr, ℕ, ◌+◌, ◌*◌, ◌<◌, ◌≤◌, Bool, true, false, not, ◌||◌, Option, Some, None, Result, Ok, Err, List, [], ◌∷◌, count_by, refl, sym, ap, subst, ◌∙◌, arith}
+use Rattle.std.proofs.Common.{◌≡◌, ◌≢◌, ◌⊎◌, inl, inr, ℕ, ◌+◌, ◌*◌, ◌<◌, ◌≤◌, Bool, true, false, not, ◌||◌, Some, Result, Ok, Err, List, [], ◌∷◌, count_by, refl, sym, ap, subst, ◌∙◌, arith}
 use Rattle.std.proofs.lemmas.Bool.{true≢false, both_ways, and_parts}
 use Rattle.std.proofs.lemmas.List.Elements.{Contains-append_cases}
 use Rattle.std.specs.Prelude.{◌/◌, is_some, if◌then◌else◌, Contains}
@@ -21,9 +21,7 @@ use Rattle.node_store.specs.StoreLaws.{Evolved_node}
 use Rattle.block_trees.specs.Bodies.{Blocks}
 use Rattle.block_trees.specs.Reached.{Reached}
 use Rattle.reclaim.proofs.Marking.{reached_same, reached_back}
-use Rattle.record_format.specs.declared.records.Record.{Record}
 use Rattle.read_only.specs.Modes.{is_read_only}
-use Rattle.working_state.specs.Leaves.{Leaves}
 use Rattle.working_state.specs.Mounted.{KeepsPages}
 use Rattle.working_state.specs.Roots.{HasRoot, IsReached, IsSpace}
 use Rattle.working_state.specs.Seen.{Seen, capacity_of, seen_on, machine_on}
@@ -32,13 +30,13 @@ use Rattle.working_state.specs.Steps as once_only
 use Rattle.working_state.specs.Worked.{ReadCause}
 use Rattle.working_state.specs.declared.state.State.{State}
 use Rattle.working_state.proofs.CutCalls.{own_says}
-use Rattle.upkeep.specs.Mounts.{history_of, roots_of}
-use Rattle.upkeep.specs.Saved.{saved_on, saved_trees, IsWhole}
+use Rattle.upkeep.specs.Mounts.{roots_of}
+use Rattle.upkeep.specs.Saved.{saved_trees, IsWhole}
 use Rattle.upkeep.specs.Commits.{Saves, SaveCause, KeepsRecord, RecordAfter, TriesOnce}
-use Rattle.upkeep.specs.Reclaiming.{Reclaims, GoesOnFrom, Stays, StepEnds, EndsPass}
+use Rattle.upkeep.specs.Reclaiming.{GoesOnFrom, Stays, EndsPass}
 use Rattle.upkeep.specs.Rooms.{unmarked, no_limit, MarksAnew, LacksCommit}
 use Rattle.upkeep.specs.Steps.{TriesAgain, LacksRoom, TriesTwice, IsOfSecond, SystemAnswers, IsAfter, bad_data, Takes, SystemStep}
-use Rattle.upkeep.specs.Systems.{IsSystem, IsRunning}
+use Rattle.upkeep.specs.Systems.{IsSystem}
 use Rattle.upkeep.specs.declared.systems.System.{System}
 use Rattle.upkeep.proofs.AfterCommits.{same, same_machine, same_history, saved_after, stands_after, trees_after, newly_trees}
 use Rattle.upkeep.proofs.Committed.{IsNewly, newly_saved}

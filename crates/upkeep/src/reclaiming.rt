@@ -66,7 +66,7 @@ impl System {
         }
         // The used blocks are data blocks, as their contract tells.
         let _blocks = self.state.storage.ring.blocks();
-        self.state.storage.ring.install(pass.finish());
+        self.state.storage.install(pass.finish());
         Ok(true)
     }
 

@@ -20,6 +20,7 @@ use Rattle.history_machine.proofs.Kept.{present-file_tree}
 use Rattle.node_format.specs.Items.{Item, named}
 use Rattle.node_format.specs.declared.places.Place.{Place}
 use Rattle.node_format.specs.declared.places.Place.TheVariants as place
+use Rattle.node_store.specs.FittingLaws.{still_itself}
 use Rattle.node_store.specs.StorageLaws.{Untouched_itself}
 use Rattle.block_trees.specs.Bodies.{Blocks, body, head_index, data_to, IsBody}
 use Rattle.block_trees.specs.Reached.{IsHeld}
@@ -162,7 +163,7 @@ same_answer a b call reply m l reads fine replies moves =
     }
 
 pub looked_itself : (a : Moment) → IsLooked a a
-looked_itself a = record { untouched = Untouched_itself (storage_at a); fits = λ fits. fits; rest = record { history = refl; files = refl; is_off = refl } }
+looked_itself a = record { untouched = Untouched_itself (storage_at a); fits = still_itself a.device a.state.storage; rest = record { history = refl; files = refl; is_off = refl } }
 
 -- the path of an open file
 

@@ -13,7 +13,7 @@ use Rattle.history_machine.specs.Machine.{IsMachine, mounted, machine_with}
 use Rattle.plain_trees.specs.Trees.{Tree, bare}
 use Rattle.fs_types.specs.declared.calls.Version.{Version}
 use Rattle.fs_types.specs.declared.faults.Fault.{Fault}
-use Rattle.fs_types.specs.declared.faults.Fault.TheVariants.{FlashFull, ReadOnly, PowerCut}
+use Rattle.fs_types.specs.declared.faults.Fault.TheVariants.{FlashFull, ReadOnly, PowerCut, NoMemory}
 use Rattle.history_machine.proofs.Kept.{machine_law}
 use Rattle.flash_model.specs.Device.{Device}
 use Rattle.flash_model.specs.declared.sizes.Geometry.{Geometry}
@@ -22,7 +22,7 @@ use Rattle.allocator.specs.Ring.{Ring, IsDataBlock, is_busy, free_count, IsNext}
 use Rattle.allocator.specs.RingLaws.{distance_earlier}
 use Rattle.node_store.specs.declared.storage.Storage.{Storage}
 use Rattle.node_store.specs.NodePages.{first_data, node_of}
-use Rattle.node_store.specs.Fitting.{Fits, still_fits}
+use Rattle.node_store.specs.Fitting.{Fits, StillFits}
 use Rattle.node_store.specs.Storage as parts
 use Rattle.node_store.specs.Storage.{Evolved, Pays, Adds, unpaid}
 use Rattle.node_format.specs.Directories.{directory_at}
@@ -131,6 +131,7 @@ begin_cause d was s FlashFull e t are bad ring written used why =
 begin_cause d was s ReadOnly e t are bad ring written used why =
     (t.bad, record { grown = grown d was e t (begins d was s (parts.storage e t.bad t.ring) bad ring written.evolved); full = why })
 begin_cause d was s PowerCut e t are bad ring written used why = why
+begin_cause d was s NoMemory e t are bad ring written used why = tt
 begin_cause d was s _ e t are bad ring written used why = absurd why
 
 unpaid_one : (result : Result ℕ Fault) → unpaid result ≤ 1
@@ -141,11 +142,11 @@ unpaid_one (Err _) = omega arith
 
 -- the one write of the root: what it leaves, what it reads as, and why it is refused
 pub root_written : (d : Device) (s : Storage) (e : Device) (t : Storage) (result : Result ℕ Fault) → Evolved (parts.storage d s.bad s.ring) (parts.storage e t.bad t.ring)
-    → Pays (parts.storage d s.bad s.ring) (parts.storage e t.bad t.ring) (unpaid result) → vec_len t.page ≡ vec_len s.page → t.node ≡ s.node → HasWritten d s 1 e t
-root_written d s e t result evolved pays page node = record {
+    → Pays (parts.storage d s.bad s.ring) (parts.storage e t.bad t.ring) (unpaid result) → StillFits d s e t → HasWritten d s 1 e t
+root_written d s e t result evolved pays fits = record {
   evolved = evolved;
   paid = let one = unpaid_one result in omega arith;
-  fits = still_fits d s e t evolved.geometry page (let same : vec_capacity t.node ≡ vec_capacity s.node = ap vec_capacity node in omega arith);
+  fits = fits;
 }
 
 pub root_why : (s : parts.Storage) (bytes : List ℕ) (t : parts.Storage) (result : Result ℕ Fault) → Evolved s t → Pays s t (unpaid result) → Adds s bytes t result
@@ -154,6 +155,7 @@ root_why s bytes t (Ok root) evolved pays adds = tt
 root_why s bytes t (Err FlashFull) evolved pays adds = let taken = evolved.taken in omega (arith, adds.0)
 root_why s bytes t (Err ReadOnly) evolved pays adds = adds
 root_why s bytes t (Err PowerCut) evolved pays adds = adds.0
+root_why s bytes t (Err NoMemory) evolved pays adds = tt
 root_why s bytes t (Err _) evolved pays adds = absurd adds
 
 pub root_empty : (s : parts.Storage) (bytes : List ℕ) (t : parts.Storage) (result : Result ℕ Fault) → directory_at bytes ≡ Some [] → Adds s bytes t result
@@ -184,7 +186,7 @@ pub written_begun : (d : Device) (was : set.FinSet nat_cmp) (limit : ℕ) (s : S
 written_begun d was limit s e t h files root lawful bad ring fits written kept empty next some is none =
     let state : State = record { history = h; storage = t; files = files; is_off = false } in
     let same = sym written.evolved.geometry in
-    let stands = fresh_mounted (moment e state) limit root refl (subst IsGeometry same lawful) (written.evolved.blocks ∙ ap (λ (r : Ring). r.blocks) ring ∙ ap (λ (g : Geometry). g.blocks) same) (written.fits fits) some is none empty kept in
+    let stands = fresh_mounted (moment e state) limit root refl (subst IsGeometry same lawful) (written.evolved.blocks ∙ ap (λ (r : Ring). r.blocks) ring ∙ ap (λ (g : Geometry). g.blocks) same) (written.fits.fits fits) some is none empty kept in
     let before : set.len s.bad ≡ set.len was = ap set.len bad in
     let no_takes : s.ring.takes ≡ 0 = ap (λ (r : Ring). r.takes) ring in
     let paid = written.paid in

@@ -14,6 +14,7 @@ use Rattle.node_format.specs.Headers.{body_header}
 use Rattle.node_format.specs.declared.places.Place.TheVariants.{Dir}
 use Rattle.node_store.specs.NodePages.{node_of}
 use Rattle.node_store.specs.declared.storage.Storage as parts
+use Rattle.node_store.specs.FittingLaws.{still_itself, still_on}
 use Rattle.node_store.specs.Storage.{Storage, storage, is_kept, Evolved}
 use Rattle.node_store.specs.StorageLaws.{Evolved_itself, Evolved_on, Untouched_itself, Untouched_evolved, Untouched_on}
 use Rattle.node_store.specs.StoreLaws.{Evolved_node}
@@ -84,24 +85,24 @@ pub looked_worked : (a b : Moment) → IsLooked a b → IsWorked a b
 looked_worked a b l = record { evolved = Untouched_evolved (storage_at a) (storage_at b) l.untouched; fits = l.fits; rest = l.rest }
 
 pub worked_itself : (a : Moment) → IsWorked a a
-worked_itself a = record { evolved = Evolved_itself (storage_at a); fits = λ fits. fits; rest = record { history = refl; files = refl; is_off = refl } }
+worked_itself a = record { evolved = Evolved_itself (storage_at a); fits = still_itself a.device a.state.storage; rest = record { history = refl; files = refl; is_off = refl } }
 
 same_but_on : (s t u : State) → IsSameBut s t → IsSameBut t u → IsSameBut s u
 same_but_on s t u a b = record { history = b.history ∙ a.history; files = b.files ∙ a.files; is_off = b.is_off ∙ a.is_off }
 
 pub worked_on : (a b c : Moment) → IsWorked a b → IsWorked b c → IsWorked a c
-worked_on a b c v w = record { evolved = Evolved_on (storage_at a) (storage_at b) (storage_at c) v.evolved w.evolved; fits = λ fits. w.fits (v.fits fits); rest = same_but_on a.state b.state c.state v.rest w.rest }
+worked_on a b c v w = record { evolved = Evolved_on (storage_at a) (storage_at b) (storage_at c) v.evolved w.evolved; fits = still_on a.device a.state.storage b.device b.state.storage c.device c.state.storage v.fits w.fits; rest = same_but_on a.state b.state c.state v.rest w.rest }
 
 pub looked_on : (a b c : Moment) → IsLooked a b → IsLooked b c → IsLooked a c
-looked_on a b c l k = record { untouched = Untouched_on (storage_at a) (storage_at b) (storage_at c) l.untouched k.untouched; fits = λ fits. k.fits (l.fits fits); rest = same_but_on a.state b.state c.state l.rest k.rest }
+looked_on a b c l k = record { untouched = Untouched_on (storage_at a) (storage_at b) (storage_at c) l.untouched k.untouched; fits = still_on a.device a.state.storage b.device b.state.storage c.device c.state.storage l.fits k.fits; rest = same_but_on a.state b.state c.state l.rest k.rest }
 
 -- What is left of what nodes are kept with.
 
 pub none_written : (d : Device) (s : parts.Storage) (most : ℕ) → HasWritten d s most d s
-none_written d s most = record { evolved = Evolved_itself (storage d s.bad s.ring); paid = omega arith; fits = λ fits. fits }
+none_written d s most = record { evolved = Evolved_itself (storage d s.bad s.ring); paid = omega arith; fits = still_itself d s }
 
 none_looked : (d : Device) (s : parts.Storage) → HasLooked d s d s
-none_looked d s = record { untouched = Untouched_itself (storage d s.bad s.ring); fits = λ fits. fits }
+none_looked d s = record { untouched = Untouched_itself (storage d s.bad s.ring); fits = still_itself d s }
 
 -- a look, and then writes of no more nodes
 pub looked_written : (d : Device) (s : parts.Storage) (e : Device) (t : parts.Storage) (f : Device) (u : parts.Storage) (nodes most : ℕ) → HasLooked d s e t → HasWritten e t nodes f u → nodes ≤ most → HasWritten d s most f u
@@ -112,7 +113,7 @@ looked_written d s e t f u nodes most l w few =
     record {
       evolved = Evolved_on (storage d s.bad s.ring) (storage e t.bad t.ring) (storage f u.bad u.ring) (Untouched_evolved (storage d s.bad s.ring) (storage e t.bad t.ring) l.untouched) w.evolved;
       paid = omega arith;
-      fits = λ fits. w.fits (l.fits fits);
+      fits = still_on d s e t f u l.fits w.fits;
     }
 
 looks : (a b : Moment) → IsLooked a b → HasLooked a.device a.state.storage b.device b.state.storage
@@ -159,7 +160,7 @@ mounted_with a b h m w all machine =
     record {
       lawful = subst IsGeometry same m.lawful;
       ring_blocks = w.evolved.blocks ∙ m.ring_blocks ∙ ap (λ (g : Geometry). g.blocks) same;
-      fits = w.fits m.fits;
+      fits = w.fits.fits m.fits;
       roots = all;
       machine = machine;
       off = λ off. let was = m.off (sym w.rest.is_off ∙ off) in ap (λ (x : Device). x.powered) (w.evolved.stays_off was) ∙ was;

@@ -21,6 +21,7 @@ use bad_blocks::BadBlocks;
 use flash_model::{Flash, Geometry};
 use fs_types::Fault;
 use history::History;
+use node_cache::NodeCache;
 use node_format::empty_directory;
 use node_store::{Storage, write_node};
 use open_files::OpenFiles;
@@ -67,7 +68,9 @@ impl State {
         ensures begun { IfOk result (λ state. IsBegun (F.device flash.old) bad limit (moment (F.device flash.new) state)) }
         ensures why { IfErr result (λ fault. BeginCause (F.device flash.old) bad fault (F.device flash.new)) }
     {
-        let mut storage = unused_storage(alloc, flash.geometry(), bad)?;
+        let geometry = flash.geometry();
+        let cache = NodeCache::new(alloc, 1)?;
+        let mut storage = Storage::unused(alloc, geometry, bad, geometry.blocks - 1, cache)?;
         let root = write_root(flash, &mut storage)?;
         let history = History::new(alloc, limit as usize, root)?;
         Ok(State {
@@ -77,23 +80,6 @@ impl State {
             is_off: false,
         })
     }
-}
-
-/// What nodes are kept with on a flash of these sizes that no node was written to: these blocks are
-/// bad, none is used, and the first data block is the next one.
-fn unused_storage(alloc: Global, geometry: Geometry, bad: BadBlocks) -> Result<Storage, Fault>
-    requires { IsGeometry geometry }
-    ensures bad { IfOk result (λ storage. storage.bad ≡ bad) }
-    ensures ring { IfOk result (λ storage. storage.ring ≡ unused_ring geometry.blocks) }
-    ensures fits { IfOk result (λ storage. (device : Device) → device.geometry ≡ geometry → Fits device storage) }
-    ensures err { IfErr result (λ fault. fault ≡ Fault.NoMemory) }
-{
-    Ok(Storage {
-        bad,
-        ring: Ring::new(alloc, geometry.blocks, geometry.blocks - 1)?,
-        page: vec![in alloc; 0; geometry.page as usize]?,
-        node: Vec::with_capacity(alloc, geometry.block_bytes())?,
-    })
 }
 
 /// Writes an empty directory, and answers its block: the next one that is neither used nor bad.
@@ -108,14 +94,8 @@ fn write_root<F: Flash>(flash: &mut F, storage: &mut Storage) -> Result<u32, Fau
     ensures data_blocks { (b : ℕ) → set.contains storage.new.ring.used b ≡ true → IsDataBlock storage.new.ring.blocks b }
     ensures why { IfErr result (λ fault. RootCause (parts.storage (F.device flash.old) storage.old.bad storage.old.ring) fault (parts.storage (F.device flash.new) storage.new.bad storage.new.ring)) }
 {
-    let Storage {
-        bad,
-        ring,
-        page,
-        ..
-    } = storage;
-    let root = write_node(flash, bad, ring, page, &empty_directory());
+    let root = write_node(flash, storage, &empty_directory());
     // The used blocks are data blocks, as its contract tells.
-    let _ = ring.blocks();
+    let _ = storage.ring.blocks();
     root
 }

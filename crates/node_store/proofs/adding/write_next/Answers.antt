@@ -1,116 +1,66 @@
-use Rattle.std.proofs.Common.{◌≡◌, ℕ, ◌+◌, ◌*◌, ◌<◌, ◌≤◌, Err, length, refl, sym, subst, arith}
-use Rattle.std.proofs.lemmas.Result.{err_from_is_err_and}
-use Rattle.flash_model.specs.declared.device.DevFault.TheVariants.{Failed}
-use Rattle.allocator.specs.Ring.{Ring, free_count}
-use Rattle.node_store.specs.NodePages.{pages_for}
-use Rattle.node_store.specs.Writing.{WritesBlock}
-use Rattle.node_store.specs.Storage.{storage, Evolved, PassesBad, Pays}
-use Rattle.node_store.specs.StorageLaws.{Evolved_itself, took_good, took_bad, took_added, took_passed, pays_good, pays_bad, less_free}
+use Rattle.std.proofs.Common.{◌≡◌, ◌≢◌, Ok, Some, None, drop, arith, ap, subst, sym, ◌∙◌}
+use Rattle.std.specs.FinSet as set
+use Rattle.std.proofs.lemmas.Bool.{true≢false}
+use Rattle.node_cache.specs.CacheLaws.{taken_none, still_none, out_none}
+use Rattle.node_cache.specs.Cache.{NodeCache, node_in, with_first}
+use Rattle.node_store.specs.Caching.{IsTruthful}
+use Rattle.node_store.specs.CachingLaws.{written_truthful, tried_truthful}
+use Rattle.node_store.specs.FittingLaws.{still_fits, lists_none}
+use Rattle.node_store.specs.NodePages.{node_of}
+use Rattle.node_store.specs.Storage.{storage, Tries}
+use Rattle.node_store.specs.StorageLaws.{new_listed}
 use Rattle.node_store.proofs.adding.write_next.Goals as goal
-use Rattle.node_store.proofs.adding.write_next.Goals.{After-list_block}
+use Rattle.node_store.proofs.adding.write_next.Goals.{After-forget_first}
 use Rattle.node_store.proofs.adding.write_next.Given.{Over}
+use Rattle.node_store.specs.Fitting.{ListsNoneTried}
 
--- one block was taken, and so many operations spent on it
-spends_once : (old new takes later each : ℕ) → later ≡ takes + 1 → new ≤ old + each → new + takes * each ≤ old + later * each
-spends_once old new takes later each one few = subst (λ (n : ℕ). new + takes * each ≤ old + n * each) (sym one) (omega arith)
+pub returns-in-Ok-Some-clause-fits : goal.returns-in-Ok-Some-clause-fits
+returns-in-Ok-Some-clause-fits g c =
+    let listed = c.in_ok-list_copy.ensures.listed in
+    let here : c.in-Ok-Some.block ≡ c.in_ok-block.block = c.try_block.ensures.block c.in-Ok-Some.block (c.in-Ok-Some.is ∙ ap Ok c.in-Ok-Some.field-0-is) in
+    let tried : Tries (storage (g.F.Flash.device c.args.flash.now) c.args.storage.now.bad c.args.storage.now.ring) c.args.bytes.now
+    (storage (g.F.Flash.device c.try_block.new.flash) c.try_block.new.bad c.try_block.new.ring) (Ok (Some c.in-Ok-Some.block)) =
+    rw c.in-Ok-Some.field-0-is at c.in-Ok-Some.ensures.tries in
+    still_fits _ _ _ _ c.try_block.ensures.evolved.geometry c.try_block.ensures.page (omega arith) (ap (λ (k : NodeCache). k.room) listed)
+    (λ fits. subst (IsTruthful (g.F.Flash.device c.try_block.new.flash)) (sym listed)
+    (written_truthful (g.F.Flash.device c.args.flash.now) (g.F.Flash.device c.try_block.new.flash) c.args.storage.now.cache c.in_ok-block.block c.args.bytes.now c.requires.lawful c.try_block.ensures.evolved.geometry
+    c.try_block.ensures.others c.list_copy.ensures.bounded (ap (node_of (g.F.Flash.device c.try_block.new.flash)) (sym here) ∙ tried.node) fits.truthful))
 
-pub returns-in-Ok-clause-tries : goal.returns-in-Ok-clause-tries
-returns-in-Ok-clause-tries g c =
-    took_added (storage (g.F.Flash.device c.args.flash.now) c.args.bad.now c.args.ring.now) c.in_ok-block.block c.take_block.new.ring
-    c.args.bytes.now (g.F.Flash.device c.write_block.new.flash) c.in-Ok.field-0 c.requires.lawful c.requires.ring_blocks c.requires.node c.requires.room
-    c.in_ok-block.ensures.taken c.in-Ok.ensures.writes
+pub returns-in_default-clause-fits : goal.returns-in_default-clause-fits
+returns-in_default-clause-fits g c =
+    let listed = c.in_ok-list_copy.ensures.listed in
+    let out = c.forget_first.ensures in
+    still_fits _ _ _ _ c.try_block.ensures.evolved.geometry c.try_block.ensures.page (omega arith)
+    (ap (λ (k : NodeCache). k.room) out ∙ ap (λ (k : NodeCache). k.room) listed)
+    (λ fits. subst (IsTruthful (g.F.Flash.device c.try_block.new.flash)) (sym (out ∙ ap (λ (k : NodeCache). record k { entries = drop 1 k.entries }) listed))
+    (tried_truthful (g.F.Flash.device c.args.flash.now) (g.F.Flash.device c.try_block.new.flash) c.args.storage.now.cache c.in_ok-block.block c.args.bytes.now c.requires.lawful c.try_block.ensures.evolved.geometry
+    c.try_block.ensures.others c.list_copy.ensures.bounded fits.truthful))
 
-pub returns-in-Ok-clause-evolved : goal.returns-in-Ok-clause-evolved
-returns-in-Ok-clause-evolved g c =
-    took_good (storage (g.F.Flash.device c.args.flash.now) c.args.bad.now c.args.ring.now) c.in_ok-block.block c.take_block.new.ring
-    c.args.bytes.now (g.F.Flash.device c.write_block.new.flash) _ c.in_ok-block.ensures.taken c.in-Ok.ensures.writes refl
+pub returns-in-Ok-Some-clause-apart : goal.returns-in-Ok-Some-clause-apart
+returns-in-Ok-Some-clause-apart g c = λ b used none.
+    let other : b ≢ c.in_ok-block.block = λ same. true≢false (sym used ∙ ap (set.contains c.args.storage.now.ring.used) same ∙ c.try_block.ensures.fresh) in
+    subst (λ (k : NodeCache). node_in k b ≡ None) (sym c.in_ok-list_copy.ensures.listed)
+    (still_none c.args.storage.now.cache c.list_copy.ensures.bounded c.in_ok-block.block c.args.bytes.now b other none)
 
--- the block of the failed write, and the list with it
-module _ (g : Over) (c : After-list_block g) where
-  writes : WritesBlock (g.F.Flash.device c.args.flash.now) c.in_ok-block.block c.args.bytes.now (g.F.Flash.device c.write_block.new.flash) (Err Failed)
-  writes = rw c.in-Err-Failed.field-0-is at c.in-Err-Failed.ensures.writes
+pub returns-in_default-clause-apart : goal.returns-in_default-clause-apart
+returns-in_default-clause-apart g c = λ b used none.
+    subst (λ (k : NodeCache). node_in k b ≡ None)
+    (sym (c.forget_first.ensures ∙ ap (λ (k : NodeCache). record k { entries = drop 1 k.entries }) c.in_ok-list_copy.ensures.listed))
+    (out_none c.args.storage.now.cache c.list_copy.ensures.bounded c.in_ok-block.block c.args.bytes.now b none)
 
-  evolved : Evolved (storage (g.F.Flash.device c.args.flash.now) c.args.bad.now c.args.ring.now)
-      (storage (g.F.Flash.device c.write_block.new.flash) c.list_block.new.bad c.take_block.new.ring)
-  evolved =
-      let old = storage (g.F.Flash.device c.args.flash.now) c.args.bad.now c.args.ring.now in
-      subst (λ bads. Evolved old (storage (g.F.Flash.device c.write_block.new.flash) bads c.take_block.new.ring)) (sym c.list_block.ensures.listed)
-      (took_bad old c.in_ok-block.block c.take_block.new.ring c.args.bytes.now (g.F.Flash.device c.write_block.new.flash) c.in_ok-block.ensures.taken writes)
+module _ (g : Over) (c : After-forget_first g) where
+  -- the block that was tried is not listed
+  unlisted : ListsNoneTried c.args.storage.now (record { bad = c.try_block.new.bad; ring = c.try_block.new.ring; page = c.try_block.new.page; node = c.args.storage.now.node; cache = c.forget_first.new.self })
+  unlisted = λ b fresh used.
+      let here : b ≡ c.in_ok-block.block =
+      new_listed c.args.storage.now.ring.used c.in_ok-block.block b (ap (λ s. set.contains s b) (sym c.try_block.ensures.taken) ∙ used) fresh in
+      subst (λ (k : NodeCache). node_in k b ≡ None)
+      (sym (c.forget_first.ensures ∙ ap (λ (k : NodeCache). record k { entries = drop 1 k.entries }) c.in_ok-list_copy.ensures.listed))
+      (subst (λ n. node_in (record c.args.storage.now.cache { entries = drop 1 (with_first c.args.storage.now.cache c.in_ok-block.block c.args.bytes.now).entries }) n ≡ None) (sym here)
+      (taken_none c.args.storage.now.cache c.list_copy.ensures.bounded c.in_ok-block.block c.args.bytes.now))
 
-  pays : Pays (storage (g.F.Flash.device c.args.flash.now) c.args.bad.now c.args.ring.now)
-      (storage (g.F.Flash.device c.write_block.new.flash) c.list_block.new.bad c.take_block.new.ring) 0
-  pays =
-      let old = storage (g.F.Flash.device c.args.flash.now) c.args.bad.now c.args.ring.now in
-      subst (λ bads. Pays old (storage (g.F.Flash.device c.write_block.new.flash) bads c.take_block.new.ring) 0) (sym c.list_block.ensures.listed)
-      (pays_bad old c.in_ok-block.block c.take_block.new.ring (g.F.Flash.device c.write_block.new.flash) c.in_ok-block.ensures.taken)
-
-  passes : PassesBad (storage (g.F.Flash.device c.args.flash.now) c.args.bad.now c.args.ring.now)
-      (storage (g.F.Flash.device c.write_block.new.flash) c.list_block.new.bad c.take_block.new.ring)
-  passes =
-      let old = storage (g.F.Flash.device c.args.flash.now) c.args.bad.now c.args.ring.now in
-      subst (λ bads. PassesBad old (storage (g.F.Flash.device c.write_block.new.flash) bads c.take_block.new.ring)) (sym c.list_block.ensures.listed)
-      (took_passed old c.in_ok-block.block c.take_block.new.ring (g.F.Flash.device c.write_block.new.flash) c.in_ok-block.ensures.taken)
-
-  less : free_count c.take_block.new.ring c.list_block.new.bad < free_count c.args.ring.now c.args.bad.now
-  less =
-      let old = storage (g.F.Flash.device c.args.flash.now) c.args.bad.now c.args.ring.now in
-      subst (λ bads. free_count c.take_block.new.ring bads < free_count c.args.ring.now c.args.bad.now) (sym c.list_block.ensures.listed)
-      (less_free old c.in_ok-block.block c.take_block.new.ring c.in_ok-block.ensures.taken)
-
-pub returns-in_err-list_block-in-Err-Failed-clause-evolved : goal.returns-in_err-list_block-in-Err-Failed-clause-evolved
-returns-in_err-list_block-in-Err-Failed-clause-evolved g c =
-    evolved g (goal.at.returns-in_err-list_block-in-Err-Failed-clause-evolved g c).After-list_block
-
-pub returns-in_err-list_block-in-Err-Failed-clause-pays : goal.returns-in_err-list_block-in-Err-Failed-clause-pays
-returns-in_err-list_block-in-Err-Failed-clause-pays g c =
-    let answer = c.from_residual-in_err-list_block-in-Err-Failed in
-    let p = err_from_is_err_and answer.result answer.ensures.1 in
-    rw (p.1, p.2, c.in_err-list_block-in-Err-Failed.ensures.limit.0)
-    (pays g (goal.at.returns-in_err-list_block-in-Err-Failed-clause-pays g c).After-list_block)
-
-pub returns-in_ok-list_block-in-Err-Failed-clause-tries : goal.returns-in_ok-list_block-in-Err-Failed-clause-tries
-returns-in_ok-list_block-in-Err-Failed-clause-tries g c =
-    (less g (goal.at.returns-in_ok-list_block-in-Err-Failed-clause-tries g c).After-list_block, c.in_ok-list_block-in-Err-Failed.ensures.limit)
-
-pub returns-in_ok-list_block-in-Err-Failed-clause-evolved : goal.returns-in_ok-list_block-in-Err-Failed-clause-evolved
-returns-in_ok-list_block-in-Err-Failed-clause-evolved g c =
-    evolved g (goal.at.returns-in_ok-list_block-in-Err-Failed-clause-evolved g c).After-list_block
-
-pub returns-in_ok-list_block-in-Err-Failed-clause-pays : goal.returns-in_ok-list_block-in-Err-Failed-clause-pays
-returns-in_ok-list_block-in-Err-Failed-clause-pays g c =
-    pays g (goal.at.returns-in_ok-list_block-in-Err-Failed-clause-pays g c).After-list_block
-
-pub returns-in_ok-list_block-in-Err-Failed-clause-next : goal.returns-in_ok-list_block-in-Err-Failed-clause-next
-returns-in_ok-list_block-in-Err-Failed-clause-next g c =
-    passes g (goal.at.returns-in_ok-list_block-in-Err-Failed-clause-next g c).After-list_block
-
-pub returns-in_err-block-clause-evolved : goal.returns-in_err-block-clause-evolved
-returns-in_err-block-clause-evolved g c =
-    subst (λ (r : Ring). Evolved (storage (g.F.Flash.device c.args.flash.now) c.args.bad.now c.args.ring.now) (storage (g.F.Flash.device c.args.flash.now) c.args.bad.now r)) (sym c.in_err-block.ensures.full.1) (Evolved_itself (storage (g.F.Flash.device c.args.flash.now) c.args.bad.now c.args.ring.now))
-
-pub returns-in-Ok-clause-pays : goal.returns-in-Ok-clause-pays
-returns-in-Ok-clause-pays g c = pays_good (storage (g.F.Flash.device c.args.flash.now) c.args.bad.now c.args.ring.now) c.in_ok-block.block c.take_block.new.ring (g.F.Flash.device c.write_block.new.flash) c.in_ok-block.ensures.taken
-
-pub returns-in-Err-PowerCut-clause-evolved : goal.returns-in-Err-PowerCut-clause-evolved
-returns-in-Err-PowerCut-clause-evolved g c =
-    took_good (storage (g.F.Flash.device c.args.flash.now) c.args.bad.now c.args.ring.now) c.in_ok-block.block c.take_block.new.ring
-    c.args.bytes.now (g.F.Flash.device c.write_block.new.flash) _ c.in_ok-block.ensures.taken (rw c.in-Err-PowerCut.field-0-is at c.in-Err-PowerCut.ensures.writes) refl
-
-pub returns-in-Err-PowerCut-clause-pays : goal.returns-in-Err-PowerCut-clause-pays
-returns-in-Err-PowerCut-clause-pays g c = pays_good (storage (g.F.Flash.device c.args.flash.now) c.args.bad.now c.args.ring.now) c.in_ok-block.block c.take_block.new.ring (g.F.Flash.device c.write_block.new.flash) c.in_ok-block.ensures.taken
-
-pub returns-in-Ok-clause-operations : goal.returns-in-Ok-clause-operations
-returns-in-Ok-clause-operations g c =
-    spends_once (g.F.Flash.device c.args.flash.now).operations (g.F.Flash.device c.write_block.new.flash).operations c.args.ring.now.takes c.take_block.new.ring.takes (1 + pages_for (g.F.Flash.device c.args.flash.now).geometry.page (length c.args.bytes.now)) c.in_ok-block.ensures.taken.takes c.write_block.ensures.operations
-
-pub returns-in-Err-PowerCut-clause-operations : goal.returns-in-Err-PowerCut-clause-operations
-returns-in-Err-PowerCut-clause-operations g c =
-    spends_once (g.F.Flash.device c.args.flash.now).operations (g.F.Flash.device c.write_block.new.flash).operations c.args.ring.now.takes c.take_block.new.ring.takes (1 + pages_for (g.F.Flash.device c.args.flash.now).geometry.page (length c.args.bytes.now)) c.in_ok-block.ensures.taken.takes c.write_block.ensures.operations
-
-pub returns-in_err-list_block-in-Err-Failed-clause-operations : goal.returns-in_err-list_block-in-Err-Failed-clause-operations
-returns-in_err-list_block-in-Err-Failed-clause-operations g c =
-    spends_once (g.F.Flash.device c.args.flash.now).operations (g.F.Flash.device c.write_block.new.flash).operations c.args.ring.now.takes c.take_block.new.ring.takes (1 + pages_for (g.F.Flash.device c.args.flash.now).geometry.page (length c.args.bytes.now)) c.in_ok-block.ensures.taken.takes c.write_block.ensures.operations
-
-pub returns-in_ok-list_block-in-Err-Failed-clause-operations : goal.returns-in_ok-list_block-in-Err-Failed-clause-operations
-returns-in_ok-list_block-in-Err-Failed-clause-operations g c =
-    spends_once (g.F.Flash.device c.args.flash.now).operations (g.F.Flash.device c.write_block.new.flash).operations c.args.ring.now.takes c.take_block.new.ring.takes (1 + pages_for (g.F.Flash.device c.args.flash.now).geometry.page (length c.args.bytes.now)) c.in_ok-block.ensures.taken.takes c.write_block.ensures.operations
+pub returns-in_default-clause-unlisted : goal.returns-in_default-clause-unlisted
+returns-in_default-clause-unlisted g c =
+    lists_none c.args.storage.now
+    (record { bad = c.try_block.new.bad; ring = c.try_block.new.ring; page = c.try_block.new.page; node = c.args.storage.now.node; cache = c.forget_first.new.self })
+    _ (unlisted g c)

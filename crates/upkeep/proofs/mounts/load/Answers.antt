@@ -1,4 +1,4 @@
-use Rattle.std.proofs.Common.{◌≡◌, true, false, refl, subst, ap, ◌∙◌, ◌≤◌, List, ℕ, sym}
+use Rattle.std.proofs.Common.{◌≡◌, true, false, refl, subst, ap, ◌∙◌, List, ℕ, sym}
 use Rattle.std.specs.FinSet as set
 use Rattle.std.specs.Prelude.{◌↔◌}
 use Rattle.allocator.specs.Ring.{Ring}
@@ -28,9 +28,9 @@ returns-clause-loaded g c =
       trees = subst (AreRoots (block_bytes d.geometry) (node_of d)) roots c.in_ok-use_reached.ensures.trees;
       used = subst (λ (all : List ℕ). (b : ℕ) → (set.contains c.use_reached.new.storage.ring.used b ≡ true) ↔ Reached (node_of d) all b) roots c.in_ok-use_reached.ensures.used;
       ring_blocks = ap (λ (r : Ring). r.blocks) ring ∙ ap (λ (r : Ring). r.blocks) begun ∙ ap (λ (x : Geometry). x.blocks) c.requires.same;
-      bad = c.use_reached.ensures.bad ∙ c.in_ok-storage.ensures.bad;
+      bad = c.use_reached.ensures.bad ∙ c.in_ok-storage.ensures.bad ∙ c.list_bad-bad.ensures ∙ ap (λ (l : List ℕ). set.from_list l) c.as_slice.ensures;
       last = ap (λ (r : Ring). r.last) ring ∙ ap (λ (r : Ring). r.last) begun;
-      fits = c.use_reached.ensures.fits (c.in_ok-storage.ensures.fits d (sym c.requires.same));
+      fits = c.use_reached.ensures.fits.fits (c.in_ok-storage.ensures.fits d (sym c.requires.same));
       files = c.new.ensures;
       is_on = refl;
     })

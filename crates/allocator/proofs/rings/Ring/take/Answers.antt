@@ -1,28 +1,22 @@
-use Rattle.std.proofs.Common.{subst, ap, ◌∙◌, sym, arith}
+use Rattle.std.proofs.Common.{ap, ◌∙◌, arith}
 use Rattle.std.specs.FinSet as set
-use Rattle.allocator.specs.Ring.{Ring, is_busy, IsFirstFree}
-use Rattle.allocator.proofs.RingOrder.{IsRing-insert, IsNote-insert, next_found, none_found, not_used, not_bad, contains-kept, contains-insert_same, after_take, taken_noted, free_count-taken}
+use Rattle.allocator.specs.Ring.{Ring}
+use Rattle.allocator.proofs.RingOrder.{IsRing-insert, IsNote-insert, next_found, not_used, not_bad, contains-kept, contains-insert_same, after_take, taken_noted, free_count-taken}
 use Rattle.allocator.proofs.rings.Ring.take.Goals as goal
-
-pub returns-in_err-next-clause-first : goal.returns-in_err-next-clause-first
-returns-in_err-next-clause-first c =
-    subst (IsFirstFree (is_busy c.args.self.now c.args.bad.now) c.args.self.now.blocks c.args.self.now.last)
-    (c.in_err-next.was ∙ sym c.from_residual.ensures)
-    (none_found _ c.args.self.now c.args.bad.now _ c.self.view_is c.self.invariant.0 c.first_free.ensures)
 
 pub insert-requires : goal.insert-requires
 insert-requires c =
-    let next = next_found _ _ _ _ _ c.self.view_is c.self.invariant.0 c.first_free.ensures c.in_ok-next.was in
+    let next = next_found _ _ _ _ _ c.self.view_is c.self.invariant.0 c.next_free.ensures.next c.in_ok-next.was in
     omega (arith, ap (λ (r : Ring). r.blocks) c.self.view_is, next.data_block.1)
 
 pub insert-requires-2 : goal.insert-requires-2
 insert-requires-2 c =
-    let next = next_found _ _ _ _ _ c.self.view_is c.self.invariant.0 c.first_free.ensures c.in_ok-next.was in
+    let next = next_found _ _ _ _ _ c.self.view_is c.self.invariant.0 c.next_free.ensures.next c.in_ok-next.was in
     omega (arith, ap (λ (r : Ring). r.blocks) c.self.view_is, c.self.invariant.1.same_blocks, next.data_block.1)
 
 pub invariant_of-self : goal.invariant_of-self
 invariant_of-self c =
-    let next = next_found _ _ _ _ _ c.self.view_is c.self.invariant.0 c.first_free.ensures c.in_ok-next.was in
+    let next = next_found _ _ _ _ _ c.self.view_is c.self.invariant.0 c.next_free.ensures.next c.in_ok-next.was in
     rw (c.insert.ensures, c.insert-2.ensures) (
       IsRing-insert _ _ _ _ _ c.self.invariant.0 (next.data_block.0, omega (arith, ap (λ (r : Ring). r.blocks) c.self.view_is, next.data_block.1))
           (next.data_block.0, omega (arith, ap (λ (r : Ring). r.blocks) c.self.view_is, next.data_block.1)),
@@ -30,7 +24,7 @@ invariant_of-self c =
     )
 
 pub returns-clause-first : goal.returns-clause-first
-returns-clause-first c = next_found _ _ _ _ _ c.self.view_is c.self.invariant.0 c.first_free.ensures c.in_ok-next.was
+returns-clause-first c = next_found _ _ _ _ _ c.self.view_is c.self.invariant.0 c.next_free.ensures.next c.in_ok-next.was
 
 pub returns-clause-data_block : goal.returns-clause-data_block
 returns-clause-data_block c = (returns-clause-first c).data_block

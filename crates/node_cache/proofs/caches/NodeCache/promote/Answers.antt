@@ -1,6 +1,6 @@
-use Rattle.std.proofs.Common.{◌∙◌, ap, sym, is_some}
-use Rattle.node_cache.specs.Cache.{NodeCache, node_in, with_first}
-use Rattle.node_cache.proofs.Plain.{view, promoted_first, promoted_none, listed_plain}
+use Rattle.std.proofs.Common.{◌∙◌, ap, sym, subst, is_some}
+use Rattle.node_cache.specs.Cache.{NodeCache, node_in, with_first, IsBounded}
+use Rattle.node_cache.proofs.Plain.{view, bounded_plain, promoted_first, promoted_none, listed_plain}
 use Rattle.node_cache.proofs.caches.NodeCache.promote.Goals as goal
 
 pub returns-clause-value : goal.returns-clause-value
@@ -16,3 +16,6 @@ returns-clause-moved c = λ bytes has.
 pub returns-clause-stays : goal.returns-clause-stays
 returns-clause-stays c = λ none.
     ap view c.promote.ensures.entries ∙ promoted_none c.self.inside.nodes c.args.block (sym c.promote.ensures.value ∙ none) ∙ c.self.view_is
+
+pub returns-clause-bounded : goal.returns-clause-bounded
+returns-clause-bounded c = subst IsBounded c.self.view_is (bounded_plain c.self.inside.nodes c.len.ensures.valid)

@@ -4,7 +4,7 @@ use Rattle.node_store.proofs.stores.StoreNodes.read.Goals as goal
 
 pub returns-clause-looks : goal.returns-clause-looks
 returns-clause-looks g c = record {
-  same_nodes = OnlyReads_nodes _ _ c.requires.lawful c.read_node.ensures.only_reads;
+  same_nodes = OnlyReads_nodes _ _ c.requires.lawful c.read_first.ensures.only_reads;
   same_kept = search rules;
   same_writes = search rules;
   came = search rules;

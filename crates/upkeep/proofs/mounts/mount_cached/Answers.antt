@@ -5,7 +5,7 @@ use Rattle.commit_pair.specs.Newest.{IsNewestRecord}
 use Rattle.upkeep.proofs.Mounting.{newest_fits, none_committed, as_reads, mounts, not_none, load_why}
 use Rattle.flash_model.specs.Reading.{OnlyReads_on}
 use Rattle.upkeep.proofs.MountedSystems.{mounted_system}
-use Rattle.upkeep.proofs.mounts.mount.Goals as goal
+use Rattle.upkeep.proofs.mounts.mount_cached.Goals as goal
 
 pub returns-in_default-clause-why : goal.returns-in_default-clause-why
 returns-in_default-clause-why g c =
@@ -49,3 +49,13 @@ returns-clause-system g c =
 
 pub returns-clause-ok : goal.returns-clause-ok
 returns-clause-ok g c = mount_of g c
+
+pub returns-in_err-record_roots-clause-only_reads : goal.returns-in_err-record_roots-clause-only_reads
+returns-in_err-record_roots-clause-only_reads g c =
+    let d = g.F.Flash.device c.args.flash.now in
+    OnlyReads_on d (g.F.Flash.device c.newest.new.flash) (g.F.Flash.device c.load.new.flash) (as_reads d (g.F.Flash.device c.newest.new.flash) c.newest.ensures.only_reads) c.load.ensures.only_reads
+
+pub returns-clause-only_reads : goal.returns-clause-only_reads
+returns-clause-only_reads g c =
+    let d = g.F.Flash.device c.args.flash.now in
+    OnlyReads_on d (g.F.Flash.device c.newest.new.flash) (g.F.Flash.device c.load.new.flash) (as_reads d (g.F.Flash.device c.newest.new.flash) c.newest.ensures.only_reads) c.load.ensures.only_reads

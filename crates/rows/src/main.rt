@@ -1,15 +1,17 @@
 //! Runs worked rows: scripts with the replies that are expected of them, each on the plain machine,
-//! on a flash in memory that was formatted, as far as these go by now, and by the program `uffs` on
-//! an image that it made, in a folder of its own. A row that does not give its replies is told with
-//! what it gave, and the status is 1.
+//! on a flash in memory that was formatted, with 8, 1 and 64 nodes in memory, as far as these go by
+//! now, and by the program `uffs` on an image that it made, in a folder of its own. A row that does
+//! not give its replies is told with what it gave, and the status is 1.
 #![tactic(auto)]
 
 mod error;
+mod nodes;
 mod row;
 mod runs;
 
 use anyhow::{Context, Result};
 use error::RowError;
+use nodes::run_with_nodes;
 use row::{Row, Side};
 use runs::{append_difference, run_on_flash, run_on_image, run_plain};
 use shell::HostFiles;
@@ -68,9 +70,13 @@ fn run_sides<R: Files + AllocGlobal + Print>(rt: &R, source: &Source<'_>) -> Res
     let mut differences = String::new(rt.alloc());
     let plain = run_side(rt, source, Side::Plain, &mut differences)?;
     let flash = run_side(rt, source, Side::Flash, &mut differences)?;
+    let one = run_side(rt, source, Side::Nodes(1), &mut differences)?;
+    let many = run_side(rt, source, Side::Nodes(64), &mut differences)?;
     let image = run_side(rt, source, Side::Image, &mut differences)?;
     let name = source.name;
-    println!(rt; "{name}: plain {plain}, flash {flash}, image {image}")?;
+    println!(rt;
+        "{name}: plain {plain}, flash {flash}, 1 node {one}, 64 nodes {many}, image {image}"
+    )?;
     print!(rt; "{differences}")?;
     Ok(differences.is_empty())
 }
@@ -108,6 +114,7 @@ fn written_on<R: Files + AllocGlobal>(
     match side {
         Side::Plain => run_plain(rt.alloc(), row),
         Side::Flash => run_on_flash(rt.alloc(), row),
+        Side::Nodes(nodes) => run_with_nodes(rt.alloc(), row, nodes),
         Side::Image => run_on_image(&mut HostFiles::new(rt), rt.alloc(), image, row),
     }
 }

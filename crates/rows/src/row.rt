@@ -9,8 +9,10 @@ use std::alloc::Global;
 pub enum Side {
     /// On the plain machine.
     Plain,
-    /// On a flash in memory.
+    /// On a flash in memory, with as many nodes in memory as a mount has.
     Flash,
+    /// On a flash in memory, with so many nodes in memory.
+    Nodes(usize),
     /// By the program, on an image that it made. A plan of faults is no part of an image, so a row
     /// with one has no line here.
     Image,
@@ -22,6 +24,8 @@ impl Side {
         match self {
             Side::Plain => "plain",
             Side::Flash => "flash",
+            Side::Nodes(1) => "1 node",
+            Side::Nodes(_) => "64 nodes",
             Side::Image => "image",
         }
     }
@@ -133,13 +137,19 @@ fn failures_of(value: &str) -> Option<(FaultKind, u32, u32)> {
     Some((kind, first.parse().ok()?, last.parse().ok()?))
 }
 
-/// Whether the side does not go past this line yet.
+/// Whether the side does not go past this line yet. A row that counts reads says with how many nodes
+/// in memory, and runs on a flash with so many alone.
 fn waits(text_line: &str, side: Side) -> bool {
     match side {
         Side::Plain => text_line.starts_with("plain waits for: "),
-        Side::Flash => text_line.starts_with("flash waits for: "),
+        Side::Flash => text_line.starts_with("flash waits for: ") || text_line == "nodes: 1",
+        Side::Nodes(nodes) => {
+            text_line.starts_with("flash waits for: ") || nodes != 1 && text_line == "nodes: 1"
+        }
         Side::Image => {
-            text_line.starts_with("flash waits for: ") || text_line.starts_with("plan: ")
+            text_line.starts_with("flash waits for: ")
+                || text_line.starts_with("plan: ")
+                || text_line == "nodes: 1"
         }
     }
 }

@@ -160,7 +160,7 @@ fn call<F: ImageFiles>(
     text_of(written)
 }
 
-fn text_of(written: Vec<u8>) -> Result<String, RowError> {
+pub fn text_of(written: Vec<u8>) -> Result<String, RowError> {
     String::from_utf8(written).map_err(|_| RowError::Layout)
 }
 

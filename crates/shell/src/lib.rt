@@ -17,4 +17,4 @@ pub use jobs::{Job, Task, job};
 pub use laws::script_laws;
 pub use program::tool;
 pub use script::{Line, LineAnswer, print_answer, read_line};
-pub use scripts::{ScriptFault, run_script};
+pub use scripts::{ScriptFault, carry_out, run_script};

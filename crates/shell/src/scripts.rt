@@ -104,7 +104,7 @@ fn next<R: Read>(
 }
 
 /// Carries out what a line asks.
-fn carry_out(
+pub fn carry_out(
     alloc: Global,
     flash: &mut SimFlash,
     system: &mut Option<System>,

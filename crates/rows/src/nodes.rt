@@ -1,0 +1,64 @@
+//! What a row writes on a flash in memory with a number of nodes in memory.
+ghost use Rattle.std.specs.Prelude.{IfSome, IfOk};
+ghost use Rattle.flash_model.specs.Simulation.{device_of};
+ghost use Rattle.upkeep.specs.Systems.{IsSystem};
+
+use crate::error::RowError;
+use crate::row::Row;
+use crate::runs::text_of;
+use flash_model::{Flash, SimFlash};
+use fs_types::Answer;
+use script::{Line, LineAnswer, print_answer, read_line};
+use shell::carry_out;
+use std::alloc::Global;
+use undofs::{System, format, mount_with};
+
+/// Runs a row on a flash in memory that was formatted, with so many nodes in memory, 1 to 64.
+pub fn run_with_nodes(alloc: Global, row: &Row<'_>, nodes: usize) -> Result<String, RowError> {
+    let mut flash = SimFlash::new(alloc, row.geometry, &row.plan)?;
+    format(alloc, &mut flash, row.history)?;
+    let mut system = Some(mount_with(alloc, &mut flash, nodes)?);
+    let mut written = Vec::new(alloc);
+    for step in &row.steps {
+        let line = read_line(alloc, step.line.as_bytes())?;
+        let answer = carry_out_with(alloc, &mut flash, &mut system, nodes, line);
+        print_answer(&mut written, &answer)?;
+    }
+    text_of(written)
+}
+
+/// Carries out what a line asks. After a restart as many nodes are in memory.
+fn carry_out_with(
+    alloc: Global,
+    flash: &mut SimFlash,
+    system: &mut Option<System>,
+    nodes: usize,
+    line: Line,
+) -> LineAnswer
+    requires { IfSome system.old (IsSystem (device_of flash.old)) }
+    ensures { IfSome system.new (IsSystem (device_of flash.new)) }
+{
+    match line {
+        Line::Restart => restart(alloc, flash, system, nodes),
+        line => carry_out(alloc, flash, system, line),
+    }
+}
+
+fn restart(
+    alloc: Global,
+    flash: &mut SimFlash,
+    system: &mut Option<System>,
+    nodes: usize,
+) -> LineAnswer
+    ensures { IfSome system.new (IsSystem (device_of flash.new)) }
+{
+    *system = None;
+    flash.power_on();
+    match mount_with(alloc, flash, nodes) {
+        Ok(mounted) => {
+            *system = Some(mounted);
+            LineAnswer::Told(Answer::Mounted)
+        }
+        Err(fault) => LineAnswer::Told(Answer::Refused(fault)),
+    }
+}

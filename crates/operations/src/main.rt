@@ -1,6 +1,7 @@
 //! Tells how many reads, programs and erases calls ask of a flash, and a format and mounts, beside
 //! the nodes that they may write: pages of 256 bytes, 16 a block, so that each node is erased once
-//! and programmed page by page.
+//! and programmed page by page. Reads are told cold, with no node in memory, and warm, with the eight
+//! that the calls before used last.
 #![tactic(auto)]
 
 mod error;
@@ -9,10 +10,12 @@ mod texts;
 
 use anyhow::{Context, Result};
 use flash_model::Counters;
-use measures::{MEASURES, SYNCED_DIRECTORIES, asked_by, asked_by_format, asked_by_mount};
+use measures::{Asked, MEASURES, SYNCED_DIRECTORIES, asked_by, asked_by_format, asked_by_mount};
 
 fn main(rt: HostRuntime) -> Result<()> {
-    println!(rt; "call                                        nodes   reads  programs  erases")?;
+    println!(rt;
+        "call                                        nodes    cold    warm  programs  erases"
+    )?;
     tell_calls(&rt)?;
     tell_format(&rt)?;
     tell_mount(&rt, "mount of an empty root", &[])?;
@@ -34,19 +37,29 @@ fn tell_calls<R: AllocGlobal + Print>(rt: &R) -> Result<()> {
 
 /// Tells what a format asks.
 fn tell_format<R: AllocGlobal + Print>(rt: &R) -> Result<()> {
-    tell(rt, "format", 1, asked_by_format(rt.alloc())?)
+    tell_one(rt, "format", 1, asked_by_format(rt.alloc())?)
 }
 
 /// Tells what a mount asks after these lines.
 fn tell_mount<R: AllocGlobal + Print>(rt: &R, name: &str, lines: &[&str]) -> Result<()> {
-    tell(rt, name, 0, asked_by_mount(rt.alloc(), lines)?)
+    tell_one(rt, name, 0, asked_by_mount(rt.alloc(), lines)?)
+}
+
+/// Tells what was asked of a flash where no node was in memory before.
+fn tell_one<R: Print>(rt: &R, name: &str, nodes: u32, asked: Counters) -> Result<()> {
+    let asked = Asked {
+        cold: asked,
+        warm: asked,
+    };
+    tell(rt, name, nodes, asked)
 }
 
 /// Tells what was asked of a flash.
-fn tell<R: Print>(rt: &R, name: &str, nodes: u32, asked: Counters) -> Result<()> {
+fn tell<R: Print>(rt: &R, name: &str, nodes: u32, asked: Asked) -> Result<()> {
+    let Asked { cold, warm } = asked;
     println!(rt;
-        "{:<42}{:>7}{:>8}{:>10}{:>8}",
-        name, nodes, asked.reads, asked.programs, asked.erases
+        "{:<42}{:>7}{:>8}{:>8}{:>10}{:>8}",
+        name, nodes, cold.reads, warm.reads, cold.programs, cold.erases
     )?;
     Ok(())
 }

@@ -13,18 +13,43 @@ pub struct Measure {
     pub nodes: u32,
 }
 
-/// What a call asked of the flash, beyond what the calls before it asked.
-pub fn asked_by(alloc: Global, row: &Measure) -> Result<Counters, MeasureError> {
+/// What a call asks of the flash, with no node in memory and with those that the calls before it left.
+#[derive(Clone, Copy)]
+pub struct Asked {
+    pub cold: Counters,
+    pub warm: Counters,
+}
+
+/// What a call asks of the flash.
+pub fn asked_by(alloc: Global, row: &Measure) -> Result<Asked, MeasureError> {
+    Ok(Asked {
+        cold: asked_after(alloc, row, &["cold"])?,
+        warm: asked_after(alloc, row, &[])?,
+    })
+}
+
+/// What a call asks of the flash after lines that ask nothing of it, beyond what the calls before
+/// asked.
+fn asked_after(
+    alloc: Global,
+    row: &Measure,
+    still: &[&'static str],
+) -> Result<Counters, MeasureError> {
     let before = counts_of(alloc, row.before)?;
-    let lines = lines_of(alloc, row)?;
+    let lines = lines_of(alloc, row, still)?;
     let after = counts_of(alloc, &lines)?;
     Ok(beyond(after, before))
 }
 
 /// The lines of a measure.
-fn lines_of(alloc: Global, row: &Measure) -> Result<Vec<&'static str>, AllocError> {
+fn lines_of(
+    alloc: Global,
+    row: &Measure,
+    still: &[&'static str],
+) -> Result<Vec<&'static str>, AllocError> {
     let mut lines = Vec::new(alloc);
     lines.extend_from_slice(row.before)?;
+    lines.extend_from_slice(still)?;
     lines.push(row.call)?;
     Ok(lines)
 }
@@ -193,6 +218,30 @@ pub const MEASURES: &[Measure] = &[
         name: "stat of a directory, depth 16",
         before: &["deep 16"],
         call: "stat /a/a/a/a/a/a/a/a/a/a/a/a/a/a/a/a",
+        nodes: 0,
+    },
+    Measure {
+        name: "ls of a directory, depth 4",
+        before: &["deep 4"],
+        call: "ls /a/a/a/a",
+        nodes: 0,
+    },
+    Measure {
+        name: "ls at depth 4 after a pread of 1 MiB",
+        before: &["open /f 7", "fill 1048576", "deep 4", "pread 0 0 1048576"],
+        call: "ls /a/a/a/a",
+        nodes: 0,
+    },
+    Measure {
+        name: "pread of 1 MiB",
+        before: FILE_OF_1_MIB,
+        call: "pread 0 0 1048576",
+        nodes: 0,
+    },
+    Measure {
+        name: "pread of 1 MiB, a second time",
+        before: &["open /f 7", "fill 1048576", "pread 0 0 1048576"],
+        call: "pread 0 0 1048576",
         nodes: 0,
     },
     Measure {

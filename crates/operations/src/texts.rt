@@ -26,8 +26,8 @@ pub fn formatted(alloc: Global) -> Result<SimFlash, MeasureError> {
 /// Mounts what is on a flash, carries out the calls of a text, and answers what was asked of the
 /// flash since it was made.
 ///
-/// A line is one of a script, or `fill N`, which writes N bytes at the start of descriptor 0, or
-/// `deep N`, which makes N directories `a`, each in the one before.
+/// A line is one of a script, or `fill N`, which writes N bytes at the start of descriptor 0, `deep N`,
+/// which makes N directories `a`, each in the one before, or `cold`, which forgets the nodes in memory.
 pub fn counts_after(
     alloc: Global,
     flash: &mut SimFlash,
@@ -55,6 +55,10 @@ fn carry_out(
     line: &str,
     number: usize,
 ) -> Result<(), MeasureError> {
+    if line == "cold" {
+        system.forget_nodes();
+        return Ok(());
+    }
     if let Some(depth) = number_after(line, "deep ") {
         return make_directories(alloc, system, depth);
     }

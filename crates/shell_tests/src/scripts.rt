@@ -1,5 +1,4 @@
 //! What stands written where a script does not run to its end.
-use crate::mounts::formatted;
 use flash_model::{Flash, Geometry, PageView, SimFlash};
 use fs_types::Fault;
 use shell::{ScriptFault, run_script};
@@ -7,12 +6,20 @@ use std::alloc::Global;
 use std::io;
 use std::io::{ErrorKind, Read, Write};
 use std::test::Fail;
+use undofs::format;
 
 const SIZES: Geometry = Geometry {
     page: 256,
     pages: 16,
     blocks: 32,
 };
+
+/// A flash with an empty file system on it.
+pub(crate) fn formatted(alloc: Global, sizes: Geometry, limit: u32) -> Result<SimFlash, Fault> {
+    let mut flash = SimFlash::new(alloc, sizes, &[])?;
+    format(alloc, &mut flash, limit)?;
+    Ok(flash)
+}
 
 /// A reader that gives its bytes and then fails.
 #[derive(Drop)]

@@ -1,5 +1,5 @@
 //! Rows of image files: bytes that are written out here, and what they are read as.
-use crate::mounts::formatted;
+use crate::scripts::formatted;
 use flash_image::{ImageFault, decode, encode};
 use flash_model::{Flash, Geometry, PageView, SimFlash};
 use std::alloc::{AllocError, Global};

@@ -1,7 +1,7 @@
 //! File systems that are made on a flash and mounted, and what of them is mounted again.
 use bitflags::Flags;
 use flash_model::{FaultKind, Flash, Geometry, PageView, PlannedFault, SimFlash};
-use fs_types::{Call, CpName, Fault, OpenFlags, Path, Reply, View};
+use fs_types::{CpName, Fault, OpenFlags, Path, Reply, View};
 use shell::run_script;
 use std::alloc::Global;
 use std::test::Fail;
@@ -311,23 +311,46 @@ fn records_go_on_to_the_next_anchor(rt: HostRuntime) -> Result<(), Fail> {
 }
 
 /// How many pages are read by a format, a mount with so many nodes in memory, `mkdir /a`, and so many
-/// listings of it.
-fn reads_of(alloc: Global, nodes: usize, listings: u32) -> Result<u64, Fault> {
+/// listings of it, before each of which all nodes in memory are forgotten, or none.
+fn reads_of(alloc: Global, nodes: usize, listings: u32, is_cold: bool) -> Result<u64, Fault> {
     let mut flash = formatted(alloc, SIZES, 8)?;
     let path = Path::parse(alloc, b"/a")?;
     let mut system = Fs::mount_with(alloc, &mut flash, nodes)?;
     system.mkdir(alloc, &path)?;
     for _ in 0..listings {
-        system.list(alloc, &View::Present, &path)?;
+        list(alloc, &mut system, &path, is_cold)?;
     }
     Ok(system.into_flash().counts().reads)
+}
+
+fn list(
+    alloc: Global,
+    system: &mut Fs<'_, SimFlash>,
+    path: &Path,
+    is_cold: bool,
+) -> Result<(), Fault> {
+    if is_cold {
+        system.forget_nodes();
+    }
+    system.list(alloc, &View::Present, path)?;
+    Ok(())
 }
 
 #[test]
 fn a_second_listing_reads_nothing_with_eight_nodes(rt: HostRuntime) -> Result<(), Fail> {
     let alloc = rt.alloc();
-    assert_eq!(rt; reads_of(alloc, 8, 2), reads_of(alloc, 8, 1));
-    assert!(rt; reads_of(alloc, 1, 2)? > reads_of(alloc, 1, 1)?);
+    assert_eq!(rt; reads_of(alloc, 8, 2, false), reads_of(alloc, 8, 1, false));
+    assert!(rt; reads_of(alloc, 1, 2, false)? > reads_of(alloc, 1, 1, false)?);
+    Ok(())
+}
+
+#[test]
+fn forgotten_nodes_are_read_again(rt: HostRuntime) -> Result<(), Fail> {
+    let once = reads_of(rt.alloc(), 8, 1, true)?;
+    assert_eq!(rt;
+        reads_of(rt.alloc(), 8, 2, true),
+        Ok(once.saturating_add(2))
+    );
     Ok(())
 }
 
@@ -344,27 +367,5 @@ fn nodes_in_memory_are_1_to_64(rt: HostRuntime) -> Result<(), Fail> {
         assert!(rt; Fs::mount_with(rt.alloc(), &mut flash, nodes).is_ok());
         assert!(rt; mount_with(rt.alloc(), &mut flash, nodes).is_ok());
     }
-    Ok(())
-}
-
-/// How many pages a listing of the root reads before and after the nodes in memory are forgotten.
-fn reads_around_forgetting(alloc: Global) -> Result<(u64, u64), Fault> {
-    let mut flash = formatted(alloc, SIZES, 8)?;
-    let mut system = mount(alloc, &mut flash)?;
-    let list = Call::List {
-        view: View::Present,
-        path: Path::parse(alloc, b"/")?,
-    };
-    let start = flash.counts().reads;
-    system.call(alloc, &mut flash, &list)?;
-    let warm = flash.counts().reads.saturating_sub(start);
-    system.forget_nodes();
-    system.call(alloc, &mut flash, &list)?;
-    Ok((warm, flash.counts().reads.saturating_sub(start)))
-}
-
-#[test]
-fn forgotten_nodes_are_read_again(rt: HostRuntime) -> Result<(), Fail> {
-    assert_eq!(rt; reads_around_forgetting(rt.alloc()), Ok((0, 1)));
     Ok(())
 }

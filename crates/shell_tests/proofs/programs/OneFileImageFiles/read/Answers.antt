@@ -1,7 +1,7 @@
 use Rattle.std.proofs.Common.{◌∙◌, ap, sym, take, min}
 use Rattle.std.proofs.lemmas.List.{take_min}
 use Rattle.shell.specs.declared.files.TheConstants.{MOST_BYTES}
-use Rattle.tests.proofs.programs.OneFileImageFiles.read.Goals as goal
+use Rattle.shell_tests.proofs.programs.OneFileImageFiles.read.Goals as goal
 
 pub returns-in-Ok : goal.returns-in-Ok
 returns-in-Ok c =

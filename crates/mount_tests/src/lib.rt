@@ -1,5 +1,4 @@
-//! Tests of mounted systems: worked contents of a flash, what mounts make of them, sessions with
-//! restarts and cuts, reclaiming.
+//! Tests of mounted systems: worked contents of a flash, what mounts make of them, reclaiming.
 #![tactic(auto)]
 
 #[cfg(test)]
@@ -10,9 +9,5 @@ mod mounts;
 mod reclaiming;
 #[cfg(test)]
 mod records;
-#[cfg(test)]
-mod retries;
-#[cfg(test)]
-mod sessions;
 #[cfg(test)]
 mod verifications;

@@ -1,4 +1,4 @@
-//! Tests of scripts, image files and the program.
+//! Tests of scripts, sessions with restarts and cuts, image files and the program.
 #![tactic(auto)]
 
 #[cfg(test)]
@@ -6,4 +6,8 @@ mod images;
 #[cfg(test)]
 mod programs;
 #[cfg(test)]
+mod retries;
+#[cfg(test)]
 mod scripts;
+#[cfg(test)]
+mod sessions;

@@ -1,5 +1,5 @@
 //! Changes that find the flash full, with ample memory: each is carried out again after room was made.
-use crate::mounts::formatted;
+use crate::scripts::formatted;
 use flash_model::{Geometry, SimFlash};
 use fs_types::{Fault, OpenFlags, Path};
 use std::alloc::Global;

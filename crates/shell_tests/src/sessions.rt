@@ -1,5 +1,5 @@
 //! Sessions of calls, steps of reclaiming and restarts, with ample memory: their whole logs.
-use crate::mounts::formatted;
+use crate::scripts::formatted;
 use flash_model::{FaultKind, Geometry, Planned, PlannedFault, SimFlash};
 use fs_types::{Answer, Event, Fault};
 use script::{Line, LineAnswer, print_answer, read_line};

@@ -87,69 +87,64 @@ fn call<F: ImageFiles>(
     })
 }
 
-/// Asserts what a call of the program gives: the status and what it writes.
-fn assert_call<R: Abort, F: ImageFiles>(
+/// A call of the program that is tried: its words, its input, and the status, output and messages that
+/// are wanted.
+type Wanted<'a> = (&'a [&'a str], &'a str, (u8, &'a str, &'a str));
+
+/// Asserts what calls of the program give, one after the other.
+fn assert_calls<R: Abort, F: ImageFiles>(
     rt: &R,
     files: &mut F,
     alloc: Global,
-    words: &[&str],
-    script: &str,
-    wanted: (u8, &str, &str),
+    calls: &[Wanted<'_>],
 ) -> Result<(), Fail> {
-    let given = call(files, alloc, words, script)?;
-    assert_eq!(rt;
-        (given.status, given.out.as_str(), given.err.as_str()),
-        wanted
-    );
+    for (words, script, wanted) in calls {
+        let given = call(files, alloc, words, script)?;
+        assert_eq!(rt;
+            (given.status, given.out.as_str(), given.err.as_str()),
+            *wanted
+        );
+    }
     Ok(())
 }
 
 #[test]
 fn memory_needs_no_image(rt: HostRuntime) -> Result<(), Fail> {
     let mut files = OneFile::new(rt.alloc());
-    let script = "mkdir /a\nls /\n";
     let wanted = (0, "ok\nentries 1 a/\n", "");
-    assert_call(&rt, &mut files, rt.alloc(), &["memory"], script, wanted)
+    let calls: [Wanted<'_>; 1] = [(&["memory"], "mkdir /a\nls /\n", wanted)];
+    assert_calls(&rt, &mut files, rt.alloc(), &calls)
 }
 
 #[test]
 fn an_image_is_made_and_looked_at(rt: HostRuntime) -> Result<(), Fail> {
-    let alloc = rt.alloc();
-    let mut files = OneFile::new(alloc);
-    assert_call(&rt, &mut files, alloc, &["format", "x"], "", (0, "", ""))?;
-    let fresh = fresh_image(alloc)?;
-    assert_eq!(rt; files.bytes.as_slice(), fresh.as_slice());
-    assert_call(&rt, &mut files, alloc, &["check", "x"], "", (0, "ok\n", ""))?;
+    let mut files = OneFile::new(rt.alloc());
     let log = "log next 2 dropped 0 versions *1 checkpoints\n";
-    assert_call(&rt, &mut files, alloc, &["log", "x"], "", (0, log, ""))?;
     let df = "df data 24 bad 0 free 23 anchors 8\n";
-    assert_call(&rt, &mut files, alloc, &["df", "x"], "", (0, df, ""))?;
-    assert_eq!(rt; files.bytes.as_slice(), fresh.as_slice());
+    let calls: [Wanted<'_>; 4] = [
+        (&["format", "x"], "", (0, "", "")),
+        (&["check", "x"], "", (0, "ok\n", "")),
+        (&["log", "x"], "", (0, log, "")),
+        (&["df", "x"], "", (0, df, "")),
+    ];
+    assert_calls(&rt, &mut files, rt.alloc(), &calls)?;
+    assert_eq!(rt; files.bytes.as_slice(), fresh_image(rt.alloc())?.as_slice());
     Ok(())
 }
 
 #[test]
 fn what_was_synced_is_found_again(rt: HostRuntime) -> Result<(), Fail> {
-    let alloc = rt.alloc();
-    let mut files = OneFile::new(alloc);
-    assert_call(&rt, &mut files, alloc, &["format", "x"], "", (0, "", ""))?;
-    let first = "mkdir /a\nsync\nmkdir /b\n";
-    assert_call(
-        &rt,
-        &mut files,
-        alloc,
-        &["run", "x"],
-        first,
-        (0, "ok\nok\nok\n", ""),
-    )?;
-    assert_call(
-        &rt,
-        &mut files,
-        alloc,
-        &["run", "x"],
-        "ls /\n",
-        (0, "entries 1 a/\n", ""),
-    )
+    let mut files = OneFile::new(rt.alloc());
+    let calls: [Wanted<'_>; 3] = [
+        (&["format", "x"], "", (0, "", "")),
+        (
+            &["run", "x"],
+            "mkdir /a\nsync\nmkdir /b\n",
+            (0, "ok\nok\nok\n", ""),
+        ),
+        (&["run", "x"], "ls /\n", (0, "entries 1 a/\n", "")),
+    ];
+    assert_calls(&rt, &mut files, rt.alloc(), &calls)
 }
 
 #[test]
@@ -157,33 +152,15 @@ fn a_refused_format_leaves_the_image(rt: HostRuntime) -> Result<(), Fail> {
     let alloc = rt.alloc();
     let mut files = OneFile::new(alloc);
     files.bytes = fresh_image(alloc)?;
-    let blocks = ["format", "x", "--blocks", "15"];
-    assert_call(
-        &rt,
-        &mut files,
-        alloc,
-        &blocks,
-        "",
-        (3, "", "uffs: BADGEOMETRY 28\n"),
-    )?;
-    let history = ["format", "x", "--history", "1"];
-    assert_call(
-        &rt,
-        &mut files,
-        alloc,
-        &history,
-        "",
-        (3, "", "uffs: EINVAL 7\n"),
-    )?;
+    let sizes = (3, "", "uffs: BADGEOMETRY 28\n");
+    let limit = (3, "", "uffs: EINVAL 7\n");
+    let calls: [Wanted<'_>; 2] = [
+        (&["format", "x", "--blocks", "15"], "", sizes),
+        (&["format", "x", "--history", "1"], "", limit),
+    ];
+    assert_calls(&rt, &mut files, alloc, &calls)?;
     files.is_full = true;
-    assert_call(
-        &rt,
-        &mut files,
-        alloc,
-        &["format", "x"],
-        "",
-        (1, "", "uffs: cannot write x\n"),
-    )?;
+    assert_unwritten(&rt, &mut files, alloc, "x")?;
     assert_eq!(rt; files.bytes.as_slice(), fresh_image(alloc)?.as_slice());
     Ok(())
 }
@@ -246,42 +223,37 @@ fn with_bytes(bytes: Vec<u8>, place: usize, others: &[u8]) -> Vec<u8> {
     changed
 }
 
+/// Asserts that an image is told as one that cannot be looked at.
+fn assert_refused<R: Abort>(
+    rt: &R,
+    alloc: Global,
+    image: Vec<u8>,
+    verb: &str,
+    message: &str,
+) -> Result<(), Fail> {
+    let mut files = OneFile::new(alloc);
+    files.bytes = image;
+    assert_calls(
+        rt,
+        &mut files,
+        alloc,
+        &[(&[verb, "x"], "", (3, "", message))],
+    )
+}
+
 #[test]
 fn an_image_that_is_not_mounted_is_told(rt: HostRuntime) -> Result<(), Fail> {
     let alloc = rt.alloc();
-    let mut files = OneFile::new(alloc);
-    files.bytes = erased_image(alloc)?;
-    assert_call(
-        &rt,
-        &mut files,
-        alloc,
-        &["check", "x"],
-        "",
-        (3, "", "uffs: NORECORD 27\n"),
-    )?;
+    let erased = erased_image(alloc)?;
+    assert_refused(&rt, alloc, erased, "check", "uffs: NORECORD 27\n")?;
     let loops = b"UFND\x01\0\0\0\x0b\0\0\0\0\0\0\0\x02\x01a\x08\0\0\0\0\0\0\0";
-    files.bytes = with_bytes(fresh_image(alloc)?, 414, loops);
-    assert_call(
-        &rt,
-        &mut files,
-        alloc,
-        &["check", "x"],
-        "",
-        (3, "", "uffs: DAMAGED 26\n"),
-    )?;
-    files.bytes = fresh_image(alloc)?;
-    files.bytes.truncate(100);
-    let truncated = (3, "", "uffs: image Truncated\n");
-    assert_call(&rt, &mut files, alloc, &["check", "x"], "", truncated)?;
-    files.bytes = with_bytes(fresh_image(alloc)?, 0, b"X");
-    assert_call(
-        &rt,
-        &mut files,
-        alloc,
-        &["df", "x"],
-        "",
-        (3, "", "uffs: image NotImage\n"),
-    )
+    let looped = with_bytes(fresh_image(alloc)?, 414, loops);
+    assert_refused(&rt, alloc, looped, "check", "uffs: DAMAGED 26\n")?;
+    let mut short = fresh_image(alloc)?;
+    short.truncate(100);
+    assert_refused(&rt, alloc, short, "check", "uffs: image Truncated\n")?;
+    let other = with_bytes(fresh_image(alloc)?, 0, b"X");
+    assert_refused(&rt, alloc, other, "df", "uffs: image NotImage\n")
 }
 
 #[test]
@@ -328,7 +300,7 @@ fn assert_cannot<R: Abort, F: ImageFiles>(
 ) -> Result<(), Fail> {
     let text = format!(in alloc; "uffs: cannot {what} {name}\n")?;
     let wanted = (1, "", text.as_str());
-    assert_call(rt, files, alloc, &[verb, name], "", wanted)
+    assert_calls(rt, files, alloc, &[(&[verb, name], "", wanted)])
 }
 
 /// Asserts that an image is told as one that cannot be written.
@@ -341,7 +313,7 @@ fn assert_unwritten<R: Abort, F: ImageFiles>(
     assert_cannot(rt, files, alloc, "write", "format", name)
 }
 
-/// Asserts what comes of an image that is made, written and looked at.
+/// Asserts what comes of an image that is written and looked at.
 fn assert_kept<R: Abort, F: ImageFiles>(
     rt: &R,
     files: &mut F,
@@ -349,15 +321,11 @@ fn assert_kept<R: Abort, F: ImageFiles>(
     name: &str,
 ) -> Result<(), Fail> {
     let run = ["run", name];
-    assert_call(
-        rt,
-        files,
-        alloc,
-        &run,
-        "mkdir /a\nsync\n",
-        (0, "ok\nok\n", ""),
-    )?;
-    assert_call(rt, files, alloc, &run, "ls /\n", (0, "entries 1 a/\n", ""))
+    let calls: [Wanted<'_>; 2] = [
+        (&run, "mkdir /a\nsync\n", (0, "ok\nok\n", "")),
+        (&run, "ls /\n", (0, "entries 1 a/\n", "")),
+    ];
+    assert_calls(rt, files, alloc, &calls)
 }
 
 /// Asserts that a file of the host is made and replaced, with no other left behind.
@@ -368,7 +336,12 @@ fn assert_replaced<R: Abort + Files + AllocGlobal>(
 ) -> Result<(), Fail> {
     let mut files = HostFiles::new(rt);
     assert_cannot(rt, &mut files, alloc, "read", "run", name)?;
-    assert_call(rt, &mut files, alloc, &["format", name], "", (0, "", ""))?;
+    assert_calls(
+        rt,
+        &mut files,
+        alloc,
+        &[(&["format", name], "", (0, "", ""))],
+    )?;
     let fresh = fresh_image(alloc)?;
     assert_eq!(rt; fs::read(rt, name)?.as_slice(), fresh.as_slice());
     assert_kept(rt, &mut files, alloc, name)?;

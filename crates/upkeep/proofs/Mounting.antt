@@ -1,9 +1,9 @@
 -- What a mount has found: the working state that it makes, and why it makes none.
-use Rattle.std.proofs.Common.{◌≡◌, ◌≢◌, replicate, inl, inr, ℕ, zero, suc, ◌-◌, ◌/◌, ◌<◌, Bool, true, false, ◌||◌, Option, Some, None, Result, Ok, List, [], ◌∷◌, ◌++◌, length, map, refl, sym, ap, subst, ◌∙◌, arith}
+use Rattle.std.proofs.Common.{◌≡◌, ◌≢◌, replicate, inl, inr, ℕ, zero, suc, ◌-◌, ◌/◌, ◌<◌, Bool, true, false, ◌||◌, Option, Some, None, Result, Ok, Err, List, [], ◌∷◌, ◌++◌, length, map, refl, sym, ap, subst, ◌∙◌, arith}
 use Rattle.std.proofs.lemmas.Bool.{true≢false}
 use Rattle.std.proofs.lemmas.List.Elements.{All-map, Contains-append_left, Contains-append_right}
 use Rattle.std.proofs.lemmas.Cmp.{nat_cmp_total}
-use Rattle.std.specs.Prelude.{◌↔◌, Contains, slice_index_or}
+use Rattle.std.specs.Prelude.{◌↔◌, Contains, IfErr, slice_index_or}
 use Rattle.std.specs.FinSet as set
 use Rattle.std.specs.List.Sorted.{IsStrictlySortedBy}
 use Rattle.std.specs.Option.{option_map}
@@ -292,3 +292,7 @@ load_why old mid new r ReadFailed lawful is reads why = let l = reads.failed_rea
 load_why old mid new r PowerCut lawful is reads why = why
 load_why old mid new r NoMemory lawful is reads why = tt
 load_why old mid new r _ lawful is reads why = absurd why
+
+-- why trees of roots are not found, by another name of the roots and of the answer
+pub err_roots : (A : Type 0) (old new : Device) (found roots : List ℕ) (r : Result A Fault) (fault : Fault) → found ≡ roots → r ≡ Err fault → RootsCause old found new fault → IfErr r (RootsCause old roots new)
+err_roots A old new found roots r fault same is why = subst (λ r. IfErr r (RootsCause old roots new)) (sym is) (subst (λ all. RootsCause old all new fault) same why)

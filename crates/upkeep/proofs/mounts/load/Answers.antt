@@ -1,4 +1,5 @@
-use Rattle.std.proofs.Common.{◌≡◌, true, false, refl, subst, ap, ◌∙◌, List, ℕ, sym}
+use Rattle.std.proofs.Common.{◌≡◌, Err, true, false, refl, subst, ap, ◌∙◌, List, ℕ, sym}
+use Rattle.std.proofs.lemmas.Result.{err_from_is_err_and}
 use Rattle.std.specs.FinSet as set
 use Rattle.std.specs.Prelude.{◌↔◌}
 use Rattle.allocator.specs.Ring.{Ring}
@@ -7,8 +8,9 @@ use Rattle.flash_model.specs.Geometry.{block_bytes}
 use Rattle.node_store.specs.NodePages.{node_of}
 use Rattle.block_trees.specs.Reached.{Reached}
 use Rattle.reclaim.specs.Verified.{AreRoots}
+use Rattle.working_state.specs.declared.state.State.{State}
 use Rattle.upkeep.specs.Mounts.{history_of, roots_of}
-use Rattle.upkeep.proofs.Mounting.{built_loaded}
+use Rattle.upkeep.proofs.Mounting.{built_loaded, err_roots}
 use Rattle.upkeep.proofs.mounts.load.Goals as goal
 
 pub returns-clause-loaded : goal.returns-clause-loaded
@@ -34,3 +36,10 @@ returns-clause-loaded g c =
       files = c.new.ensures;
       is_on = refl;
     })
+
+pub returns-in_err-use_reached-clause-why : goal.returns-in_err-use_reached-clause-why
+returns-in_err-use_reached-clause-why g c =
+    let roots : c.deref.result.now ≡ roots_of (history_of c.args.saved.now) = c.deref.ensures.value ∙ c.in_ok-roots.ensures ∙ ap roots_of c.in_ok-history.ensures.history in
+    let p = err_from_is_err_and c.from_residual-in_err-use_reached.result c.from_residual-in_err-use_reached.ensures.1 in
+    err_roots State (g.F.Flash.device c.args.flash.now) (g.F.Flash.device c.use_reached.new.flash) c.deref.result.now (roots_of (history_of c.args.saved.now))
+    c.from_residual-in_err-use_reached.result c.in_err-use_reached.field-0.0 roots (p.1 ∙ ap Err p.2) c.in_err-use_reached.ensures.why

@@ -1,5 +1,5 @@
 -- Changes: an edit of the present tree is written, and its root becomes the present version.
-use Rattle.std.specs.Prelude.{◌≡◌, ◌⊎◌, ℕ, ◌+◌, ◌<◌, ◌≤◌, true, false, Some, [], ◌∷◌, Result, Ok, Err, IfOk, IfErr}
+use Rattle.std.specs.Prelude.{◌≡◌, ◌⊎◌, ℕ, ◌+◌, ◌<◌, true, false, Some, [], ◌∷◌, Result, Ok, Err, IfOk, IfErr}
 use Rattle.std.specs.FinSet as set
 use Rattle.history_machine.specs.History.{Past, present_root, changed}
 use Rattle.plain_trees.specs.Trees.{Tree}

@@ -11,7 +11,8 @@ use Rattle.block_trees.specs.Trees.{leads}
 use Rattle.working_state.specs.Moments.{moment, machine_at, seen_at}
 use Rattle.working_state.proofs.ChangeSteps.{path_within}
 use Rattle.working_state.proofs.MovedEntries.{of_fault, MoveRefused, move_below, move_target, move_then, is_deep, is_shallow, deeper_before, shallow_before, busy_before, deep_refuses, busy_refuses, moves_by, move_room, room_is, read_later}
-use Rattle.working_state.proofs.Standing.{looked_worked, worked_mounted, worked_later}
+use Rattle.working_state.proofs.Standing.{looked_worked, worked_mounted, worked_later, looked_on}
+use Rattle.working_state.proofs.FileChanges.{looked_itself}
 use Rattle.working_state.proofs.state.State.check_move.Goals as goal
 
 pub returns-in_err-check_beyond-clause-refused : goal.returns-in_err-check_beyond-clause-refused
@@ -96,3 +97,21 @@ returns-clause-shallow g c =
 pub returns-clause-room : goal.returns-clause-room
 returns-clause-room g c =
     move_room (node_of (g.F.Flash.device c.args.flash.now)) c.args.root c.args.old.now c.args.new.now _ c.in_ok-check_room.ensures.ok c.in_ok-lacks_room.ensures.fits
+
+pub returns-in_err-check_beyond-clause-looked : goal.returns-in_err-check_beyond-clause-looked
+returns-in_err-check_beyond-clause-looked g c = looked_itself (moment (g.F.Flash.device c.args.flash.now) c.args.self.now)
+
+pub returns-in_err-lacks_room-clause-looked : goal.returns-in_err-lacks_room-clause-looked
+returns-in_err-lacks_room-clause-looked g c = c.check_target.ensures.looked
+
+pub returns-in_err-check_depth-clause-looked : goal.returns-in_err-check_depth-clause-looked
+returns-in_err-check_depth-clause-looked g c = looked_on _ _ _ c.check_target.ensures.looked c.check_depth.ensures.looked
+
+pub returns-in_err-check_closed-clause-looked : goal.returns-in_err-check_closed-clause-looked
+returns-in_err-check_closed-clause-looked g c = looked_on _ _ _ c.check_target.ensures.looked c.check_depth.ensures.looked
+
+pub returns-in_err-check_room-clause-looked : goal.returns-in_err-check_room-clause-looked
+returns-in_err-check_room-clause-looked g c = looked_on _ _ _ c.check_target.ensures.looked c.check_depth.ensures.looked
+
+pub returns-clause-looked : goal.returns-clause-looked
+returns-clause-looked g c = looked_on _ _ _ c.check_target.ensures.looked c.check_depth.ensures.looked

@@ -104,32 +104,49 @@ fn an_erased_flash_has_no_record(rt: HostRuntime) -> Result<(), Fail> {
 
 /// Makes a directory and a checkpoint, and syncs; a second directory is made after that.
 fn make_directories(alloc: Global, flash: &mut SimFlash) -> Result<(), Fault> {
-    let name = CpName::parse(b"one")?;
-    let first = Path::parse(alloc, b"/a")?;
-    let second = Path::parse(alloc, b"/b")?;
     let mut system = Fs::mount(alloc, flash)?;
-    system.mkdir(alloc, &first)?;
-    system.checkpoint(&name)?;
+    make_both(alloc, &mut system)
+}
+
+fn make_both(alloc: Global, system: &mut Fs<'_, SimFlash>) -> Result<(), Fault> {
+    system.mkdir(alloc, &Path::parse(alloc, b"/a")?)?;
+    system.checkpoint(&CpName::parse(b"one")?)?;
     system.sync(alloc)?;
-    system.mkdir(alloc, &second)
+    system.mkdir(alloc, &Path::parse(alloc, b"/b")?)
+}
+
+/// What is mounted of a flash: the next serial, the number of checkpoints, the last block that was taken,
+/// and whether blocks 8 and 11 are used.
+fn mounted(alloc: Global, flash: &mut SimFlash) -> Result<(u64, usize, u32, [bool; 2]), Fault> {
+    let state = mount(alloc, flash)?.state;
+    let ring = &state.storage.ring;
+    Ok((
+        state.history.next_serial(),
+        state.history.checkpoints().len(),
+        ring.last(),
+        [ring.is_used(8), ring.is_used(11)],
+    ))
 }
 
 #[test]
 fn what_was_synced_is_mounted(rt: HostRuntime) -> Result<(), Fail> {
     let mut flash = formatted(rt.alloc(), SIZES, 8)?;
     assert_eq!(rt; make_directories(rt.alloc(), &mut flash), Ok(()));
-    let state = mount(rt.alloc(), &mut flash)?.state;
-    assert_eq!(rt; state.history.next_serial(), 3);
-    assert_eq!(rt; state.history.checkpoints().len(), 1);
-    assert_eq!(rt; state.storage.ring.last(), 10);
-    assert!(rt; state.storage.ring.is_used(8) && !state.storage.ring.is_used(11));
+    assert_eq!(rt;
+        mounted(rt.alloc(), &mut flash),
+        Ok((3, 1, 10, [true, false]))
+    );
     Ok(())
 }
 
 /// What `df` tells: data blocks, bad ones, free ones, and anchors that work.
 fn space(alloc: Global, flash: &mut SimFlash) -> Result<[u64; 4], Fault> {
     let mut system = Fs::mount(alloc, flash)?;
-    match system.df(alloc)? {
+    numbers_of(system.df(alloc))
+}
+
+fn numbers_of(answer: Result<Reply, Fault>) -> Result<[u64; 4], Fault> {
+    match answer? {
         Reply::Df {
             blocks,
             bad,
@@ -149,8 +166,15 @@ fn a_new_system_has_one_block_in_use(rt: HostRuntime) -> Result<(), Fail> {
 
 /// What `fsync` answers of the descriptor of an open file, of one that is closed, and of another.
 fn fsyncs(alloc: Global, flash: &mut SimFlash) -> Result<[Result<(), Fault>; 3], Fault> {
-    let path = Path::parse(alloc, b"/f")?;
     let mut system = Fs::mount(alloc, flash)?;
+    fsyncs_of(alloc, &mut system)
+}
+
+fn fsyncs_of(
+    alloc: Global,
+    system: &mut Fs<'_, SimFlash>,
+) -> Result<[Result<(), Fault>; 3], Fault> {
+    let path = Path::parse(alloc, b"/f")?;
     let descriptor = system.open(alloc, &path, OpenFlags::from_bits_retain(6))? as u64;
     let open = system.fsync(alloc, descriptor);
     system.close(descriptor)?;
@@ -314,13 +338,23 @@ fn records_go_on_to_the_next_anchor(rt: HostRuntime) -> Result<(), Fail> {
 /// listings of it, before each of which all nodes in memory are forgotten, or none.
 fn reads_of(alloc: Global, nodes: usize, listings: u32, is_cold: bool) -> Result<u64, Fault> {
     let mut flash = formatted(alloc, SIZES, 8)?;
-    let path = Path::parse(alloc, b"/a")?;
     let mut system = Fs::mount_with(alloc, &mut flash, nodes)?;
+    list_often(alloc, &mut system, listings, is_cold)?;
+    Ok(system.into_flash().counts().reads)
+}
+
+fn list_often(
+    alloc: Global,
+    system: &mut Fs<'_, SimFlash>,
+    listings: u32,
+    is_cold: bool,
+) -> Result<(), Fault> {
+    let path = Path::parse(alloc, b"/a")?;
     system.mkdir(alloc, &path)?;
     for _ in 0..listings {
-        list(alloc, &mut system, &path, is_cold)?;
+        list(alloc, system, &path, is_cold)?;
     }
-    Ok(system.into_flash().counts().reads)
+    Ok(())
 }
 
 fn list(
@@ -354,18 +388,32 @@ fn forgotten_nodes_are_read_again(rt: HostRuntime) -> Result<(), Fail> {
     Ok(())
 }
 
+/// What a mount answers with so many nodes in memory.
+fn mounts_with(alloc: Global, flash: &mut SimFlash, nodes: usize) -> Result<(), Fault> {
+    let _system = Fs::mount_with(alloc, flash, nodes)?;
+    Ok(())
+}
+
+/// The same, of a system without its flash.
+fn mounts_system_with(alloc: Global, flash: &mut SimFlash, nodes: usize) -> Result<(), Fault> {
+    let _system = mount_with(alloc, flash, nodes)?;
+    Ok(())
+}
+
 #[test]
 fn nodes_in_memory_are_1_to_64(rt: HostRuntime) -> Result<(), Fail> {
     let mut flash = formatted(rt.alloc(), SIZES, 8)?;
     let before = flash.counts().reads;
     for nodes in [0, 65, usize::MAX] {
-        let refused = Fs::mount_with(rt.alloc(), &mut flash, nodes).err();
-        assert_eq!(rt; refused, Some(Fault::Invalid));
+        assert_eq!(rt;
+            mounts_with(rt.alloc(), &mut flash, nodes),
+            Err(Fault::Invalid)
+        );
     }
     assert_eq!(rt; flash.counts().reads, before);
     for nodes in [1, 64] {
-        assert!(rt; Fs::mount_with(rt.alloc(), &mut flash, nodes).is_ok());
-        assert!(rt; mount_with(rt.alloc(), &mut flash, nodes).is_ok());
+        assert_eq!(rt; mounts_with(rt.alloc(), &mut flash, nodes), Ok(()));
+        assert_eq!(rt; mounts_system_with(rt.alloc(), &mut flash, nodes), Ok(()));
     }
     Ok(())
 }

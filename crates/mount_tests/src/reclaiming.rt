@@ -47,11 +47,21 @@ fn make_directory(
 fn steps_across_a_change(alloc: Global) -> Result<(bool, bool, Vec<u32>), Fault> {
     let mut flash = formatted(alloc, SIZES, 8)?;
     let mut system = mount(alloc, &mut flash)?;
-    make_directory(alloc, &mut flash, &mut system, b"/a")?;
-    let first = system.reclaim_step(alloc, &mut flash, 2)?;
-    make_directory(alloc, &mut flash, &mut system, b"/b")?;
-    let second = system.reclaim_step(alloc, &mut flash, 1)?;
-    Ok((first, second, used_blocks(alloc, &system)?))
+    step_across_a_change(alloc, &mut flash, &mut system)
+}
+
+fn step_across_a_change(
+    alloc: Global,
+    flash: &mut SimFlash,
+    system: &mut System,
+) -> Result<(bool, bool, Vec<u32>), Fault>
+    requires { IsSystem (device_of flash.old) system.old }
+{
+    make_directory(alloc, flash, system, b"/a")?;
+    let first = system.reclaim_step(alloc, flash, 2)?;
+    make_directory(alloc, flash, system, b"/b")?;
+    let second = system.reclaim_step(alloc, flash, 1)?;
+    Ok((first, second, used_blocks(alloc, system)?))
 }
 
 /// Both directories have two nodes, the second ones taken while the marking went on.
@@ -98,9 +108,19 @@ fn taken_after_a_step(alloc: Global) -> Result<(bool, u32, u64), Fault> {
     };
     let mut flash = formatted(alloc, sizes, 8)?;
     let mut system = mount(alloc, &mut flash)?;
-    fill(alloc, &mut flash, &mut system)?;
-    let _is_done = system.reclaim_step(alloc, &mut flash, 5)?;
-    taken_by_a_directory(alloc, &mut flash, &mut system)
+    take_after_a_step(alloc, &mut flash, &mut system)
+}
+
+fn take_after_a_step(
+    alloc: Global,
+    flash: &mut SimFlash,
+    system: &mut System,
+) -> Result<(bool, u32, u64), Fault>
+    requires { IsSystem (device_of flash.old) system.old }
+{
+    fill(alloc, flash, system)?;
+    let _is_done = system.reclaim_step(alloc, flash, 5)?;
+    taken_by_a_directory(alloc, flash, system)
 }
 
 /// It takes the last block, and then the first one that no version and no record reaches. A page is

@@ -56,18 +56,23 @@ fn page_of(alloc: Global, record: &Record) -> Result<Vec<u8>, Fault> {
 #[test]
 fn the_record_of_a_formatted_flash_is_read(rt: HostRuntime) -> Result<(), Fail> {
     let record = newest_of(rt.alloc(), &FRESH)?.ok_or("a record")?;
-    assert_eq!(rt; record.sequence, 1);
-    assert_eq!(rt; record.geometry, SIZES);
-    assert_eq!(rt; record.limit, 8);
-    assert_eq!(rt; record.cursor, 0);
-    assert!(rt; !record.dropped);
-    assert_eq!(rt; record.versions.as_slice().len(), 1);
-    assert_eq!(rt; record.versions.as_slice()[0].serial, 1);
-    assert_eq!(rt; record.versions.as_slice()[0].root, 8);
-    assert_eq!(rt; record.checkpoints.as_slice().len(), 0);
-    assert_eq!(rt; record.bad.as_slice().len(), 0);
-    assert_eq!(rt; record.next, 2);
-    assert_eq!(rt; record.last, 8);
+    let numbers = (
+        record.sequence,
+        record.limit,
+        record.cursor,
+        record.next,
+        record.last,
+    );
+    assert_eq!(rt; numbers, (1, 8, 0, 2, 8));
+    assert_eq!(rt; (record.geometry, record.dropped), (SIZES, false));
+    let counts = [
+        record.versions.as_slice().len(),
+        record.checkpoints.as_slice().len(),
+        record.bad.as_slice().len(),
+    ];
+    assert_eq!(rt; counts, [1, 0, 0]);
+    let version = &record.versions.as_slice()[0];
+    assert_eq!(rt; (version.serial, version.root), (1, 8));
     Ok(())
 }
 

@@ -150,22 +150,28 @@ fn a_full_anchor_is_followed_by_the_next(rt: HostRuntime) -> Result<(), Fail> {
     let mut flash = SimFlash::new(rt.alloc(), SIZES, &[])?;
     let mut bad = BadBlocks::new();
     assert_eq!(rt; commit_all(rt.alloc(), &mut flash, &mut bad, 1, 17), Ok(()));
-    assert_eq!(rt; sequence_on(&flash, 15), Some(16));
-    assert_eq!(rt; sequence_on(&flash, 16), Some(17));
-    assert_eq!(rt; flash.counts().erases, 9);
+    let sequences = (sequence_on(&flash, 15), sequence_on(&flash, 16));
+    assert_eq!(rt;
+        (sequences, flash.counts().erases),
+        ((Some(16), Some(17)), 9)
+    );
     // three pages each: five records on an anchor, and a page of it stays
     assert_eq!(rt; commit_all(rt.alloc(), &mut flash, &mut bad, 40, 6), Ok(()));
-    assert_eq!(rt; sequence_on(&flash, 14), Some(5));
-    assert!(rt; is_erased(&flash, 15));
-    assert_eq!(rt; sequence_on(&flash, 16), Some(6));
+    let sequences = (sequence_on(&flash, 14), sequence_on(&flash, 16));
+    assert_eq!(rt;
+        (sequences, is_erased(&flash, 15)),
+        ((Some(5), Some(6)), true)
+    );
     // round the ring: the anchor of the first record is erased and programmed again
     assert_eq!(rt;
         commit_all(rt.alloc(), &mut flash, &mut bad, 1, 129),
         Ok(())
     );
-    assert_eq!(rt; sequence_on(&flash, 0), Some(129));
-    assert!(rt; is_erased(&flash, 1));
-    assert_eq!(rt; sequence_on(&flash, 127), Some(128));
+    let sequences = (sequence_on(&flash, 0), sequence_on(&flash, 127));
+    assert_eq!(rt;
+        (sequences, is_erased(&flash, 1)),
+        ((Some(129), Some(128)), true)
+    );
     Ok(())
 }
 
@@ -179,9 +185,12 @@ fn anchors_that_fail_are_passed(rt: HostRuntime) -> Result<(), Fail> {
     let mut bad = BadBlocks::new();
     assert_eq!(rt; commit_all(rt.alloc(), &mut flash, &mut bad, 1, 3), Ok(()));
     // the second record fails on the anchor of the first, and then the next anchor at its erase
-    assert_eq!(rt; sequence_on(&flash, 0), Some(1));
-    assert_eq!(rt; sequence_on(&flash, 32), Some(2));
-    assert_eq!(rt; sequence_on(&flash, 33), Some(3));
+    let sequences = [
+        sequence_on(&flash, 0),
+        sequence_on(&flash, 32),
+        sequence_on(&flash, 33),
+    ];
+    assert_eq!(rt; sequences, [Some(1), Some(2), Some(3)]);
     assert!(rt; bad.len() == 2 && bad.contains(0) && bad.contains(1));
     let (sequence, next, listed) = newest_of(rt.alloc(), &mut flash)?.ok_or("a record")?;
     assert_eq!(rt; (sequence, next), (3, 103));
@@ -215,24 +224,36 @@ fn records_left_by_failed_erases_are_older(rt: HostRuntime) -> Result<(), Fail> 
     assert_eq!(rt; commit_all(rt.alloc(), &mut flash, &mut bad, 1, 2), Ok(()));
     assert_eq!(rt; commit_all(rt.alloc(), &mut flash, &mut bad, 1, 1), Ok(()));
     assert!(rt; bad.len() == 1 && bad.contains(0));
-    assert_eq!(rt; sequence_on(&flash, 1), Some(2));
-    assert_eq!(rt; sequence_on(&flash, 16), Some(3));
+    let sequences = (sequence_on(&flash, 1), sequence_on(&flash, 16));
+    assert_eq!(rt; sequences, (Some(2), Some(3)));
     // only the anchor whose erase failed was read, each page once, and the part of a record again
     assert_eq!(rt; flash.counts().reads, 17);
     let (sequence, _, listed) = newest_of(rt.alloc(), &mut flash)?.ok_or("a record")?;
     assert_eq!(rt; sequence, 3);
     assert_eq!(rt; listed.as_slice(), [0].as_slice());
-    let failing = [
+    Ok(())
+}
+
+/// Where the anchor whose erase failed is not read either, nothing is committed.
+#[test]
+fn records_left_by_failed_erases_are_looked_for(rt: HostRuntime) -> Result<(), Fail> {
+    let plan = [
         fault(9, FaultKind::EraseFail),
         fault(5, FaultKind::ReadFail),
     ];
-    let mut flash = SimFlash::new(rt.alloc(), SIZES, &failing)?;
+    let mut flash = SimFlash::new(rt.alloc(), SIZES, &plan)?;
+    let mut bad = BadBlocks::new();
     assert_eq!(rt; commit_all(rt.alloc(), &mut flash, &mut bad, 1, 2), Ok(()));
     let answer = commit_all(rt.alloc(), &mut flash, &mut bad, 1, 1);
     assert_eq!(rt; answer, Err(Fault::ReadFailed));
-    let (sequence, _, _) = newest_of(rt.alloc(), &mut flash)?.ok_or("a record")?;
-    assert_eq!(rt; sequence, 2);
+    assert_eq!(rt; newest_sequence(rt.alloc(), &mut flash), Ok(2));
     Ok(())
+}
+
+/// The sequence of the newest record; 0 where there is none.
+fn newest_sequence(alloc: Global, flash: &mut SimFlash) -> Result<u64, Fault> {
+    let newest = newest_of(alloc, flash)?;
+    Ok(newest.map_or(0, |(sequence, _, _)| sequence))
 }
 
 /// The sequence of the newest record after power went as planned in the second of two commits, which
@@ -245,8 +266,7 @@ fn sequence_after(alloc: Global, number: u128, kind: FaultKind) -> Result<u64, F
         Err(Fault::PowerCut) => {}
         _ => return Err(Fault::Invalid),
     }
-    let newest = newest_of(alloc, &mut flash)?;
-    Ok(newest.map_or(0, |(sequence, _, _)| sequence))
+    newest_sequence(alloc, &mut flash)
 }
 
 #[test]

@@ -1,6 +1,7 @@
 //! A flash that was formatted is mounted.
 use flash_model::{FaultKind, Geometry, PlannedFault, SimFlash};
 use fs_types::Fault;
+use std::alloc::Global;
 use std::test::Fail;
 use upkeep::{format, mount};
 
@@ -10,25 +11,27 @@ const SIZES: Geometry = Geometry {
     blocks: 32,
 };
 
-#[test]
-fn a_formatted_flash_has_one_version(rt: HostRuntime) -> Result<(), Fail> {
-    let mut flash = SimFlash::new(rt.alloc(), SIZES, &[])?;
-    format(rt.alloc(), &mut flash, 8)?;
-    let state = mount(rt.alloc(), &mut flash)?.state;
-    assert_eq!(rt; state.history.versions().len(), 1);
-    assert_eq!(rt; state.history.next_serial(), 2);
-    assert_eq!(rt; state.history.limit(), 8);
-    assert_eq!(rt; state.storage.ring.last(), 8);
-    Ok(())
+/// What is mounted of a flash: the number of versions, the next serial, how many versions are kept at
+/// most, and the last block that was taken.
+fn mounted(alloc: Global, flash: &mut SimFlash) -> Result<(usize, u64, usize, u32), Fault> {
+    let state = mount(alloc, flash)?.state;
+    let history = &state.history;
+    Ok((
+        history.versions().len(),
+        history.next_serial(),
+        history.limit(),
+        state.storage.ring.last(),
+    ))
 }
 
 #[test]
-fn a_second_format_begins_anew(rt: HostRuntime) -> Result<(), Fail> {
+fn a_formatted_flash_has_one_version(rt: HostRuntime) -> Result<(), Fail> {
     let mut flash = SimFlash::new(rt.alloc(), SIZES, &[])?;
-    format(rt.alloc(), &mut flash, 8)?;
-    format(rt.alloc(), &mut flash, 3)?;
-    let state = mount(rt.alloc(), &mut flash)?.state;
-    assert_eq!(rt; state.history.limit(), 3);
+    assert_eq!(rt; format(rt.alloc(), &mut flash, 8), Ok(()));
+    assert_eq!(rt; mounted(rt.alloc(), &mut flash), Ok((1, 2, 8, 8)));
+    // a second format begins anew
+    assert_eq!(rt; format(rt.alloc(), &mut flash, 3), Ok(()));
+    assert_eq!(rt; mounted(rt.alloc(), &mut flash), Ok((1, 2, 3, 8)));
     Ok(())
 }
 

@@ -53,11 +53,21 @@ fn names_of_a_path(rt: HostRuntime) -> Result<(), Fail> {
 }
 
 #[test]
-fn makes_and_clones(rt: HostRuntime) -> Result<(), Fail> {
-    let name = Name::new(rt.alloc(), b"a")?;
-    assert_eq!(rt; name.clone()?.as_bytes(), b"a".as_slice());
-    let checkpoint = CpName::parse(b"v1")?;
-    assert_eq!(rt; checkpoint.clone()?.as_bytes(), b"v1".as_slice());
+fn a_name_is_made_and_cloned(rt: HostRuntime) -> Result<(), Fail> {
+    let name = Name::new(rt.alloc(), b"a")?.clone()?;
+    assert_eq!(rt; name.as_bytes(), b"a".as_slice());
+    Ok(())
+}
+
+#[test]
+fn a_name_of_a_checkpoint_is_made_and_cloned(rt: HostRuntime) -> Result<(), Fail> {
+    let name = CpName::parse(b"v1")?.clone()?;
+    assert_eq!(rt; name.as_bytes(), b"v1".as_slice());
+    Ok(())
+}
+
+#[test]
+fn bytes_are_made_and_appended_to(rt: HostRuntime) -> Result<(), Fail> {
     let mut bytes: Bytes = Sequence::from_slice(rt.alloc(), b"ab")?;
     bytes.push(b'c')?;
     assert_eq!(rt; bytes.as_slice(), b"abc".as_slice());

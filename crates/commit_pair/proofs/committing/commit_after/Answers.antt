@@ -1,7 +1,9 @@
 use Rattle.std.specs.FinSet as set
-use Rattle.std.proofs.Common.{◌≡◌, true}
+use Rattle.std.proofs.Common.{◌≡◌, true, refl}
 use Rattle.commit_pair.specs.Committing.{LacksRoom}
 use Rattle.commit_pair.proofs.Attempting.{refused_more, asked_alone}
+use Rattle.commit_pair.proofs.Anchoring.{OnlyAnchors_itself}
+use Rattle.commit_pair.proofs.Asking.{Asked_itself}
 use Rattle.commit_pair.proofs.committing.commit_after.Goals as goal
 
 pub returns-clause-attempts : goal.returns-clause-attempts
@@ -41,3 +43,21 @@ returns-clause-refused g c =
 pub returns-clause-asked : goal.returns-clause-asked
 returns-clause-asked g c =
     asked_alone (g.F.Flash.device c.args.flash.now) (g.F.Flash.device c.attempt_after.new.flash) c.attempt_after.result c.attempt_after.ensures.attempted.asked
+
+pub returns-then-contains-clause-only_anchors : goal.returns-then-contains-clause-only_anchors
+returns-then-contains-clause-only_anchors g c = OnlyAnchors_itself (g.F.Flash.device c.args.flash.now) c.args.bad.now
+
+pub returns-then-contains-clause-tried : goal.returns-then-contains-clause-tried
+returns-then-contains-clause-tried g c = Asked_itself (g.F.Flash.device c.args.flash.now)
+
+pub returns-then-contains-clause-untouched : goal.returns-then-contains-clause-untouched
+returns-then-contains-clause-untouched g c = λ p good. refl
+
+pub returns-then-saved-place-clause-only_anchors : goal.returns-then-saved-place-clause-only_anchors
+returns-then-saved-place-clause-only_anchors g c = OnlyAnchors_itself (g.F.Flash.device c.args.flash.now) c.args.bad.now
+
+pub returns-then-saved-place-clause-tried : goal.returns-then-saved-place-clause-tried
+returns-then-saved-place-clause-tried g c = Asked_itself (g.F.Flash.device c.args.flash.now)
+
+pub returns-then-saved-place-clause-untouched : goal.returns-then-saved-place-clause-untouched
+returns-then-saved-place-clause-untouched g c = λ p good. refl

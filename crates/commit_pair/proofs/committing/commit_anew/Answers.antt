@@ -1,4 +1,7 @@
 use Rattle.commit_pair.proofs.Attempting.{placed_there}
+use Rattle.commit_pair.proofs.Anchoring.{OnlyAnchors_itself}
+use Rattle.commit_pair.proofs.Asking.{Asked_itself}
+use Rattle.std.proofs.Common.{refl}
 use Rattle.commit_pair.proofs.committing.commit_anew.Goals as goal
 
 pub returns-clause-attempts : goal.returns-clause-attempts
@@ -33,3 +36,12 @@ returns-clause-refused g c = c.attempt_anew.ensures.attempted.refused
 
 pub returns-clause-asked : goal.returns-clause-asked
 returns-clause-asked g c = c.attempt_anew.ensures.attempted.asked
+
+pub returns-then-contains-clause-only_anchors : goal.returns-then-contains-clause-only_anchors
+returns-then-contains-clause-only_anchors g c = OnlyAnchors_itself (g.F.Flash.device c.args.flash.now) c.args.bad.now
+
+pub returns-then-contains-clause-tried : goal.returns-then-contains-clause-tried
+returns-then-contains-clause-tried g c = Asked_itself (g.F.Flash.device c.args.flash.now)
+
+pub returns-then-contains-clause-untouched : goal.returns-then-contains-clause-untouched
+returns-then-contains-clause-untouched g c = λ p good. refl

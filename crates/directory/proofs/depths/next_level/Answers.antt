@@ -37,3 +37,9 @@ returns-in_err-add_named-clause-reads g c list among =
 pub returns-clause-reads : goal.returns-clause-reads
 returns-clause-reads g c list among =
     omega (arith, count_few (set.contains c.args.level.now.members) list c.loop-block.block among, c.loop-block.invariant.reads)
+
+pub returns-in_err-add_named-clause-looks : goal.returns-in_err-add_named-clause-looks
+returns-in_err-add_named-clause-looks g c = g.met.N.Nodes.looks_on c.args.nodes.now c.loop-block.nodes c.add_named.new.nodes c.loop-block.invariant.looks c.add_named.ensures.looks
+
+pub returns-clause-looks : goal.returns-clause-looks
+returns-clause-looks g c = c.loop-block.invariant.looks

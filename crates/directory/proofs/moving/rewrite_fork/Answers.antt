@@ -186,3 +186,27 @@ pub returns-clause-works : goal.returns-clause-works
 returns-clause-works g c =
     let before = g.met.N.Nodes.works_on c.args.nodes.now c.rewrite_branch.new.nodes c.rewrite_branch-2.new.nodes c.rewrite_branch.ensures.works c.rewrite_branch-2.ensures.works in
     g.met.N.Nodes.works_on c.args.nodes.now c.rewrite_branch-2.new.nodes c.edit_directory_twice.new.nodes before c.edit_directory_twice.ensures.works
+
+pub returns-in_err-gone-clause-works : goal.returns-in_err-gone-clause-works
+returns-in_err-gone-clause-works g c = c.rewrite_branch.ensures.works
+
+pub returns-in_err-gone-clause-why : goal.returns-in_err-gone-clause-why
+returns-in_err-gone-clause-why g c = 
+    let p = err_from_is_err_and c.from_residual.result c.from_residual.ensures.1 in
+    rw (p.1, p.2) c.in_err-gone.ensures.why
+
+pub returns-in_err-gone-clause-faults : goal.returns-in_err-gone-clause-faults
+returns-in_err-gone-clause-faults g c = 
+    let p = err_from_is_err_and c.from_residual.result c.from_residual.ensures.1 in
+    rw (p.1, p.2) c.in_err-gone.ensures.faults
+
+pub returns-in_err-here-clause-faults : goal.returns-in_err-here-clause-faults
+returns-in_err-here-clause-faults g c = 
+    let p = err_from_is_err_and c.from_residual-in_err-here.result c.from_residual-in_err-here.ensures.1 in
+    rw (p.1, p.2) c.in_err-here.ensures.faults
+
+pub returns-in_err-here-clause-works : goal.returns-in_err-here-clause-works
+returns-in_err-here-clause-works g c = g.met.N.Nodes.works_on c.args.nodes.now c.rewrite_branch.new.nodes c.rewrite_branch-2.new.nodes c.rewrite_branch.ensures.works c.rewrite_branch-2.ensures.works
+
+pub returns-clause-faults : goal.returns-clause-faults
+returns-clause-faults g c = c.edit_directory_twice.ensures.faults

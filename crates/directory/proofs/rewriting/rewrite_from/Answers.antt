@@ -85,3 +85,24 @@ loop-i-preserved g c =
       reads = omega arith;
       works = g.met.N.Nodes.works_on old mid new c.loop-i.invariant.works c.edit_directory-in-loop-i.ensures.works;
     }
+
+pub returns-in_err-to-clause-works : goal.returns-in_err-to-clause-works
+returns-in_err-to-clause-works g c = c.edit_directory.ensures.works
+
+pub returns-in_err-to-clause-why : goal.returns-in_err-to-clause-why
+returns-in_err-to-clause-why g c = 
+    let p = err_from_is_err_and c.from_residual.result c.from_residual.ensures.1 in
+    rw (p.1, p.2) c.in_err-to.ensures.why
+
+pub returns-in_err-to-clause-faults : goal.returns-in_err-to-clause-faults
+returns-in_err-to-clause-faults g c = 
+    let p = err_from_is_err_and c.from_residual.result c.from_residual.ensures.1 in
+    rw (p.1, p.2) c.in_err-to.ensures.faults
+
+pub returns-in_err-to-2-clause-faults : goal.returns-in_err-to-2-clause-faults
+returns-in_err-to-2-clause-faults g c = 
+    let p = err_from_is_err_and c.from_residual-in_err-to-2.result c.from_residual-in_err-to-2.ensures.1 in
+    rw (p.1, p.2) c.in_err-to-2.ensures.faults
+
+pub returns-clause-works : goal.returns-clause-works
+returns-clause-works g c = c.loop-i.invariant.works

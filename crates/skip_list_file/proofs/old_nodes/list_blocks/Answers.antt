@@ -49,3 +49,6 @@ returns-in_err-block-clause-why g c =
     let p = err_from_is_err_and c.from_residual-in_err-block.result c.from_residual-in_err-block.ensures.1 in
     let why = g.met.N.Nodes.causes_on c.args.nodes.now c.loop-step.nodes c.pointer_at.new.nodes c.in_err-block.field-0.0 c.loop-step.invariant.looks.came c.in_err-block.ensures.why in
     rw (p.1, p.2) why
+
+pub returns-clause-looks : goal.returns-clause-looks
+returns-clause-looks g c = c.loop-step.invariant.looks

@@ -2,6 +2,7 @@ use Rattle.std.proofs.Common.{◌≡◌, ℕ, suc, ◌+◌, ◌-◌, ◌*◌, �
 use Rattle.std.proofs.lemmas.List.{length-set}
 use Rattle.block_trees.specs.Bodies.{Blocks, back, IsChain, IsLinked}
 use Rattle.skip_list_file.proofs.Marks.{linked_before, mark_chain, mark_linked, mark_next, none_farther, set_named, few_more}
+use Rattle.std.proofs.lemmas.Result.{err_from_is_err_and}
 use Rattle.skip_list_file.proofs.tables.start_table.Goals as goal
 
 pub returns-then-last-power-clause-table : goal.returns-then-last-power-clause-table
@@ -59,3 +60,22 @@ loop-slot-preserved g c =
           (omega arith) small (omega arith) now.reads (now.few digits small) c.step_back.ensures.reads c.step_back.ensures.unread;
       looks = g.met.N.Nodes.looks_on c.args.nodes.now c.loop-slot.nodes c.step_back.new.nodes now.looks done.looks;
     }
+
+pub returns-in_err-block-clause-looks : goal.returns-in_err-block-clause-looks
+returns-in_err-block-clause-looks g c = g.met.N.Nodes.looks_on c.args.nodes.now c.loop-slot.nodes c.step_back.new.nodes c.loop-slot.invariant.looks c.step_back.ensures.looks
+
+pub returns-in_err-block-clause-why : goal.returns-in_err-block-clause-why
+returns-in_err-block-clause-why g c = 
+    let p = err_from_is_err_and c.from_residual.result c.from_residual.ensures.1 in
+    rw (p.1, p.2) (g.met.N.Nodes.causes_on c.args.nodes.now c.loop-slot.nodes c.step_back.new.nodes c.in_err-block.field-0.0 c.loop-slot.invariant.looks.came c.in_err-block.ensures.why)
+
+pub returns-in_err-block-clause-faults : goal.returns-in_err-block-clause-faults
+returns-in_err-block-clause-faults g c = 
+    let p = err_from_is_err_and c.from_residual.result c.from_residual.ensures.1 in
+    rw (p.1, p.2) c.in_err-block.ensures.faults
+
+pub returns-then-last-power-clause-looks : goal.returns-then-last-power-clause-looks
+returns-then-last-power-clause-looks g c = c.loop-slot.invariant.looks
+
+pub returns-clause-looks : goal.returns-clause-looks
+returns-clause-looks g c = c.loop-slot.invariant.looks

@@ -62,3 +62,11 @@ returns-in_err-old-clause-why g c =
     let before = g.met.N.Nodes.follows_on c.args.nodes.now c.find_front.new.nodes c.start_table.new.nodes c.find_front.ensures.looks.came c.start_table.ensures.looks.came in
     let why = g.met.N.Nodes.causes_on c.args.nodes.now c.start_table.new.nodes c.list_blocks.new.nodes c.in_err-old.field-0.0 before c.in_err-old.ensures.why in
     rw (p.1, p.2) why
+
+pub returns-in_err-head-clause-looks : goal.returns-in_err-head-clause-looks
+returns-in_err-head-clause-looks g c = c.find_front.ensures.looks
+
+pub returns-in_err-head-clause-why : goal.returns-in_err-head-clause-why
+returns-in_err-head-clause-why g c = 
+    let p = err_from_is_err_and c.from_residual.result c.from_residual.ensures.1 in
+    rw (p.1, p.2) c.in_err-head.ensures.why

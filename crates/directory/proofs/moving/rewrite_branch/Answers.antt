@@ -14,12 +14,12 @@ pub returns-in_err-next-clause-works : goal.returns-in_err-next-clause-works
 returns-in_err-next-clause-works g c = c.rewrite_from.ensures.works
 
 pub returns-in_err-next-clause-why : goal.returns-in_err-next-clause-why
-returns-in_err-next-clause-why g c = 
+returns-in_err-next-clause-why g c =
     let p = err_from_is_err_and c.from_residual.result c.from_residual.ensures.1 in
     rw (p.1, p.2) c.in_err-next.ensures.why
 
 pub returns-in_err-next-clause-faults : goal.returns-in_err-next-clause-faults
-returns-in_err-next-clause-faults g c = 
+returns-in_err-next-clause-faults g c =
     let p = err_from_is_err_and c.from_residual.result c.from_residual.ensures.1 in
     rw (p.1, p.2) c.in_err-next.ensures.faults
 

@@ -191,17 +191,17 @@ pub returns-in_err-gone-clause-works : goal.returns-in_err-gone-clause-works
 returns-in_err-gone-clause-works g c = c.rewrite_branch.ensures.works
 
 pub returns-in_err-gone-clause-why : goal.returns-in_err-gone-clause-why
-returns-in_err-gone-clause-why g c = 
+returns-in_err-gone-clause-why g c =
     let p = err_from_is_err_and c.from_residual.result c.from_residual.ensures.1 in
     rw (p.1, p.2) c.in_err-gone.ensures.why
 
 pub returns-in_err-gone-clause-faults : goal.returns-in_err-gone-clause-faults
-returns-in_err-gone-clause-faults g c = 
+returns-in_err-gone-clause-faults g c =
     let p = err_from_is_err_and c.from_residual.result c.from_residual.ensures.1 in
     rw (p.1, p.2) c.in_err-gone.ensures.faults
 
 pub returns-in_err-here-clause-faults : goal.returns-in_err-here-clause-faults
-returns-in_err-here-clause-faults g c = 
+returns-in_err-here-clause-faults g c =
     let p = err_from_is_err_and c.from_residual-in_err-here.result c.from_residual-in_err-here.ensures.1 in
     rw (p.1, p.2) c.in_err-here.ensures.faults
 

@@ -90,17 +90,17 @@ pub returns-in_err-to-clause-works : goal.returns-in_err-to-clause-works
 returns-in_err-to-clause-works g c = c.edit_directory.ensures.works
 
 pub returns-in_err-to-clause-why : goal.returns-in_err-to-clause-why
-returns-in_err-to-clause-why g c = 
+returns-in_err-to-clause-why g c =
     let p = err_from_is_err_and c.from_residual.result c.from_residual.ensures.1 in
     rw (p.1, p.2) c.in_err-to.ensures.why
 
 pub returns-in_err-to-clause-faults : goal.returns-in_err-to-clause-faults
-returns-in_err-to-clause-faults g c = 
+returns-in_err-to-clause-faults g c =
     let p = err_from_is_err_and c.from_residual.result c.from_residual.ensures.1 in
     rw (p.1, p.2) c.in_err-to.ensures.faults
 
 pub returns-in_err-to-2-clause-faults : goal.returns-in_err-to-2-clause-faults
-returns-in_err-to-2-clause-faults g c = 
+returns-in_err-to-2-clause-faults g c =
     let p = err_from_is_err_and c.from_residual-in_err-to-2.result c.from_residual-in_err-to-2.ensures.1 in
     rw (p.1, p.2) c.in_err-to-2.ensures.faults
 

@@ -76,16 +76,16 @@ pub returns-in_err-block-clause-looks : goal.returns-in_err-block-clause-looks
 returns-in_err-block-clause-looks g c = c.find_listed.ensures.looks
 
 pub returns-in_err-block-clause-why : goal.returns-in_err-block-clause-why
-returns-in_err-block-clause-why g c = 
+returns-in_err-block-clause-why g c =
     let p = err_from_is_err_and c.from_residual.result c.from_residual.ensures.1 in
     rw (p.1, p.2) c.in_err-block.ensures.why
 
 pub returns-in_err-block-clause-faults : goal.returns-in_err-block-clause-faults
-returns-in_err-block-clause-faults g c = 
+returns-in_err-block-clause-faults g c =
     let p = err_from_is_err_and c.from_residual.result c.from_residual.ensures.1 in
     rw (p.1, p.2) c.in_err-block.ensures.faults
 
 pub returns-in_err-copy_data-clause-faults : goal.returns-in_err-copy_data-clause-faults
-returns-in_err-copy_data-clause-faults g c = 
+returns-in_err-copy_data-clause-faults g c =
     let p = err_from_is_err_and c.from_residual-in_err-copy_data.result c.from_residual-in_err-copy_data.ensures.1 in
     rw (p.1, p.2) c.in_err-copy_data.ensures.faults

@@ -69,16 +69,16 @@ pub returns-in_err-block-clause-looks : goal.returns-in_err-block-clause-looks
 returns-in_err-block-clause-looks g c = c.find.ensures.looks
 
 pub returns-in_err-block-clause-why : goal.returns-in_err-block-clause-why
-returns-in_err-block-clause-why g c = 
+returns-in_err-block-clause-why g c =
     let p = err_from_is_err_and c.from_residual-in_err-block.result c.from_residual-in_err-block.ensures.1 in
     rw (p.1, p.2) c.in_err-block.ensures.why
 
 pub returns-in_err-block-clause-faults : goal.returns-in_err-block-clause-faults
-returns-in_err-block-clause-faults g c = 
+returns-in_err-block-clause-faults g c =
     let p = err_from_is_err_and c.from_residual-in_err-block.result c.from_residual-in_err-block.ensures.1 in
     rw (p.1, p.2) c.in_err-block.ensures.faults
 
 pub returns-in_err-fill-clause-faults : goal.returns-in_err-fill-clause-faults
-returns-in_err-fill-clause-faults g c = 
+returns-in_err-fill-clause-faults g c =
     let p = err_from_is_err_and c.from_residual-in_err-fill.result c.from_residual-in_err-fill.ensures.1 in
     rw (p.1, p.2) c.in_err-fill.ensures.faults

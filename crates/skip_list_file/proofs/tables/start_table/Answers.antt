@@ -65,12 +65,12 @@ pub returns-in_err-block-clause-looks : goal.returns-in_err-block-clause-looks
 returns-in_err-block-clause-looks g c = g.met.N.Nodes.looks_on c.args.nodes.now c.loop-slot.nodes c.step_back.new.nodes c.loop-slot.invariant.looks c.step_back.ensures.looks
 
 pub returns-in_err-block-clause-why : goal.returns-in_err-block-clause-why
-returns-in_err-block-clause-why g c = 
+returns-in_err-block-clause-why g c =
     let p = err_from_is_err_and c.from_residual.result c.from_residual.ensures.1 in
     rw (p.1, p.2) (g.met.N.Nodes.causes_on c.args.nodes.now c.loop-slot.nodes c.step_back.new.nodes c.in_err-block.field-0.0 c.loop-slot.invariant.looks.came c.in_err-block.ensures.why)
 
 pub returns-in_err-block-clause-faults : goal.returns-in_err-block-clause-faults
-returns-in_err-block-clause-faults g c = 
+returns-in_err-block-clause-faults g c =
     let p = err_from_is_err_and c.from_residual.result c.from_residual.ensures.1 in
     rw (p.1, p.2) c.in_err-block.ensures.faults
 

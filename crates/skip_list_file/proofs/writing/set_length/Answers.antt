@@ -17,6 +17,6 @@ pub returns-clause-works : goal.returns-clause-works
 returns-clause-works g c = g.met.N.Nodes.looks_works c.args.nodes.now c.find_front.new.nodes c.find_front.ensures.looks
 
 pub returns-in_err-head-clause-why : goal.returns-in_err-head-clause-why
-returns-in_err-head-clause-why g c = 
+returns-in_err-head-clause-why g c =
     let p = err_from_is_err_and c.from_residual.result c.from_residual.ensures.1 in
     rw (p.1, p.2) c.in_err-head.ensures.why

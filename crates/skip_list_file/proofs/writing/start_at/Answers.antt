@@ -67,6 +67,6 @@ pub returns-in_err-head-clause-looks : goal.returns-in_err-head-clause-looks
 returns-in_err-head-clause-looks g c = c.find_front.ensures.looks
 
 pub returns-in_err-head-clause-why : goal.returns-in_err-head-clause-why
-returns-in_err-head-clause-why g c = 
+returns-in_err-head-clause-why g c =
     let p = err_from_is_err_and c.from_residual.result c.from_residual.ensures.1 in
     rw (p.1, p.2) c.in_err-head.ensures.why

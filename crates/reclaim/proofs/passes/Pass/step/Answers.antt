@@ -25,7 +25,7 @@ pub returns-in_err-read_next-clause-looks : goal.returns-in_err-read_next-clause
 returns-in_err-read_next-clause-looks g c = g.met.N.Nodes.looks_on c.args.nodes.now c.loop-done.nodes c.read_next.new.nodes c.loop-done.invariant.looks c.read_next.ensures.looks
 
 pub returns-in_err-read_next-clause-why : goal.returns-in_err-read_next-clause-why
-returns-in_err-read_next-clause-why g c = 
+returns-in_err-read_next-clause-why g c =
     let p = err_from_is_err_and c.from_residual.result c.from_residual.ensures.1 in
     rw (p.1, p.2) (λ other. g.met.N.Nodes.causes_on c.args.nodes.now c.loop-done.nodes c.read_next.new.nodes c.in_err-read_next.field-0.0 c.loop-done.invariant.looks.came (c.in_err-read_next.ensures.why other))
 

@@ -1,7 +1,7 @@
 -- Which powers of 2 divide an index.
 use Rattle.std.proofs.Common.{◌≡◌, ℕ, ◌+◌, ◌-◌, ◌*◌, ◌/◌, ◌%◌, ◌^◌, ◌<◌, ◌≤◌, ◌⊎◌, inl, inr, Option, Some, List, ap, ◌∙◌, arith}
 use Rattle.std.proofs.lemmas.Bool.{cases_lt}
-use Rattle.std.proofs.lemmas.Nat.{pow_pos, pow_below, pow-add, mod-mul-add, div-add-mod'}
+use Rattle.std.proofs.lemmas.Nat.{pow_pos, pow-add, mod-mul-add, div-add-mod'}
 use Rattle.node_format.specs.BodyNodes.{HasSlot, Divides}
 use Rattle.block_trees.specs.Bodies.{index_of}
 

@@ -1,4 +1,4 @@
-use Rattle.std.proofs.Common.{◌≡◌, nat_lt, ◌&&◌, ◌||◌, ap, refl, ◌∙◌, rules, arith, ◌+◌}
+use Rattle.std.proofs.Common.{◌≡◌, nat_lt, ◌&&◌, ◌||◌, ap, refl, ◌∙◌, arith, ◌+◌}
 use Rattle.std.specs.FinSet as set
 use Rattle.block_trees.specs.Trees.{items_in}
 use Rattle.allocator.specs.BlockSet.{BlockSet}

@@ -1,8 +1,7 @@
-use Rattle.std.proofs.Common.{◌≡◌, ◌≤◌, ◌+◌, ℕ, Bool, true, false, List, Option, Some, Err, length, ap, sym, subst, ◌∙◌, arith}
+use Rattle.std.proofs.Common.{◌≡◌, ℕ, Bool, true, false, List, Option, Some, Err, ap, sym, subst, ◌∙◌}
 use Rattle.std.proofs.lemmas.Result.{err_from_is_err_and}
 use Rattle.fs_types.specs.declared.faults.Fault.{Fault}
 use Rattle.fs_types.specs.declared.faults.Fault.TheVariants.{Damaged}
-use Rattle.node_format.specs.Headers.{IsNode}
 use Rattle.block_trees.specs.Trees.{entries_of, items_of}
 use Rattle.block_trees.specs.Rewritten.{IsDirectoryEdit}
 use Rattle.node_format.specs.Edits.{IsEdited}

@@ -1,4 +1,4 @@
-use Rattle.std.proofs.Common.{◌≡◌, ◌-◌}
+use Rattle.std.proofs.Common.{◌-◌}
 use Rattle.node_store.specs.Frames.{OnlyLooks}
 use Rattle.node_format.specs.Headers.{body_header}
 use Rattle.skip_list_file.proofs.Chains.{IsOnWay, FewReads}

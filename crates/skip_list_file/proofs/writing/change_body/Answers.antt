@@ -1,4 +1,4 @@
-use Rattle.std.proofs.Common.{Bool, ◌≡◌, ℕ, ◌+◌, ◌-◌, ◌*◌, ◌/◌, ◌^◌, ◌<◌, ◌≤◌, min, length, sym, ap, subst, ◌∙◌, arith}
+use Rattle.std.proofs.Common.{Bool, ℕ, ◌+◌, ◌-◌, ◌*◌, ◌/◌, ◌≤◌, min, length, sym, ap, subst, ◌∙◌, arith}
 use Rattle.std.proofs.lemmas.Result.{err_from_is_err_and}
 use Rattle.block_trees.specs.Bodies.{Blocks, body, IsBody}
 use Rattle.block_trees.specs.Reached.{IsHeld}
@@ -7,7 +7,7 @@ use Rattle.plain_trees.specs.Contents.{nodes_from}
 use Rattle.skip_list_file.specs.Reading.{AreBlocks}
 use Rattle.skip_list_file.specs.Writing as spec
 use Rattle.skip_list_file.specs.Writing.{IsFront, IsTable, OnlyReaches}
-use Rattle.skip_list_file.proofs.Counted.{AreAll, few_all, few_both, few_begun_all}
+use Rattle.skip_list_file.proofs.Counted.{AreAll, few_both, few_begun_all}
 use Rattle.skip_list_file.proofs.Growth.{starts_before}
 use Rattle.skip_list_file.proofs.writing.change_body.Goals as goal
 

@@ -1,17 +1,16 @@
-use Rattle.std.proofs.Common.{Bool, ◌^◌, ◌≤◌, ◌≡◌, ℕ, ◌+◌, ◌-◌, ◌*◌, ◌/◌, ◌<◌, min, List, length, take, drop, refl, sym, ap, subst, ◌∙◌, arith}
+use Rattle.std.proofs.Common.{◌≤◌, ◌≡◌, ℕ, ◌+◌, ◌-◌, ◌*◌, ◌<◌, min, List, length, take, drop, refl, sym, ap, subst, ◌∙◌, arith}
 use Rattle.std.proofs.lemmas.Result.{err_from_is_err_and}
 use Rattle.std.proofs.Math.Nat.{div-mul-le_self, le_of_eq}
-use Rattle.block_trees.specs.Bodies.{Blocks, head_index, body, IsBody}
+use Rattle.block_trees.specs.Bodies.{head_index, body, IsBody}
 use Rattle.block_trees.specs.Reached.{Keeps, IsHeld}
 use Rattle.node_format.specs.declared.places.Place.TheVariants.{File}
-use Rattle.plain_trees.specs.Contents.{nodes_from}
 use Rattle.skip_list_file.specs.declared.bodies.Body.{Body}
 use Rattle.skip_list_file.specs.Reading.{AreBlocks}
 use Rattle.skip_list_file.specs.Writing as spec
 use Rattle.skip_list_file.specs.Writing.{IsTable}
 use Rattle.skip_list_file.proofs.Fronts.{body_length}
-use Rattle.skip_list_file.proofs.Counted.{AreFew, few_none, few_on, few_all, few_listed, written_count}
-use Rattle.skip_list_file.proofs.Growth.{IsBegun, body_stays, blocks_stay, begun_front, starts_before, starts_within, ends_past, turn, written_whole, written_reaches, first_within, first_own, own_first, all_ends}
+use Rattle.skip_list_file.proofs.Counted.{few_none, few_on, few_all, few_listed, written_count}
+use Rattle.skip_list_file.proofs.Growth.{IsBegun, body_stays, blocks_stay, begun_front, starts_before, starts_within, turn, written_whole, written_reaches, first_within, first_own, own_first, all_ends}
 use Rattle.skip_list_file.proofs.EditedBytes.{edited_length, edited_front}
 use Rattle.skip_list_file.proofs.writing.write_nodes.Goals as goal
 

@@ -3,7 +3,6 @@ use Rattle.std.proofs.Common.{◌≡◌, ◌≢◌, ◌↔◌, ℕ, zero, suc, �
 use Rattle.std.specs.Prelude.{IfOk, Contains, not, IsTrue, All, is_some, nat_eq, nat_lt, unwrap_or, map, slice_index}
 use Rattle.std.specs.Option.{option_map, option_map_or, option_eq}
 use Rattle.std.proofs.Math.Nat.{div-add-mod'}
-use Rattle.std.proofs.lemmas.Nat.{mul-le}
 use Rattle.std.proofs.lemmas.Bool.{true≢false, and_parts, and_from, ltb-true, lt-ltb, eqb-true, eq-eqb}
 use Rattle.std.proofs.lemmas.List.{length-map}
 use Rattle.std.proofs.lemmas.List.Elements.{All-nil, All-cons, All-head, All-tail, All-map, All-contains, All-contains_itself, All-weaker}

@@ -12,7 +12,7 @@ use Rattle.block_trees.specs.Bodies.{index_of, pointer_of}
 use Rattle.block_trees.specs.Trees.{items_of}
 use Rattle.block_trees.specs.Reached.{PlaceNames, BodyNames, Names}
 use Rattle.reclaim.specs.Naming.{place_names, item_names, has_slot, slots_named, body_named}
-use Rattle.node_format.specs.BodyNodes.{Divides, HasSlot}
+use Rattle.node_format.specs.BodyNodes.{Divides}
 use Rattle.node_format.specs.declared.headers.TheConstants.{SLOTS}
 
 -- ---- entries

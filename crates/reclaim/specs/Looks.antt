@@ -1,5 +1,5 @@
 -- What a look at a block brings.
-use Rattle.std.specs.Prelude.{◌≡◌, ℕ, suc, ◌+◌, ◌*◌, ◌<◌, ◌≤◌, Bool, true, false, IsTrue, Option, List, length, map, slice_index}
+use Rattle.std.specs.Prelude.{◌≡◌, ℕ, suc, ◌+◌, ◌*◌, ◌<◌, Bool, true, false, IsTrue, Option, List, length, map, slice_index}
 use Rattle.std.specs.Option.{option_map, option_map_or}
 use Rattle.fs_types.specs.declared.limits.TheConstants.{MAX_FILE_BYTES}
 use Rattle.fs_types.specs.declared.faults.Fault.{Fault}

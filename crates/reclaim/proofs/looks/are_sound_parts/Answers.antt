@@ -1,4 +1,4 @@
-use Rattle.std.proofs.Common.{◌≡◌, ◌↔◌, ℕ, List, Bool, Option, Some, subst, arith}
+use Rattle.std.proofs.Common.{◌↔◌, ℕ, List, Bool, Option, subst}
 use Rattle.std.specs.Prelude.{IsTrue, slice_index}
 use Rattle.reclaim.specs.Sound.{IsSoundNode}
 use Rattle.reclaim.specs.Looks.{ArePartsOf, IsSoundAt}

@@ -1,4 +1,4 @@
-use Rattle.std.proofs.Common.{◌≡◌, ◌≤◌, ◌+◌, take}
+use Rattle.std.proofs.Common.{◌≤◌, ◌+◌, take}
 use Rattle.std.specs.Prelude.{All}
 use Rattle.node_store.specs.Frames.{OnlyLooks}
 use Rattle.reclaim.specs.Sound.{IsSoundPlace}

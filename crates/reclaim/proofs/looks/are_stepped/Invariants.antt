@@ -1,4 +1,4 @@
-use Rattle.std.proofs.Common.{◌≡◌, ◌≤◌, ◌+◌}
+use Rattle.std.proofs.Common.{◌≤◌, ◌+◌}
 use Rattle.std.specs.Prelude.{slice_index}
 use Rattle.node_store.specs.Frames.{OnlyLooks}
 use Rattle.reclaim.specs.Looks.{AreSteppedTo}

@@ -1,6 +1,5 @@
-use Rattle.std.proofs.Common.{◌≡◌}
 use Rattle.std.specs.Prelude.{slice_index}
-use Rattle.reclaim.proofs.Looking.{at_long, at_short}
+use Rattle.reclaim.proofs.Looking.{at_long}
 use Rattle.reclaim.proofs.looks.is_sound_at.Goals as goal
 
 pub returns-then-not-is_short-clause-exact : goal.returns-then-not-is_short-clause-exact

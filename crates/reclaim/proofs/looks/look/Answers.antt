@@ -1,12 +1,10 @@
-use Rattle.std.proofs.Common.{◌≡◌, ◌≤◌, ◌+◌, ◌↔◌, ℕ, List, Option, Some, length, ap, sym, subst, ◌∙◌, arith}
+use Rattle.std.proofs.Common.{◌≡◌, ◌↔◌, ℕ, List, Some, length, ap, sym, subst, ◌∙◌, arith}
 use Rattle.std.specs.Prelude.{IsTrue}
 use Rattle.std.proofs.lemmas.Result.{err_from_is_err_and}
 use Rattle.block_trees.specs.Bodies.{Blocks}
 use Rattle.reclaim.specs.Sound.{IsSoundNode}
-use Rattle.reclaim.specs.Looks.{ArePartsOf}
 use Rattle.reclaim.proofs.Looking.{parts_again}
 use Rattle.reclaim.proofs.looks.look.Goals as goal
-use Rattle.fs_types.specs.declared.limits.TheConstants.{MAX_FILE_BYTES}
 
 pub are_sound_parts-requires-clause-count : goal.are_sound_parts-requires-clause-count
 are_sound_parts-requires-clause-count g c = ap length c.deref-2.ensures.value ∙ c.in_ok-parts.ensures.count

@@ -1,4 +1,4 @@
-use Rattle.std.proofs.Common.{◌↔◌, subst, rules, arith}
+use Rattle.std.proofs.Common.{◌↔◌, subst, arith}
 use Rattle.std.specs.Prelude.{IsTrue, slice_index}
 use Rattle.block_trees.specs.Bodies.{Blocks}
 use Rattle.reclaim.specs.Sound.{IsSoundNode}

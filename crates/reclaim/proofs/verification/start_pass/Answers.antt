@@ -1,15 +1,10 @@
-use Rattle.std.proofs.Common.{◌+◌, length, ◌≡◌, ◌≢◌, ◌↔◌, ◌≤◌, ℕ, List, Err, None, ap, sym, subst, ◌∙◌}
-use Rattle.std.specs.Prelude.{IsTrue, All, Contains}
+use Rattle.std.proofs.Common.{◌+◌, length, ◌≡◌, ◌↔◌, ◌≤◌, ℕ, List, sym, subst, ◌∙◌}
+use Rattle.std.specs.Prelude.{Contains}
 use Rattle.std.proofs.lemmas.Result.{err_from_is_err_and}
 use Rattle.fs_types.specs.declared.faults.Fault.TheVariants.{Damaged}
-use Rattle.fs_types.specs.declared.faults.Fault.{Fault}
-use Rattle.block_trees.specs.Bodies.{Blocks}
-use Rattle.block_trees.specs.Reached.{Reached}
-use Rattle.reclaim.specs.Sound.{IsDirectoryAt}
 use Rattle.reclaim.proofs.Costs.{root_reads, none_read}
-use Rattle.reclaim.specs.Verified.{AreRoots}
 use Rattle.reclaim.proofs.Looking.{never, look_read, look_other}
-use Rattle.reclaim.proofs.Verifying.{roots_are_data, roots_directories, directories_roots, none_reached, marked_exact}
+use Rattle.reclaim.proofs.Verifying.{roots_are_data, roots_directories, directories_roots}
 use Rattle.reclaim.proofs.verification.start_pass.Goals as goal
 
 pub returns-then-not-are_data_blocks-clause-damaged : goal.returns-then-not-are_data_blocks-clause-damaged

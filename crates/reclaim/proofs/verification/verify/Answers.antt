@@ -1,5 +1,5 @@
-use Rattle.std.proofs.Common.{refl, ◌≡◌, ◌≢◌, ◌↔◌, ◌≤◌, ℕ, List, Err, None, ap, sym, subst, ◌∙◌}
-use Rattle.std.specs.Prelude.{IsTrue, All, Contains}
+use Rattle.std.proofs.Common.{refl, ◌≡◌, ◌≢◌, ◌↔◌, ℕ, Err, None, ap, sym, subst, ◌∙◌}
+use Rattle.std.specs.Prelude.{IsTrue, All}
 use Rattle.std.proofs.lemmas.Result.{err_from_is_err_and}
 use Rattle.fs_types.specs.declared.faults.Fault.TheVariants.{Damaged}
 use Rattle.fs_types.specs.declared.faults.Fault.{Fault}
@@ -9,7 +9,7 @@ use Rattle.reclaim.specs.Sound.{IsDirectoryAt}
 use Rattle.reclaim.proofs.Costs.{pass_reads, tree_reads}
 use Rattle.reclaim.specs.Verified.{AreRoots}
 use Rattle.reclaim.proofs.Looking.{never, look_read, look_other}
-use Rattle.reclaim.proofs.Verifying.{roots_are_data, roots_directories, directories_roots, none_reached, marked_exact}
+use Rattle.reclaim.proofs.Verifying.{none_reached, marked_exact}
 use Rattle.reclaim.specs.Passes.{IsPass}
 use Rattle.reclaim.proofs.verification.verify.Goals as goal
 

@@ -1,7 +1,7 @@
-use Rattle.std.proofs.Common.{◌+◌, ◌∙◌}
+use Rattle.std.proofs.Common.{◌+◌, ◌∙◌, refl}
 use Rattle.std.proofs.lemmas.Result.{err_from_is_err_and}
 use Rattle.commit_pair.specs.Parts.{greatest_on}
-use Rattle.commit_pair.proofs.Anchoring.{OnlyAnchors_on}
+use Rattle.commit_pair.proofs.Anchoring.{OnlyAnchors_on, OnlyAnchors_itself}
 use Rattle.commit_pair.proofs.Asking.{placed_after}
 use Rattle.commit_pair.proofs.Beginning.{above_all, reads_only_anchors, reads_untouched, reads_may_commit, reads_keep, reads_commit}
 use Rattle.commit_pair.proofs.Following.{Commits_on, refused_on}
@@ -85,3 +85,12 @@ returns-clause-known g c = c.commit_as.ensures.known
 
 pub returns-clause-same : goal.returns-clause-same
 returns-clause-same g c = c.commit_as.ensures.same
+
+pub returns-then-is_read_only-clause-only_anchors : goal.returns-then-is_read_only-clause-only_anchors
+returns-then-is_read_only-clause-only_anchors g c = OnlyAnchors_itself (g.F.Flash.device c.args.flash.now) c.args.bad.now
+
+pub returns-in_err-page-clause-only_anchors : goal.returns-in_err-page-clause-only_anchors
+returns-in_err-page-clause-only_anchors g c = OnlyAnchors_itself (g.F.Flash.device c.args.flash.now) c.args.bad.now
+
+pub returns-then-is_read_only-clause-untouched : goal.returns-then-is_read_only-clause-untouched
+returns-then-is_read_only-clause-untouched g c = λ other p good. refl

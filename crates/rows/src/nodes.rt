@@ -18,10 +18,22 @@ pub fn run_with_nodes(alloc: Global, row: &Row<'_>, nodes: usize) -> Result<Stri
     let mut flash = SimFlash::new(alloc, row.geometry, &row.plan)?;
     format(alloc, &mut flash, row.history)?;
     let mut system = Some(mount_with(alloc, &mut flash, nodes)?);
+    run_lines(alloc, row, &mut flash, &mut system, nodes)
+}
+
+fn run_lines(
+    alloc: Global,
+    row: &Row<'_>,
+    flash: &mut SimFlash,
+    system: &mut Option<System>,
+    nodes: usize,
+) -> Result<String, RowError>
+    requires { IfSome system.old (IsSystem (device_of flash.old)) }
+{
     let mut written = Vec::new(alloc);
     for step in &row.steps {
         let line = read_line(alloc, step.line.as_bytes())?;
-        let answer = carry_out_with(alloc, &mut flash, &mut system, nodes, line);
+        let answer = carry_out_with(alloc, flash, system, nodes, line);
         print_answer(&mut written, &answer)?;
     }
     text_of(written)

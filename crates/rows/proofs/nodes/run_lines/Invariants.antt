@@ -1,7 +1,7 @@
 use Rattle.std.specs.Prelude.{IfSome}
 use Rattle.flash_model.specs.Simulation.{device_of}
 use Rattle.upkeep.specs.Systems.{IsSystem}
-use Rattle.rows.proofs.nodes.run_with_nodes.Given as goal
+use Rattle.rows.proofs.nodes.run_lines.Given as goal
 
 -- a system that is mounted stands on the flash
 abbrev pub invariant-loop-step : goal.invariant-loop-step

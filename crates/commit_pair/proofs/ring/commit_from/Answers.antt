@@ -84,11 +84,11 @@ returns-in_err-tried-clause-commits g c =
     rw (p.1, p.2, c.in_err-tried.ensures.why.0) (cut_attempt (g.F.Flash.device c.args.flash.now).pages (g.F.Flash.device c.commit_after.new.flash).pages c.args.saved.now c.args.sequence c.commit_after.new.bad c.in_err-tried.field-0.0 c.in_err-tried.ensures.attempts)
 
 pub returns-in_err-tried-clause-why : goal.returns-in_err-tried-clause-why
-returns-in_err-tried-clause-why g c = 
+returns-in_err-tried-clause-why g c =
     let p = err_from_is_err_and c.from_residual.result c.from_residual.ensures.1 in
     rw (p.1, p.2, c.in_err-tried.ensures.why.0) c.in_err-tried.ensures.why.1
 
 pub returns-in_err-tried-clause-untouched : goal.returns-in_err-tried-clause-untouched
-returns-in_err-tried-clause-untouched g c = 
+returns-in_err-tried-clause-untouched g c =
     let p = err_from_is_err_and c.from_residual.result c.from_residual.ensures.1 in
     rw (p.1, p.2) (λ other. absurd (other c.in_err-tried.ensures.why.0))

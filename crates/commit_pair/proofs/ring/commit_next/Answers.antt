@@ -112,11 +112,11 @@ pub returns-in-Some-clause-stands : goal.returns-in-Some-clause-stands
 returns-in-Some-clause-stands g c = (rw c.in-Some.is at c.in_ok-tried.ensures.attempts).1
 
 pub returns-in_err-tried-clause-why : goal.returns-in_err-tried-clause-why
-returns-in_err-tried-clause-why g c = 
+returns-in_err-tried-clause-why g c =
     let p = err_from_is_err_and c.from_residual.result c.from_residual.ensures.1 in
     rw (p.1, p.2, c.in_err-tried.ensures.why.0) c.in_err-tried.ensures.why.1
 
 pub returns-in_err-tried-clause-untouched : goal.returns-in_err-tried-clause-untouched
-returns-in_err-tried-clause-untouched g c = 
+returns-in_err-tried-clause-untouched g c =
     let p = err_from_is_err_and c.from_residual.result c.from_residual.ensures.1 in
     rw (p.1, p.2) (λ other. absurd (other c.in_err-tried.ensures.why.0))

@@ -6,6 +6,8 @@ mod contents;
 #[cfg(test)]
 mod mounts;
 #[cfg(test)]
+mod nodes;
+#[cfg(test)]
 mod reclaiming;
 #[cfg(test)]
 mod records;

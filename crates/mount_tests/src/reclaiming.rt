@@ -2,7 +2,7 @@
 ghost use Rattle.flash_model.specs.Simulation.{device_of};
 ghost use Rattle.upkeep.specs.Systems.{IsSystem};
 
-use crate::mounts::{formatted, told};
+use crate::mounts::formatted;
 use flash_model::{Geometry, SimFlash};
 use fs_types::{Call, Fault, Path};
 use std::alloc::{AllocError, Global};
@@ -141,35 +141,6 @@ fn one_block_is_read_of_a_new_system(rt: HostRuntime) -> Result<(), Fail> {
     let mut flash = formatted(rt.alloc(), SIZES, 8)?;
     for (budget, is_done) in [(0, false), (1, true), (u64::MAX, true)] {
         assert_eq!(rt; step_all(rt.alloc(), &mut flash, budget), Ok(is_done));
-    }
-    Ok(())
-}
-
-/// Scripts on a formatted flash whose marking is given up, each with its replies. Nine blocks are
-/// reached by five versions, whose roots are marked first; the directory of the first `mkdir`, which
-/// comes then, is the one that is not in memory. The step of 7 after the refused one would end the
-/// marking that was begun, and so would that of 2 after the restart.
-const GIVEN_UP: [(&str, &str); 3] = [
-    (
-        "mkdir /a\nmkdir /b\nmkdir /c\nmkdir /d\nreclaim 5\nfault 1 read-fail\nreclaim 1\nreclaim 7\nreclaim 2\n",
-        "ok\nok\nok\nok\nmore\nok\nerr EIO 23\nmore\ndone\n",
-    ),
-    (
-        "mkdir /a\nsync\nreclaim 2\nrestart\nreclaim 2\n",
-        "ok\nok\nmore\nmounted\nmore\n",
-    ),
-    (
-        "mkdir /a\nmkdir /b\nmkdir /c\nmkdir /d\nreclaim 0\nfault 1 read-cut\nreclaim 6\nreclaim 1\nrestart\nreclaim 1\n",
-        "ok\nok\nok\nok\nmore\nok\nerr POWERCUT 24\nerr POWERCUT 24\nmounted\ndone\n",
-    ),
-];
-
-#[test]
-fn a_marking_is_given_up(rt: HostRuntime) -> Result<(), Fail> {
-    for (script, wanted) in GIVEN_UP {
-        let mut flash = formatted(rt.alloc(), SIZES, 8)?;
-        let replies = told(rt.alloc(), &mut flash, script.as_bytes())?;
-        assert_eq!(rt; replies.as_str(), wanted, "{script}");
     }
     Ok(())
 }

@@ -166,136 +166,97 @@ fn want_of_memory_leaves_the_replies_before(rt: HostRuntime) -> Result<(), Fail>
     Ok(())
 }
 
-/// Whether the page of a number begins with these bytes, with zeros after them.
-fn is_filled(flash: &SimFlash, number: u32, wanted: &[u8]) -> bool {
+/// What a page holds: it begins with these bytes, with zeros after them, or cannot be read.
+type Page = (u32, Option<&'static [u8]>);
+
+/// A body node of index 0 with the bytes `hi`.
+const NODE: &[u8] =
+    b"UFNB\0\0\0\0\x02\0\0\0\0\0\0\0\0\0\0\0\0\0\0\0\0\0\0\0\0\0\0\0\0\0\0\0\0\0\0\0\0\0\0\0\0\0\0\0\0\0\0\0\0\0\0\0\0\0\0\0\0\0\0\0\0\0\0\0\0\0\0\0\0\0\0\0\0\0\0\0hi";
+
+/// Scripts on a formatted flash, each with its replies and three pages that it leaves: a directory and a
+/// file are written before their root, and a block that fails is left.
+const WRITTEN: [(&str, &str, [Page; 3]); 4] = [
+    (
+        "mkdir /a\n",
+        "ok\n",
+        [
+            (128, Some(b"UFND")),
+            (144, Some(b"UFND")),
+            (
+                160,
+                Some(b"UFND\x01\0\0\0\x0b\0\0\0\0\0\0\0\x02\x01a\x09\0\0\0\0\0\0\0"),
+            ),
+        ],
+    ),
+    (
+        "open /f 7\npwrite 0 0 6869\n",
+        "fd 0\nwrote 2\n",
+        [
+            (144, Some(b"UFND\x01\0\0\0\x0b\0\0\0\0\0\0\0\x01\x01f")),
+            (160, Some(NODE)),
+            (
+                176,
+                Some(b"UFND\x01\0\0\0\x0b\0\0\0\0\0\0\0\x01\x01f\x0a\0\0\0\x02\0\0\0"),
+            ),
+        ],
+    ),
+    (
+        "fault 1 program-fail\nmkdir /a\n",
+        "ok\nok\n",
+        [
+            (144, None),
+            (160, Some(b"UFND")),
+            (
+                176,
+                Some(b"UFND\x01\0\0\0\x0b\0\0\0\0\0\0\0\x02\x01a\x0a\0\0\0\0\0\0\0"),
+            ),
+        ],
+    ),
+    (
+        "fault 1 erase-fail\nmkdir /a\n",
+        "ok\nok\n",
+        [
+            (144, None),
+            (160, Some(b"UFND")),
+            (
+                176,
+                Some(b"UFND\x01\0\0\0\x0b\0\0\0\0\0\0\0\x02\x01a\x0a\0\0\0\0\0\0\0"),
+            ),
+        ],
+    ),
+];
+
+/// Whether a page holds what is wanted.
+fn holds(flash: &SimFlash, number: u32, wanted: Option<&[u8]>) -> bool {
     if number as usize >= flash.geometry().page_count() {
         return false;
     }
-    match flash.page(number) {
-        PageView::Data(bytes) => {
+    match (flash.page(number), wanted) {
+        (PageView::Data(bytes), Some(wanted)) => {
             bytes.starts_with(wanted) && bytes.iter().skip(wanted.len()).all(|b| *b == 0)
         }
+        (PageView::Unreadable, None) => true,
         _ => false,
     }
 }
 
-/// Whether the page of a number is unreadable.
-fn is_unreadable(flash: &SimFlash, number: u32) -> bool {
-    if number as usize >= flash.geometry().page_count() {
-        return false;
-    }
-    matches!(flash.page(number), PageView::Unreadable)
-}
-
-#[test]
-fn a_directory_is_written_before_its_root(rt: HostRuntime) -> Result<(), Fail> {
-    let mut flash = formatted(rt.alloc(), SIZES, 8)?;
-    let mut script: &[u8] = b"mkdir /a\n";
-    let mut out: Vec<u8> = Vec::new(rt.alloc());
-    run_script(rt.alloc(), &mut script, &mut out, &mut flash)?;
-    assert!(rt; is_filled(&flash, 128, b"UFND"));
-    assert!(rt; is_filled(&flash, 144, b"UFND"));
-    let root = b"UFND\x01\0\0\0\x0b\0\0\0\0\0\0\0\x02\x01a\x09\0\0\0\0\0\0\0";
-    assert!(rt; is_filled(&flash, 160, root));
-    Ok(())
-}
-
-#[test]
-fn a_file_is_written_before_its_root(rt: HostRuntime) -> Result<(), Fail> {
-    let mut flash = formatted(rt.alloc(), SIZES, 8)?;
-    let mut script: &[u8] = b"open /f 7\npwrite 0 0 6869\n";
-    let mut out: Vec<u8> = Vec::new(rt.alloc());
-    run_script(rt.alloc(), &mut script, &mut out, &mut flash)?;
-    let empty = b"UFND\x01\0\0\0\x0b\0\0\0\0\0\0\0\x01\x01f";
-    assert!(rt; is_filled(&flash, 144, empty));
-    let mut node = [0; 82];
-    for (place, byte) in node.iter_mut().zip(b"UFNB\0\0\0\0\x02") {
-        *place = *byte;
-    }
-    node[80] = b'h';
-    node[81] = b'i';
-    assert!(rt; is_filled(&flash, 160, &node));
-    let root = b"UFND\x01\0\0\0\x0b\0\0\0\0\0\0\0\x01\x01f\x0a\0\0\0\x02\0\0\0";
-    assert!(rt; is_filled(&flash, 176, root));
-    Ok(())
-}
-
-/// Runs a script with one fault, and tells whether it left block 9 and wrote blocks 10 and 11.
-fn leaves_a_block(alloc: Global, script: &[u8]) -> Result<bool, Fail> {
-    let mut flash = formatted(alloc, SIZES, 8)?;
-    let mut script = script;
-    let mut out: Vec<u8> = Vec::new(alloc);
-    run_script(alloc, &mut script, &mut out, &mut flash)?;
-    let root = b"UFND\x01\0\0\0\x0b\0\0\0\0\0\0\0\x02\x01a\x0a\0\0\0\0\0\0\0";
-    Ok(
-        out.as_slice() == &b"ok\nok\n"[..]
-            && is_unreadable(&flash, 144)
-            && is_filled(&flash, 160, b"UFND")
-            && is_filled(&flash, 176, root),
-    )
-}
-
-#[test]
-fn a_block_that_fails_is_left(rt: HostRuntime) -> Result<(), Fail> {
-    assert!(rt; leaves_a_block(rt.alloc(), b"fault 1 program-fail\nmkdir /a\n")?);
-    assert!(rt; leaves_a_block(rt.alloc(), b"fault 1 erase-fail\nmkdir /a\n")?);
-    Ok(())
-}
-
-/// Room for directories down to the greatest depth.
-const LARGE: Geometry = Geometry {
-    page: 256,
-    pages: 16,
-    blocks: 256,
-};
-
-/// How many data blocks hold a node, by their first pages.
-fn node_count(flash: &SimFlash) -> usize {
-    (128..4096u32)
-        .step_by(16)
-        .filter(|page| is_node(flash, *page))
-        .count()
-}
-
-/// Whether the page of a number begins with the word of a directory node.
-fn is_node(flash: &SimFlash, number: u32) -> bool {
-    if number as usize >= flash.geometry().page_count() {
-        return false;
-    }
-    match flash.page(number) {
-        PageView::Data(bytes) => bytes.starts_with(b"UFND"),
-        _ => false,
-    }
-}
-
-/// Makes so many directories, each in the one before, and tells how many nodes stand written then; 0
-/// where one was refused.
-fn nodes_of_depth(alloc: Global, depth: usize) -> Result<usize, Fail> {
-    let mut flash = formatted(alloc, LARGE, 8)?;
-    let mut path = String::new(alloc);
-    let mut script = String::new(alloc);
-    let mut wanted: Vec<u8> = Vec::new(alloc);
-    for _ in 0..depth {
-        path.push_str("/d")?;
-        write!(&mut script, "mkdir {path}\n")?;
-        wanted.extend_from_slice(b"ok\n")?;
-    }
+/// Runs a script, and gives what it writes.
+fn written(alloc: Global, flash: &mut SimFlash, script: &str) -> Result<String, Fail> {
     let mut reader = script.as_bytes();
     let mut out: Vec<u8> = Vec::new(alloc);
-    run_script(alloc, &mut reader, &mut out, &mut flash)?;
-    if out.as_slice() != wanted.as_slice() {
-        return Ok(0);
-    }
-    Ok(node_count(&flash))
+    run_script(alloc, &mut reader, &mut out, flash)?;
+    Ok(String::from_utf8(out)?)
 }
 
 #[test]
-fn a_directory_costs_a_node_and_one_a_component(rt: HostRuntime) -> Result<(), Fail> {
-    let mut before = 1;
-    for depth in 1..=16usize {
-        let after = nodes_of_depth(rt.alloc(), depth)?;
-        assert_eq!(rt; after.checked_sub(before), Some(depth + 1), "at {depth}");
-        before = after;
+fn nodes_are_written_before_their_root(rt: HostRuntime) -> Result<(), Fail> {
+    for (script, wanted, pages) in WRITTEN {
+        let mut flash = formatted(rt.alloc(), SIZES, 8)?;
+        let replies = written(rt.alloc(), &mut flash, script)?;
+        assert_eq!(rt; replies.as_str(), wanted, "{script}");
+        for (number, page) in pages {
+            assert!(rt; holds(&flash, number, page), "{script} {number}");
+        }
     }
     Ok(())
 }

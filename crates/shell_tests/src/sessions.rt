@@ -48,86 +48,137 @@ fn printed(alloc: Global, log: Vec<Answer>) -> Result<String, Fail> {
     Ok(String::from_utf8(text)?)
 }
 
-/// What a session logs on a flash that was formatted, where the program of this number fails so. A
-/// format asks for two programs.
-fn logged_with(alloc: Global, number: u128, kind: FaultKind, script: &str) -> Result<String, Fail> {
-    let mut flash = SimFlash::new(alloc, SIZES, &[PlannedFault { number, kind }])?;
-    format(alloc, &mut flash, 8)?;
-    logged(alloc, &mut flash, script)
+/// A flash on which a session runs: formatted, where it is not erased, and with one operation that fails,
+/// of those that were asked for since it was made. A format asks for two programs and no read.
+#[derive(Clone, Copy)]
+struct Begin {
+    is_formatted: bool,
+    fault: Option<PlannedFault>,
 }
 
-/// Each directory asks for two programs and a sync for one, so the second sync asks for the eighth.
-#[test]
-fn a_restart_follows_a_sync_that_was_cut(rt: HostRuntime) -> Result<(), Fail> {
-    let script = "mkdir /a\nsync\nmkdir /b\nsync\nls /\nrestart\nls /\n";
-    let begin = "mounted\nok\nok\nok\nerr POWERCUT 24\nerr POWERCUT 24\nmounted\n";
-    for (kind, names) in [
-        (FaultKind::ProgramCutTorn, "entries 1 a/\n"),
-        (FaultKind::ProgramCutNone, "entries 1 a/\n"),
-        (FaultKind::ProgramCutWhole, "entries 2 a/ b/\n"),
-    ] {
-        let log = logged_with(rt.alloc(), 8, kind, script)?;
-        assert_eq!(rt; log.as_str().strip_prefix(begin), Some(names), "{kind:?}");
+const FORMATTED: Begin = Begin {
+    is_formatted: true,
+    fault: None,
+};
+
+const ERASED: Begin = Begin {
+    is_formatted: false,
+    fault: None,
+};
+
+impl Begin {
+    fn flash(self, alloc: Global) -> Result<SimFlash, Fault> {
+        let mut flash = match self.fault {
+            Some(fault) => SimFlash::new(alloc, SIZES, &[fault])?,
+            None => SimFlash::new(alloc, SIZES, &[])?,
+        };
+        if self.is_formatted {
+            format(alloc, &mut flash, 8)?;
+        }
+        Ok(flash)
     }
-    Ok(())
 }
 
-/// Scripts of sessions on a formatted flash, each with its log.
-const SESSIONS: [(&str, &str); 6] = [
-    ("", "mounted\n"),
+/// Sessions, each with its log.
+///
+/// A restart finds what was synced; after a sync that was cut, which is the eighth program, the record
+/// before or the new one; nothing on an erased flash. A read of the first mount that fails is told, and a
+/// restart after it mounts.
+const SESSIONS: [(Begin, &str, &str); 12] = [
+    (FORMATTED, "", "mounted\n"),
     (
+        FORMATTED,
         "mkdir /a\nsync\nmkdir /b\nrestart\nls /\nlog\n",
         "mounted\nok\nok\nok\nmounted\nentries 1 a/\nlog next 3 dropped 0 versions 1 *2 checkpoints\n",
     ),
     (
+        FORMATTED,
         "open /f 7\npwrite 0 0 6869\nfsync 0\npwrite 0 0 4a\nrestart\nclose 0\nread /f 0 9\nopen /f 1\nrestart\nundo\nstat /f\n",
         "mounted\nfd 0\nwrote 2\nok\nwrote 1\nmounted\nerr EBADF 10\ndata 6869\nfd 0\nmounted\nok\nfile 0\n",
     ),
     (
+        FORMATTED,
         "mkdir /a\ncheckpoint v\nsync\nrmdir /a\ncheckpoint w\nrestart\nls / =v\nls / =w\nrmcheckpoint v\nrestart\nls / =v\nrollback v\n",
         "mounted\nok\nok\nok\nok\nok\nmounted\nentries 1 a/\nerr NOSUCHVERSION 20\nok\nmounted\nentries 1 a/\nok\n",
     ),
     (
+        FORMATTED,
         "mkdir /a\nreclaim 2\nreclaim 2\nreclaim 3\nreclaim 0\n",
         "mounted\nok\nmore\ndone\ndone\nmore\n",
     ),
     (
+        FORMATTED,
         "restart\nmkdir /a\nmkdir /b\nundo\nsync\nredo\nrestart\nrestart\nls /\nredo\nls /\n",
         "mounted\nmounted\nok\nok\nok\nok\nok\nmounted\nmounted\nentries 1 a/\nok\nentries 2 a/ b/\n",
+    ),
+    (
+        Begin {
+            is_formatted: true,
+            fault: Some(PlannedFault {
+                number: 8,
+                kind: FaultKind::ProgramCutTorn,
+            }),
+        },
+        "mkdir /a\nsync\nmkdir /b\nsync\nls /\nrestart\nls /\n",
+        "mounted\nok\nok\nok\nerr POWERCUT 24\nerr POWERCUT 24\nmounted\nentries 1 a/\n",
+    ),
+    (
+        Begin {
+            is_formatted: true,
+            fault: Some(PlannedFault {
+                number: 8,
+                kind: FaultKind::ProgramCutNone,
+            }),
+        },
+        "mkdir /a\nsync\nmkdir /b\nsync\nls /\nrestart\nls /\n",
+        "mounted\nok\nok\nok\nerr POWERCUT 24\nerr POWERCUT 24\nmounted\nentries 1 a/\n",
+    ),
+    (
+        Begin {
+            is_formatted: true,
+            fault: Some(PlannedFault {
+                number: 8,
+                kind: FaultKind::ProgramCutWhole,
+            }),
+        },
+        "mkdir /a\nsync\nmkdir /b\nsync\nls /\nrestart\nls /\n",
+        "mounted\nok\nok\nok\nerr POWERCUT 24\nerr POWERCUT 24\nmounted\nentries 2 a/ b/\n",
+    ),
+    (
+        ERASED,
+        "ls /\nsync\nrestart\nundo\n",
+        "err NORECORD 27\nunmounted\nunmounted\nerr NORECORD 27\nunmounted\n",
+    ),
+    (
+        Begin {
+            is_formatted: true,
+            fault: Some(PlannedFault {
+                number: 1,
+                kind: FaultKind::ReadFail,
+            }),
+        },
+        "mkdir /a\nrestart\nls /\n",
+        "err EIO 23\nunmounted\nmounted\nentries 0\n",
+    ),
+    (
+        Begin {
+            is_formatted: true,
+            fault: Some(PlannedFault {
+                number: 1,
+                kind: FaultKind::ReadCut,
+            }),
+        },
+        "mkdir /a\nrestart\nls /\n",
+        "err POWERCUT 24\nunmounted\nmounted\nentries 0\n",
     ),
 ];
 
 #[test]
-fn a_restart_finds_what_was_synced(rt: HostRuntime) -> Result<(), Fail> {
-    for (script, wanted) in SESSIONS {
-        let mut flash = formatted(rt.alloc(), SIZES, 8)?;
+fn sessions_log_each_event(rt: HostRuntime) -> Result<(), Fail> {
+    for (begin, script, wanted) in SESSIONS {
+        let mut flash = begin.flash(rt.alloc())?;
         let log = logged(rt.alloc(), &mut flash, script)?;
         assert_eq!(rt; log.as_str(), wanted, "{script}");
-    }
-    Ok(())
-}
-
-#[test]
-fn an_erased_flash_is_never_mounted(rt: HostRuntime) -> Result<(), Fail> {
-    let mut flash = SimFlash::new(rt.alloc(), SIZES, &[])?;
-    let log = logged(rt.alloc(), &mut flash, "ls /\nsync\nrestart\nundo\n")?;
-    let wanted = "err NORECORD 27\nunmounted\nunmounted\nerr NORECORD 27\nunmounted\n";
-    assert_eq!(rt; log.as_str(), wanted);
-    Ok(())
-}
-
-/// A read that fails is told, and a restart after it mounts.
-#[test]
-fn a_first_mount_that_is_refused(rt: HostRuntime) -> Result<(), Fail> {
-    for (kind, first) in [
-        (FaultKind::ReadFail, "err EIO 23\n"),
-        (FaultKind::ReadCut, "err POWERCUT 24\n"),
-    ] {
-        let mut flash = formatted(rt.alloc(), SIZES, 8)?;
-        flash.plan_fault(1, kind)?;
-        let log = logged(rt.alloc(), &mut flash, "mkdir /a\nrestart\nls /\n")?;
-        let rest = log.as_str().strip_prefix(first);
-        assert_eq!(rt; rest, Some("unmounted\nmounted\nentries 0\n"), "{kind:?}");
     }
     Ok(())
 }

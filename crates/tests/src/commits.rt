@@ -101,231 +101,486 @@ fn commit_again(alloc: Global, flash: &mut SimFlash, bad: &mut BadBlocks) -> Res
     anchors.commit(alloc, flash, bad, &record)
 }
 
-/// The sequence of the part of a record on a page.
+/// The sequence of the part of a record on a page; 0 where the page is erased.
 fn sequence_on(flash: &SimFlash, number: u32) -> Option<u64> {
     if flash.geometry().page_count() <= number as usize {
         return None;
     }
     match flash.page(number) {
         PageView::Data(bytes) if bytes.len() >= 20 => PageHead::of(bytes).map(|head| head.sequence),
+        PageView::Erased => Some(0),
         _ => None,
     }
 }
 
-fn is_erased(flash: &SimFlash, number: u32) -> bool {
-    (number as usize) < flash.geometry().page_count()
-        && matches!(flash.page(number), PageView::Erased)
+/// Commits on a flash with a plan, and what they leave.
+#[derive(Clone, Copy)]
+struct Row {
+    plan: &'static [PlannedFault],
+    /// How many versions each record has and how many records are committed, after the anchors were
+    /// cleared, once for each pair.
+    commits: &'static [(u64, u8)],
+    answer: Result<(), Fault>,
+    /// Pages, each with the sequence of the record of which it has a part.
+    pages: &'static [(u32, u64)],
+    /// The sequence and the next serial of the newest record, and its bad list.
+    newest: Option<(u64, u64, &'static [u32])>,
 }
 
-fn fault(number: u128, kind: FaultKind) -> PlannedFault {
-    PlannedFault { number, kind }
-}
-
-#[test]
-fn records_are_appended(rt: HostRuntime) -> Result<(), Fail> {
-    let mut flash = SimFlash::new(rt.alloc(), SIZES, &[])?;
-    let mut bad = BadBlocks::new();
-    assert_eq!(rt; commit_all(rt.alloc(), &mut flash, &mut bad, 1, 3), Ok(()));
-    for (number, sequence) in [(0, 1), (1, 2), (2, 3)] {
-        assert_eq!(rt; sequence_on(&flash, number), Some(sequence));
-    }
-    assert!(rt; is_erased(&flash, 3));
-    // the anchor that comes first after the anchors were cleared is not erased again
-    let counts = Counters {
-        reads: 0,
-        programs: 3,
-        erases: 8,
-    };
-    assert_eq!(rt; flash.counts(), counts);
-    let (sequence, next, listed) = newest_of(rt.alloc(), &mut flash)?.ok_or("a record")?;
-    assert_eq!(rt; (sequence, next), (3, 103));
-    assert_eq!(rt; listed.as_slice().len(), 0);
-    assert_eq!(rt; commit_again(rt.alloc(), &mut flash, &mut bad), Ok(()));
-    assert_eq!(rt; sequence_on(&flash, 3), Some(4));
-    Ok(())
-}
-
-#[test]
-fn a_full_anchor_is_followed_by_the_next(rt: HostRuntime) -> Result<(), Fail> {
-    let mut flash = SimFlash::new(rt.alloc(), SIZES, &[])?;
-    let mut bad = BadBlocks::new();
-    assert_eq!(rt; commit_all(rt.alloc(), &mut flash, &mut bad, 1, 17), Ok(()));
-    let sequences = (sequence_on(&flash, 15), sequence_on(&flash, 16));
-    assert_eq!(rt;
-        (sequences, flash.counts().erases),
-        ((Some(16), Some(17)), 9)
-    );
+const ROWS: [Row; 27] = [
+    // records are appended
+    Row {
+        plan: &[],
+        commits: &[(1, 3)],
+        answer: Ok(()),
+        pages: &[(0, 1), (1, 2), (2, 3), (3, 0)],
+        newest: Some((3, 103, &[])),
+    },
+    // a full anchor is followed by the next
+    Row {
+        plan: &[],
+        commits: &[(1, 17)],
+        answer: Ok(()),
+        pages: &[(15, 16), (16, 17)],
+        newest: Some((17, 117, &[])),
+    },
     // three pages each: five records on an anchor, and a page of it stays
-    assert_eq!(rt; commit_all(rt.alloc(), &mut flash, &mut bad, 40, 6), Ok(()));
-    let sequences = (sequence_on(&flash, 14), sequence_on(&flash, 16));
-    assert_eq!(rt;
-        (sequences, is_erased(&flash, 15)),
-        ((Some(5), Some(6)), true)
-    );
+    Row {
+        plan: &[],
+        commits: &[(40, 6)],
+        answer: Ok(()),
+        pages: &[(14, 5), (15, 0), (16, 6)],
+        newest: Some((6, 106, &[])),
+    },
     // round the ring: the anchor of the first record is erased and programmed again
-    assert_eq!(rt;
-        commit_all(rt.alloc(), &mut flash, &mut bad, 1, 129),
-        Ok(())
-    );
-    let sequences = (sequence_on(&flash, 0), sequence_on(&flash, 127));
-    assert_eq!(rt;
-        (sequences, is_erased(&flash, 1)),
-        ((Some(129), Some(128)), true)
-    );
-    Ok(())
-}
+    Row {
+        plan: &[],
+        commits: &[(1, 129)],
+        answer: Ok(()),
+        pages: &[(0, 129), (1, 0), (127, 128)],
+        newest: Some((129, 229, &[])),
+    },
+    // anchors that fail are passed: the second record fails on the anchor of the first, and then the next one at its erase
+    Row {
+        plan: &[
+            PlannedFault {
+                number: 2,
+                kind: FaultKind::ProgramFail,
+            },
+            PlannedFault {
+                number: 9,
+                kind: FaultKind::EraseFail,
+            },
+        ],
+        commits: &[(1, 3)],
+        answer: Ok(()),
+        pages: &[(0, 1), (32, 2), (33, 3)],
+        newest: Some((3, 103, &[0, 1])),
+    },
+    // seven bad anchors end it
+    Row {
+        plan: &[
+            PlannedFault {
+                number: 2,
+                kind: FaultKind::ProgramFail,
+            },
+            PlannedFault {
+                number: 3,
+                kind: FaultKind::ProgramFail,
+            },
+            PlannedFault {
+                number: 4,
+                kind: FaultKind::ProgramFail,
+            },
+            PlannedFault {
+                number: 5,
+                kind: FaultKind::ProgramFail,
+            },
+            PlannedFault {
+                number: 6,
+                kind: FaultKind::ProgramFail,
+            },
+            PlannedFault {
+                number: 7,
+                kind: FaultKind::ProgramFail,
+            },
+            PlannedFault {
+                number: 8,
+                kind: FaultKind::ProgramFail,
+            },
+        ],
+        commits: &[(1, 2)],
+        answer: Err(Fault::ReadOnly),
+        pages: &[(0, 1), (112, 0)],
+        newest: Some((1, 101, &[])),
+    },
+    // the ninth erase leaves the pages of odd place on anchor 0: the second of two records, which is older than the one that is committed then
+    Row {
+        plan: &[PlannedFault {
+            number: 9,
+            kind: FaultKind::EraseFail,
+        }],
+        commits: &[(1, 2), (1, 1)],
+        answer: Ok(()),
+        pages: &[(1, 2), (16, 3)],
+        newest: Some((3, 101, &[0])),
+    },
+    // where the anchor whose erase failed is not read either, nothing is committed
+    Row {
+        plan: &[
+            PlannedFault {
+                number: 9,
+                kind: FaultKind::EraseFail,
+            },
+            PlannedFault {
+                number: 5,
+                kind: FaultKind::ReadFail,
+            },
+        ],
+        commits: &[(1, 2), (1, 1)],
+        answer: Err(Fault::ReadFailed),
+        pages: &[(1, 2), (16, 0)],
+        newest: Some((2, 102, &[])),
+    },
+    // power goes in the first of two records, which have three pages each
+    Row {
+        plan: &[PlannedFault {
+            number: 1,
+            kind: FaultKind::ProgramCutNone,
+        }],
+        commits: &[(40, 2)],
+        answer: Err(Fault::PowerCut),
+        pages: &[],
+        newest: None,
+    },
+    Row {
+        plan: &[PlannedFault {
+            number: 1,
+            kind: FaultKind::ProgramCutTorn,
+        }],
+        commits: &[(40, 2)],
+        answer: Err(Fault::PowerCut),
+        pages: &[],
+        newest: None,
+    },
+    Row {
+        plan: &[PlannedFault {
+            number: 2,
+            kind: FaultKind::ProgramCutNone,
+        }],
+        commits: &[(40, 2)],
+        answer: Err(Fault::PowerCut),
+        pages: &[],
+        newest: None,
+    },
+    Row {
+        plan: &[PlannedFault {
+            number: 2,
+            kind: FaultKind::ProgramCutTorn,
+        }],
+        commits: &[(40, 2)],
+        answer: Err(Fault::PowerCut),
+        pages: &[],
+        newest: None,
+    },
+    Row {
+        plan: &[PlannedFault {
+            number: 3,
+            kind: FaultKind::ProgramCutNone,
+        }],
+        commits: &[(40, 2)],
+        answer: Err(Fault::PowerCut),
+        pages: &[],
+        newest: None,
+    },
+    Row {
+        plan: &[PlannedFault {
+            number: 3,
+            kind: FaultKind::ProgramCutTorn,
+        }],
+        commits: &[(40, 2)],
+        answer: Err(Fault::PowerCut),
+        pages: &[],
+        newest: None,
+    },
+    // power goes in the second one, at its first pages
+    Row {
+        plan: &[PlannedFault {
+            number: 4,
+            kind: FaultKind::ProgramCutNone,
+        }],
+        commits: &[(40, 2)],
+        answer: Err(Fault::PowerCut),
+        pages: &[],
+        newest: Some((1, 101, &[])),
+    },
+    Row {
+        plan: &[PlannedFault {
+            number: 4,
+            kind: FaultKind::ProgramCutTorn,
+        }],
+        commits: &[(40, 2)],
+        answer: Err(Fault::PowerCut),
+        pages: &[],
+        newest: Some((1, 101, &[])),
+    },
+    Row {
+        plan: &[PlannedFault {
+            number: 5,
+            kind: FaultKind::ProgramCutNone,
+        }],
+        commits: &[(40, 2)],
+        answer: Err(Fault::PowerCut),
+        pages: &[],
+        newest: Some((1, 101, &[])),
+    },
+    Row {
+        plan: &[PlannedFault {
+            number: 5,
+            kind: FaultKind::ProgramCutTorn,
+        }],
+        commits: &[(40, 2)],
+        answer: Err(Fault::PowerCut),
+        pages: &[],
+        newest: Some((1, 101, &[])),
+    },
+    Row {
+        plan: &[PlannedFault {
+            number: 6,
+            kind: FaultKind::ProgramCutNone,
+        }],
+        commits: &[(40, 2)],
+        answer: Err(Fault::PowerCut),
+        pages: &[],
+        newest: Some((1, 101, &[])),
+    },
+    Row {
+        plan: &[PlannedFault {
+            number: 6,
+            kind: FaultKind::ProgramCutTorn,
+        }],
+        commits: &[(40, 2)],
+        answer: Err(Fault::PowerCut),
+        pages: &[],
+        newest: Some((1, 101, &[])),
+    },
+    // power goes after a page was written whole
+    Row {
+        plan: &[PlannedFault {
+            number: 2,
+            kind: FaultKind::ProgramCutWhole,
+        }],
+        commits: &[(40, 2)],
+        answer: Err(Fault::PowerCut),
+        pages: &[],
+        newest: None,
+    },
+    Row {
+        plan: &[PlannedFault {
+            number: 3,
+            kind: FaultKind::ProgramCutWhole,
+        }],
+        commits: &[(40, 2)],
+        answer: Err(Fault::PowerCut),
+        pages: &[],
+        newest: Some((1, 101, &[])),
+    },
+    Row {
+        plan: &[PlannedFault {
+            number: 5,
+            kind: FaultKind::ProgramCutWhole,
+        }],
+        commits: &[(40, 2)],
+        answer: Err(Fault::PowerCut),
+        pages: &[],
+        newest: Some((1, 101, &[])),
+    },
+    Row {
+        plan: &[PlannedFault {
+            number: 6,
+            kind: FaultKind::ProgramCutWhole,
+        }],
+        commits: &[(40, 2)],
+        answer: Err(Fault::PowerCut),
+        pages: &[],
+        newest: Some((2, 102, &[])),
+    },
+    // power goes in the erase of the next anchor
+    Row {
+        plan: &[PlannedFault {
+            number: 9,
+            kind: FaultKind::EraseCutNone,
+        }],
+        commits: &[(1, 17)],
+        answer: Err(Fault::PowerCut),
+        pages: &[(15, 16)],
+        newest: Some((16, 116, &[])),
+    },
+    Row {
+        plan: &[PlannedFault {
+            number: 9,
+            kind: FaultKind::EraseCutWhole,
+        }],
+        commits: &[(1, 17)],
+        answer: Err(Fault::PowerCut),
+        pages: &[(15, 16)],
+        newest: Some((16, 116, &[])),
+    },
+    Row {
+        plan: &[PlannedFault {
+            number: 9,
+            kind: FaultKind::EraseCutTorn,
+        }],
+        commits: &[(1, 17)],
+        answer: Err(Fault::PowerCut),
+        pages: &[(15, 16)],
+        newest: Some((16, 116, &[])),
+    },
+];
 
-#[test]
-fn anchors_that_fail_are_passed(rt: HostRuntime) -> Result<(), Fail> {
-    let plan = [
-        fault(2, FaultKind::ProgramFail),
-        fault(9, FaultKind::EraseFail),
-    ];
-    let mut flash = SimFlash::new(rt.alloc(), SIZES, &plan)?;
-    let mut bad = BadBlocks::new();
-    assert_eq!(rt; commit_all(rt.alloc(), &mut flash, &mut bad, 1, 3), Ok(()));
-    // the second record fails on the anchor of the first, and then the next anchor at its erase
-    let sequences = [
-        sequence_on(&flash, 0),
-        sequence_on(&flash, 32),
-        sequence_on(&flash, 33),
-    ];
-    assert_eq!(rt; sequences, [Some(1), Some(2), Some(3)]);
-    assert!(rt; bad.len() == 2 && bad.contains(0) && bad.contains(1));
-    let (sequence, next, listed) = newest_of(rt.alloc(), &mut flash)?.ok_or("a record")?;
-    assert_eq!(rt; (sequence, next), (3, 103));
-    assert_eq!(rt; listed.as_slice(), [0, 1].as_slice());
-    Ok(())
-}
-
-#[test]
-fn seven_bad_anchors_end_it(rt: HostRuntime) -> Result<(), Fail> {
-    let mut plan = Vec::new(rt.alloc());
-    for number in [2, 3, 4, 5, 6, 7, 8] {
-        plan.push(fault(number, FaultKind::ProgramFail))?;
+/// Clears the anchors and commits the records of a row, up to the first refusal.
+fn commit_row(
+    alloc: Global,
+    flash: &mut SimFlash,
+    bad: &mut BadBlocks,
+    commits: &[(u64, u8)],
+) -> Result<(), Fault> {
+    for (versions, count) in commits {
+        commit_all(alloc, flash, bad, *versions, *count)?;
     }
-    let mut flash = SimFlash::new(rt.alloc(), SIZES, &plan)?;
-    let mut bad = BadBlocks::new();
-    let answer = commit_all(rt.alloc(), &mut flash, &mut bad, 1, 2);
-    assert_eq!(rt; answer, Err(Fault::ReadOnly));
-    assert!(rt; bad.len() == 7 && !bad.contains(7));
-    assert_eq!(rt; flash.counts().programs, 8);
-    let (sequence, next, _) = newest_of(rt.alloc(), &mut flash)?.ok_or("a record")?;
-    assert_eq!(rt; (sequence, next), (1, 101));
     Ok(())
 }
 
 #[test]
-fn records_left_by_failed_erases_are_older(rt: HostRuntime) -> Result<(), Fail> {
-    // the ninth erase leaves the pages of odd place on anchor 0: the second of two records
-    let plan = [fault(9, FaultKind::EraseFail)];
-    let mut flash = SimFlash::new(rt.alloc(), SIZES, &plan)?;
-    let mut bad = BadBlocks::new();
-    assert_eq!(rt; commit_all(rt.alloc(), &mut flash, &mut bad, 1, 2), Ok(()));
-    assert_eq!(rt; commit_all(rt.alloc(), &mut flash, &mut bad, 1, 1), Ok(()));
-    assert!(rt; bad.len() == 1 && bad.contains(0));
-    let sequences = (sequence_on(&flash, 1), sequence_on(&flash, 16));
-    assert_eq!(rt; sequences, (Some(2), Some(3)));
-    // only the anchor whose erase failed was read, each page once, and the part of a record again
-    assert_eq!(rt; flash.counts().reads, 17);
-    let (sequence, _, listed) = newest_of(rt.alloc(), &mut flash)?.ok_or("a record")?;
-    assert_eq!(rt; sequence, 3);
-    assert_eq!(rt; listed.as_slice(), [0].as_slice());
-    Ok(())
-}
-
-/// Where the anchor whose erase failed is not read either, nothing is committed.
-#[test]
-fn records_left_by_failed_erases_are_looked_for(rt: HostRuntime) -> Result<(), Fail> {
-    let plan = [
-        fault(9, FaultKind::EraseFail),
-        fault(5, FaultKind::ReadFail),
-    ];
-    let mut flash = SimFlash::new(rt.alloc(), SIZES, &plan)?;
-    let mut bad = BadBlocks::new();
-    assert_eq!(rt; commit_all(rt.alloc(), &mut flash, &mut bad, 1, 2), Ok(()));
-    let answer = commit_all(rt.alloc(), &mut flash, &mut bad, 1, 1);
-    assert_eq!(rt; answer, Err(Fault::ReadFailed));
-    assert_eq!(rt; newest_sequence(rt.alloc(), &mut flash), Ok(2));
-    Ok(())
-}
-
-/// The sequence of the newest record; 0 where there is none.
-fn newest_sequence(alloc: Global, flash: &mut SimFlash) -> Result<u64, Fault> {
-    let newest = newest_of(alloc, flash)?;
-    Ok(newest.map_or(0, |(sequence, _, _)| sequence))
-}
-
-/// The sequence of the newest record after power went as planned in the second of two commits, which
-/// have three pages each.
-fn sequence_after(alloc: Global, number: u128, kind: FaultKind) -> Result<u64, Fault> {
-    let plan = [fault(number, kind)];
-    let mut flash = SimFlash::new(alloc, SIZES, &plan)?;
-    let mut bad = BadBlocks::new();
-    match commit_all(alloc, &mut flash, &mut bad, 40, 2) {
-        Err(Fault::PowerCut) => {}
-        _ => return Err(Fault::Invalid),
-    }
-    newest_sequence(alloc, &mut flash)
-}
-
-#[test]
-fn a_cut_leaves_the_old_record_or_the_new_one(rt: HostRuntime) -> Result<(), Fail> {
-    for number in [1, 2, 3] {
-        assert_eq!(rt;
-            sequence_after(rt.alloc(), number, FaultKind::ProgramCutNone),
-            Ok(0)
-        );
-        assert_eq!(rt;
-            sequence_after(rt.alloc(), number, FaultKind::ProgramCutTorn),
-            Ok(0)
-        );
-    }
-    for number in [4, 5, 6] {
-        assert_eq!(rt;
-            sequence_after(rt.alloc(), number, FaultKind::ProgramCutNone),
-            Ok(1)
-        );
-        assert_eq!(rt;
-            sequence_after(rt.alloc(), number, FaultKind::ProgramCutTorn),
-            Ok(1)
-        );
-    }
-    assert_eq!(rt;
-        sequence_after(rt.alloc(), 2, FaultKind::ProgramCutWhole),
-        Ok(0)
-    );
-    assert_eq!(rt;
-        sequence_after(rt.alloc(), 3, FaultKind::ProgramCutWhole),
-        Ok(1)
-    );
-    assert_eq!(rt;
-        sequence_after(rt.alloc(), 5, FaultKind::ProgramCutWhole),
-        Ok(1)
-    );
-    assert_eq!(rt;
-        sequence_after(rt.alloc(), 6, FaultKind::ProgramCutWhole),
-        Ok(2)
-    );
-    Ok(())
-}
-
-#[test]
-fn a_cut_in_an_erase_leaves_the_old_record(rt: HostRuntime) -> Result<(), Fail> {
-    for kind in [
-        FaultKind::EraseCutNone,
-        FaultKind::EraseCutWhole,
-        FaultKind::EraseCutTorn,
-    ] {
-        let plan = [fault(9, kind)];
-        let mut flash = SimFlash::new(rt.alloc(), SIZES, &plan)?;
+fn records_are_committed_and_found(rt: HostRuntime) -> Result<(), Fail> {
+    for row in ROWS {
+        let mut flash = SimFlash::new(rt.alloc(), SIZES, row.plan)?;
         let mut bad = BadBlocks::new();
-        let answer = commit_all(rt.alloc(), &mut flash, &mut bad, 1, 17);
-        assert_eq!(rt; answer, Err(Fault::PowerCut));
-        let (sequence, next, _) = newest_of(rt.alloc(), &mut flash)?.ok_or("a record")?;
-        assert_eq!(rt; (sequence, next), (16, 116));
+        let answer = commit_row(rt.alloc(), &mut flash, &mut bad, row.commits);
+        assert_eq!(rt; answer, row.answer, "{:?}", row.plan);
+        for (page, sequence) in row.pages {
+            assert_eq!(rt;
+                sequence_on(&flash, *page),
+                Some(*sequence),
+                "{page} {:?}",
+                row.plan
+            );
+        }
+        let newest = newest_of(rt.alloc(), &mut flash)?;
+        assert!(rt; is_newest(newest, row.newest), "{:?}", row.plan);
+    }
+    Ok(())
+}
+
+fn is_newest(found: Option<(u64, u64, Sequence<u32>)>, wanted: Option<(u64, u64, &[u32])>) -> bool {
+    match (found, wanted) {
+        (Some((sequence, next, listed)), Some(wanted)) => {
+            (sequence, next, listed.as_slice()) == wanted
+        }
+        (None, None) => true,
+        _ => false,
+    }
+}
+
+/// Plans, commits, and the operations that were asked for then. The anchor that comes first after the
+/// anchors were cleared is not erased again; of anchors that were cleared only one whose erase failed is
+/// read, each page once, and the part of a record again.
+const COUNTS: [(&[PlannedFault], &[(u64, u8)], Counters); 4] = [
+    (
+        &[],
+        &[(1, 3)],
+        Counters {
+            reads: 0,
+            programs: 3,
+            erases: 8,
+        },
+    ),
+    (
+        &[],
+        &[(1, 17)],
+        Counters {
+            reads: 0,
+            programs: 17,
+            erases: 9,
+        },
+    ),
+    (
+        &[
+            PlannedFault {
+                number: 2,
+                kind: FaultKind::ProgramFail,
+            },
+            PlannedFault {
+                number: 3,
+                kind: FaultKind::ProgramFail,
+            },
+            PlannedFault {
+                number: 4,
+                kind: FaultKind::ProgramFail,
+            },
+            PlannedFault {
+                number: 5,
+                kind: FaultKind::ProgramFail,
+            },
+            PlannedFault {
+                number: 6,
+                kind: FaultKind::ProgramFail,
+            },
+            PlannedFault {
+                number: 7,
+                kind: FaultKind::ProgramFail,
+            },
+            PlannedFault {
+                number: 8,
+                kind: FaultKind::ProgramFail,
+            },
+        ],
+        &[(1, 2)],
+        Counters {
+            reads: 0,
+            programs: 8,
+            erases: 14,
+        },
+    ),
+    (
+        &[PlannedFault {
+            number: 9,
+            kind: FaultKind::EraseFail,
+        }],
+        &[(1, 2), (1, 1)],
+        Counters {
+            reads: 17,
+            programs: 3,
+            erases: 16,
+        },
+    ),
+];
+
+#[test]
+fn a_commit_asks_for_no_more_than_it_needs(rt: HostRuntime) -> Result<(), Fail> {
+    for (plan, commits, counts) in COUNTS {
+        let mut flash = SimFlash::new(rt.alloc(), SIZES, plan)?;
+        let mut bad = BadBlocks::new();
+        let _ = commit_row(rt.alloc(), &mut flash, &mut bad, commits);
+        assert_eq!(rt; flash.counts(), counts);
+    }
+    Ok(())
+}
+
+/// A commit goes on after the newest record that was read, also after power went in an erase.
+#[test]
+fn a_commit_follows_the_newest_record(rt: HostRuntime) -> Result<(), Fail> {
+    let cut: &[PlannedFault] = &[PlannedFault {
+        number: 9,
+        kind: FaultKind::EraseCutTorn,
+    }];
+    for (plan, count, page, sequence) in [(cut, 17, 16, 17), (&[], 3, 3, 4)] {
+        let mut flash = SimFlash::new(rt.alloc(), SIZES, plan)?;
+        let mut bad = BadBlocks::new();
+        let _ = commit_all(rt.alloc(), &mut flash, &mut bad, 1, count);
+        flash.power_on();
         assert_eq!(rt; commit_again(rt.alloc(), &mut flash, &mut bad), Ok(()));
-        assert_eq!(rt; sequence_on(&flash, 16), Some(17));
+        assert_eq!(rt; sequence_on(&flash, page), Some(sequence));
     }
     Ok(())
 }

@@ -1,5 +1,5 @@
 //! A flash that was formatted is mounted.
-use flash_model::{FaultKind, Geometry, PlannedFault, SimFlash};
+use flash_model::{Geometry, SimFlash};
 use fs_types::Fault;
 use std::alloc::Global;
 use std::test::Fail;
@@ -32,22 +32,5 @@ fn a_formatted_flash_has_one_version(rt: HostRuntime) -> Result<(), Fail> {
     // a second format begins anew
     assert_eq!(rt; format(rt.alloc(), &mut flash, 3), Ok(()));
     assert_eq!(rt; mounted(rt.alloc(), &mut flash), Ok((1, 2, 3, 8)));
-    Ok(())
-}
-
-#[test]
-fn one_anchor_is_too_few(rt: HostRuntime) -> Result<(), Fail> {
-    let mut plan = Vec::new(rt.alloc());
-    for number in 1..8u32 {
-        plan.push(PlannedFault {
-            number: u128::from(number),
-            kind: FaultKind::EraseFail,
-        })?;
-    }
-    let mut flash = SimFlash::new(rt.alloc(), SIZES, &plan)?;
-    assert_eq!(rt;
-        format(rt.alloc(), &mut flash, 8).err(),
-        Some(Fault::NoAnchors)
-    );
     Ok(())
 }

@@ -15,8 +15,6 @@ mod lines;
 #[cfg(test)]
 mod nodes;
 #[cfg(test)]
-mod passes;
-#[cfg(test)]
 mod paths;
 #[cfg(test)]
 mod planned_faults;

@@ -1,6 +1,5 @@
-//! Lines of scripts and printed answers, and streams that fail.
-use fs_types::{Answer, Bytes, CpName, Fault, Name, Reply, Sequence, Stat};
-use script::{LINE_LIMIT, LineAnswer, LineReader, Taken, print_answer, read_line, write_out};
+//! Lines of scripts, and streams that fail.
+use script::{LINE_LIMIT, LineReader, Taken, read_line, write_out};
 use std::alloc::{AllocError, Global};
 use std::io;
 use std::io::{ErrorKind, Read, Write};
@@ -152,102 +151,6 @@ fn first_misread<'a>(alloc: Global, rows: &[(&'a str, &str)]) -> Result<Option<&
 #[test]
 fn lines(rt: HostRuntime) -> Result<(), Fail> {
     assert_eq!(rt; first_misread(rt.alloc(), &LINES)?, None);
-    Ok(())
-}
-
-/// Whether this is what is printed for an answer.
-fn prints(alloc: Global, answer: Answer, text: &[u8]) -> Result<bool, Fail> {
-    prints_line(alloc, LineAnswer::Told(answer), text)
-}
-
-/// Whether this is what is printed for the answer to a line.
-fn prints_line(alloc: Global, answer: LineAnswer, text: &[u8]) -> Result<bool, Fail> {
-    let mut out = Vec::new(alloc);
-    print_answer(&mut out, &answer)?;
-    Ok(out.as_slice() == text)
-}
-
-fn log(alloc: Global, serials: &[u64], cursor: u64, name: &[u8]) -> Result<Answer, Fail> {
-    let checkpoints = match CpName::parse(name) {
-        Ok(name) => vec![in alloc; name]?,
-        Err(_) => Vec::new(alloc),
-    };
-    Ok(Answer::Done(Reply::Log {
-        next: 104,
-        dropped: checkpoints.is_empty(),
-        versions: Sequence::from_slice(alloc, serials)?,
-        cursor,
-        checkpoints: Sequence::from_vec(checkpoints),
-    }))
-}
-
-fn names(alloc: Global) -> Result<Answer, Fail> {
-    let mut names = Vec::new(alloc);
-    names.push((Name::new(alloc, b"a")?, true))?;
-    names.push((Name::new(alloc, b"%b\x7f")?, false))?;
-    Ok(Answer::Done(Reply::Names(Sequence::from_vec(names))))
-}
-
-#[test]
-fn lists(rt: HostRuntime) -> Result<(), Fail> {
-    let alloc = rt.alloc();
-    assert!(rt; prints(alloc, names(alloc)?, b"entries 2 a/ %25b%7F\n")?);
-    let text = b"log next 104 dropped 1 versions 1 2 *4 checkpoints\n";
-    assert!(rt; prints(alloc, log(alloc, &[1, 2, 4], 2, b"")?, text)?);
-    let text = b"log next 104 dropped 0 versions *102 103 checkpoints v1\n";
-    assert!(rt; prints(alloc, log(alloc, &[102, 103], 0, b"v1")?, text)?);
-    let data = Bytes::from_slice(alloc, b"\x00\xaf")?;
-    assert!(rt; prints(alloc, Answer::Done(Reply::Bytes(data)), b"data 00af\n")?);
-    let data = Bytes::new(alloc);
-    assert!(rt; prints(alloc, Answer::Done(Reply::Bytes(data)), b"data -\n")?);
-    Ok(())
-}
-
-#[test]
-fn numbers(rt: HostRuntime) -> Result<(), Fail> {
-    let alloc = rt.alloc();
-    assert!(rt; prints(alloc, Answer::Done(Reply::Fd(15)), b"fd 15\n")?);
-    assert!(rt; prints(alloc, Answer::Done(Reply::Count(1)), b"wrote 1\n")?);
-    assert!(rt; prints(alloc, Answer::Done(Reply::Stat(Stat::Dir(0))), b"dir 0\n")?);
-    assert!(rt;
-        prints(
-            alloc,
-            Answer::Done(Reply::Stat(Stat::File(5001))),
-            b"file 5001\n"
-        )?
-    );
-    let df = Reply::Df {
-        blocks: 24,
-        bad: 0,
-        free: 19,
-        anchors: 8,
-    };
-    assert!(rt;
-        prints(
-            alloc,
-            Answer::Done(df),
-            b"df data 24 bad 0 free 19 anchors 8\n"
-        )?
-    );
-    Ok(())
-}
-
-#[test]
-fn words(rt: HostRuntime) -> Result<(), Fail> {
-    let alloc = rt.alloc();
-    assert!(rt; prints(alloc, Answer::Done(Reply::Empty), b"ok\n")?);
-    assert!(rt; prints(alloc, Answer::Done(Reply::Step(true)), b"done\n")?);
-    assert!(rt; prints(alloc, Answer::Done(Reply::Step(false)), b"more\n")?);
-    assert!(rt;
-        prints(
-            alloc,
-            Answer::Refused(Fault::NothingToUndo),
-            b"err NOTHINGTOUNDO 17\n"
-        )?
-    );
-    assert!(rt; prints(alloc, Answer::Mounted, b"mounted\n")?);
-    assert!(rt; prints(alloc, Answer::Unmounted, b"unmounted\n")?);
-    assert!(rt; prints_line(alloc, LineAnswer::Syntax, b"err SYNTAX\n")?);
     Ok(())
 }
 

@@ -49,19 +49,291 @@ fn is_worn(flash: &SimFlash, block: u32) -> bool {
     block < flash.geometry().blocks && flash.is_worn(block)
 }
 
-const DONE: Option<Result<(), DevFault>> = Some(Ok(()));
+/// An operation, or a question.
+#[derive(Clone, Copy, Debug)]
+enum Act {
+    /// Programs a page with one byte throughout.
+    Fill(u32, u8),
+    /// Reads a page.
+    Look(u32),
+    /// Erases a block.
+    Clear(u32),
+    /// Asks whether a block is worn.
+    Worn(u32),
+    /// Plans a fault.
+    Plan(u64, FaultKind),
+    /// Puts the power on.
+    PowerOn,
+}
 
-const FAILED: Option<Result<(), DevFault>> = Some(Err(DevFault::Failed));
+/// What is told then.
+#[derive(Clone, Copy, Debug, PartialEq, Eq)]
+enum Told {
+    Done,
+    Failed(DevFault),
+    Page(PageState, u8),
+    Worn(bool),
+    Refused(Fault),
+    /// It cannot be asked.
+    Never,
+}
+
+fn told_of(answer: Option<Result<(), DevFault>>) -> Told {
+    match answer {
+        Some(Ok(())) => Told::Done,
+        Some(Err(fault)) => Told::Failed(fault),
+        None => Told::Never,
+    }
+}
+
+fn answer_of(flash: &mut SimFlash, act: Act) -> Told {
+    match act {
+        Act::Fill(number, byte) => told_of(fill(flash, number, byte)),
+        Act::Look(number) => match look(flash, number) {
+            Some(Ok((state, byte))) => Told::Page(state, byte),
+            Some(Err(fault)) => Told::Failed(fault),
+            None => Told::Never,
+        },
+        Act::Clear(block) => told_of(clear(flash, block)),
+        Act::Worn(block) => Told::Worn(is_worn(flash, block)),
+        Act::Plan(k, kind) => match flash.plan_fault(k, kind) {
+            Ok(()) => Told::Done,
+            Err(fault) => Told::Refused(fault),
+        },
+        Act::PowerOn => {
+            flash.power_on();
+            Told::Done
+        }
+    }
+}
+
+const DONE: Told = Told::Done;
+
+const FAILED: Told = Told::Failed(DevFault::Failed);
+
+const CUT: Told = Told::Failed(DevFault::PowerCut);
+
+const ERASED: Told = Told::Page(PageState::Erased, 7);
+
+const UNREADABLE: Told = Told::Page(PageState::Unreadable, 7);
+
+/// A plan, and what is told of one act after the other.
+type Row = (&'static [PlannedFault], &'static [(Act, Told)]);
+
+const ROWS: [Row; 10] = [
+    // a page is programmed, read and erased
+    (
+        &[],
+        &[
+            (Act::Look(511), ERASED),
+            (Act::Fill(511, 3), DONE),
+            (Act::Look(511), Told::Page(PageState::Data, 3)),
+            (Act::Clear(31), DONE),
+            (Act::Look(511), ERASED),
+        ],
+    ),
+    // operations fail as planned
+    (
+        &[
+            PlannedFault {
+                number: 2,
+                kind: FaultKind::EraseFail,
+            },
+            PlannedFault {
+                number: 2,
+                kind: FaultKind::ProgramFail,
+            },
+            PlannedFault {
+                number: 0,
+                kind: FaultKind::ProgramFail,
+            },
+            PlannedFault {
+                number: 1,
+                kind: FaultKind::ReadFail,
+            },
+        ],
+        &[
+            (Act::Look(0), FAILED),
+            (Act::Look(0), ERASED),
+            (Act::Fill(144, 1), DONE),
+            (Act::Worn(9), Told::Worn(false)),
+            (Act::Fill(145, 2), FAILED),
+            (Act::Look(145), UNREADABLE),
+            (Act::Worn(9), Told::Worn(true)),
+            (Act::Clear(9), DONE),
+            (Act::Fill(144, 5), DONE),
+            (Act::Fill(145, 5), DONE),
+            (Act::Fill(146, 5), DONE),
+            (Act::Fill(147, 5), DONE),
+            (Act::Clear(9), FAILED),
+            (Act::Look(144), UNREADABLE),
+            (Act::Look(145), Told::Page(PageState::Data, 5)),
+            (Act::Look(146), UNREADABLE),
+            (Act::Look(147), Told::Page(PageState::Data, 5)),
+            (Act::Worn(8), Told::Worn(false)),
+            (Act::Worn(10), Told::Worn(false)),
+        ],
+    ),
+    // power goes in a program
+    (
+        &[PlannedFault {
+            number: 2,
+            kind: FaultKind::ProgramCutNone,
+        }],
+        &[
+            (Act::Fill(143, 1), DONE),
+            (Act::Fill(144, 2), CUT),
+            (Act::Look(143), CUT),
+            (Act::Clear(8), CUT),
+            (Act::PowerOn, DONE),
+            (Act::Look(144), ERASED),
+            (Act::Look(143), Told::Page(PageState::Data, 1)),
+            (Act::Worn(9), Told::Worn(false)),
+        ],
+    ),
+    // power goes in a program
+    (
+        &[PlannedFault {
+            number: 2,
+            kind: FaultKind::ProgramCutWhole,
+        }],
+        &[
+            (Act::Fill(143, 1), DONE),
+            (Act::Fill(144, 2), CUT),
+            (Act::Look(143), CUT),
+            (Act::Clear(8), CUT),
+            (Act::PowerOn, DONE),
+            (Act::Look(144), Told::Page(PageState::Data, 2)),
+            (Act::Look(143), Told::Page(PageState::Data, 1)),
+            (Act::Worn(9), Told::Worn(false)),
+        ],
+    ),
+    // power goes in a program
+    (
+        &[PlannedFault {
+            number: 2,
+            kind: FaultKind::ProgramCutTorn,
+        }],
+        &[
+            (Act::Fill(143, 1), DONE),
+            (Act::Fill(144, 2), CUT),
+            (Act::Look(143), CUT),
+            (Act::Clear(8), CUT),
+            (Act::PowerOn, DONE),
+            (Act::Look(144), UNREADABLE),
+            (Act::Look(143), Told::Page(PageState::Data, 1)),
+            (Act::Worn(9), Told::Worn(false)),
+        ],
+    ),
+    // power goes in an erase
+    (
+        &[PlannedFault {
+            number: 1,
+            kind: FaultKind::EraseCutNone,
+        }],
+        &[
+            (Act::Fill(144, 5), DONE),
+            (Act::Fill(145, 5), DONE),
+            (Act::Clear(9), CUT),
+            (Act::Look(144), CUT),
+            (Act::PowerOn, DONE),
+            (Act::Look(144), Told::Page(PageState::Data, 5)),
+            (Act::Look(145), Told::Page(PageState::Data, 5)),
+            (Act::Worn(9), Told::Worn(false)),
+        ],
+    ),
+    // power goes in an erase
+    (
+        &[PlannedFault {
+            number: 1,
+            kind: FaultKind::EraseCutWhole,
+        }],
+        &[
+            (Act::Fill(144, 5), DONE),
+            (Act::Fill(145, 5), DONE),
+            (Act::Clear(9), CUT),
+            (Act::Look(144), CUT),
+            (Act::PowerOn, DONE),
+            (Act::Look(144), ERASED),
+            (Act::Look(145), ERASED),
+            (Act::Worn(9), Told::Worn(false)),
+        ],
+    ),
+    // power goes in an erase
+    (
+        &[PlannedFault {
+            number: 1,
+            kind: FaultKind::EraseCutTorn,
+        }],
+        &[
+            (Act::Fill(144, 5), DONE),
+            (Act::Fill(145, 5), DONE),
+            (Act::Clear(9), CUT),
+            (Act::Look(144), CUT),
+            (Act::PowerOn, DONE),
+            (Act::Look(144), UNREADABLE),
+            (Act::Look(145), Told::Page(PageState::Data, 5)),
+            (Act::Worn(9), Told::Worn(false)),
+        ],
+    ),
+    // the last entry for an operation counts
+    (
+        &[
+            PlannedFault {
+                number: 2,
+                kind: FaultKind::EraseFail,
+            },
+            PlannedFault {
+                number: 1,
+                kind: FaultKind::EraseFail,
+            },
+            PlannedFault {
+                number: 1,
+                kind: FaultKind::EraseCutNone,
+            },
+        ],
+        &[
+            (Act::Clear(9), CUT),
+            (Act::PowerOn, DONE),
+            (Act::Plan(1, FaultKind::EraseCutTorn), DONE),
+            (Act::Plan(1, FaultKind::EraseCutWhole), DONE),
+            (Act::Clear(9), CUT),
+            (Act::PowerOn, DONE),
+            (Act::Look(144), ERASED),
+            (Act::Clear(9), DONE),
+        ],
+    ),
+    // faults are planned with the power off
+    (
+        &[PlannedFault {
+            number: 2,
+            kind: FaultKind::ReadCut,
+        }],
+        &[
+            (Act::Look(144), ERASED),
+            (Act::Look(144), CUT),
+            (Act::Look(144), CUT),
+            (Act::Plan(1, FaultKind::ReadFail), DONE),
+            (Act::PowerOn, DONE),
+            (Act::Look(144), FAILED),
+            (Act::Look(144), ERASED),
+        ],
+    ),
+];
 
 #[test]
-fn makes_a_flash_of_lawful_sizes(rt: HostRuntime) -> Result<(), Fail> {
-    let mut flash = SimFlash::new(rt.alloc(), SIZES, &[])?;
-    assert_eq!(rt; flash.geometry(), SIZES);
-    assert_eq!(rt; look(&mut flash, 511), Some(Ok((PageState::Erased, 7))));
-    assert_eq!(rt; fill(&mut flash, 511, 3), DONE);
-    assert_eq!(rt; look(&mut flash, 511), Some(Ok((PageState::Data, 3))));
-    assert_eq!(rt; clear(&mut flash, 31), DONE);
-    assert_eq!(rt; look(&mut flash, 511), Some(Ok((PageState::Erased, 7))));
+fn operations_do_as_planned(rt: HostRuntime) -> Result<(), Fail> {
+    for (plan, acts) in ROWS {
+        let mut flash = SimFlash::new(rt.alloc(), SIZES, plan)?;
+        for (act, wanted) in acts {
+            assert_eq!(rt; answer_of(&mut flash, *act), *wanted, "{act:?} {plan:?}");
+        }
+    }
+    Ok(())
+}
+
+#[test]
+fn sizes_have_to_be_lawful(rt: HostRuntime) -> Result<(), Fail> {
     for (page, pages, blocks) in [
         (255, 16, 32),
         (256, 15, 32),
@@ -84,153 +356,61 @@ fn makes_a_flash_of_lawful_sizes(rt: HostRuntime) -> Result<(), Fail> {
     Ok(())
 }
 
-fn entry(number: u128, kind: FaultKind) -> PlannedFault {
-    PlannedFault { number, kind }
-}
-
-#[test]
-fn fails_as_planned(rt: HostRuntime) -> Result<(), Fail> {
-    let plan = [
-        entry(2, FaultKind::EraseFail),
-        entry(2, FaultKind::ProgramFail),
-        entry(0, FaultKind::ProgramFail),
-        entry(1, FaultKind::ReadFail),
-    ];
-    let mut flash = SimFlash::new(rt.alloc(), SIZES, &plan)?;
-    assert_eq!(rt; look(&mut flash, 0), Some(Err(DevFault::Failed)));
-    assert_eq!(rt; look(&mut flash, 0), Some(Ok((PageState::Erased, 7))));
-    assert_eq!(rt; fill(&mut flash, 144, 1), DONE);
-    assert!(rt; !is_worn(&flash, 9));
-    assert_eq!(rt; fill(&mut flash, 145, 2), FAILED);
-    assert_eq!(rt; look(&mut flash, 145), Some(Ok((PageState::Unreadable, 7))));
-    assert!(rt; is_worn(&flash, 9));
-    assert_eq!(rt; clear(&mut flash, 9), DONE);
-    for number in 144..148 {
-        assert_eq!(rt; fill(&mut flash, number, 5), DONE);
-    }
-    assert_eq!(rt; clear(&mut flash, 9), FAILED);
-    for number in 144..148 {
-        let left = if number % 2 == 0 {
-            (PageState::Unreadable, 7)
-        } else {
-            (PageState::Data, 5)
-        };
-        assert_eq!(rt; look(&mut flash, number), Some(Ok(left)), "page {number}");
-    }
-    assert!(rt; !is_worn(&flash, 8) && !is_worn(&flash, 10));
-    Ok(())
-}
-
 #[test]
 fn takes_64_entries(rt: HostRuntime) -> Result<(), Fail> {
-    let mut flash = SimFlash::new(rt.alloc(), SIZES, &[entry(70, FaultKind::EraseFail)])?;
+    let plan = [PlannedFault {
+        number: 70,
+        kind: FaultKind::EraseFail,
+    }];
+    let mut flash = SimFlash::new(rt.alloc(), SIZES, &plan)?;
     for k in 1..64 {
         assert_eq!(rt;
-            flash.plan_fault(k, FaultKind::ReadFail),
-            Ok(()),
-            "entry {k}"
+            answer_of(&mut flash, Act::Plan(k, FaultKind::ReadFail)),
+            DONE,
+            "{k}"
         );
     }
-    assert_eq!(rt;
-        flash.plan_fault(1, FaultKind::ProgramFail),
-        Err(Fault::Invalid)
-    );
-    assert_eq!(rt; flash.plan_fault(1, FaultKind::ReadFail), Ok(()));
-    assert_eq!(rt; look(&mut flash, 0), Some(Err(DevFault::Failed)));
-    assert_eq!(rt; flash.plan_fault(2, FaultKind::ProgramFail), Ok(()));
-    assert_eq!(rt; fill(&mut flash, 0, 1), DONE);
-    assert_eq!(rt; fill(&mut flash, 1, 1), FAILED);
-    assert_eq!(rt; fill(&mut flash, 2, 1), DONE);
-    Ok(())
-}
-
-const CUT: Option<Result<(), DevFault>> = Some(Err(DevFault::PowerCut));
-
-// Looks at page 144 when power is on again after a cut.
-fn left_after_a_cut(flash: &mut SimFlash) -> Option<Result<(PageState, u8), DevFault>> {
-    flash.power_on();
-    look(flash, 144)
-}
-
-#[test]
-fn cuts_programs(rt: HostRuntime) -> Result<(), Fail> {
-    for (kind, left) in [
-        (FaultKind::ProgramCutNone, (PageState::Erased, 7)),
-        (FaultKind::ProgramCutWhole, (PageState::Data, 2)),
-        (FaultKind::ProgramCutTorn, (PageState::Unreadable, 7)),
+    for (act, wanted) in [
+        (
+            Act::Plan(1, FaultKind::ProgramFail),
+            Told::Refused(Fault::Invalid),
+        ),
+        (Act::Plan(1, FaultKind::ReadFail), DONE),
+        (Act::Look(0), FAILED),
+        (Act::Plan(2, FaultKind::ProgramFail), DONE),
+        (Act::Fill(0, 1), DONE),
+        (Act::Fill(1, 1), FAILED),
+        (Act::Fill(2, 1), DONE),
     ] {
-        let mut flash = SimFlash::new(rt.alloc(), SIZES, &[entry(2, kind)])?;
-        assert_eq!(rt; fill(&mut flash, 143, 1), DONE);
-        assert_eq!(rt; fill(&mut flash, 144, 2), CUT);
-        assert_eq!(rt; look(&mut flash, 143), Some(Err(DevFault::PowerCut)));
-        assert_eq!(rt; clear(&mut flash, 8), CUT);
-        assert_eq!(rt; left_after_a_cut(&mut flash), Some(Ok(left)), "{kind:?}");
-        assert_eq!(rt; look(&mut flash, 143), Some(Ok((PageState::Data, 1))));
-        assert!(rt; !is_worn(&flash, 9));
+        assert_eq!(rt; answer_of(&mut flash, act), wanted, "{act:?}");
     }
-    Ok(())
-}
-
-#[test]
-fn cuts_erases(rt: HostRuntime) -> Result<(), Fail> {
-    let programmed = (PageState::Data, 5);
-    let erased = (PageState::Erased, 7);
-    let torn = (PageState::Unreadable, 7);
-    for (kind, even, odd) in [
-        (FaultKind::EraseCutNone, programmed, programmed),
-        (FaultKind::EraseCutWhole, erased, erased),
-        (FaultKind::EraseCutTorn, torn, programmed),
-    ] {
-        let mut flash = SimFlash::new(rt.alloc(), SIZES, &[entry(1, kind)])?;
-        assert_eq!(rt; fill(&mut flash, 144, 5), DONE);
-        assert_eq!(rt; fill(&mut flash, 145, 5), DONE);
-        assert_eq!(rt; clear(&mut flash, 9), CUT);
-        assert_eq!(rt; look(&mut flash, 144), Some(Err(DevFault::PowerCut)));
-        assert_eq!(rt; left_after_a_cut(&mut flash), Some(Ok(even)), "{kind:?}");
-        assert_eq!(rt; look(&mut flash, 145), Some(Ok(odd)), "{kind:?}");
-        assert!(rt; !is_worn(&flash, 9));
-    }
-    Ok(())
-}
-
-#[test]
-fn takes_the_last_entry_for_an_operation(rt: HostRuntime) -> Result<(), Fail> {
-    let plan = [
-        entry(2, FaultKind::EraseFail),
-        entry(1, FaultKind::EraseFail),
-        entry(1, FaultKind::EraseCutNone),
-    ];
-    let mut flash = SimFlash::new(rt.alloc(), SIZES, &plan)?;
-    assert_eq!(rt; clear(&mut flash, 9), CUT);
-    flash.power_on();
-    assert_eq!(rt; flash.plan_fault(1, FaultKind::EraseCutTorn), Ok(()));
-    assert_eq!(rt; flash.plan_fault(1, FaultKind::EraseCutWhole), Ok(()));
-    assert_eq!(rt; clear(&mut flash, 9), CUT);
-    flash.power_on();
-    assert_eq!(rt; look(&mut flash, 144), Some(Ok((PageState::Erased, 7))));
-    assert_eq!(rt; clear(&mut flash, 9), DONE);
     Ok(())
 }
 
 #[test]
 fn counts_while_power_is_on(rt: HostRuntime) -> Result<(), Fail> {
-    let mut flash = SimFlash::new(rt.alloc(), SIZES, &[entry(2, FaultKind::ReadCut)])?;
-    assert_eq!(rt; clear(&mut flash, 9), DONE);
-    assert_eq!(rt; fill(&mut flash, 144, 5), DONE);
-    assert_eq!(rt; fill(&mut flash, 145, 5), DONE);
-    assert_eq!(rt; look(&mut flash, 144), Some(Ok((PageState::Data, 5))));
-    assert_eq!(rt; look(&mut flash, 144), Some(Err(DevFault::PowerCut)));
-    assert_eq!(rt; look(&mut flash, 144), Some(Err(DevFault::PowerCut)));
-    assert_eq!(rt; fill(&mut flash, 146, 5), CUT);
-    assert_eq!(rt; flash.plan_fault(1, FaultKind::ReadFail), Ok(()));
-    flash.power_on();
+    let plan = [PlannedFault {
+        number: 2,
+        kind: FaultKind::ReadCut,
+    }];
+    let mut flash = SimFlash::new(rt.alloc(), SIZES, &plan)?;
+    for (act, wanted) in [
+        (Act::Clear(9), DONE),
+        (Act::Fill(144, 5), DONE),
+        (Act::Fill(145, 5), DONE),
+        (Act::Look(144), Told::Page(PageState::Data, 5)),
+        (Act::Look(144), CUT),
+        (Act::Look(144), CUT),
+        (Act::Fill(146, 5), CUT),
+        (Act::PowerOn, DONE),
+    ] {
+        assert_eq!(rt; answer_of(&mut flash, act), wanted, "{act:?}");
+    }
     let counts = Counters {
         reads: 2,
         programs: 2,
         erases: 1,
     };
     assert_eq!(rt; flash.counts(), counts);
-    assert_eq!(rt; look(&mut flash, 144), Some(Err(DevFault::Failed)));
-    assert_eq!(rt; look(&mut flash, 144), Some(Ok((PageState::Data, 5))));
     Ok(())
 }

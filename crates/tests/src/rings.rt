@@ -1,5 +1,5 @@
 //! Sets of blocks and the ring with ample memory.
-use allocator::{BlockSet, Ring};
+use allocator::{BlockSet, Marks, Ring};
 use bad_blocks::BadBlocks;
 use std::test::Fail;
 
@@ -26,5 +26,27 @@ fn takes_in_ring_order(rt: HostRuntime) -> Result<(), Fail> {
     assert_eq!(rt; ring.take(&bad), Some(10));
     assert_eq!(rt; ring.last(), 10);
     assert_eq!(rt; ring.free_count(&bad), 21);
+    Ok(())
+}
+
+/// What is marked and what was taken since the note was emptied is used, and nothing else.
+#[test]
+fn marks_are_installed(rt: HostRuntime) -> Result<(), Fail> {
+    let mut ring = Ring::new(rt.alloc(), 16, 10)?;
+    let bad = BadBlocks::new();
+    ring.mark_used(8);
+    ring.mark_used(9);
+    ring.mark_used(10);
+    ring.mark_used(11);
+    ring.watch();
+    assert_eq!(rt; ring.take(&bad), Some(12));
+    let mut marks = Marks::new(rt.alloc(), 16)?;
+    marks.insert(8);
+    marks.insert(9);
+    marks.insert(10);
+    ring.install(marks);
+    assert!(rt; ring.is_used(8) && ring.is_used(9) && ring.is_used(10) && ring.is_used(12));
+    assert!(rt; !ring.is_used(11) && !ring.is_used(13));
+    assert_eq!(rt; ring.take(&bad), Some(13));
     Ok(())
 }

@@ -1,6 +1,6 @@
 //! The words of `uffs`: its subcommands, their arguments, and the texts of its help.
 ghost use Rattle.std.specs.Prelude.{◌≡◌, IfOk, codes, false};
-ghost use Rattle.clap.specs.Words.{app_of, rule_of, new_app, with_subcommand};
+ghost use Rattle.clap.specs.Words.{app_of, rule_of, new_app, with_rule, with_subcommand};
 ghost use Rattle.clap.specs.declared.builder.command.Command.TheViews.{out-Command};
 ghost use Rattle.jobs.specs.Grammar.{uffs, bare_app, format_app, image_app, with_image_apps, number_rule};
 
@@ -147,31 +147,48 @@ fn format_command<'a>(alloc: Global) -> Result<Command<'a>, AllocError>
         "Makes an image with an empty file system",
         FORMAT_HELP,
     )?;
-    command
-        .arg(number_arg(
-            alloc,
-            "page",
-            "P",
-            "Bytes of a page: 256, 512, 1024, 2048 or 4096 [default: 256]",
-        ))?
-        .arg(number_arg(
-            alloc,
-            "pages",
-            "K",
-            "Pages of a block, which has 4096 to 262144 bytes [default: 16]",
-        ))?
-        .arg(number_arg(
-            alloc,
-            "blocks",
-            "N",
-            "Blocks, 16 to 65536, in at most 67108864 bytes [default: 32]",
-        ))?
-        .arg(number_arg(
-            alloc,
-            "history",
-            "H",
-            "Versions that are kept, 2 to 64 [default: 8]",
-        ))
+    let command = with_number(
+        alloc,
+        command,
+        "page",
+        "P",
+        "Bytes of a page: 256, 512, 1024, 2048 or 4096 [default: 256]",
+    )?;
+    let command = with_number(
+        alloc,
+        command,
+        "pages",
+        "K",
+        "Pages of a block, which has 4096 to 262144 bytes [default: 16]",
+    )?;
+    let command = with_number(
+        alloc,
+        command,
+        "blocks",
+        "N",
+        "Blocks, 16 to 65536, in at most 67108864 bytes [default: 32]",
+    )?;
+    with_number(
+        alloc,
+        command,
+        "history",
+        "H",
+        "Versions that are kept, 2 to 64 [default: 8]",
+    )
+}
+
+/// The subcommand with an option more that takes a number.
+fn with_number<'a>(
+    alloc: Global,
+    command: Command<'a>,
+    name: &'a str,
+    value: &'a str,
+    help: &'a str,
+) -> Result<Command<'a>, AllocError>
+    ensures app { IfOk result (λ more. app_of more ≡ with_rule (app_of command.entry) (number_rule name.entry.now)) }
+    ensures local { IfOk result (λ more. (out-Command more).has_globals ≡ (out-Command command.entry).has_globals) }
+{
+    command.arg(number_arg(alloc, name, value, help))
 }
 
 /// A subcommand that takes an image.

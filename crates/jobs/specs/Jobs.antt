@@ -8,6 +8,7 @@ use Rattle.clap.specs.Walk.{first_of, one_of}
 use Rattle.jobs.specs.Grammar.{uffs}
 use Rattle.jobs.specs.declared.tasks.Task.{Task}
 use Rattle.jobs.specs.declared.tasks.Job.{Job}
+use Rattle.jobs.specs.declared.words.Numbers.{Numbers}
 
 -- the subcommand that the words name, with what they say of its arguments
 abbrev pub given : List Text → Option (Text × List Row)
@@ -30,6 +31,13 @@ Spells word n = IsNumeral 10 (without_leading_plus word) × (digits_value 10 (wi
 abbrev pub IsNumberOf : Option Text → ℕ → ℕ → Type 0
 IsNumberOf (Some word) default n = Spells word n
 IsNumberOf None default n = n ≡ default
+
+-- the numbers are those of the options, and where there is none the defaults
+pub record AreNumbersOf (rows : List Row) (numbers : Numbers) : Type 0 where
+  pub page : IsNumberOf (one_of (codes "page") rows) 256 numbers.page
+  pub pages : IsNumberOf (one_of (codes "pages") rows) 16 numbers.pages
+  pub blocks : IsNumberOf (one_of (codes "blocks") rows) 32 numbers.blocks
+  pub history : IsNumberOf (one_of (codes "history") rows) 8 numbers.history
 
 -- a job names the image that the words name, and none for `memory`
 pub record IsImageOf (task : Task) (word image : Option Text) : Type 0 where

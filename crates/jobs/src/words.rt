@@ -1,16 +1,25 @@
 //! A job of the program, as its words ask for it.
 ghost use Rattle.std.specs.Prelude.{◌≡◌, ℕ, [], codes, IfOk, OnOk, IfErr, IfSome, IfNone, Option, List, ◌⊎◌, map, option_map, string_bytes};
-ghost use Rattle.clap.specs.Words.{HasKind, fault_of, found_of, rows_of, subcommand_rows_of};
+ghost use Rattle.clap.specs.Words.{HasKind, app_of, fault_of, found_of, rows_of, subcommand_rows_of};
 ghost use Rattle.clap.specs.Walk.{one_of, first_of};
 ghost use Rattle.jobs.specs.Grammar.{uffs};
-ghost use Rattle.jobs.specs.Jobs.{AsksFor, SaysJob, IsNumberOf, IsImageOf, task_named};
+ghost use Rattle.jobs.specs.Jobs.{AreNumbersOf, AsksFor, SaysJob, IsNumberOf, IsImageOf, task_named};
 ghost use Rattle.jobs.specs.declared.tasks.Job.{Job};
+ghost use Rattle.jobs.specs.declared.words.Numbers.{Numbers};
 
 use crate::grammar::{IMAGE, program};
 use crate::tasks::{Job, Task};
 use clap::error::ErrorKind;
-use clap::{ArgMatches, Error};
+use clap::{ArgMatches, Command, Error};
 use std::alloc::Global;
+
+/// The numbers of a job.
+struct Numbers {
+    page: u32,
+    pages: u32,
+    blocks: u32,
+    history: u32,
+}
 
 /// What the words that follow the program's name ask for.
 ///
@@ -26,13 +35,32 @@ pub fn job<'a>(alloc: Global, words: &'a [String]) -> Result<Job<'a>, Error>
         ⊎ ((job : Job) → AsksFor (map string_bytes words.now) job → ⊥)) }
 {
     let mut program = program(alloc)?;
+    asked_of(&mut program, words)
+}
+
+/// What the words ask of the program.
+fn asked_of<'a>(program: &mut Command<'a>, words: &'a [String]) -> Result<Job<'a>, Error>
+    requires form { app_of program.old ≡ uffs }
+    ensures given { IfOk result (AsksFor (map string_bytes words.now)) }
+    ensures lawful { OnOk result (fault_of uffs (map string_bytes words.now) ≡ []) }
+    ensures refused { IfErr result (λ error. HasKind (fault_of uffs (map string_bytes words.now)) error
+        ⊎ ((job : Job) → AsksFor (map string_bytes words.now) job → ⊥)) }
+{
     let matches = match program.try_get_matches_from_mut(words) {
         Ok(matches) => matches,
         Err(error) => return Err(error),
     };
     match said(&matches) {
         Some(job) => Ok(job),
-        None => Err(program.error(ErrorKind::InvalidValue, "the words ask for nothing")?),
+        None => Err(nothing_asked(program)),
+    }
+}
+
+/// The error for words that ask for nothing.
+fn nothing_asked(program: &mut Command<'_>) -> Error {
+    match program.error(ErrorKind::InvalidValue, "the words ask for nothing") {
+        Ok(error) => error,
+        Err(error) => Error::from(error),
     }
 }
 
@@ -43,9 +71,29 @@ fn said<'a>(matches: &ArgMatches<'a>) -> Option<Job<'a>>
 {
     let (name, given) = matches.subcommand()?;
     let command = task_named(name)?;
+    let image = image(given, command)?;
+    let Numbers {
+        page,
+        pages,
+        blocks,
+        history,
+    } = numbers_of(given)?;
     Some(Job {
         command,
-        image: image(given, command)?,
+        image,
+        page,
+        pages,
+        blocks,
+        history,
+    })
+}
+
+/// The numbers that the options give, else their defaults; none where a word spells no number.
+fn numbers_of(given: &ArgMatches<'_>) -> Option<Numbers>
+    ensures some { IfSome result (AreNumbersOf (rows_of (found_of given.now))) }
+    ensures none { IfNone result ((numbers : Numbers) → AreNumbersOf (rows_of (found_of given.now)) numbers → ⊥) }
+{
+    Some(Numbers {
         page: number(given, "page", 256)?,
         pages: number(given, "pages", 16)?,
         blocks: number(given, "blocks", 32)?,

@@ -1,0 +1,31 @@
+-- What the matches of a subcommand say.
+use Rattle.std.proofs.Common.{◌≡◌, Option, Some, None, List, option_map, sym, subst}
+use Rattle.std.specs.Box.{box_value}
+use Rattle.clap.specs.Words.{Row, Text, found_of, rows_of, subcommand_name_of, subcommand_rows_of}
+use Rattle.clap.specs.declared.parser.matches.ArgMatches.{ArgMatches}
+use Rattle.clap.specs.declared.parser.matches.ArgMatches.TheViews.{out-ArgMatches, out-SubCommand}
+use Rattle.jobs.specs.Jobs.{AreNumbersOf, IsJobOf, SaysJob}
+use Rattle.jobs.specs.declared.tasks.Job.{Job}
+use Rattle.jobs.specs.declared.words.Numbers.{Numbers}
+
+both : {B : Type 0} (f : B → Text) (g : B → List Row) (o : Option B) (name : Text) (rows : List Row) → Some name ≡ option_map f o
+    → Some rows ≡ option_map (λ (p : Text × List Row). p.1) (option_map {U = Text × List Row} (λ b. (f b, g b)) o) → option_map {U = Text × List Row} (λ b. (f b, g b)) o ≡ Some (name, rows)
+both f g (Some b) name rows e d = cc
+both f g None name rows e d = absurd cc
+
+-- the subcommand that was found, with its rows
+rows_said : (m : ArgMatches) (name : Text) (rows : List Row) → Some name ≡ subcommand_name_of m → Some rows ≡ option_map (λ (p : Text × List Row). p.1) (subcommand_rows_of m)
+    → subcommand_rows_of m ≡ Some (name, rows)
+rows_said m name rows e d =
+    both (λ b. (out-SubCommand (box_value b)).name.now) (λ b. rows_of (found_of (out-SubCommand (box_value b)).matches)) (out-ArgMatches m).subcommand name rows e d
+
+-- the numbers of a job
+abbrev numbers_in : Job → Numbers
+numbers_in job = record { page = job.page; pages = job.pages; blocks = job.blocks; history = job.history }
+
+-- no job is said where the options give no numbers
+pub none_said : (m : ArgMatches) (name : Text) (rows : List Row) → Some name ≡ subcommand_name_of m → Some rows ≡ option_map (λ (p : Text × List Row). p.1) (subcommand_rows_of m)
+    → ((numbers : Numbers) → AreNumbersOf rows numbers → ⊥) → (job : Job) → SaysJob (subcommand_rows_of m) job → ⊥
+none_said m name rows e d none job says =
+    let is : IsJobOf name rows job = subst (λ o. SaysJob o job) (rows_said m name rows e d) says in
+    none (numbers_in job) (record { page = is.page; pages = is.pages; blocks = is.blocks; history = is.history })

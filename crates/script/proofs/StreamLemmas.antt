@@ -1,11 +1,14 @@
 -- Bytes taken from a reader.
-use Rattle.std.proofs.Common.{◌≡◌, ◌≢◌, ℕ, ◌+◌, ◌<◌, ◌≤◌, List, [], ◌∷◌, ◌++◌, length, take, drop, Option, inl, inr, ◌⊎◌, append_assoc, length-append, length-drop, ◌-◌, sym, subst, arith}
+use Rattle.std.proofs.Common.{◌≡◌, ◌≢◌, ℕ, ◌+◌, ◌<◌, ◌≤◌, List, [], ◌∷◌, ◌++◌, length, take, drop, Option, Result, Ok, Err, inl, inr, ◌⊎◌, append_assoc, length-append, length-drop, ◌-◌, sym, subst, arith}
 use Rattle.std.proofs.Math.Seq.{take-add}
 use Rattle.std.proofs.lemmas.Grind.{common_steps}
 use Rattle.std.proofs.lemmas.List.Elements.{All-push, All-append}
 use Rattle.std.proofs.KnownBytes.{Appends-trans, Consumes-trans}
 use Rattle.std.specs.Io.KnownBytes.{Consumes, IsAtEnd, Appends}
-use Rattle.script.specs.Streams.{IsWithoutLf, TakesPart, TakesRest, TakesLine}
+use Rattle.std.specs.Prelude.{IfOk, MatchResult}
+use Rattle.script.specs.Streams.{IsWithoutLf, Takes, TakesPart, TakesRest, TakesLine}
+use Rattle.script.specs.declared.streams.Taken.{Taken}
+use Rattle.script.specs.declared.streams.Taken.TheVariants.{TooLong}
 
 -- the buffer holds what was taken of the line so far
 pub record IsFilling (old new : Option (List ℕ)) (line : List ℕ) (capacity : ℕ) : Type 0 where
@@ -22,7 +25,7 @@ pub part_more : (a b c : Option (List ℕ)) (byte : ℕ) → TakesPart a b → C
 part_more a b c byte part more other = (part.0 ++ byte ∷ [], no_lf_more part.0 byte part.1 other, Consumes-trans a b c part.0 (byte ∷ []) part.2 more)
 
 -- a part of a line after a full buffer
-pub full_part : (a b c d : Option (List ℕ)) (line : List ℕ) (byte capacity : ℕ) → IsFilling a b line capacity → Consumes b c (byte ∷ []) → byte ≢ 10
+full_part : (a b c d : Option (List ℕ)) (line : List ℕ) (byte capacity : ℕ) → IsFilling a b line capacity → Consumes b c (byte ∷ []) → byte ≢ 10
     → TakesPart c d → TakesPart a d
 full_part a b c d line byte capacity filling more other part =
     let front = Consumes-trans a b c line (byte ∷ []) filling.taken more in (
@@ -38,7 +41,7 @@ ends_after a c d front rest some taken (inl lf) = inl (subst (Consumes a d) (sym
 ends_after a c d front rest some taken (inr end) = inr (Consumes-trans a c d front rest taken end.0, end.1, omega (arith, length-append front rest))
 
 -- the rest of a line after a full buffer
-pub full_line : (a b c d : Option (List ℕ)) (line : List ℕ) (byte capacity : ℕ) → IsFilling a b line capacity → Consumes b c (byte ∷ []) → byte ≢ 10
+full_line : (a b c d : Option (List ℕ)) (line : List ℕ) (byte capacity : ℕ) → IsFilling a b line capacity → Consumes b c (byte ∷ []) → byte ≢ 10
     → length line ≡ 65536 → (bytes : List ℕ) × TakesRest c d bytes → (long : List ℕ) × TakesLine a d long × (65536 < length long)
 full_line a b c d line byte capacity filling more other full rest =
     let front = Consumes-trans a b c line (byte ∷ []) filling.taken more in
@@ -50,6 +53,13 @@ full_line a b c d line byte capacity filling more other full rest =
       ),
       omega (arith, length-append (line ++ byte ∷ []) rest.0),
     )
+
+-- what skipping the rest of a line after a full buffer took
+pub full_taken : {E : Type 0} (a b c d : Option (List ℕ)) (r : Result Taken E) (line : List ℕ) (byte capacity : ℕ) → IsFilling a b line capacity → Consumes b c (byte ∷ []) → byte ≢ 10
+    → length line ≡ 65536 → IfOk r (λ taken. taken ≡ TooLong) → MatchResult r (λ _. (bytes : List ℕ) × TakesRest c d bytes) (λ _. TakesPart c d) → Takes a d r line
+full_taken {E} a b c d (Ok taken) line byte capacity filling more other full long rest =
+    subst (λ (t : Taken). Takes {E = E} a d (Ok t) line) (sym long) (full_line a b c d line byte capacity filling more other full rest)
+full_taken {E} a b c d (Err error) line byte capacity filling more other full long rest = full_part a b c d line byte capacity filling more other rest
 
 -- the bytes from a place on
 rest_of : (bytes : List ℕ) (n : ℕ) → n ≤ length bytes → take (length bytes - n) (drop n bytes) ≡ drop n bytes

@@ -92,14 +92,25 @@ fn print_df(
 ) -> Result<(), AllocError>
     ensures { OnOk result (out.new.items ≡ out.old.items ++ df_text blocks bad free anchors) }
 {
-    out.extend_from_slice(b"df data ")?;
-    print_number(out, blocks)?;
-    out.extend_from_slice(b" bad ")?;
-    print_number(out, bad)?;
-    out.extend_from_slice(b" free ")?;
-    print_number(out, free)?;
-    out.extend_from_slice(b" anchors ")?;
-    print_number(out, anchors)
+    print_labelled(out, b"df data ", blocks)?;
+    print_labelled(out, b" bad ", bad)?;
+    print_labelled(out, b" free ", free)?;
+    print_labelled(out, b" anchors ", anchors)
+}
+
+fn print_dropped(out: &mut Vec<u8>, dropped: bool) -> Result<(), AllocError>
+    ensures { OnOk result (out.new.items ≡ out.old.items ++ codes " dropped " ++ (if dropped then codes "1" else codes "0")) }
+{
+    out.extend_from_slice(b" dropped ")?;
+    out.push(if dropped { b'1' } else { b'0' })?;
+    Ok(())
+}
+
+fn print_versions(out: &mut Vec<u8>, versions: &[u64], cursor: u64) -> Result<(), AllocError>
+    ensures { OnOk result (out.new.items ≡ out.old.items ++ codes " versions" ++ flat_map (serial_text cursor) (enumerate_from 0 versions.now)) }
+{
+    out.extend_from_slice(b" versions")?;
+    print_serials(out, versions, cursor)
 }
 
 fn print_log(
@@ -112,12 +123,9 @@ fn print_log(
 ) -> Result<(), AllocError>
     ensures { OnOk result (out.new.items ≡ out.old.items ++ log_text next dropped versions.now cursor checkpoints.now) }
 {
-    out.extend_from_slice(b"log next ")?;
-    print_number(out, next)?;
-    out.extend_from_slice(b" dropped ")?;
-    out.push(if dropped { b'1' } else { b'0' })?;
-    out.extend_from_slice(b" versions")?;
-    print_serials(out, versions, cursor)?;
+    print_labelled(out, b"log next ", next)?;
+    print_dropped(out, dropped)?;
+    print_versions(out, versions, cursor)?;
     out.extend_from_slice(b" checkpoints")?;
     print_checkpoints(out, checkpoints)
 }

@@ -2,6 +2,7 @@
 ghost use Rattle.std.specs.Prelude.{◌≡◌, ◌≢◌, ℕ, ◌<◌, ◌≤◌, List, [], ◌∷◌, ◌++◌, length, take, vec_len, vec_capacity, MatchResult, OnOk, OnErr, IfOk};
 ghost use Rattle.std.specs.Io.KnownBytes.{Consumes, IsAtEnd, Appends, Keeps};
 ghost use Rattle.script.specs.Streams.{TakesByte, TakesRest, TakesPart, Takes, TakesLines};
+ghost use Rattle.script.specs.declared.streams.Taken.TheVariants.{TooLong};
 
 use crate::lines::LINE_LIMIT;
 use std::alloc::{AllocError, Global};
@@ -58,6 +59,17 @@ fn skip_line<R: Read>(reader: &mut R) -> io::Result<()>
     Err(io::Error::from(ErrorKind::Interrupted))
 }
 
+/// Reads past the rest of a line that is too long.
+fn skip_long<R: Read>(reader: &mut R) -> io::Result<Taken>
+    ensures long { IfOk result (λ taken. taken ≡ TooLong) }
+    ensures rest { MatchResult result
+        (λ _. (bytes : List ℕ) × TakesRest (R.remaining reader.old) (R.remaining reader.new) bytes)
+        (λ _. TakesPart (R.remaining reader.old) (R.remaining reader.new)) }
+{
+    skip_line(reader)?;
+    Ok(Taken::TooLong)
+}
+
 /// Reads a line into an empty buffer with room for [`LINE_LIMIT`] bytes.
 fn fill_line<R: Read>(buffer: &mut Vec<u8>, reader: &mut R) -> io::Result<Taken>
     requires empty { buffer.old.items ≡ [] }
@@ -77,8 +89,7 @@ fn fill_line<R: Read>(buffer: &mut Vec<u8>, reader: &mut R) -> io::Result<Taken>
             return Ok(Taken::Line);
         }
         if buffer.len() == LINE_LIMIT {
-            skip_line(reader)?;
-            return Ok(Taken::TooLong);
+            return skip_long(reader);
         }
         let _ = buffer.push(byte);
     }

@@ -1,5 +1,5 @@
 -- Pages of the anchors.
-use Rattle.std.specs.Prelude.{◌≡◌, ℕ, ◌+◌, ◌*◌, ◌/◌, ◌%◌, ◌<◌, ◌≤◌}
+use Rattle.std.specs.Prelude.{◌≡◌, ℕ, ◌+◌, ◌*◌, ◌/◌, ◌%◌, ◌<◌, ◌≤◌, List, length}
 use Rattle.std.proofs.Common.{arith}
 use Rattle.std.proofs.lemmas.Nat.{div_below, div-add-mod', mul-le}
 use Rattle.flash_model.specs.declared.sizes.Geometry.{Geometry}
@@ -14,6 +14,9 @@ page_size-least n h = grind (arith, nat_tests)
 
 pub page_least : (g : Geometry) → IsGeometry g → 256 ≤ g.page
 page_least g lawful = page_size-least g.page lawful.page_size
+
+pub long_enough : (g : Geometry) (page : List ℕ) → IsGeometry g → length page ≡ g.page → 20 ≤ length page
+long_enough g page lawful whole = let h = page_least g lawful in omega arith
 
 pub anchor_below : (g : Geometry) (p : ℕ) → IsGeometry g → p < first_data * g.pages → p / g.pages < first_data
 anchor_below g p lawful lt = div_below p g.pages first_data (let h : 1 ≤ g.pages = lawful.some_pages in omega arith) lt

@@ -1,11 +1,11 @@
 -- What was read, one page after the other.
-use Rattle.std.proofs.Common.{◌≡◌, ℕ, suc, ◌+◌, ◌-◌, ◌/◌, ◌<◌, ◌≤◌, Bool, true, false, List, ◌++◌, length, Option, Some, None, refl, sym, ap, subst, ◌∙◌, append_assoc, arith}
+use Rattle.std.proofs.Common.{◌≡◌, ◌≢◌, ℕ, suc, ◌+◌, ◌-◌, ◌/◌, ◌<◌, ◌≤◌, Bool, true, false, cond, ltb, leb, List, ◌++◌, length, Option, Some, None, inl, inr, refl, sym, ap, subst, ◌∙◌, append_assoc, arith}
 use Rattle.std.specs.FinSet as set
 use Rattle.std.specs.Ordering.{nat_cmp}
-use Rattle.std.proofs.lemmas.Bool.{lt-ltb}
+use Rattle.std.proofs.lemmas.Bool.{cases_Bool, and_right, lt-ltb, lt-leb, le-leb}
 use Rattle.std.proofs.lemmas.List.{append-nil, length-append}
-use Rattle.std.specs.Prelude.{◌&&◌}
-use Rattle.std.specs.Option.{option_map}
+use Rattle.std.specs.Prelude.{◌&&◌, ◌%◌}
+use Rattle.std.specs.Option.{option_map, option_and_then}
 use Rattle.fs_types.specs.declared.faults.Fault.{Fault}
 use Rattle.fs_types.specs.declared.faults.Fault.TheVariants.{ReadFailed, PowerCut}
 use Rattle.flash_model.specs.declared.sizes.Geometry.{Geometry}
@@ -13,7 +13,7 @@ use Rattle.flash_model.specs.Device.{Device, Page, bytes_of}
 use Rattle.record_format.specs.Pages.{head_of, used_bytes}
 use Rattle.record_format.specs.declared.pages.PageHead.{PageHead}
 use Rattle.commit_pair.specs.Anchored.{AreErased}
-use Rattle.commit_pair.specs.Parts.{first_data, Part, parts_on, part_bytes, head_at, is_part, are_parts, record_head, considered, best_below, bytes_from, held_bytes}
+use Rattle.commit_pair.specs.Parts.{first_data, Part, part_of, parts_on, part_bytes, head_at, is_part, are_parts, is_record, record_head, considered, best_below, bytes_from, held_bytes}
 use Rattle.commit_pair.specs.declared.best.Best.{Best}
 use Rattle.commit_pair.specs.Reading.{OnlyReads, ReadCause}
 
@@ -21,6 +21,12 @@ use Rattle.commit_pair.specs.Reading.{OnlyReads, ReadCause}
 pub data_part : (g : Geometry) (pages : ℕ → Page) (p : ℕ) (shown : List ℕ) (found : Option PageHead) → p / g.pages < first_data → pages p ≡ bytes_of shown → found ≡ head_of shown
     → option_map (λ head. record { head = head; bytes = used_bytes head shown }) found ≡ parts_on g pages p
 data_part g pages p shown found lt held tells = rw (lt-ltb _ _ lt, held, tells) refl
+
+pub no_part : (g : Geometry) (pages : ℕ → Page) (p : ℕ) → part_of (pages p) ≡ None → None ≡ parts_on g pages p
+no_part g pages p none = elim (cases_Bool (ltb (p / g.pages) first_data)) [
+  | inl within ↦ sym (ap (λ b. cond b (part_of (pages p)) None) within ∙ none)
+  | inr beyond ↦ sym (ap (λ b. cond b (part_of (pages p)) None) beyond)
+]
 
 -- the header of a part that was read, and its bytes
 pub part_head : (parts : ℕ → Option Part) (p : ℕ) (shown : List ℕ) (found : Option PageHead) → option_map (λ head. record { head = head; bytes = used_bytes head shown }) found ≡ parts p → found ≡ head_at parts p
@@ -30,6 +36,38 @@ part_head parts p shown (Some head) e = ap (option_map (λ part. part.head)) e
 pub part_held : (parts : ℕ → Option Part) (p : ℕ) (shown : List ℕ) (found : Option PageHead) → option_map (λ head. record { head = head; bytes = used_bytes head shown }) found ≡ parts p → held_bytes found shown ≡ part_bytes (parts p)
 part_held parts p shown None e = ap part_bytes e
 part_held parts p shown (Some head) e = ap part_bytes e
+
+-- the header of the valid record that begins at a page that was read
+record_begins : (g : Geometry) (parts : ℕ → Option Part) (p : ℕ) (shown : List ℕ) (found : Option PageHead) → option_map (λ head. record { head = head; bytes = used_bytes head shown }) found ≡ parts p
+    → option_and_then (λ first. cond (is_record g parts p first) (Some first) None) found ≡ record_head g parts p
+record_begins g parts p shown found e = ap (option_and_then (λ first. cond (is_record g parts p first) (Some first) None)) (part_head parts p shown found e)
+
+pub begins_none : (g : Geometry) (parts : ℕ → Option Part) (p : ℕ) (shown : List ℕ) (found : Option PageHead) → option_map (λ head. record { head = head; bytes = used_bytes head shown }) found ≡ parts p → found ≡ None → None ≡ record_head g parts p
+begins_none g parts p shown found e is = ap (option_and_then (λ first. cond (is_record g parts p first) (Some first) None)) (sym is) ∙ record_begins g parts p shown found e
+
+begins_as : (g : Geometry) (parts : ℕ → Option Part) (p : ℕ) (shown : List ℕ) (found : Option PageHead) (first : PageHead) (valid : Bool) → option_map (λ head. record { head = head; bytes = used_bytes head shown }) found ≡ parts p → found ≡ Some first
+    → is_record g parts p first ≡ valid → cond valid (Some first) None ≡ record_head g parts p
+begins_as g parts p shown found first valid e is same =
+    ap (λ b. cond b (Some first) None) (sym same) ∙ ap (option_and_then (λ first. cond (is_record g parts p first) (Some first) None)) (sym is) ∙ record_begins g parts p shown found e
+
+pub begins_uncounted : (g : Geometry) (parts : ℕ → Option Part) (p : ℕ) (shown : List ℕ) (found : Option PageHead) (first : PageHead) → option_map (λ head. record { head = head; bytes = used_bytes head shown }) found ≡ parts p → found ≡ Some first
+    → first.count ≡ 0 → None ≡ record_head g parts p
+begins_uncounted g parts p shown found first e is none =
+    begins_as g parts p shown found first false e is (ap (λ n. ltb 0 n && (leb (p % g.pages + first.count) g.pages && are_parts g parts p first 0 first.count)) none)
+
+pub begins_too_long : (g : Geometry) (parts : ℕ → Option Part) (p : ℕ) (shown : List ℕ) (found : Option PageHead) (first : PageHead) → option_map (λ head. record { head = head; bytes = used_bytes head shown }) found ≡ parts p → found ≡ Some first
+    → g.pages < p % g.pages + first.count → None ≡ record_head g parts p
+begins_too_long g parts p shown found first e is long =
+    begins_as g parts p shown found first false e is (and_right (ltb 0 first.count) _ (ap (λ b. b && are_parts g parts p first 0 first.count) (lt-leb _ _ long)))
+
+pub begins_by_parts : (g : Geometry) (parts : ℕ → Option Part) (p : ℕ) (shown : List ℕ) (found : Option PageHead) (first : PageHead) (valid : Bool) → option_map (λ head. record { head = head; bytes = used_bytes head shown }) found ≡ parts p → found ≡ Some first
+    → first.count ≢ 0 → p % g.pages + first.count ≤ g.pages → valid ≡ are_parts g parts p first 0 first.count → cond valid (Some first) None ≡ record_head g parts p
+begins_by_parts g parts p shown found first valid e is some fits all =
+    begins_as g parts p shown found first valid e is
+    (ap (λ b. b && (leb (p % g.pages + first.count) g.pages && are_parts g parts p first 0 first.count)) (lt-ltb 0 first.count (omega arith)) ∙ ap (λ b. b && are_parts g parts p first 0 first.count) (le-leb _ _ fits) ∙ sym all)
+
+pub parts_read : (g : Geometry) (old mid : ℕ → Page) (p : ℕ) (first : PageHead) (has : Bool) → mid ≡ old → has ≡ are_parts g (parts_on g mid) p first 0 first.count → has ≡ are_parts g (parts_on g old) p first 0 first.count
+parts_read g old mid p first has same is = is ∙ ap (λ (pages : ℕ → Page). are_parts g (parts_on g pages) p first 0 first.count) same
 
 -- a refusal after reads
 pub ReadCause_on : (old mid new : Device) (fault : Fault) → OnlyReads old mid → ReadCause mid new fault → ReadCause old new fault

@@ -31,7 +31,8 @@ pub(crate) fn read_head<F: Flash>(
 {
     match flash.read(page, buffer) {
         Ok(PageState::Data) => Ok(PageHead::of(buffer)),
-        Ok(_) => Ok(None),
+        Ok(PageState::Erased) => Ok(None),
+        Ok(PageState::Unreadable) => Ok(None),
         Err(DevFault::Failed) => Err(Fault::ReadFailed),
         Err(DevFault::PowerCut) => Err(Fault::PowerCut),
     }

@@ -20,6 +20,7 @@ use Rattle.commit_pair.specs.Anchored.{OnlyAnchors}
 use Rattle.commit_pair.specs.Keeping.{Keeps, AreOlder, Spares}
 use Rattle.commit_pair.specs.Committing.{IsLowest, Commits, Untouched}
 use Rattle.commit_pair.specs.Remembering.{KnowsNewest, KnowsErased, MayCommit, begins, BeginsAt}
+use Rattle.commit_pair.specs.Newest.{KnowsEnd}
 use Rattle.commit_pair.specs.Following.{StillMayCommit, CommittedIsNewest}
 use Rattle.commit_pair.proofs.Following.{was_good}
 use Rattle.commit_pair.proofs.NewestLaws.{found_is_newest, greatest_most, same_place}
@@ -181,3 +182,23 @@ reads_keep g was now same = subst (λ (pages : ℕ → Page). Keeps g was pages)
 pub reads_commit : (d e : Device) (r : Record) (sequence : ℕ) (bad : set.FinSet nat_cmp) (fault : Fault) → OnlyReads d e → Commits {T = Unit {0}} d.pages e.pages r sequence bad (Err fault)
 reads_commit d e r sequence bad PowerCut reads = inl (reads_keep r.geometry d.pages e.pages reads.pages)
 reads_commit d e r sequence bad _ reads = reads_keep r.geometry d.pages e.pages reads.pages
+
+-- the place of the newest record that was read, and where it ends
+pub remembers_at : (old mid : Device) (g : Geometry) (found : Option Found) → old.geometry ≡ g → OnlyReads old mid → found ≡ newest_at g (parts_on g mid.pages) → found ≡ newest_at old.geometry (parts_on old.geometry old.pages)
+remembers_at old mid g found same reads is =
+    is ∙ ap (λ (pages : ℕ → Page). newest_at g (parts_on g pages)) reads.pages ∙ ap (λ (h : Geometry). newest_at h (parts_on h old.pages)) (sym same)
+
+pub knows_end_at : (old later : Device) (g : Geometry) (found : Found) (anchors : Anchors) → old.geometry ≡ g → OnlyReads old later → anchors.newest ≡ Some found → IsEnd g later.pages (found.page / g.pages) g.pages anchors.end → KnowsEnd old anchors
+knows_end_at old later g found anchors same reads here end = λ at is.
+    let one : found ≡ at = cc in
+    let on_pages = subst (λ (pages : ℕ → Page). IsEnd g pages (found.page / g.pages) g.pages anchors.end) reads.pages end in
+    let on_flash = subst (λ (h : Geometry). IsEnd h old.pages (found.page / h.pages) h.pages anchors.end) (sym same) on_pages in
+    subst (λ (f : Found). IsEnd old.geometry old.pages (f.page / old.geometry.pages) old.geometry.pages anchors.end) one on_flash
+
+pub ready_at : (old new : Device) (bad : set.FinSet nat_cmp) (anchors : Anchors) (found : Found) → OnlyReads old new → anchors.newest ≡ Some found → anchors.newest ≡ newest_at old.geometry (parts_on old.geometry old.pages) → KnowsEnd old anchors → MayCommit new bad anchors
+ready_at old new bad anchors found reads here at end = reads_may_commit old new bad anchors reads (inl (record {
+  found = found;
+  here = here;
+  place = sym at ∙ here;
+  end = λ good. end found here;
+}))

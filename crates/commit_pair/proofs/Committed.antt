@@ -1,5 +1,5 @@
 -- What the newest record means, at the place that was found.
-use Rattle.std.proofs.Common.{◌≡◌, ◌≢◌, ◌⊎◌, ℕ, Bool, true, false, cond, List, Option, Some, None, Result, Err, sym, ap, subst, ◌∙◌, inl, inr}
+use Rattle.std.proofs.Common.{◌≡◌, ◌≢◌, ◌⊎◌, ℕ, Bool, true, false, cond, List, Option, Some, None, Result, Ok, Err, refl, sym, ap, subst, ◌∙◌, inl, inr}
 use Rattle.std.specs.Option.{option_map, ok_or}
 use Rattle.fs_types.specs.declared.faults.Fault.{Fault}
 use Rattle.fs_types.specs.declared.faults.Fault.TheVariants.{NoMemory, Damaged, BadGeometry}
@@ -15,7 +15,7 @@ use Rattle.commit_pair.specs.declared.best.Best.{Best}
 use Rattle.commit_pair.specs.Parts.{Entry, parts_on, best_on, newest_at, newest_on, payload_of}
 use Rattle.commit_pair.specs.Laws.{HasNone, HasTie}
 use Rattle.commit_pair.specs.Newest.{committed_on, IsNewestRecord, NewestCause}
-use Rattle.commit_pair.specs.Reading.{OnlyReads}
+use Rattle.commit_pair.specs.Reading.{OnlyReads, ReadCause}
 use Rattle.std.proofs.Common.{arith}
 use Rattle.fs_types.specs.declared.faults.Fault.TheVariants.{ReadFailed, PowerCut}
 use Rattle.commit_pair.proofs.NewestLaws.{none_valid, tied}
@@ -94,3 +94,19 @@ cause_stays old mid new ReadFailed reads cause = let h = reads.failed_reads in o
 cause_stays old mid new PowerCut reads cause = cause
 cause_stays old mid new NoMemory reads cause = tt
 cause_stays old mid new _ reads cause = cause
+
+-- where no place is found, no record is the newest
+pub none_committed : (d : Device) (g : Geometry) (found : Option Found) (newest : Option Record) → d.geometry ≡ g → found ≡ newest_at g (parts_on g d.pages) → found ≡ None → IsNewestRecord d newest → newest ≡ None
+none_committed d g found None same at none is = refl
+none_committed d g found (Some r) same at none is =
+    let nothing : committed_on d ≡ None =
+    ap (λ (h : Geometry). option_map (λ (entry : Entry). payload_at h entry.sequence entry.payload) (newest_on h d.pages)) same
+    ∙ ap (λ (o : Option Found). option_map (λ (entry : Entry). payload_at g entry.sequence entry.payload) (option_map (λ (at : Found). record { sequence = at.head.sequence; payload = payload_of g (parts_on g d.pages) at }) o)) (sym at ∙ none) in
+    let clash = sym nothing ∙ is in
+    cc
+
+-- a read that was refused
+pub read_cause : (old new : Device) (fault : Fault) → ReadCause old new fault → NewestCause old new fault
+read_cause old new ReadFailed cause = cause
+read_cause old new PowerCut cause = cause
+read_cause old new _ cause = absurd cause

@@ -65,12 +65,39 @@ impl Anchors {
         *self = Anchors::new();
         let geometry = flash.geometry();
         let mut page = vec![in alloc; 0u8; geometry.page as usize]?;
-        let best = find_best(flash, geometry, &mut page)?;
-        let newest = read_best(alloc, flash, geometry, best, &mut page)?;
-        if let Some(found) = best.found {
-            self.end = find_end(flash, geometry, found.page / geometry.pages, &mut page)?;
-        }
-        self.newest = best.found;
+        self.read_newest(alloc, flash, geometry, &mut page)
+    }
+
+    /// Reads the newest record, where no place is known, and remembers its place.
+    fn read_newest<F: Flash>(
+        &mut self,
+        alloc: Global,
+        flash: &mut F,
+        geometry: Geometry,
+        page: &mut [u8],
+    ) -> Result<Option<Record>, Fault>
+        requires same { (F.device flash.old).geometry ≡ geometry }
+        requires lawful { IsGeometry geometry }
+        requires whole { length page.old ≡ geometry.page }
+        requires none { remembered self.old ≡ None }
+        requires uncleared { IsUncleared self.old }
+        ensures newest { IfOk result (IsNewestRecord (F.device flash.old)) }
+        ensures remembers { OnOk result (remembered self.new ≡ spec.newest_at (F.device flash.old).geometry (spec.parts_on (F.device flash.old).geometry (F.device flash.old).pages)) }
+        ensures end { OnOk result (KnowsEnd (F.device flash.old) self.new) }
+        ensures ready { IfOk result (λ newest. newest ≢ None → (bad : set.FinSet nat_cmp) → MayCommit (F.device flash.new) bad self.new) }
+        ensures forgets { OnErr result (remembered self.new ≡ None) }
+        ensures uncleared { IsUncleared self.new }
+        ensures only_reads { OnlyReads (F.device flash.old) (F.device flash.new) }
+        ensures why { IfErr result (NewestCause (F.device flash.old) (F.device flash.new)) }
+    {
+        let best = find_best(flash, geometry, page)?;
+        let newest = read_best(alloc, flash, geometry, best, page)?;
+        let Some(found) = best.found else {
+            return Ok(newest);
+        };
+        let end = find_end(flash, geometry, found.page / geometry.pages, page)?;
+        self.end = end;
+        self.newest = Some(found);
         Ok(newest)
     }
 

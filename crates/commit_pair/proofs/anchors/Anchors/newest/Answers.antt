@@ -1,28 +1,62 @@
-use Rattle.std.proofs.Common.{sym, subst, ◌∙◌}
+use Rattle.std.proofs.Common.{sym, ap, subst, ◌∙◌}
+use Rattle.std.proofs.lemmas.Result.{err_from_is_err_and}
 use Rattle.flash_model.specs.Geometry.{IsGeometry}
-use Rattle.commit_pair.specs.Parts.{parts_on}
-use Rattle.commit_pair.proofs.Committed.{newest_stays}
-use Rattle.commit_pair.proofs.NewestLaws.{found_is_newest}
-use Rattle.commit_pair.proofs.Places.{anchor_below}
-use Rattle.commit_pair.specs.Reading.{OnlyReads_on}
+use Rattle.commit_pair.specs.Reading.{OnlyReads_itself}
 use Rattle.commit_pair.proofs.anchors.Anchors.newest.Goals as goal
 
-pub find_end-requires-clause-anchor : goal.find_end-requires-clause-anchor
-find_end-requires-clause-anchor g c =
-    let sizes = c.geometry-geometry.result in
-    let parts = parts_on sizes (g.F.Flash.device c.find_best.new.flash).pages in
-    let newest = found_is_newest sizes parts c.in-Some.found (sym c.in_ok-newest.ensures.found ∙ c.in-Some.is) in
-    anchor_below sizes c.in-Some.found.page (subst IsGeometry (sym c.geometry-geometry.ensures) c.requires) newest.within
+pub read_newest-requires-clause-same : goal.read_newest-requires-clause-same
+read_newest-requires-clause-same g c = sym c.geometry-geometry.ensures
+
+pub read_newest-requires-clause-lawful : goal.read_newest-requires-clause-lawful
+read_newest-requires-clause-lawful g c = subst IsGeometry (sym c.geometry-geometry.ensures) c.requires
+
+pub read_newest-requires-clause-none : goal.read_newest-requires-clause-none
+read_newest-requires-clause-none g c = c.new.ensures.none
+
+pub read_newest-requires-clause-uncleared : goal.read_newest-requires-clause-uncleared
+read_newest-requires-clause-uncleared g c = c.new.ensures.uncleared
+
+pub returns-in_err-page-clause-only_reads : goal.returns-in_err-page-clause-only_reads
+returns-in_err-page-clause-only_reads g c = OnlyReads_itself (g.F.Flash.device c.args.flash.now)
+
+pub returns-in_err-page-clause-uncleared : goal.returns-in_err-page-clause-uncleared
+returns-in_err-page-clause-uncleared g c = c.new.ensures.uncleared
+
+pub returns-in_err-page-clause-newest : goal.returns-in_err-page-clause-newest
+returns-in_err-page-clause-newest g c = rw (err_from_is_err_and c.from_residual.result c.from_residual.ensures.1).1 tt
+
+pub returns-in_err-page-clause-remembers : goal.returns-in_err-page-clause-remembers
+returns-in_err-page-clause-remembers g c = rw (err_from_is_err_and c.from_residual.result c.from_residual.ensures.1).1 tt
+
+pub returns-in_err-page-clause-end : goal.returns-in_err-page-clause-end
+returns-in_err-page-clause-end g c = rw (err_from_is_err_and c.from_residual.result c.from_residual.ensures.1).1 tt
+
+pub returns-in_err-page-clause-ready : goal.returns-in_err-page-clause-ready
+returns-in_err-page-clause-ready g c = rw (err_from_is_err_and c.from_residual.result c.from_residual.ensures.1).1 tt
+
+pub returns-in_err-page-clause-forgets : goal.returns-in_err-page-clause-forgets
+returns-in_err-page-clause-forgets g c = rw (err_from_is_err_and c.from_residual.result c.from_residual.ensures.1).1 c.new.ensures.none
 
 pub returns-clause-newest : goal.returns-clause-newest
-returns-clause-newest g c =
-    newest_stays (g.F.Flash.device c.args.flash.now) (g.F.Flash.device c.find_best.new.flash) c.in_ok-newest.newest c.in_ok-best.ensures.only_reads c.in_ok-newest.ensures.newest
+returns-clause-newest g c = c.read_newest.ensures.newest
 
-pub returns-in_err-best-clause-only_reads : goal.returns-in_err-best-clause-only_reads
-returns-in_err-best-clause-only_reads g c = c.find_best.ensures.only_reads
+pub returns-clause-remembers : goal.returns-clause-remembers
+returns-clause-remembers g c = c.read_newest.ensures.remembers
 
-pub returns-in_err-newest-clause-only_reads : goal.returns-in_err-newest-clause-only_reads
-returns-in_err-newest-clause-only_reads g c = OnlyReads_on (g.F.Flash.device c.args.flash.now) (g.F.Flash.device c.find_best.new.flash) (g.F.Flash.device c.read_best.new.flash) c.find_best.ensures.only_reads c.read_best.ensures.only_reads
+pub returns-clause-end : goal.returns-clause-end
+returns-clause-end g c = c.read_newest.ensures.end
 
-pub returns-in_err-self-clause-only_reads : goal.returns-in_err-self-clause-only_reads
-returns-in_err-self-clause-only_reads g c = OnlyReads_on (g.F.Flash.device c.args.flash.now) (g.F.Flash.device c.read_best.new.flash) (g.F.Flash.device c.find_end.new.flash) (OnlyReads_on (g.F.Flash.device c.args.flash.now) (g.F.Flash.device c.find_best.new.flash) (g.F.Flash.device c.read_best.new.flash) c.find_best.ensures.only_reads c.read_best.ensures.only_reads) c.find_end.ensures.only_reads
+pub returns-clause-ready : goal.returns-clause-ready
+returns-clause-ready g c = c.read_newest.ensures.ready
+
+pub returns-clause-forgets : goal.returns-clause-forgets
+returns-clause-forgets g c = c.read_newest.ensures.forgets
+
+pub returns-clause-uncleared : goal.returns-clause-uncleared
+returns-clause-uncleared g c = c.read_newest.ensures.uncleared
+
+pub returns-clause-only_reads : goal.returns-clause-only_reads
+returns-clause-only_reads g c = c.read_newest.ensures.only_reads
+
+pub returns-clause-why : goal.returns-clause-why
+returns-clause-why g c = c.read_newest.ensures.why

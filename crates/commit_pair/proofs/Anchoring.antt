@@ -1,10 +1,12 @@
 -- How operations on anchors lead on.
 use Rattle.std.proofs.Common.{◌≡◌, ◌≢◌, ◌⊎◌, ℕ, ◌+◌, ◌/◌, ◌<◌, ◌≤◌, List, Bool, true, false, cond, eqb, Result, Ok, Err, refl, sym, ap, subst, ◌∙◌, inl, inr, arith}
-use Rattle.std.specs.Prelude.{◌||◌}
+use Rattle.std.specs.Prelude.{◌||◌, leb, OnErr, IsOk}
+use Rattle.fs_types.specs.declared.limits.TheConstants.{MAX_BAD_BLOCKS}
+use Rattle.read_only.specs.Modes.{is_read_only}
 use Rattle.std.specs.FinSet as set
 use Rattle.std.specs.Ordering.{nat_cmp}
 use Rattle.std.specs.Cmp.{unsigned_tied}
-use Rattle.std.proofs.lemmas.Bool.{cases_eq, cases_Bool, both_ways, ne_eqb, or_right, or_cases, eqb-true, eq-eqb}
+use Rattle.std.proofs.lemmas.Bool.{cases_eq, cases_Bool, both_ways, ne_eqb, or_right, or_cases, or_parts, leb-false, eqb-true, eq-eqb}
 use Rattle.std.proofs.lemmas.Cmp.{nat_cmp_total}
 use Rattle.flash_model.specs.declared.sizes.Geometry.{Geometry}
 use Rattle.flash_model.specs.declared.device.DevFault.{DevFault}
@@ -208,3 +210,18 @@ good_behind was now b false is good c from lt = ap (λ s. set.contains s c) is �
 pub room_behind : (was now : set.FinSet nat_cmp) (b : ℕ) (done : Bool) → now ≡ cond done was (set.insert was b) → set.contains was b ≡ false → set.len now ≤ set.len was + 1
 room_behind was now b true is good = let h = ap set.len is in omega arith
 room_behind was now b false is good = let h = ap set.len is in let k = len_listed was b good in omega arith
+
+-- an erase reads nothing
+pub erase_reads : (old new : Device) (b : ℕ) (result : Result (Unit {0}) DevFault) → Erases old b new result → new.failed_reads ≡ old.failed_reads
+erase_reads old new b result e = let h = e.operates.failed_reads in omega arith
+
+-- a block is listed where there is room
+pub room_left : (bad : set.FinSet nat_cmp) → is_read_only bad ≡ false → set.len bad < MAX_BAD_BLOCKS
+room_left bad writable = leb-false MAX_BAD_BLOCKS (set.len bad) (or_parts (leb MAX_BAD_BLOCKS (set.len bad)) _ writable).0
+
+pub ok_with_room : {T E : Type 0} (r : Result T E) (n : ℕ) → OnErr r (n ≡ MAX_BAD_BLOCKS) → n < MAX_BAD_BLOCKS → IsOk r
+ok_with_room (Ok x) n full lt = refl
+ok_with_room (Err e) n full lt = absurd (omega arith)
+
+pub lt_le : (m n : ℕ) → m < n → m ≤ n
+lt_le m n lt = omega arith

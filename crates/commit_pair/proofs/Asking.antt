@@ -8,7 +8,7 @@ use Rattle.fs_types.specs.declared.faults.Fault.{Fault}
 use Rattle.flash_model.specs.declared.sizes.Geometry.{Geometry}
 use Rattle.flash_model.specs.declared.device.DevFault.{DevFault}
 use Rattle.flash_model.specs.declared.device.DevFault.TheVariants.{Failed, PowerCut}
-use Rattle.flash_model.specs.Device.{Device, Operates, failed, power_after}
+use Rattle.flash_model.specs.Device.{Device, Operates, Erases, failed, power_after}
 use Rattle.record_format.specs.declared.records.Record.{Record}
 use Rattle.commit_pair.specs.declared.best.Found.{Found}
 use Rattle.commit_pair.specs.declared.anchors.Anchors.{Anchors}
@@ -131,3 +131,18 @@ placed_after old mid new was now anchors r (Ok u) only quiet placed =
       },
     )
 placed_after old mid new was now anchors r (Err fault) only quiet placed = tt
+
+-- an erase was asked for
+pub tried_done : (old new : Device) (b : ℕ) (u : Unit {0}) → Erases old b new (Ok u) → Tries old new 1 true
+tried_done old new b u e = (
+  let h = e.operates.failures in omega arith,
+  one_more old new (Ok u) 0 0 e.operates refl,
+)
+
+pub tried_failed : (old new : Device) (b : ℕ) → Erases old b new (Err Failed) → Tries old new 1 false
+tried_failed old new b e =
+    let one = one_more old new (Err Failed) 0 1 e.operates refl in (
+      e.operates.failures,
+      omega arith,
+      omega arith,
+    )

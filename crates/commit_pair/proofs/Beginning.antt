@@ -1,5 +1,6 @@
 -- Where a commit begins, and what is remembered after one that was refused.
-use Rattle.std.proofs.Common.{◌≡◌, ◌≢◌, ℕ, ◌+◌, ◌*◌, ◌/◌, ◌<◌, ◌≤◌, false, Option, Some, None, Result, Err, refl, sym, ap, subst, ◌∙◌, inl, inr, arith}
+use Rattle.std.proofs.Common.{◌≡◌, ◌≢◌, ℕ, ◌+◌, ◌*◌, ◌/◌, ◌<◌, ◌≤◌, false, Option, Some, None, Result, Ok, Err, refl, sym, ap, subst, ◌∙◌, inl, inr, arith}
+use Rattle.std.specs.Prelude.{IfErr}
 use Rattle.std.specs.FinSet as set
 use Rattle.std.specs.Ordering.{nat_cmp}
 use Rattle.std.proofs.lemmas.Bool.{both_ways}
@@ -7,7 +8,7 @@ use Rattle.std.proofs.lemmas.Nat.{div-mul-add, div_below}
 use Rattle.std.specs.Option.{option_map}
 use Rattle.record_format.specs.Payloads.{payload_at}
 use Rattle.fs_types.specs.declared.faults.Fault.{Fault}
-use Rattle.fs_types.specs.declared.faults.Fault.TheVariants.{PowerCut}
+use Rattle.fs_types.specs.declared.faults.Fault.TheVariants.{PowerCut, ReadOnly, ReadFailed}
 use Rattle.flash_model.specs.declared.sizes.Geometry.{Geometry}
 use Rattle.flash_model.specs.Geometry.{IsGeometry}
 use Rattle.flash_model.specs.Device.{Device, Page, erased, block_of}
@@ -15,12 +16,12 @@ use Rattle.record_format.specs.declared.records.Record.{Record}
 use Rattle.commit_pair.specs.declared.best.Found.{Found}
 use Rattle.commit_pair.specs.declared.anchors.Anchors.{Anchors}
 use Rattle.commit_pair.specs.Parts.{first_data, Entry, part_of, parts_on, newest_at, newest_on, greatest_on}
-use Rattle.commit_pair.specs.Reading.{OnlyReads, IsEnd}
+use Rattle.commit_pair.specs.Reading.{OnlyReads, IsEnd, ReadCause}
 use Rattle.commit_pair.specs.Anchored.{OnlyAnchors}
 use Rattle.commit_pair.specs.Keeping.{Keeps, AreOlder, Spares}
-use Rattle.commit_pair.specs.Committing.{IsLowest, Commits, Untouched}
-use Rattle.commit_pair.specs.Remembering.{KnowsNewest, KnowsErased, MayCommit, begins, BeginsAt}
-use Rattle.commit_pair.specs.Newest.{KnowsEnd}
+use Rattle.commit_pair.specs.Committing.{IsLowest, Commits, Untouched, TryCause}
+use Rattle.commit_pair.specs.Remembering.{KnowsNewest, KnowsErased, MayCommit, begins, BeginsAt, CommitCause}
+use Rattle.commit_pair.specs.Newest.{remembered, KnowsEnd}
 use Rattle.commit_pair.specs.Following.{StillMayCommit, CommittedIsNewest}
 use Rattle.commit_pair.proofs.Following.{was_good}
 use Rattle.commit_pair.proofs.NewestLaws.{found_is_newest, greatest_most, same_place}
@@ -202,3 +203,19 @@ ready_at old new bad anchors found reads here at end = reads_may_commit old new 
   place = sym at ∙ here;
   end = λ good. end found here;
 }))
+
+-- why a commit is refused
+pub read_commit_cause : (old new : Device) (was : set.FinSet nat_cmp) (anchors : Anchors) (fault : Fault) → remembered anchors ≡ None → OnlyReads old new → ReadCause old new fault → CommitCause old was anchors new was fault
+read_commit_cause old new was anchors ReadFailed none reads cause = (none, cause, reads.pages, refl)
+read_commit_cause old new was anchors PowerCut none reads cause = cause
+read_commit_cause old new was anchors _ none reads cause = absurd cause
+
+pub try_commit_cause : {T : Type 0} (old : Device) (was : set.FinSet nat_cmp) (anchors : Anchors) (new : Device) (now : set.FinSet nat_cmp) (result : Result T Fault) → IfErr result (TryCause new now) → IfErr result (CommitCause old was anchors new now)
+try_commit_cause old was anchors new now (Ok x) cause = tt
+try_commit_cause old was anchors new now (Err ReadOnly) cause = cause
+try_commit_cause old was anchors new now (Err PowerCut) cause = cause
+try_commit_cause old was anchors new now (Err _) cause = absurd cause
+
+pub if_err_each : {T E : Type 0} (result : Result T E) (P : E → Type 0) → ((e : E) → P e) → IfErr result P
+if_err_each (Ok x) P each = tt
+if_err_each (Err e) P each = each e

@@ -33,3 +33,6 @@ record_ends g p count lawful lt le =
     let is : p / g.pages * g.pages + p % g.pages ≡ p = div-add-mod' p g.pages in
     let most : (p / g.pages + 1) * g.pages ≤ first_data * g.pages = mul-le (p / g.pages + 1) g.pages first_data g.pages (omega arith) (omega arith) in
     omega arith
+
+pub anchor_on_flash : (g : Geometry) (anchor : ℕ) → IsGeometry g → anchor < first_data → anchor < g.blocks
+anchor_on_flash g anchor lawful lt = let h : 16 ≤ g.blocks = lawful.blocks_least in omega arith

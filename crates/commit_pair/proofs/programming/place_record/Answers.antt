@@ -1,6 +1,7 @@
 use Rattle.std.proofs.Common.{sym, subst}
 use Rattle.commit_pair.specs.Anchored.{OnlyAnchors}
-use Rattle.commit_pair.proofs.Anchoring.{touched_bad}
+use Rattle.std.specs.FinSet as set
+use Rattle.commit_pair.proofs.Anchoring.{touched_bad, ok_with_room}
 use Rattle.commit_pair.proofs.Ending.{blank_for, ends_after}
 use Rattle.commit_pair.proofs.Placing.{written_whole, written_half, written_either}
 use Rattle.commit_pair.proofs.programming.place_record.Goals as goal
@@ -43,3 +44,6 @@ returns-in-Ok-clause-end g c = λ done.
     let old = g.F.Flash.device c.args.flash.now in
     let new = g.F.Flash.device c.program_record.new.flash in
     ends_after c.args.geometry old.pages new.pages c.args.anchor c.args.place c.args.sequence c.args.payload.now c.args.count c.requires.blank c.requires.in_block c.requires.fills c.in-Ok.field-0 c.in-Ok.ensures.programmed
+
+pub unwrap-requires : goal.unwrap-requires
+unwrap-requires g c = ok_with_room c.add.result (set.len c.args.bad.now) c.add.ensures.full c.requires.room_in_list

@@ -1,9 +1,14 @@
-use Rattle.std.proofs.Common.{◌+◌, ◌∙◌, refl}
+use Rattle.std.proofs.Common.{◌+◌, ◌∙◌, refl, sym, ap}
+use Rattle.std.proofs.lemmas.Bool.{both_ways}
+use Rattle.flash_model.specs.declared.sizes.Geometry.{Geometry}
+use Rattle.read_only.specs.Modes.{is_read_only}
+use Rattle.commit_pair.specs.Reading.{OnlyReads_itself}
+use Rattle.commit_pair.proofs.Sparing.{Keeps_itself}
 use Rattle.std.proofs.lemmas.Result.{err_from_is_err_and}
 use Rattle.commit_pair.specs.Parts.{greatest_on}
 use Rattle.commit_pair.proofs.Anchoring.{OnlyAnchors_on, OnlyAnchors_itself}
 use Rattle.commit_pair.proofs.Asking.{placed_after}
-use Rattle.commit_pair.proofs.Beginning.{above_all, reads_only_anchors, reads_untouched, reads_may_commit, reads_keep, reads_commit}
+use Rattle.commit_pair.proofs.Beginning.{above_all, reads_only_anchors, reads_untouched, reads_may_commit, reads_keep, reads_commit, read_commit_cause, try_commit_cause, if_err_each}
 use Rattle.commit_pair.proofs.Following.{Commits_on, refused_on}
 use Rattle.commit_pair.proofs.anchors.Anchors.commit.Goals as goal
 
@@ -94,3 +99,116 @@ returns-in_err-page-clause-only_anchors g c = OnlyAnchors_itself (g.F.Flash.devi
 
 pub returns-then-is_read_only-clause-untouched : goal.returns-then-is_read_only-clause-untouched
 returns-then-is_read_only-clause-untouched g c = λ other p good. refl
+
+pub returns-then-is_read_only-clause-commits : goal.returns-then-is_read_only-clause-commits
+returns-then-is_read_only-clause-commits g c = Keeps_itself c.args.saved.now.geometry (g.F.Flash.device c.args.flash.now).pages
+
+pub returns-then-is_read_only-clause-ready : goal.returns-then-is_read_only-clause-ready
+returns-then-is_read_only-clause-ready g c = λ other. c.requires.ready
+
+pub returns-then-is_read_only-clause-at_once : goal.returns-then-is_read_only-clause-at_once
+returns-then-is_read_only-clause-at_once g c = λ full. (refl, refl, refl)
+
+pub returns-then-is_read_only-clause-last : goal.returns-then-is_read_only-clause-last
+returns-then-is_read_only-clause-last g c = λ all. (refl, refl, refl)
+
+pub returns-then-is_read_only-clause-why : goal.returns-then-is_read_only-clause-why
+returns-then-is_read_only-clause-why g c = sym c.is_read_only.ensures ∙ c.if-is_read_only.true
+
+pub returns-in_err-page-clause-commits : goal.returns-in_err-page-clause-commits
+returns-in_err-page-clause-commits g c =
+    let p = err_from_is_err_and c.from_residual.result c.from_residual.ensures.1 in
+    let old = g.F.Flash.device c.args.flash.now in
+    rw p.1 (reads_commit old old c.args.saved.now (greatest_on c.args.saved.now.geometry old.pages + 1) c.args.bad.now p.0 (OnlyReads_itself old))
+
+pub returns-in_err-page-clause-placed : goal.returns-in_err-page-clause-placed
+returns-in_err-page-clause-placed g c = rw (err_from_is_err_and c.from_residual.result c.from_residual.ensures.1).1 tt
+
+pub returns-in_err-page-clause-known : goal.returns-in_err-page-clause-known
+returns-in_err-page-clause-known g c = rw (err_from_is_err_and c.from_residual.result c.from_residual.ensures.1).1 tt
+
+pub returns-in_err-page-clause-open : goal.returns-in_err-page-clause-open
+returns-in_err-page-clause-open g c = rw (err_from_is_err_and c.from_residual.result c.from_residual.ensures.1).1 tt
+
+pub returns-in_err-page-clause-untouched : goal.returns-in_err-page-clause-untouched
+returns-in_err-page-clause-untouched g c = rw (err_from_is_err_and c.from_residual.result c.from_residual.ensures.1).1 (λ other q good. refl)
+
+pub returns-in_err-page-clause-same : goal.returns-in_err-page-clause-same
+returns-in_err-page-clause-same g c = rw (err_from_is_err_and c.from_residual.result c.from_residual.ensures.1).1 refl
+
+pub returns-in_err-page-clause-ready : goal.returns-in_err-page-clause-ready
+returns-in_err-page-clause-ready g c = λ on. c.requires.ready
+
+pub returns-in_err-page-clause-at_once : goal.returns-in_err-page-clause-at_once
+returns-in_err-page-clause-at_once g c = λ full. absurd (both_ways (is_read_only c.args.bad.now) (sym c.is_read_only.ensures ∙ c.if-is_read_only.false) full)
+
+pub returns-in_err-page-clause-last : goal.returns-in_err-page-clause-last
+returns-in_err-page-clause-last g c = λ all. (c.from_residual.ensures.0, refl, refl)
+
+pub returns-in_err-greatest-clause-placed : goal.returns-in_err-greatest-clause-placed
+returns-in_err-greatest-clause-placed g c = rw (err_from_is_err_and c.from_residual-in_err-greatest.result c.from_residual-in_err-greatest.ensures.1).1 tt
+
+pub returns-in_err-greatest-clause-known : goal.returns-in_err-greatest-clause-known
+returns-in_err-greatest-clause-known g c = rw (err_from_is_err_and c.from_residual-in_err-greatest.result c.from_residual-in_err-greatest.ensures.1).1 tt
+
+pub returns-in_err-greatest-clause-open : goal.returns-in_err-greatest-clause-open
+returns-in_err-greatest-clause-open g c = rw (err_from_is_err_and c.from_residual-in_err-greatest.result c.from_residual-in_err-greatest.ensures.1).1 tt
+
+pub returns-in_err-greatest-clause-same : goal.returns-in_err-greatest-clause-same
+returns-in_err-greatest-clause-same g c = rw (err_from_is_err_and c.from_residual-in_err-greatest.result c.from_residual-in_err-greatest.ensures.1).1 refl
+
+pub returns-in_err-greatest-clause-at_once : goal.returns-in_err-greatest-clause-at_once
+returns-in_err-greatest-clause-at_once g c = λ full. absurd (both_ways (is_read_only c.args.bad.now) (sym c.is_read_only.ensures ∙ c.if-is_read_only.false) full)
+
+pub returns-in_err-greatest-clause-last : goal.returns-in_err-greatest-clause-last
+returns-in_err-greatest-clause-last g c = λ all. (c.from_residual-in_err-greatest.ensures.0, c.in_err-greatest.ensures.only_reads.pages, refl)
+
+pub returns-in_err-greatest-clause-untouched : goal.returns-in_err-greatest-clause-untouched
+returns-in_err-greatest-clause-untouched g c =
+    if_err_each c.from_residual-in_err-greatest.result _ (λ fault other. reads_untouched (g.F.Flash.device c.args.flash.now) (g.F.Flash.device c.greatest.new.flash) c.args.bad.now c.in_err-greatest.ensures.only_reads)
+
+pub returns-in_err-greatest-clause-why : goal.returns-in_err-greatest-clause-why
+returns-in_err-greatest-clause-why g c =
+    let p = err_from_is_err_and c.from_residual-in_err-greatest.result c.from_residual-in_err-greatest.ensures.1 in
+    rw (p.1, p.2) (read_commit_cause (g.F.Flash.device c.args.flash.now) (g.F.Flash.device c.greatest.new.flash) c.args.bad.now c.args.self.now c.in_err-greatest.field-0.0 c.in_err-greatest.ensures.none c.in_err-greatest.ensures.only_reads c.in_err-greatest.ensures.why)
+
+pub returns-then-greatest-clause-at_once : goal.returns-then-greatest-clause-at_once
+returns-then-greatest-clause-at_once g c = λ full. absurd (both_ways (is_read_only c.args.bad.now) (sym c.is_read_only.ensures ∙ c.if-is_read_only.false) full)
+
+pub returns-then-greatest-clause-last : goal.returns-then-greatest-clause-last
+returns-then-greatest-clause-last g c = λ all. (refl, c.in_ok-greatest.ensures.only_reads.pages, refl)
+
+pub returns-then-greatest-clause-why : goal.returns-then-greatest-clause-why
+returns-then-greatest-clause-why g c =
+    let old = g.F.Flash.device c.args.flash.now in
+    (ap (λ (h : Geometry). greatest_on h old.pages) c.requires.same ∙ sym c.in_ok-greatest.ensures.greatest ∙ c.if-greatest.true, c.in_ok-greatest.ensures.only_reads.pages, refl)
+
+pub returns-clause-at_once : goal.returns-clause-at_once
+returns-clause-at_once g c = λ full. absurd (both_ways (is_read_only c.args.bad.now) (sym c.is_read_only.ensures ∙ c.if-is_read_only.false) full)
+
+pub returns-clause-last : goal.returns-clause-last
+returns-clause-last g c = λ all. absurd (c.if-greatest.false (c.in_ok-greatest.ensures.greatest ∙ all))
+
+pub returns-clause-why : goal.returns-clause-why
+returns-clause-why g c = try_commit_cause (g.F.Flash.device c.args.flash.now) c.args.bad.now c.args.self.now (g.F.Flash.device c.commit_as.new.flash) c.commit_as.new.bad c.commit_as.result c.commit_as.ensures.why
+
+pub greatest-requires-clause-same : goal.greatest-requires-clause-same
+greatest-requires-clause-same g c = c.requires.same
+
+pub greatest-requires-clause-lawful : goal.greatest-requires-clause-lawful
+greatest-requires-clause-lawful g c = c.requires.lawful
+
+pub greatest-requires-clause-ready : goal.greatest-requires-clause-ready
+greatest-requires-clause-ready g c = c.requires.ready
+
+pub commit_as-requires-clause-lawful : goal.commit_as-requires-clause-lawful
+commit_as-requires-clause-lawful g c = c.requires.lawful
+
+pub commit_as-requires-clause-is_lawful : goal.commit_as-requires-clause-is_lawful
+commit_as-requires-clause-is_lawful g c = c.requires.is_lawful
+
+pub commit_as-requires-clause-on_flash : goal.commit_as-requires-clause-on_flash
+commit_as-requires-clause-on_flash g c = c.requires.on_flash
+
+pub commit_as-requires-clause-open : goal.commit_as-requires-clause-open
+commit_as-requires-clause-open g c = sym c.is_read_only.ensures ∙ c.if-is_read_only.false

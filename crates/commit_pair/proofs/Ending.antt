@@ -1,5 +1,6 @@
 -- The pages of an anchor after those of a record.
-use Rattle.std.proofs.Common.{◌≡◌, ◌≢◌, ℕ, ◌+◌, ◌-◌, ◌*◌, ◌<◌, ◌≤◌, List, Ok, sym, ap, ◌∙◌, inr, arith}
+use Rattle.std.proofs.Common.{◌≡◌, ◌≢◌, ℕ, ◌+◌, ◌-◌, ◌*◌, ◌<◌, ◌≤◌, List, Ok, sym, ap, subst, ◌∙◌, inl, inr, arith}
+use Rattle.std.proofs.lemmas.Bool.{cases_eq}
 use Rattle.flash_model.specs.declared.sizes.Geometry.{Geometry}
 use Rattle.flash_model.specs.Device.{Page, erased, bytes_of}
 use Rattle.commit_pair.specs.Programming.{bytes_for, Fills, HasPages, EndsAt}
@@ -31,3 +32,31 @@ module _ (g : Geometry) (old new : ℕ → Page) (anchor place sequence : ℕ) (
       last_at m is (k, e) =
           let at : anchor * g.pages + m ≡ anchor * g.pages + place + k = omega arith in
           bytes_not_erased (new (anchor * g.pages + m)) (bytes_for g sequence payload count k) (ap new at ∙ has.done k (omega arith))
+
+-- where pages that were read one after the other end
+pub IsEnd_start : (g : Geometry) (pages : ℕ → Page) (anchor : ℕ) → IsEnd g pages anchor 0 0
+IsEnd_start g pages anchor = record {
+  within = omega arith;
+  blank = λ m from below. absurd (omega arith);
+  last = λ m is. absurd (omega arith);
+}
+
+pub IsEnd_blank : (g : Geometry) (pages : ℕ → Page) (anchor place end page : ℕ) → IsEnd g pages anchor place end → page ≡ anchor * g.pages + place → pages page ≡ erased → IsEnd g pages anchor (place + 1) end
+IsEnd_blank g pages anchor place end page so_far at blank = record {
+  within = let h = so_far.within in omega arith;
+  blank = λ m from below. elim (cases_eq m place) [
+    | inl same ↦ ap (λ n. pages (anchor * g.pages + n)) same ∙ ap pages (sym at) ∙ blank
+    | inr apart ↦ so_far.blank m from (omega arith)
+  ];
+  last = so_far.last;
+}
+
+pub IsEnd_data : (g : Geometry) (pages : ℕ → Page) (anchor place page : ℕ) → page ≡ anchor * g.pages + place → pages page ≢ erased → IsEnd g pages anchor (place + 1) (place + 1)
+IsEnd_data g pages anchor place page at other = record {
+  within = omega arith;
+  blank = λ m from below. absurd (omega arith);
+  last = λ m is blank. other (ap pages at ∙ ap (λ n. pages (anchor * g.pages + n)) (let same : place ≡ m = omega arith in same) ∙ blank);
+}
+
+pub IsEnd_all : (g : Geometry) (pages : ℕ → Page) (anchor place end : ℕ) → place ≤ g.pages → g.pages ≤ place → IsEnd g pages anchor place end → IsEnd g pages anchor g.pages end
+IsEnd_all g pages anchor place end most least is = subst (λ n. IsEnd g pages anchor n end) (let all : place ≡ g.pages = omega arith in all) is

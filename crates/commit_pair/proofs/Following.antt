@@ -1,5 +1,5 @@
 -- Attempts on one anchor after the other.
-use Rattle.std.proofs.Common.{◌≡◌, ◌≢◌, ◌⊎◌, ℕ, zero, suc, ◌+◌, ◌-◌, ◌/◌, ◌<◌, ◌≤◌, Bool, true, false, cond, Result, Ok, Err, refl, sym, ap, ◌∙◌, inl, inr, arith, leb}
+use Rattle.std.proofs.Common.{◌≡◌, ◌≢◌, ◌⊎◌, ℕ, zero, suc, ◌+◌, ◌-◌, ◌/◌, ◌%◌, ◌<◌, ◌≤◌, Bool, true, false, cond, Result, Ok, Err, refl, sym, ap, ◌∙◌, inl, inr, arith, leb}
 use Rattle.std.specs.Prelude.{count_by, IfErr}
 use Rattle.std.specs.List.{range_with_len}
 use Rattle.std.specs.FinSet as set
@@ -9,6 +9,7 @@ use Rattle.std.proofs.lemmas.List.Sums.{sum_by-cons}
 use Rattle.fs_types.specs.declared.faults.Fault.{Fault}
 use Rattle.fs_types.specs.declared.faults.Fault.TheVariants.{PowerCut}
 use Rattle.flash_model.specs.declared.sizes.Geometry.{Geometry}
+use Rattle.flash_model.specs.Geometry.{IsGeometry}
 use Rattle.flash_model.specs.Device.{Device, Page, block_of}
 use Rattle.read_only.specs.Modes.{bad_anchors, is_read_only}
 use Rattle.record_format.specs.declared.records.Record.{Record}
@@ -16,6 +17,7 @@ use Rattle.commit_pair.specs.Parts.{first_data, part_of}
 use Rattle.commit_pair.specs.Anchored.{OnlyAnchors}
 use Rattle.commit_pair.specs.Keeping.{Keeps, AreOlder, Spares}
 use Rattle.commit_pair.specs.Committing.{IsCommitted, Attempts, Commits, Untouched, IsNext, after}
+use Rattle.commit_pair.proofs.Places.{anchor_on_flash}
 use Rattle.commit_pair.proofs.Sparing.{Keeps_on}
 
 -- a block that is not in the list was not before
@@ -123,3 +125,13 @@ pub all_tried : (bad : set.FinSet nat_cmp) (home : ℕ) → home < first_data �
 all_tried bad home lt tried =
     let most = others_pass (set.contains bad) home 0 8 (λ b from below apart. let at = in_ring home b lt (omega arith) apart in ap (set.contains bad) (sym at.3) ∙ tried at.0 at.1 at.2) in
     or_right (leb 256 (set.len bad)) (leb 7 (bad_anchors bad)) (le-leb 7 (bad_anchors bad) (omega arith))
+
+-- blocks that enter the list are anchors
+pub on_flash_still : (old new : Device) (was now : set.FinSet nat_cmp) (g : Geometry) → IsGeometry g → OnlyAnchors old was new now → ((b : ℕ) → set.contains was b ≡ true → b < g.blocks) → (b : ℕ) → set.contains now b ≡ true → b < g.blocks
+on_flash_still old new was now g lawful only on b is = elim (cases_Bool (set.contains was b)) [
+  | inl before ↦ on b before
+  | inr good ↦ anchor_on_flash g b lawful (only.bad_anchor b is good)
+]
+
+pub anchor_of_ring : (n : ℕ) → n % 8 < 8
+anchor_of_ring n = omega arith

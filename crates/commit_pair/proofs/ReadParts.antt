@@ -13,7 +13,7 @@ use Rattle.flash_model.specs.Device.{Device, Page, bytes_of}
 use Rattle.record_format.specs.Pages.{head_of, used_bytes}
 use Rattle.record_format.specs.declared.pages.PageHead.{PageHead}
 use Rattle.commit_pair.specs.Anchored.{AreErased}
-use Rattle.commit_pair.specs.Parts.{first_data, Part, part_of, parts_on, part_bytes, head_at, is_part, are_parts, is_record, record_head, considered, best_below, bytes_from, held_bytes}
+use Rattle.commit_pair.specs.Parts.{first_data, Part, part_of, parts_on, part_bytes, head_at, is_part, are_parts, is_record, record_head, considered, best_below, best_on, newest_at, bytes_from, held_bytes}
 use Rattle.commit_pair.specs.declared.best.Best.{Best}
 use Rattle.commit_pair.specs.Reading.{OnlyReads, ReadCause}
 
@@ -147,3 +147,13 @@ best_more g parts n best after head so_far is made =
 pub best_none : (g : Geometry) (parts : ℕ → Option Part) → record { found = None; twice = false } ≡ best_below g parts 0
 unfolding best_below
 best_none g parts = refl
+
+-- before the first page
+pub parts_start : (g : Geometry) (parts : ℕ → Option Part) (p : ℕ) (first : PageHead) → are_parts g parts p first 0 (first.count - 0) ≡ are_parts g parts p first 0 first.count
+parts_start g parts p first = ap (are_parts g parts p first 0) (let all : first.count - 0 ≡ first.count = omega arith in all)
+
+-- the record that is found is the newest, where no other has its sequence
+pub found_once : (g : Geometry) (parts : ℕ → Option Part) (best : Best) → best ≡ best_on g parts → best.twice ≡ false → best.found ≡ newest_at g parts
+found_once g parts best is once =
+    let once_on : (best_on g parts).twice ≡ false = ap (λ (b : Best). b.twice) (sym is) ∙ once in
+    ap (λ (b : Best). b.found) is ∙ sym (ap (λ t. cond t None (best_on g parts).found) once_on)

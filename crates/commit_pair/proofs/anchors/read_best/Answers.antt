@@ -1,8 +1,12 @@
-use Rattle.std.proofs.Common.{◌≡◌, ap, sym, ◌∙◌, inl}
+use Rattle.std.proofs.Common.{◌≡◌, Some, Result, ap, sym, ◌∙◌, inl}
+use Rattle.fs_types.specs.declared.faults.Fault.{Fault}
+use Rattle.record_format.specs.declared.records.Record.{Record}
+use Rattle.commit_pair.specs.Reading.{OnlyReads_itself}
+use Rattle.commit_pair.proofs.ReadParts.{found_once}
 use Rattle.std.proofs.lemmas.Result.{err_from_is_err_and}
 use Rattle.commit_pair.specs.declared.best.Best.{Best}
 use Rattle.commit_pair.specs.Parts.{parts_on, payload_of}
-use Rattle.commit_pair.proofs.Committed.{tie_at, none_at, committed_at, payload_cause}
+use Rattle.commit_pair.proofs.Committed.{tie_at, none_at, committed_at, payload_cause, read_cause}
 use Rattle.commit_pair.proofs.NewestLaws.{best_ends}
 use Rattle.commit_pair.proofs.anchors.read_best.Goals as goal
 
@@ -26,3 +30,56 @@ returns-in_err-newest-clause-why g c =
     let held : c.as_slice.result.now ≡ payload_of c.args.geometry (parts_on c.args.geometry old.pages) c.in-Some.found = c.as_slice.ensures.value ∙ (rw c.in-Some-2.is at c.in_ok-payload.ensures.payload) in
     rw (p.1, p.2) (payload_cause old (g.F.Flash.device c.find_payload.new.flash) c.args.geometry c.in-Some.found.head.sequence c.as_slice.result.now c.in_err-newest.field-0.0
     (committed_at old c.args.geometry c.args.best c.in-Some.found c.as_slice.result.now c.requires.same c.requires.best c.if-best.false c.in-Some.is held) c.in_err-newest.ensures.err)
+
+pub returns-then-best-clause-only_reads : goal.returns-then-best-clause-only_reads
+returns-then-best-clause-only_reads g c = OnlyReads_itself (g.F.Flash.device c.args.flash.now)
+
+pub returns-in_default-clause-only_reads : goal.returns-in_default-clause-only_reads
+returns-in_default-clause-only_reads g c = OnlyReads_itself (g.F.Flash.device c.args.flash.now)
+
+pub returns-in_default-clause-found : goal.returns-in_default-clause-found
+returns-in_default-clause-found g c = found_once c.args.geometry (parts_on c.args.geometry (g.F.Flash.device c.args.flash.now).pages) c.args.best c.requires.best c.if-best.false
+
+pub returns-in_err-payload-clause-newest : goal.returns-in_err-payload-clause-newest
+returns-in_err-payload-clause-newest g c = rw (err_from_is_err_and c.from_residual.result c.from_residual.ensures.1).1 tt
+
+pub returns-in_err-payload-clause-found : goal.returns-in_err-payload-clause-found
+returns-in_err-payload-clause-found g c = rw (err_from_is_err_and c.from_residual.result c.from_residual.ensures.1).1 tt
+
+pub returns-in_err-payload-clause-only_reads : goal.returns-in_err-payload-clause-only_reads
+returns-in_err-payload-clause-only_reads g c = c.in_err-payload.ensures.only_reads
+
+pub returns-in_err-payload-clause-why : goal.returns-in_err-payload-clause-why
+returns-in_err-payload-clause-why g c =
+    let p = err_from_is_err_and c.from_residual.result c.from_residual.ensures.1 in
+    rw (p.1, p.2) (read_cause (g.F.Flash.device c.args.flash.now) (g.F.Flash.device c.find_payload.new.flash) c.in_err-payload.field-0.0 c.in_err-payload.ensures.why)
+
+pub returns-in_err-newest-clause-newest : goal.returns-in_err-newest-clause-newest
+returns-in_err-newest-clause-newest g c = rw (err_from_is_err_and c.from_residual-in_err-newest.result c.from_residual-in_err-newest.ensures.1).1 tt
+
+pub returns-in_err-newest-clause-found : goal.returns-in_err-newest-clause-found
+returns-in_err-newest-clause-found g c = rw (err_from_is_err_and c.from_residual-in_err-newest.result c.from_residual-in_err-newest.ensures.1).1 tt
+
+pub returns-in_err-newest-clause-only_reads : goal.returns-in_err-newest-clause-only_reads
+returns-in_err-newest-clause-only_reads g c = c.in_ok-payload.ensures.only_reads
+
+pub returns-clause-newest : goal.returns-clause-newest
+returns-clause-newest g c =
+    let old = g.F.Flash.device c.args.flash.now in
+    let held : c.as_slice.result.now ≡ payload_of c.args.geometry (parts_on c.args.geometry old.pages) c.in-Some.found = c.as_slice.ensures.value ∙ (rw c.in-Some-2.is at c.in_ok-payload.ensures.payload) in
+    committed_at old c.args.geometry c.args.best c.in-Some.found c.as_slice.result.now c.requires.same c.requires.best c.if-best.false c.in-Some.is held ∙ ap (λ (r : Result Record Fault). Some r) c.in_ok-newest.ensures.ok
+
+pub returns-clause-found : goal.returns-clause-found
+returns-clause-found g c = found_once c.args.geometry (parts_on c.args.geometry (g.F.Flash.device c.args.flash.now).pages) c.args.best c.requires.best c.if-best.false
+
+pub returns-clause-only_reads : goal.returns-clause-only_reads
+returns-clause-only_reads g c = c.in_ok-payload.ensures.only_reads
+
+pub find_payload-requires-clause-same : goal.find_payload-requires-clause-same
+find_payload-requires-clause-same g c = c.requires.same
+
+pub find_payload-requires-clause-lawful : goal.find_payload-requires-clause-lawful
+find_payload-requires-clause-lawful g c = c.requires.lawful
+
+pub find_payload-requires-clause-whole : goal.find_payload-requires-clause-whole
+find_payload-requires-clause-whole g c = c.requires.whole

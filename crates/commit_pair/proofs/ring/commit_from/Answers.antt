@@ -1,9 +1,11 @@
-use Rattle.std.proofs.Common.{ℕ, ◌/◌, ap, ◌∙◌}
+use Rattle.std.proofs.Common.{ℕ, ◌/◌, ap, ◌∙◌, inl}
+use Rattle.std.specs.FinSet as set
+use Rattle.read_only.specs.Modes.{is_read_only}
 use Rattle.std.proofs.lemmas.Result.{err_from_is_err_and}
 use Rattle.std.proofs.lemmas.Nat.{div-mul-add}
 use Rattle.commit_pair.proofs.Anchoring.{OnlyAnchors_on}
 use Rattle.commit_pair.proofs.Asking.{begun_next, elsewhere_next}
-use Rattle.commit_pair.proofs.Following.{spared, cut_attempt, older_on, Commits_on, refused_on}
+use Rattle.commit_pair.proofs.Following.{spared, cut_attempt, older_on, Commits_on, refused_on, on_flash_still}
 use Rattle.commit_pair.proofs.ring.commit_from.Goals as goal
 
 pub commit_next-requires-clause-spares : goal.commit_next-requires-clause-spares
@@ -92,3 +94,69 @@ pub returns-in_err-tried-clause-untouched : goal.returns-in_err-tried-clause-unt
 returns-in_err-tried-clause-untouched g c =
     let p = err_from_is_err_and c.from_residual.result c.from_residual.ensures.1 in
     rw (p.1, p.2) (λ other. absurd (other c.in_err-tried.ensures.why.0))
+
+pub commit_after-requires-clause-same : goal.commit_after-requires-clause-same
+commit_after-requires-clause-same g c = c.requires.same
+
+pub commit_after-requires-clause-lawful : goal.commit_after-requires-clause-lawful
+commit_after-requires-clause-lawful g c = c.requires.lawful
+
+pub commit_after-requires-clause-is_lawful : goal.commit_after-requires-clause-is_lawful
+commit_after-requires-clause-is_lawful g c = c.requires.is_lawful
+
+pub commit_after-requires-clause-on_flash : goal.commit_after-requires-clause-on_flash
+commit_after-requires-clause-on_flash g c = c.requires.on_flash
+
+pub commit_after-requires-clause-in_block : goal.commit_after-requires-clause-in_block
+commit_after-requires-clause-in_block g c = c.requires.in_block
+
+pub commit_after-requires-clause-blank : goal.commit_after-requires-clause-blank
+commit_after-requires-clause-blank g c = c.requires.blank
+
+pub commit_after-requires-clause-older : goal.commit_after-requires-clause-older
+commit_after-requires-clause-older g c = c.requires.older
+
+pub commit_after-requires-clause-open : goal.commit_after-requires-clause-open
+commit_after-requires-clause-open g c = c.requires.open
+
+pub commit_after-requires-clause-room : goal.commit_after-requires-clause-room
+commit_after-requires-clause-room g c = c.requires.room
+
+pub commit_after-requires-clause-anchor : goal.commit_after-requires-clause-anchor
+commit_after-requires-clause-anchor g c = c.requires.home
+
+pub commit_next-requires-clause-lawful : goal.commit_next-requires-clause-lawful
+commit_next-requires-clause-lawful g c = c.requires.lawful
+
+pub commit_next-requires-clause-is_lawful : goal.commit_next-requires-clause-is_lawful
+commit_next-requires-clause-is_lawful g c = c.requires.is_lawful
+
+pub commit_next-requires-clause-home : goal.commit_next-requires-clause-home
+commit_next-requires-clause-home g c = c.requires.home
+
+pub commit_next-requires-clause-room : goal.commit_next-requires-clause-room
+commit_next-requires-clause-room g c = c.in_ok-tried.ensures.room
+
+pub commit_next-requires-clause-on_flash : goal.commit_next-requires-clause-on_flash
+commit_next-requires-clause-on_flash g c = on_flash_still (g.F.Flash.device c.args.flash.now) (g.F.Flash.device c.commit_after.new.flash) c.args.bad.now c.commit_after.new.bad c.args.saved.now.geometry c.requires.lawful c.in_ok-tried.ensures.only_anchors c.requires.on_flash
+
+pub returns-in-Some-clause-goes : goal.returns-in-Some-clause-goes
+returns-in-Some-clause-goes g c = inl (rw c.in-Some.is at c.in_ok-tried.ensures.place, ap (λ bads. set.contains bads c.args.home) (rw c.in-Some.is at c.in_ok-tried.ensures.list) ∙ (rw c.in-Some.is at c.in_ok-tried.ensures.good))
+
+pub returns-in-Some-clause-open : goal.returns-in-Some-clause-open
+returns-in-Some-clause-open g c = ap is_read_only (rw c.in-Some.is at c.in_ok-tried.ensures.list) ∙ c.requires.open
+
+pub returns-in_err-tried-clause-stands : goal.returns-in_err-tried-clause-stands
+returns-in_err-tried-clause-stands g c = rw (err_from_is_err_and c.from_residual.result c.from_residual.ensures.1).1 tt
+
+pub returns-in_err-tried-clause-goes : goal.returns-in_err-tried-clause-goes
+returns-in_err-tried-clause-goes g c = rw (err_from_is_err_and c.from_residual.result c.from_residual.ensures.1).1 tt
+
+pub returns-in_err-tried-clause-begun : goal.returns-in_err-tried-clause-begun
+returns-in_err-tried-clause-begun g c = rw (err_from_is_err_and c.from_residual.result c.from_residual.ensures.1).1 tt
+
+pub returns-in_err-tried-clause-elsewhere : goal.returns-in_err-tried-clause-elsewhere
+returns-in_err-tried-clause-elsewhere g c = rw (err_from_is_err_and c.from_residual.result c.from_residual.ensures.1).1 tt
+
+pub returns-in_err-tried-clause-open : goal.returns-in_err-tried-clause-open
+returns-in_err-tried-clause-open g c = rw (err_from_is_err_and c.from_residual.result c.from_residual.ensures.1).1 tt

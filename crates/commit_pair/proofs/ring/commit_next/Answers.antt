@@ -1,9 +1,10 @@
-use Rattle.std.proofs.Common.{◌+◌, ◌%◌, refl, ◌∙◌, arith}
+use Rattle.std.proofs.Common.{◌+◌, ◌%◌, refl, sym, ap, ◌∙◌, arith}
+use Rattle.read_only.specs.Modes.{is_read_only}
 use Rattle.std.proofs.lemmas.Result.{err_from_is_err_and}
 use Rattle.commit_pair.proofs.Anchoring.{OnlyAnchors_itself, OnlyAnchors_on}
 use Rattle.commit_pair.proofs.Asking.{Asked_itself, Asked_later}
 use Rattle.commit_pair.proofs.Sparing.{Keeps_itself, Keeps_on}
-use Rattle.commit_pair.proofs.Following.{Untouched_on, spared, older_on, cut_attempt, either_on, one_more_tried, next_is, all_tried}
+use Rattle.commit_pair.proofs.Following.{Untouched_on, spared, older_on, cut_attempt, either_on, one_more_tried, next_is, all_tried, on_flash_still, anchor_of_ring}
 use Rattle.commit_pair.proofs.ring.commit_next.Goals as goal
 
 pub commit_anew-requires-clause-spares : goal.commit_anew-requires-clause-spares
@@ -120,3 +121,39 @@ pub returns-in_err-tried-clause-untouched : goal.returns-in_err-tried-clause-unt
 returns-in_err-tried-clause-untouched g c =
     let p = err_from_is_err_and c.from_residual.result c.from_residual.ensures.1 in
     rw (p.1, p.2) (λ other. absurd (other c.in_err-tried.ensures.why.0))
+
+pub commit_anew-requires-clause-lawful : goal.commit_anew-requires-clause-lawful
+commit_anew-requires-clause-lawful g c = c.requires.lawful
+
+pub commit_anew-requires-clause-is_lawful : goal.commit_anew-requires-clause-is_lawful
+commit_anew-requires-clause-is_lawful g c = c.requires.is_lawful
+
+pub commit_anew-requires-clause-room : goal.commit_anew-requires-clause-room
+commit_anew-requires-clause-room g c = c.loop-step.invariant.room
+
+pub commit_anew-requires-clause-open : goal.commit_anew-requires-clause-open
+commit_anew-requires-clause-open g c = sym c.is_read_only.ensures ∙ c.if-is_read_only.false
+
+pub commit_anew-requires-clause-on_flash : goal.commit_anew-requires-clause-on_flash
+commit_anew-requires-clause-on_flash g c = on_flash_still (g.F.Flash.device c.args.flash.now) (g.F.Flash.device c.loop-step.flash) c.args.bad.now c.loop-step.bad c.args.saved.now.geometry c.requires.lawful c.loop-step.invariant.only_anchors c.requires.on_flash
+
+pub commit_anew-requires-clause-anchor : goal.commit_anew-requires-clause-anchor
+commit_anew-requires-clause-anchor g c = anchor_of_ring (c.args.home + c.loop-step.step)
+
+pub returns-then-is_read_only-clause-why : goal.returns-then-is_read_only-clause-why
+returns-then-is_read_only-clause-why g c = sym c.is_read_only.ensures ∙ c.if-is_read_only.true
+
+pub returns-in-Some-clause-open : goal.returns-in-Some-clause-open
+returns-in-Some-clause-open g c = ap is_read_only (rw c.in-Some.is at c.in_ok-tried.ensures.list) ∙ sym c.is_read_only.ensures ∙ c.if-is_read_only.false
+
+pub returns-in_err-tried-clause-stands : goal.returns-in_err-tried-clause-stands
+returns-in_err-tried-clause-stands g c = rw (err_from_is_err_and c.from_residual.result c.from_residual.ensures.1).1 tt
+
+pub returns-in_err-tried-clause-next : goal.returns-in_err-tried-clause-next
+returns-in_err-tried-clause-next g c = rw (err_from_is_err_and c.from_residual.result c.from_residual.ensures.1).1 tt
+
+pub returns-in_err-tried-clause-asked : goal.returns-in_err-tried-clause-asked
+returns-in_err-tried-clause-asked g c = rw (err_from_is_err_and c.from_residual.result c.from_residual.ensures.1).1 tt
+
+pub returns-in_err-tried-clause-open : goal.returns-in_err-tried-clause-open
+returns-in_err-tried-clause-open g c = rw (err_from_is_err_and c.from_residual.result c.from_residual.ensures.1).1 tt

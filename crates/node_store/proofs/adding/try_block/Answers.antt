@@ -110,3 +110,66 @@ returns-in_err-list_block-in-Err-Failed-clause-operations g c =
 pub returns-in_ok-list_block-in-Err-Failed-clause-operations : goal.returns-in_ok-list_block-in-Err-Failed-clause-operations
 returns-in_ok-list_block-in-Err-Failed-clause-operations g c =
     spends_once (g.F.Flash.device c.args.flash.now).operations (g.F.Flash.device c.write_block.new.flash).operations c.args.ring.now.takes c.take_block.new.ring.takes (1 + pages_for (g.F.Flash.device c.args.flash.now).geometry.page (length c.args.bytes.now)) c.take_block.ensures.takes c.write_block.ensures.operations
+
+pub returns-in-Ok-clause-page : goal.returns-in-Ok-clause-page
+returns-in-Ok-clause-page g c = c.write_block.ensures.page
+
+pub returns-in-Ok-clause-taken : goal.returns-in-Ok-clause-taken
+returns-in-Ok-clause-taken g c = c.take_block.ensures.only
+
+pub returns-in-Ok-clause-fresh : goal.returns-in-Ok-clause-fresh
+returns-in-Ok-clause-fresh g c = c.take_block.ensures.fresh
+
+pub returns-in-Ok-clause-others : goal.returns-in-Ok-clause-others
+returns-in-Ok-clause-others g c = c.write_block.ensures.writes.others
+
+pub returns-in-Err-PowerCut-clause-page : goal.returns-in-Err-PowerCut-clause-page
+returns-in-Err-PowerCut-clause-page g c = c.write_block.ensures.page
+
+pub returns-in-Err-PowerCut-clause-taken : goal.returns-in-Err-PowerCut-clause-taken
+returns-in-Err-PowerCut-clause-taken g c = c.take_block.ensures.only
+
+pub returns-in-Err-PowerCut-clause-fresh : goal.returns-in-Err-PowerCut-clause-fresh
+returns-in-Err-PowerCut-clause-fresh g c = c.take_block.ensures.fresh
+
+pub returns-in-Err-PowerCut-clause-others : goal.returns-in-Err-PowerCut-clause-others
+returns-in-Err-PowerCut-clause-others g c = c.write_block.ensures.writes.others
+
+pub returns-in_err-list_block-in-Err-Failed-clause-page : goal.returns-in_err-list_block-in-Err-Failed-clause-page
+returns-in_err-list_block-in-Err-Failed-clause-page g c = c.write_block.ensures.page
+
+pub returns-in_err-list_block-in-Err-Failed-clause-taken : goal.returns-in_err-list_block-in-Err-Failed-clause-taken
+returns-in_err-list_block-in-Err-Failed-clause-taken g c = c.take_block.ensures.only
+
+pub returns-in_err-list_block-in-Err-Failed-clause-fresh : goal.returns-in_err-list_block-in-Err-Failed-clause-fresh
+returns-in_err-list_block-in-Err-Failed-clause-fresh g c = c.take_block.ensures.fresh
+
+pub returns-in_err-list_block-in-Err-Failed-clause-others : goal.returns-in_err-list_block-in-Err-Failed-clause-others
+returns-in_err-list_block-in-Err-Failed-clause-others g c = c.write_block.ensures.writes.others
+
+pub returns-in_ok-list_block-in-Err-Failed-clause-page : goal.returns-in_ok-list_block-in-Err-Failed-clause-page
+returns-in_ok-list_block-in-Err-Failed-clause-page g c = c.write_block.ensures.page
+
+pub returns-in_ok-list_block-in-Err-Failed-clause-taken : goal.returns-in_ok-list_block-in-Err-Failed-clause-taken
+returns-in_ok-list_block-in-Err-Failed-clause-taken g c = c.take_block.ensures.only
+
+pub returns-in_ok-list_block-in-Err-Failed-clause-fresh : goal.returns-in_ok-list_block-in-Err-Failed-clause-fresh
+returns-in_ok-list_block-in-Err-Failed-clause-fresh g c = c.take_block.ensures.fresh
+
+pub returns-in_ok-list_block-in-Err-Failed-clause-others : goal.returns-in_ok-list_block-in-Err-Failed-clause-others
+returns-in_ok-list_block-in-Err-Failed-clause-others g c = c.write_block.ensures.writes.others
+
+pub write_block-requires-clause-lawful : goal.write_block-requires-clause-lawful
+write_block-requires-clause-lawful g c = c.requires.lawful
+
+pub write_block-requires-clause-whole : goal.write_block-requires-clause-whole
+write_block-requires-clause-whole g c = c.requires.whole
+
+pub take_block-requires : goal.take_block-requires
+take_block-requires g c = c.requires.next
+
+pub list_block-requires-clause-good : goal.list_block-requires-clause-good
+list_block-requires-clause-good g c = c.take_block.ensures.good
+
+pub list_block-requires-clause-room : goal.list_block-requires-clause-room
+list_block-requires-clause-room g c = c.requires.room

@@ -1,12 +1,16 @@
 -- The pages of a record, one after the other.
-use Rattle.std.proofs.Common.{◌≡◌, ◌≢◌, ℕ, ◌+◌, ◌<◌, List, None, Err, sym, ap, ◌∙◌, inl, inr, arith}
+use Rattle.std.proofs.Common.{◌≡◌, ◌≢◌, ℕ, ◌+◌, ◌*◌, ◌<◌, ◌≤◌, List, length, take, drop, None, Err, sym, ap, ◌∙◌, inl, inr, arith}
 use Rattle.std.proofs.lemmas.Bool.{cases_eq}
+use Rattle.std.proofs.lemmas.Nat.{mul-le}
+use Rattle.std.proofs.lemmas.List.{length-take}
 use Rattle.flash_model.specs.declared.sizes.Geometry.{Geometry}
 use Rattle.flash_model.specs.declared.device.DevFault.{DevFault}
 use Rattle.flash_model.specs.declared.device.DevFault.TheVariants.{Failed, PowerCut}
 use Rattle.flash_model.specs.Device.{Page, erased, bytes_of, AfterProgram}
-use Rattle.commit_pair.specs.Parts.{part_of}
-use Rattle.commit_pair.specs.Programming.{bytes_for, HasPages, EndsAt}
+use Rattle.flash_model.specs.Geometry.{IsGeometry}
+use Rattle.commit_pair.specs.Parts.{room, part_of}
+use Rattle.commit_pair.specs.Programming.{piece, bytes_for, Fills, HasPages, EndsAt}
+use Rattle.commit_pair.proofs.Places.{page_least}
 
 module _ (g : Geometry) (old mid new : ℕ → Page) (p sequence : ℕ) (payload : List ℕ) (count n : ℕ) (so_far : HasPages g old mid p sequence payload count n) (lt : n < count)
     (others : (q : ℕ) → q ≢ p + n → new q ≡ mid q) where
@@ -41,3 +45,23 @@ module _ (g : Geometry) (old mid new : ℕ → Page) (p sequence : ℕ) (payload
     | inr (inl whole) ↦ (n + 1, omega arith, pages_next whole)
     | inr (inr torn) ↦ (n, omega arith, pages_lost (ap part_of torn))
   ]
+
+-- the piece of one page more is within the payload, and has room on a page
+pub piece_inside : (g : Geometry) (payload : List ℕ) (count n : ℕ) → Fills g payload count → n < count → n * room g ≤ length payload
+piece_inside g payload count n fill lt =
+    let most : (n + 1) * room g ≤ count * room g = mul-le (n + 1) (room g) count (room g) (omega arith) (omega arith) in
+    let low = fill.low in
+    omega arith
+
+pub piece_fits : (g : Geometry) (payload : List ℕ) (n : ℕ) (bytes : List ℕ) → IsGeometry g → bytes ≡ piece g payload n → 20 + length bytes ≤ g.page
+piece_fits g payload n bytes lawful is =
+    let short = length-take (room g) (drop (n * room g) payload) in
+    let least = page_least g lawful in
+    let same = ap length is in
+    omega arith
+
+pub room_on : (a b c : ℕ) → a ≤ b → b ≤ c → a ≤ c
+room_on a b c first next = omega arith
+
+pub failed_none : (new old : ℕ) → new ≡ old + 0 → new ≡ old
+failed_none new old is = omega arith

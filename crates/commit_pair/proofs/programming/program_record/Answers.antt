@@ -1,6 +1,7 @@
-use Rattle.std.proofs.Common.{◌≡◌, ℕ, ◌+◌, ◌*◌, ◌<◌, List, length, Ok, Err, refl, sym, ap, subst, ◌∙◌, arith}
+use Rattle.std.proofs.Common.{◌≡◌, ℕ, ◌+◌, ◌*◌, ◌<◌, List, length, vec_capacity, Ok, Err, refl, sym, ap, subst, ◌∙◌, arith}
 use Rattle.std.proofs.lemmas.Result.{err_from_is_err_and}
 use Rattle.flash_model.specs.declared.sizes.Geometry.{Geometry}
+use Rattle.flash_model.specs.Geometry.{page_count}
 use Rattle.flash_model.specs.Device.{block_of, AfterProgram, bytes_of}
 use Rattle.flash_model.specs.Blocks.{block_of-at}
 use Rattle.record_format.specs.Pages.{page_bytes}
@@ -8,7 +9,8 @@ use Rattle.commit_pair.specs.Parts.{part_of}
 use Rattle.commit_pair.specs.Programming.{bytes_for}
 use Rattle.commit_pair.proofs.Anchoring.{program_touches, Touches_itself, Touches_on}
 use Rattle.commit_pair.proofs.Asking.{one_more, tries_end}
-use Rattle.commit_pair.proofs.Programmed.{pages_next, pages_end}
+use Rattle.commit_pair.proofs.Places.{anchor_on_flash, below_end}
+use Rattle.commit_pair.proofs.Programmed.{pages_next, pages_end, piece_inside, piece_fits, room_on, failed_none}
 use Rattle.commit_pair.proofs.programming.program_record.Goals as goal
 use Rattle.commit_pair.proofs.programming.program_record.Goals.{After-program}
 use Rattle.commit_pair.proofs.programming.program_record.Given.{Over}
@@ -105,3 +107,42 @@ returns-clause-programmed g c =
 
 pub returns-clause-touches : goal.returns-clause-touches
 returns-clause-touches g c = c.loop-n.invariant.touches
+
+pub piece_of-piece-requires-clause-lawful : goal.piece_of-piece-requires-clause-lawful
+piece_of-piece-requires-clause-lawful g c = c.requires.lawful
+
+pub piece_of-piece-requires-clause-inside : goal.piece_of-piece-requires-clause-inside
+piece_of-piece-requires-clause-inside g c = piece_inside c.args.geometry c.args.payload.now c.args.count c.loop-n.n c.requires.fills c.loop-n-test.true
+
+pub write_page-requires-clause-fits : goal.write_page-requires-clause-fits
+write_page-requires-clause-fits g c = piece_fits c.args.geometry c.args.payload.now c.loop-n.n c.piece_of-piece.result.now c.requires.lawful c.piece_of-piece.ensures
+
+pub write_page-requires-clause-room : goal.write_page-requires-clause-room
+write_page-requires-clause-room g c = c.loop-n.invariant.room
+
+pub page_number-requires-clause-in_flash : goal.page_number-requires-clause-in_flash
+page_number-requires-clause-in_flash g c = anchor_on_flash c.args.geometry c.args.anchor c.requires.lawful c.requires.anchor
+
+pub page_number-requires-clause-in_block : goal.page_number-requires-clause-in_block
+page_number-requires-clause-in_block g c = below_end c.args.place c.loop-n.n c.args.count c.args.geometry.pages c.requires.in_block c.loop-n-test.true
+
+pub program-requires-clause-in_range : goal.program-requires-clause-in_range
+program-requires-clause-in_range g c =
+    let same = c.loop-n.invariant.touches.geometry ∙ c.requires.same in
+    subst (λ (h : Geometry). c.page_number.result < page_count h) (sym same) c.page_number.ensures.in_range
+
+pub program-requires-clause-whole : goal.program-requires-clause-whole
+program-requires-clause-whole g c =
+    let same = c.loop-n.invariant.touches.geometry ∙ c.requires.same in
+    c.deref.ensures.len ∙ c.write_page.ensures.len ∙ ap (λ (h : Geometry). h.page) (sym same)
+
+pub returns-in_err-program-clause-room : goal.returns-in_err-program-clause-room
+returns-in_err-program-clause-room g c = room_on c.args.geometry.page (vec_capacity c.loop-n.page) (vec_capacity c.write_page.new.out) c.loop-n.invariant.room c.write_page.ensures.capacity
+
+pub returns-clause-room : goal.returns-clause-room
+returns-clause-room g c = c.loop-n.invariant.room
+
+pub returns-clause-tries : goal.returns-clause-tries
+returns-clause-tries g c =
+    let all : c.loop-n.n ≡ c.args.count = let test = c.loop-n-test.false in let within = c.loop-n.auto.n-end in omega arith in
+    (failed_none _ _ c.loop-n.invariant.touches.failures, c.loop-n.invariant.operations ∙ ap (λ n. (g.F.Flash.device c.args.flash.now).operations + n) all)

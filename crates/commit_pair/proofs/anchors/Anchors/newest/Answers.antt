@@ -1,4 +1,4 @@
-use Rattle.std.proofs.Common.{sym, ap, subst, ◌∙◌}
+use Rattle.std.proofs.Common.{sym, subst}
 use Rattle.std.proofs.lemmas.Result.{err_from_is_err_and}
 use Rattle.flash_model.specs.Geometry.{IsGeometry}
 use Rattle.commit_pair.specs.Reading.{OnlyReads_itself}

@@ -1,8 +1,7 @@
-use Rattle.std.proofs.Common.{◌≡◌, ℕ, Some, refl, sym, ap, ◌∙◌}
+use Rattle.std.proofs.Common.{ℕ, Some, refl, sym, ap, ◌∙◌}
 use Rattle.std.proofs.lemmas.Result.{err_from_is_err_and}
 use Rattle.flash_model.specs.Device.{Page}
 use Rattle.commit_pair.specs.Parts.{parts_on, best_on}
-use Rattle.commit_pair.specs.Newest.{KnowsEnd}
 use Rattle.commit_pair.specs.Reading.{OnlyReads_on}
 use Rattle.commit_pair.specs.declared.anchors.Anchors.{Anchors}
 use Rattle.commit_pair.proofs.Beginning.{remembers_at, knows_end_at, ready_at}

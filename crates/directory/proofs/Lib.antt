@@ -6,6 +6,7 @@ pub mod LookupLaws
 pub mod Counting
 pub mod Levels
 pub mod Ways
+pub mod LookupSteps
 pub mod TrailEdits
 pub mod Forks
 pub mod Branches

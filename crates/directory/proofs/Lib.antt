@@ -7,6 +7,7 @@ pub mod Counting
 pub mod Levels
 pub mod Ways
 pub mod LookupSteps
+pub mod ReadNodes
 pub mod TrailEdits
 pub mod Forks
 pub mod Branches

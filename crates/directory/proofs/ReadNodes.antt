@@ -29,13 +29,12 @@ found_shown f block len name bytes entries place found is bytes_is place_is len_
     ∙ ap (λ (x : Found). Ok x) (sym found_is)
 
 -- one name more is listed
-pub one_name_more : (names pushed : List (Name × Bool)) (rest left entries : List Item) (entry : Item) (name : Name) (is_dir : Bool) → pushed ≡ names ++ (name, is_dir) ∷ [] → left ≡ entry ∷ rest → name ≡ entry.name → is_dir ≡ is_dir_place entry.place
+pub one_name_more : (names pushed : List (Name × Bool)) (rest left entries : List Item) (entry : Item) (name : Name) → pushed ≡ names ++ (name, is_dir_place entry.place) ∷ [] → left ≡ entry ∷ rest → name ≡ entry.name
     → names ++ names_of left ≡ names_of entries → pushed ++ names_of rest ≡ names_of entries
-one_name_more names pushed rest left entries entry name is_dir pushed_is steps name_is dir_is before =
+one_name_more names pushed rest left entries entry name pushed_is steps name_is before =
     ap (λ (p : List (Name × Bool)). p ++ names_of rest) pushed_is
-    ∙ append_assoc names ((name, is_dir) ∷ []) (names_of rest)
-    ∙ ap (λ (n : Name). names ++ (n, is_dir) ∷ names_of rest) name_is
-    ∙ ap (λ (d : Bool). names ++ (entry.name, d) ∷ names_of rest) dir_is
+    ∙ append_assoc names ((name, is_dir_place entry.place) ∷ []) (names_of rest)
+    ∙ ap (λ (n : Name). names ++ (n, is_dir_place entry.place) ∷ names_of rest) name_is
     ∙ ap (λ (i : List Item). names ++ names_of i) (sym steps)
     ∙ before
 

@@ -5,6 +5,7 @@ use Rattle.block_trees.specs.Bodies.{Blocks}
 use Rattle.block_trees.specs.Trees.{items_in}
 use Rattle.directory.specs.Depths.{AreNamedBy, HasDirectories}
 use Rattle.directory.proofs.MovedPaths.{if_ok}
+use Rattle.directory.proofs.Rewrites.{if_err}
 use Rattle.directory.proofs.Levels.{IsLevel, one_level_more, first_level, next_is_level, next_listed, last_shallow, last_deeper}
 use Rattle.std.proofs.lemmas.Result.{err_from_is_err_and}
 use Rattle.directory.proofs.depths.any_is_deeper.Goals as goal
@@ -101,3 +102,14 @@ returns-in_err-level-2-clause-faults g c =
 
 pub returns-clause-faults : goal.returns-clause-faults
 returns-clause-faults g c = c.any_has_entries.ensures.faults
+
+pub next_level-requires-clause-sound : goal.next_level-requires-clause-sound
+next_level-requires-clause-sound g c = c.loop-done.invariant.looks.sound
+
+pub any_has_entries-requires-clause-sound : goal.any_has_entries-requires-clause-sound
+any_has_entries-requires-clause-sound g c = c.loop-done.invariant.looks.sound
+
+pub returns-clause-why : goal.returns-clause-why
+returns-clause-why g c =
+    if_err _ _ c.any_has_entries.result
+    (λ fault why. g.met.N.Nodes.causes_on c.args.nodes.now c.loop-done.nodes c.any_has_entries.new.nodes fault c.loop-done.invariant.looks.came why) c.any_has_entries.ensures.why

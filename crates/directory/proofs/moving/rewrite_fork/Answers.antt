@@ -210,3 +210,27 @@ returns-in_err-here-clause-works g c = g.met.N.Nodes.works_on c.args.nodes.now c
 
 pub returns-clause-faults : goal.returns-clause-faults
 returns-clause-faults g c = c.edit_directory_twice.ensures.faults
+
+pub rewrite_branch-requires-clause-fork : goal.rewrite_branch-requires-clause-fork
+rewrite_branch-requires-clause-fork g c = c.requires.fork.in_old
+
+pub rewrite_branch-requires-clause-way : goal.rewrite_branch-requires-clause-way
+rewrite_branch-requires-clause-way g c = c.requires.fork.old_way
+
+pub rewrite_branch-requires-clause-taken : goal.rewrite_branch-requires-clause-taken
+rewrite_branch-requires-clause-taken g c = c.requires.fork.gone
+
+pub rewrite_branch-requires-2-clause-sound : goal.rewrite_branch-requires-2-clause-sound
+rewrite_branch-requires-2-clause-sound g c = c.rewrite_branch.ensures.works.sound
+
+pub rewrite_branch-requires-2-clause-fork : goal.rewrite_branch-requires-2-clause-fork
+rewrite_branch-requires-2-clause-fork g c = c.requires.fork.in_new
+
+pub edit_directory_twice-requires-clause-sound : goal.edit_directory_twice-requires-clause-sound
+edit_directory_twice-requires-clause-sound g c = c.rewrite_branch-2.ensures.works.sound
+
+pub edit_directory_twice-requires-clause-gone : goal.edit_directory_twice-requires-clause-gone
+edit_directory_twice-requires-clause-gone g c = c.in_ok-gone.ensures.lawful
+
+pub edit_directory_twice-requires-clause-here : goal.edit_directory_twice-requires-clause-here
+edit_directory_twice-requires-clause-here g c = c.in_ok-here.ensures.lawful

@@ -106,3 +106,9 @@ returns-in_err-to-2-clause-faults g c =
 
 pub returns-clause-works : goal.returns-clause-works
 returns-clause-works g c = c.loop-i.invariant.works
+
+pub edit_directory-requires-in-loop-i-clause-sound : goal.edit_directory-requires-in-loop-i-clause-sound
+edit_directory-requires-in-loop-i-clause-sound g c = c.loop-i.invariant.works.sound
+
+pub edit_directory-requires-in-loop-i-clause-place : goal.edit_directory-requires-in-loop-i-clause-place
+edit_directory-requires-in-loop-i-clause-place g c = c.loop-i.invariant.lawful

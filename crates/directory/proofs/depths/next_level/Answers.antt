@@ -3,6 +3,7 @@ use Rattle.std.specs.FinSet as set
 use Rattle.block_trees.specs.Trees.{items_in}
 use Rattle.allocator.specs.BlockSet.{BlockSet}
 use Rattle.directory.specs.Depths.{names_directory}
+use Rattle.std.proofs.lemmas.Result.{err_from_is_err_and}
 use Rattle.directory.proofs.Levels.{none_named, one_named}
 use Rattle.directory.proofs.Counting.{one_more, count_few}
 use Rattle.directory.proofs.depths.next_level.Goals as goal
@@ -43,3 +44,16 @@ returns-in_err-add_named-clause-looks g c = g.met.N.Nodes.looks_on c.args.nodes.
 
 pub returns-clause-looks : goal.returns-clause-looks
 returns-clause-looks g c = c.loop-block.invariant.looks
+
+pub add_named-requires : goal.add_named-requires
+add_named-requires g c = c.loop-block.invariant.looks.sound
+
+pub returns-in_err-add_named-clause-why : goal.returns-in_err-add_named-clause-why
+returns-in_err-add_named-clause-why g c =
+    let p = err_from_is_err_and c.from_residual-in_err-add_named.result c.from_residual-in_err-add_named.ensures.1 in
+    rw (p.1, p.2) (g.met.N.Nodes.causes_on c.args.nodes.now c.loop-block.nodes c.add_named.new.nodes c.in_err-add_named.field-0.0 c.loop-block.invariant.looks.came c.in_err-add_named.ensures.why)
+
+pub returns-in_err-add_named-clause-faults : goal.returns-in_err-add_named-clause-faults
+returns-in_err-add_named-clause-faults g c =
+    let p = err_from_is_err_and c.from_residual-in_err-add_named.result c.from_residual-in_err-add_named.ensures.1 in
+    rw (p.1, p.2) c.in_err-add_named.ensures.faults

@@ -1,4 +1,4 @@
-use Rattle.std.proofs.Common.{arith}
+use Rattle.std.proofs.Common.{arith, refl}
 use Rattle.directory.proofs.Branches.{branch_of}
 use Rattle.std.proofs.lemmas.Result.{err_from_is_err_and}
 use Rattle.directory.proofs.moving.rewrite_branch.Goals as goal
@@ -25,3 +25,21 @@ returns-in_err-next-clause-faults g c =
 
 pub returns-clause-works : goal.returns-clause-works
 returns-clause-works g c = c.rewrite_from.ensures.works
+
+pub rewrite_from-requires-clause-level : goal.rewrite_from-requires-clause-level
+rewrite_from-requires-clause-level g c =
+    let fork = c.requires.fork in
+    let other = c.if-fork-names.false in
+    omega arith
+
+pub rewrite_from-requires-clause-way : goal.rewrite_from-requires-clause-way
+rewrite_from-requires-clause-way g c = c.requires.way
+
+pub rewrite_from-requires-clause-taken : goal.rewrite_from-requires-clause-taken
+rewrite_from-requires-clause-taken g c =
+    let fork = c.requires.fork in
+    let other = c.if-fork-names.false in
+    c.requires.taken (omega arith)
+
+pub returns-then-fork-names-clause-works : goal.returns-then-fork-names-clause-works
+returns-then-fork-names-clause-works g c = record { came = g.met.N.Nodes.follows_itself c.args.nodes.now; sound = c.requires.sound; same_limit = refl; same_blocks = refl }

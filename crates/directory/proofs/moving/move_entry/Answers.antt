@@ -188,3 +188,9 @@ returns-clause-keeps g c = record {
 
 pub returns-clause-works : goal.returns-clause-works
 returns-clause-works g c = c.loop-i.invariant.works
+
+pub edit_directory-requires-clause-sound : goal.edit_directory-requires-clause-sound
+edit_directory-requires-clause-sound g c = c.loop-i.invariant.works.sound
+
+pub edit_directory-requires-clause-place : goal.edit_directory-requires-clause-place
+edit_directory-requires-clause-place g c = c.loop-i.invariant.lawful

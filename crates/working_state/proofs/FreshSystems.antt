@@ -1,5 +1,5 @@
 -- A fresh system: its one version is the empty root.
-use Rattle.std.proofs.Common.{◌≡◌, ℕ, zero, suc, ◌+◌, ◌-◌, ◌<◌, ◌≤◌, inl, inr, Bool, true, false, cond, List, Some, [], Result, Ok, Err, refl, sym, ap, subst, ◌∙◌, arith}
+use Rattle.std.proofs.Common.{◌≡◌, ℕ, zero, suc, ◌+◌, ◌-◌, ◌<◌, ◌≤◌, ◌≢◌, ◌⊎◌, inl, inr, Bool, true, false, cond, List, Some, [], Result, Ok, Err, refl, sym, ap, subst, ◌∙◌, arith}
 use Rattle.std.proofs.lemmas.Bool.{true≢false, cases_Bool}
 use Rattle.std.proofs.lemmas.List.Elements.{All-push}
 use Rattle.std.proofs.lemmas.List.Sums.{sum_by-cons}
@@ -13,7 +13,7 @@ use Rattle.history_machine.specs.Machine.{IsMachine, mounted, machine_with}
 use Rattle.plain_trees.specs.Trees.{Tree, bare}
 use Rattle.fs_types.specs.declared.calls.Version.{Version}
 use Rattle.fs_types.specs.declared.faults.Fault.{Fault}
-use Rattle.fs_types.specs.declared.faults.Fault.TheVariants.{FlashFull, ReadOnly, PowerCut, NoMemory}
+use Rattle.fs_types.specs.declared.faults.Fault.TheVariants.{FlashFull, ReadOnly, PowerCut, NoMemory, Invalid}
 use Rattle.history_machine.proofs.Kept.{machine_law}
 use Rattle.flash_model.specs.Device.{Device}
 use Rattle.flash_model.specs.declared.sizes.Geometry.{Geometry}
@@ -31,7 +31,7 @@ use Rattle.block_trees.proofs.RootMaps.{empty_root}
 use Rattle.working_state.specs.Fresh.{unused_ring, unused_beside, IsFirstGood, IsBegun, HasGrown, BeginCause, RootCause}
 use Rattle.working_state.specs.Leaves.{HasWritten}
 use Rattle.working_state.specs.Moments.{moment, Moment, IsMountedAt, nodes_at, capacity_at}
-use Rattle.working_state.specs.Seen.{capacity_of, tree_on}
+use Rattle.working_state.specs.Seen.{IsLaterFlash, capacity_of, tree_on}
 use Rattle.working_state.specs.Mounted.{IsStanding}
 use Rattle.working_state.specs.declared.state.State.{State}
 use Rattle.block_trees.proofs.EmptyDirectories.{empty_held}
@@ -200,3 +200,25 @@ written_begun d was limit s e t h files root lawful bad ring fits written kept e
       paid = omega arith;
       root_block = first_root d s e t root ring next;
     }
+
+-- The flash, and the refusals that write no root.
+
+pub same_flash : (d : Device) → IsLaterFlash d d
+same_flash d = record { geometry = refl; failed_reads = omega arith; was_on = λ e. e }
+
+pub later_flash : (d : Device) (s : Storage) (most : ℕ) (e : Device) (t : Storage) → HasWritten d s most e t → IsLaterFlash d e
+later_flash d s most e t w = record { geometry = w.evolved.geometry; failed_reads = w.evolved.failed_reads; was_on = w.evolved.was_on }
+
+-- the last block of a flash holds data
+pub last_data : (g : Geometry) → IsGeometry g → IsDataBlock g.blocks (g.blocks - 1)
+last_data g is = (omega arith, omega arith)
+
+-- room for one node is refused for want of memory alone
+pub one_node : (fault : Fault) → (fault ≡ Invalid → (1 < 1) ⊎ (64 < 1)) → (fault ≢ Invalid → fault ≡ NoMemory) → fault ≡ NoMemory
+one_node fault lawful memory = memory (λ is. elim (lawful is) [
+  | inl few ↦ omega arith
+  | inr many ↦ omega arith
+])
+
+pub memory_cause : (given : Device) (was : set.FinSet nat_cmp) (fault : Fault) (left : Device) → fault ≡ NoMemory → BeginCause given was fault left
+memory_cause given was fault left is = subst (λ f. BeginCause given was f left) (sym is) tt

@@ -19,5 +19,6 @@ pub mod Roots
 pub mod Standing
 pub mod Stats
 pub mod Steps
+pub mod StoreReads
 pub mod TakenOut
 pub mod Views

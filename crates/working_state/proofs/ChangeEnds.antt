@@ -1,0 +1,58 @@
+-- How a change ends: it is refused before the work, in it, or after it, or its root is the present one.
+use Rattle.std.proofs.Common.{◌≡◌, ◌⊎◌, ℕ, ◌<◌, true, false, Some, Result, Ok, Err, refl, inl, inr}
+use Rattle.history_machine.specs.History.{Past, present_root, changed}
+use Rattle.fs_types.specs.declared.faults.Fault.{Fault}
+use Rattle.fs_types.specs.declared.faults.Fault.TheVariants.{ReadOnly, Overflow}
+use Rattle.flash_model.specs.Device.{Device}
+use Rattle.node_store.specs.declared.storage.Storage.{Storage}
+use Rattle.read_only.specs.Modes.{is_read_only}
+use Rattle.tree_edits.specs.declared.edits.Edit.{Edit}
+use Rattle.working_state.specs.Changes.{IsTried, IsReadOnly, IsOverflow, IsChanged}
+use Rattle.working_state.specs.Steps.{last_serial}
+use Rattle.working_state.proofs.Standing.{none_written}
+use Rattle.working_state.proofs.StoreReads.{on_flash}
+
+module _ (d : Device) (h : Past ℕ) (s : Storage) (edit : Edit) where
+  -- before the work
+  pub ends_before : (fault : Fault) → ((fault ≡ ReadOnly) × IsReadOnly h s s) ⊎ ((fault ≡ Overflow) × IsOverflow h s) → IsChanged d h s edit (Err fault) d h s
+  ends_before fault why = record { written = none_written d s _; ends = (refl, inl why); still = λ _. (refl, refl) }
+
+  module _ (writable : is_read_only s.bad ≡ false) (serial_left : h.next < last_serial) (root : ℕ) (e : Device) (t : Storage) where
+    -- in the work
+    pub ends_in : (fault : Fault) → IsTried d s edit root (Err fault) e t → IsChanged d h s edit (Err fault) e h t
+    ends_in fault tried = record {
+      written = tried.written;
+      ends = (refl, inr (record { writable = writable; serial_left = serial_left; why = tried.refused }));
+      still = tried.still;
+    }
+
+    -- read-only mode came on in the work
+    pub ends_after : (to : ℕ) (fault : Fault) → IsTried d s edit root (Ok to) e t → (fault ≡ ReadOnly) × (is_read_only t.bad ≡ true) → IsChanged d h s edit (Err fault) e h t
+    ends_after to fault tried why = record {
+      written = tried.written;
+      ends = (refl, inl (inl (why.0, record { on = why.1; serial_left = λ _. serial_left })));
+      still = tried.still;
+    }
+
+    pub ends_well : (to : ℕ) (i : Past ℕ) → IsTried d s edit root (Ok to) e t → present_root h ≡ Some root → is_read_only t.bad ≡ false → i ≡ changed h to → IsChanged d h s edit (Ok tt) e i t
+    ends_well to i tried present stays is = record {
+      written = tried.written;
+      ends = record {
+        root = root;
+        to = to;
+        present = present;
+        pushed = is;
+        stands = tried.stands;
+        shows = tried.shows;
+        reached = tried.reached;
+        writable = writable;
+        stays_writable = stays;
+        serial_left = serial_left;
+      };
+      still = tried.still;
+    }
+
+-- what was tried through a store was tried on the flash and the storage that it was made of
+pub tried_on : {d d' e e' : Device} {s s' t t' : Storage} {edit : Edit} {root : ℕ} {result : Result ℕ Fault} → IsTried d' s' edit root result e' t' → d' ≡ d → s' ≡ s → e' ≡ e → t' ≡ t → IsTried d s edit root result e t
+tried_on {d} {d'} {e} {e'} {s} {s'} {t} {t'} {edit} {root} {result} tried same_d same_s same_e same_t =
+    on_flash (λ x y z w. IsTried x y edit root result z w) d d' s s' e e' t t' same_d same_s same_e same_t tried

@@ -2,6 +2,7 @@
 use allocator::Ring;
 use fs_types::Fault;
 use node_cache::NodeCache;
+use std::alloc::Global;
 use std::test::Fail;
 
 #[test]
@@ -23,29 +24,39 @@ fn a_cache_of_two_keeps_the_nodes_used_last(rt: HostRuntime) -> Result<(), Fail>
     Ok(())
 }
 
+/// Lists a node for each block from the first to the last.
+fn list_nodes(cache: &mut NodeCache, first: u32, last: u32) -> Result<(), Fault> {
+    for block in first..=last {
+        cache.list_copy(block, b"node")?;
+    }
+    Ok(())
+}
+
 #[test]
 fn a_cache_has_room_for_1_to_64_nodes(rt: HostRuntime) -> Result<(), Fail> {
     assert_eq!(rt; NodeCache::new(rt.alloc(), 0).err(), Some(Fault::Invalid));
     assert_eq!(rt; NodeCache::new(rt.alloc(), 65).err(), Some(Fault::Invalid));
     let mut cache = NodeCache::new(rt.alloc(), 64)?;
-    for block in 8..73 {
-        cache.list_copy(block, b"node")?;
-    }
+    assert_eq!(rt; list_nodes(&mut cache, 8, 72), Ok(()));
     assert_eq!(rt; cache.len(), 64);
     assert!(rt; !cache.promote(8) && cache.promote(9) && cache.promote(72));
     Ok(())
 }
 
-#[test]
-fn unused_blocks_leave_the_cache(rt: HostRuntime) -> Result<(), Fail> {
-    let mut ring = Ring::new(rt.alloc(), 16, 15)?;
+/// Leaves the nodes of the used blocks alone.
+fn forget_unused(alloc: Global, cache: &mut NodeCache) -> Result<(), Fault> {
+    let mut ring = Ring::new(alloc, 16, 15)?;
     ring.mark_used(9);
     ring.mark_used(11);
-    let mut cache = NodeCache::new(rt.alloc(), 8)?;
-    for block in 8..13 {
-        cache.list_copy(block, b"node")?;
-    }
     cache.forget_unused(&ring);
+    Ok(())
+}
+
+#[test]
+fn unused_blocks_leave_the_cache(rt: HostRuntime) -> Result<(), Fail> {
+    let mut cache = NodeCache::new(rt.alloc(), 8)?;
+    assert_eq!(rt; list_nodes(&mut cache, 8, 12), Ok(()));
+    assert_eq!(rt; forget_unused(rt.alloc(), &mut cache), Ok(()));
     assert_eq!(rt; cache.len(), 2);
     assert!(rt; cache.promote(9) && cache.promote(11));
     cache.clear();

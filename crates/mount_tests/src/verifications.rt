@@ -2,12 +2,13 @@
 //! asks.
 use crate::contents::ROWS;
 use crate::nodes::{Content, put_all};
+use allocator::Marks;
 use bad_blocks::BadBlocks;
 use flash_model::{FaultKind, Flash, Geometry, PlannedFault, SimFlash};
 use fs_types::Fault;
 use node_cache::NodeCache;
 use node_store::{Storage, Store};
-use reclaim::{Pass, verify};
+use reclaim::verify;
 use std::alloc::Global;
 use std::test::Fail;
 
@@ -54,15 +55,14 @@ fn told(alloc: Global, flash: &mut SimFlash, roots: &[u32]) -> Result<Outcome, F
         }),
         Ok(pass) => Ok(Outcome {
             fault: None,
-            marked: marked_by(alloc, pass)?,
+            marked: marked_in(alloc, &pass.finish())?,
             reads,
         }),
     }
 }
 
-/// The blocks that a pass marked.
-fn marked_by(alloc: Global, pass: Pass) -> Result<Vec<u32>, Fault> {
-    let marks = pass.finish();
+/// The blocks that are marked.
+fn marked_in(alloc: Global, marks: &Marks) -> Result<Vec<u32>, Fault> {
     let mut marked = Vec::new(alloc);
     for block in 0..32 {
         if marks.contains(block) {

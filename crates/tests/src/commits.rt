@@ -113,56 +113,54 @@ fn sequence_on(flash: &SimFlash, number: u32) -> Option<u64> {
     }
 }
 
-/// Commits on a flash with a plan, and what they leave.
-#[derive(Clone, Copy)]
-struct Row {
-    plan: &'static [PlannedFault],
-    /// How many versions each record has and how many records are committed, after the anchors were
-    /// cleared, once for each pair.
-    commits: &'static [(u64, u8)],
-    answer: Result<(), Fault>,
-    /// Pages, each with the sequence of the record of which it has a part.
-    pages: &'static [(u32, u64)],
-    /// The sequence and the next serial of the newest record, and its bad list.
-    newest: Option<(u64, u64, &'static [u32])>,
-}
+/// A plan; how many versions each record has and how many records are committed, after the anchors were
+/// cleared, once for each pair; what is answered; pages, each with the sequence of the record of which it
+/// has a part; and the newest record's sequence, next serial and bad list.
+type Row = (
+    &'static [PlannedFault],
+    &'static [(u64, u8)],
+    Result<(), Fault>,
+    &'static [(u32, u64)],
+    Option<(u64, u64, &'static [u32])>,
+);
 
 const ROWS: [Row; 27] = [
     // records are appended
-    Row {
-        plan: &[],
-        commits: &[(1, 3)],
-        answer: Ok(()),
-        pages: &[(0, 1), (1, 2), (2, 3), (3, 0)],
-        newest: Some((3, 103, &[])),
-    },
+    (
+        &[],
+        &[(1, 3)],
+        Ok(()),
+        &[(0, 1), (1, 2), (2, 3), (3, 0)],
+        Some((3, 103, &[])),
+    ),
     // a full anchor is followed by the next
-    Row {
-        plan: &[],
-        commits: &[(1, 17)],
-        answer: Ok(()),
-        pages: &[(15, 16), (16, 17)],
-        newest: Some((17, 117, &[])),
-    },
+    (
+        &[],
+        &[(1, 17)],
+        Ok(()),
+        &[(15, 16), (16, 17)],
+        Some((17, 117, &[])),
+    ),
     // three pages each: five records on an anchor, and a page of it stays
-    Row {
-        plan: &[],
-        commits: &[(40, 6)],
-        answer: Ok(()),
-        pages: &[(14, 5), (15, 0), (16, 6)],
-        newest: Some((6, 106, &[])),
-    },
+    (
+        &[],
+        &[(40, 6)],
+        Ok(()),
+        &[(14, 5), (15, 0), (16, 6)],
+        Some((6, 106, &[])),
+    ),
     // round the ring: the anchor of the first record is erased and programmed again
-    Row {
-        plan: &[],
-        commits: &[(1, 129)],
-        answer: Ok(()),
-        pages: &[(0, 129), (1, 0), (127, 128)],
-        newest: Some((129, 229, &[])),
-    },
-    // anchors that fail are passed: the second record fails on the anchor of the first, and then the next one at its erase
-    Row {
-        plan: &[
+    (
+        &[],
+        &[(1, 129)],
+        Ok(()),
+        &[(0, 129), (1, 0), (127, 128)],
+        Some((129, 229, &[])),
+    ),
+    // anchors that fail are passed: the second record fails on the anchor of the first, and then the next
+    // one at its erase
+    (
+        &[
             PlannedFault {
                 number: 2,
                 kind: FaultKind::ProgramFail,
@@ -172,14 +170,14 @@ const ROWS: [Row; 27] = [
                 kind: FaultKind::EraseFail,
             },
         ],
-        commits: &[(1, 3)],
-        answer: Ok(()),
-        pages: &[(0, 1), (32, 2), (33, 3)],
-        newest: Some((3, 103, &[0, 1])),
-    },
+        &[(1, 3)],
+        Ok(()),
+        &[(0, 1), (32, 2), (33, 3)],
+        Some((3, 103, &[0, 1])),
+    ),
     // seven bad anchors end it
-    Row {
-        plan: &[
+    (
+        &[
             PlannedFault {
                 number: 2,
                 kind: FaultKind::ProgramFail,
@@ -209,25 +207,25 @@ const ROWS: [Row; 27] = [
                 kind: FaultKind::ProgramFail,
             },
         ],
-        commits: &[(1, 2)],
-        answer: Err(Fault::ReadOnly),
-        pages: &[(0, 1), (112, 0)],
-        newest: Some((1, 101, &[])),
-    },
+        &[(1, 2)],
+        Err(Fault::ReadOnly),
+        &[(0, 1), (112, 0)],
+        Some((1, 101, &[])),
+    ),
     // the ninth erase leaves the pages of odd place on anchor 0: the second of two records, which is older than the one that is committed then
-    Row {
-        plan: &[PlannedFault {
+    (
+        &[PlannedFault {
             number: 9,
             kind: FaultKind::EraseFail,
         }],
-        commits: &[(1, 2), (1, 1)],
-        answer: Ok(()),
-        pages: &[(1, 2), (16, 3)],
-        newest: Some((3, 101, &[0])),
-    },
+        &[(1, 2), (1, 1)],
+        Ok(()),
+        &[(1, 2), (16, 3)],
+        Some((3, 101, &[0])),
+    ),
     // where the anchor whose erase failed is not read either, nothing is committed
-    Row {
-        plan: &[
+    (
+        &[
             PlannedFault {
                 number: 9,
                 kind: FaultKind::EraseFail,
@@ -237,205 +235,205 @@ const ROWS: [Row; 27] = [
                 kind: FaultKind::ReadFail,
             },
         ],
-        commits: &[(1, 2), (1, 1)],
-        answer: Err(Fault::ReadFailed),
-        pages: &[(1, 2), (16, 0)],
-        newest: Some((2, 102, &[])),
-    },
+        &[(1, 2), (1, 1)],
+        Err(Fault::ReadFailed),
+        &[(1, 2), (16, 0)],
+        Some((2, 102, &[])),
+    ),
     // power goes in the first of two records, which have three pages each
-    Row {
-        plan: &[PlannedFault {
+    (
+        &[PlannedFault {
             number: 1,
             kind: FaultKind::ProgramCutNone,
         }],
-        commits: &[(40, 2)],
-        answer: Err(Fault::PowerCut),
-        pages: &[],
-        newest: None,
-    },
-    Row {
-        plan: &[PlannedFault {
+        &[(40, 2)],
+        Err(Fault::PowerCut),
+        &[],
+        None,
+    ),
+    (
+        &[PlannedFault {
             number: 1,
             kind: FaultKind::ProgramCutTorn,
         }],
-        commits: &[(40, 2)],
-        answer: Err(Fault::PowerCut),
-        pages: &[],
-        newest: None,
-    },
-    Row {
-        plan: &[PlannedFault {
+        &[(40, 2)],
+        Err(Fault::PowerCut),
+        &[],
+        None,
+    ),
+    (
+        &[PlannedFault {
             number: 2,
             kind: FaultKind::ProgramCutNone,
         }],
-        commits: &[(40, 2)],
-        answer: Err(Fault::PowerCut),
-        pages: &[],
-        newest: None,
-    },
-    Row {
-        plan: &[PlannedFault {
+        &[(40, 2)],
+        Err(Fault::PowerCut),
+        &[],
+        None,
+    ),
+    (
+        &[PlannedFault {
             number: 2,
             kind: FaultKind::ProgramCutTorn,
         }],
-        commits: &[(40, 2)],
-        answer: Err(Fault::PowerCut),
-        pages: &[],
-        newest: None,
-    },
-    Row {
-        plan: &[PlannedFault {
+        &[(40, 2)],
+        Err(Fault::PowerCut),
+        &[],
+        None,
+    ),
+    (
+        &[PlannedFault {
             number: 3,
             kind: FaultKind::ProgramCutNone,
         }],
-        commits: &[(40, 2)],
-        answer: Err(Fault::PowerCut),
-        pages: &[],
-        newest: None,
-    },
-    Row {
-        plan: &[PlannedFault {
+        &[(40, 2)],
+        Err(Fault::PowerCut),
+        &[],
+        None,
+    ),
+    (
+        &[PlannedFault {
             number: 3,
             kind: FaultKind::ProgramCutTorn,
         }],
-        commits: &[(40, 2)],
-        answer: Err(Fault::PowerCut),
-        pages: &[],
-        newest: None,
-    },
+        &[(40, 2)],
+        Err(Fault::PowerCut),
+        &[],
+        None,
+    ),
     // power goes in the second one, at its first pages
-    Row {
-        plan: &[PlannedFault {
+    (
+        &[PlannedFault {
             number: 4,
             kind: FaultKind::ProgramCutNone,
         }],
-        commits: &[(40, 2)],
-        answer: Err(Fault::PowerCut),
-        pages: &[],
-        newest: Some((1, 101, &[])),
-    },
-    Row {
-        plan: &[PlannedFault {
+        &[(40, 2)],
+        Err(Fault::PowerCut),
+        &[],
+        Some((1, 101, &[])),
+    ),
+    (
+        &[PlannedFault {
             number: 4,
             kind: FaultKind::ProgramCutTorn,
         }],
-        commits: &[(40, 2)],
-        answer: Err(Fault::PowerCut),
-        pages: &[],
-        newest: Some((1, 101, &[])),
-    },
-    Row {
-        plan: &[PlannedFault {
+        &[(40, 2)],
+        Err(Fault::PowerCut),
+        &[],
+        Some((1, 101, &[])),
+    ),
+    (
+        &[PlannedFault {
             number: 5,
             kind: FaultKind::ProgramCutNone,
         }],
-        commits: &[(40, 2)],
-        answer: Err(Fault::PowerCut),
-        pages: &[],
-        newest: Some((1, 101, &[])),
-    },
-    Row {
-        plan: &[PlannedFault {
+        &[(40, 2)],
+        Err(Fault::PowerCut),
+        &[],
+        Some((1, 101, &[])),
+    ),
+    (
+        &[PlannedFault {
             number: 5,
             kind: FaultKind::ProgramCutTorn,
         }],
-        commits: &[(40, 2)],
-        answer: Err(Fault::PowerCut),
-        pages: &[],
-        newest: Some((1, 101, &[])),
-    },
-    Row {
-        plan: &[PlannedFault {
+        &[(40, 2)],
+        Err(Fault::PowerCut),
+        &[],
+        Some((1, 101, &[])),
+    ),
+    (
+        &[PlannedFault {
             number: 6,
             kind: FaultKind::ProgramCutNone,
         }],
-        commits: &[(40, 2)],
-        answer: Err(Fault::PowerCut),
-        pages: &[],
-        newest: Some((1, 101, &[])),
-    },
-    Row {
-        plan: &[PlannedFault {
+        &[(40, 2)],
+        Err(Fault::PowerCut),
+        &[],
+        Some((1, 101, &[])),
+    ),
+    (
+        &[PlannedFault {
             number: 6,
             kind: FaultKind::ProgramCutTorn,
         }],
-        commits: &[(40, 2)],
-        answer: Err(Fault::PowerCut),
-        pages: &[],
-        newest: Some((1, 101, &[])),
-    },
+        &[(40, 2)],
+        Err(Fault::PowerCut),
+        &[],
+        Some((1, 101, &[])),
+    ),
     // power goes after a page was written whole
-    Row {
-        plan: &[PlannedFault {
+    (
+        &[PlannedFault {
             number: 2,
             kind: FaultKind::ProgramCutWhole,
         }],
-        commits: &[(40, 2)],
-        answer: Err(Fault::PowerCut),
-        pages: &[],
-        newest: None,
-    },
-    Row {
-        plan: &[PlannedFault {
+        &[(40, 2)],
+        Err(Fault::PowerCut),
+        &[],
+        None,
+    ),
+    (
+        &[PlannedFault {
             number: 3,
             kind: FaultKind::ProgramCutWhole,
         }],
-        commits: &[(40, 2)],
-        answer: Err(Fault::PowerCut),
-        pages: &[],
-        newest: Some((1, 101, &[])),
-    },
-    Row {
-        plan: &[PlannedFault {
+        &[(40, 2)],
+        Err(Fault::PowerCut),
+        &[],
+        Some((1, 101, &[])),
+    ),
+    (
+        &[PlannedFault {
             number: 5,
             kind: FaultKind::ProgramCutWhole,
         }],
-        commits: &[(40, 2)],
-        answer: Err(Fault::PowerCut),
-        pages: &[],
-        newest: Some((1, 101, &[])),
-    },
-    Row {
-        plan: &[PlannedFault {
+        &[(40, 2)],
+        Err(Fault::PowerCut),
+        &[],
+        Some((1, 101, &[])),
+    ),
+    (
+        &[PlannedFault {
             number: 6,
             kind: FaultKind::ProgramCutWhole,
         }],
-        commits: &[(40, 2)],
-        answer: Err(Fault::PowerCut),
-        pages: &[],
-        newest: Some((2, 102, &[])),
-    },
+        &[(40, 2)],
+        Err(Fault::PowerCut),
+        &[],
+        Some((2, 102, &[])),
+    ),
     // power goes in the erase of the next anchor
-    Row {
-        plan: &[PlannedFault {
+    (
+        &[PlannedFault {
             number: 9,
             kind: FaultKind::EraseCutNone,
         }],
-        commits: &[(1, 17)],
-        answer: Err(Fault::PowerCut),
-        pages: &[(15, 16)],
-        newest: Some((16, 116, &[])),
-    },
-    Row {
-        plan: &[PlannedFault {
+        &[(1, 17)],
+        Err(Fault::PowerCut),
+        &[(15, 16)],
+        Some((16, 116, &[])),
+    ),
+    (
+        &[PlannedFault {
             number: 9,
             kind: FaultKind::EraseCutWhole,
         }],
-        commits: &[(1, 17)],
-        answer: Err(Fault::PowerCut),
-        pages: &[(15, 16)],
-        newest: Some((16, 116, &[])),
-    },
-    Row {
-        plan: &[PlannedFault {
+        &[(1, 17)],
+        Err(Fault::PowerCut),
+        &[(15, 16)],
+        Some((16, 116, &[])),
+    ),
+    (
+        &[PlannedFault {
             number: 9,
             kind: FaultKind::EraseCutTorn,
         }],
-        commits: &[(1, 17)],
-        answer: Err(Fault::PowerCut),
-        pages: &[(15, 16)],
-        newest: Some((16, 116, &[])),
-    },
+        &[(1, 17)],
+        Err(Fault::PowerCut),
+        &[(15, 16)],
+        Some((16, 116, &[])),
+    ),
 ];
 
 /// Clears the anchors and commits the records of a row, up to the first refusal.
@@ -451,28 +449,35 @@ fn commit_row(
     Ok(())
 }
 
+/// The first of the pages that has not a part of the record of its sequence.
+fn wrong_page(flash: &SimFlash, pages: &[(u32, u64)]) -> Option<u32> {
+    for (page, sequence) in pages {
+        if sequence_on(flash, *page) != Some(*sequence) {
+            return Some(*page);
+        }
+    }
+    None
+}
+
 #[test]
 fn records_are_committed_and_found(rt: HostRuntime) -> Result<(), Fail> {
-    for row in ROWS {
-        let mut flash = SimFlash::new(rt.alloc(), SIZES, row.plan)?;
+    for (plan, commits, wanted, pages, newest) in ROWS {
+        let mut flash = SimFlash::new(rt.alloc(), SIZES, plan)?;
         let mut bad = BadBlocks::new();
-        let answer = commit_row(rt.alloc(), &mut flash, &mut bad, row.commits);
-        assert_eq!(rt; answer, row.answer, "{:?}", row.plan);
-        for (page, sequence) in row.pages {
-            assert_eq!(rt;
-                sequence_on(&flash, *page),
-                Some(*sequence),
-                "{page} {:?}",
-                row.plan
-            );
-        }
-        let newest = newest_of(rt.alloc(), &mut flash)?;
-        assert!(rt; is_newest(newest, row.newest), "{:?}", row.plan);
+        let answer = commit_row(rt.alloc(), &mut flash, &mut bad, commits);
+        assert_eq!(rt; answer, wanted, "{plan:?}");
+        assert_eq!(rt; wrong_page(&flash, pages), None, "{plan:?}");
+        let found = newest_of(rt.alloc(), &mut flash)?;
+        assert!(rt; is_newest(found, newest), "{plan:?}");
     }
     Ok(())
 }
 
-fn is_newest(found: Option<(u64, u64, Sequence<u32>)>, wanted: Option<(u64, u64, &[u32])>) -> bool {
+/// Whether the newest record that was found is the one that is wanted, or none is where none is wanted.
+fn is_newest(
+    found: Option<(u64, u64, Sequence<u32>)>,
+    wanted: Option<(u64, u64, &'static [u32])>,
+) -> bool {
     match (found, wanted) {
         (Some((sequence, next, listed)), Some(wanted)) => {
             (sequence, next, listed.as_slice()) == wanted

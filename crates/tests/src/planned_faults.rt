@@ -86,6 +86,16 @@ fn told_of(answer: Option<Result<(), DevFault>>) -> Told {
     }
 }
 
+fn planned(flash: &mut SimFlash, k: u64, kind: FaultKind) -> Told {
+    if k == 0 {
+        return Told::Never;
+    }
+    match flash.plan_fault(k, kind) {
+        Ok(()) => Told::Done,
+        Err(fault) => Told::Refused(fault),
+    }
+}
+
 fn answer_of(flash: &mut SimFlash, act: Act) -> Told {
     match act {
         Act::Fill(number, byte) => told_of(fill(flash, number, byte)),
@@ -96,10 +106,7 @@ fn answer_of(flash: &mut SimFlash, act: Act) -> Told {
         },
         Act::Clear(block) => told_of(clear(flash, block)),
         Act::Worn(block) => Told::Worn(is_worn(flash, block)),
-        Act::Plan(k, kind) => match flash.plan_fault(k, kind) {
-            Ok(()) => Told::Done,
-            Err(fault) => Told::Refused(fault),
-        },
+        Act::Plan(k, kind) => planned(flash, k, kind),
         Act::PowerOn => {
             flash.power_on();
             Told::Done

@@ -212,7 +212,8 @@ const ROWS: [Row; 27] = [
         &[(0, 1), (112, 0)],
         Some((1, 101, &[])),
     ),
-    // the ninth erase leaves the pages of odd place on anchor 0: the second of two records, which is older than the one that is committed then
+    // the ninth erase leaves the pages of odd place on anchor 0: the second of two records, which is older
+    // than the one that is committed then
     (
         &[PlannedFault {
             number: 9,

@@ -86,29 +86,32 @@ fn the_record_of_a_formatted_flash_is_written(rt: HostRuntime) -> Result<(), Fai
     Ok(())
 }
 
+/// Whether the newest record of a flash whose page 0 begins with these bytes is found.
+fn is_found(alloc: Global, begin: &[u8]) -> Result<bool, Fault> {
+    Ok(newest_of(alloc, begin)?.is_some())
+}
+
+/// What comes of the record of a formatted flash with another byte at a place: another format, other
+/// sizes, no version kept but one, a cursor past the versions, and a byte that is not looked at.
+const CHANGED: [(usize, u8, Result<bool, Fault>); 5] = [
+    (20, 3, Err(Fault::Damaged)),
+    (25, 2, Err(Fault::BadGeometry)),
+    (36, 1, Err(Fault::Damaged)),
+    (38, 1, Err(Fault::Damaged)),
+    (43, 9, Ok(true)),
+];
+
 #[test]
 fn other_payloads_are_refused(rt: HostRuntime) -> Result<(), Fail> {
-    let mut format = FRESH;
-    format[20] = 3;
-    assert!(rt; matches!(newest_of(rt.alloc(), &format), Err(Fault::Damaged)));
-    let mut sizes = FRESH;
-    sizes[25] = 2;
-    assert!(rt; matches!(newest_of(rt.alloc(), &sizes), Err(Fault::BadGeometry)));
-    let mut limit = FRESH;
-    limit[36] = 1;
-    assert!(rt; matches!(newest_of(rt.alloc(), &limit), Err(Fault::Damaged)));
-    let mut cursor = FRESH;
-    cursor[38] = 1;
-    assert!(rt; matches!(newest_of(rt.alloc(), &cursor), Err(Fault::Damaged)));
-    let mut unread = FRESH;
-    unread[43] = 9;
-    assert!(rt; matches!(newest_of(rt.alloc(), &unread), Ok(Some(_))));
-    assert!(rt; matches!(newest_of(rt.alloc(), &[]), Ok(None)));
-    assert!(rt;
-        matches!(
-            read_payload(rt.alloc(), SIZES, 1, &FRESH[20..35]),
-            Err(Fault::Damaged)
-        )
-    );
+    for (place, byte, wanted) in CHANGED {
+        let mut page = FRESH;
+        if let Some(changed) = page.get_mut(place) {
+            *changed = byte;
+        }
+        assert_eq!(rt; is_found(rt.alloc(), &page), wanted, "{place}");
+    }
+    assert_eq!(rt; is_found(rt.alloc(), &[]), Ok(false));
+    let short = read_payload(rt.alloc(), SIZES, 1, &FRESH[20..35]).err();
+    assert_eq!(rt; short, Some(Fault::Damaged));
     Ok(())
 }

@@ -72,14 +72,26 @@ fn marked_in(alloc: Global, marks: &Marks) -> Result<Vec<u32>, Fault> {
     Ok(marked)
 }
 
+/// What verification of the root in block 8 tells of a content.
+fn told_of(alloc: Global, content: Content) -> Result<Outcome, Fault> {
+    let mut flash = flash_with(alloc, &[], content)?;
+    told(alloc, &mut flash, &[8])
+}
+
+/// Whether this was told, with so many reads at most.
+fn is_told(told: &Outcome, wanted: Result<&[u32], Fault>, most_reads: u64) -> bool {
+    let is_same = match wanted {
+        Ok(marked) => told.fault.is_none() && told.marked.as_slice() == marked,
+        Err(fault) => told.fault == Some(fault) && told.marked.is_empty(),
+    };
+    is_same && told.reads <= most_reads
+}
+
 #[test]
 fn trees_are_verified_in_few_reads(rt: HostRuntime) -> Result<(), Fail> {
     for (name, content, wanted, most_reads) in ROWS {
-        let mut flash = flash_with(rt.alloc(), &[], content)?;
-        let told = told(rt.alloc(), &mut flash, &[8])?;
-        assert_eq!(rt; told.fault, wanted.err(), "{name}");
-        assert_eq!(rt; told.marked.as_slice(), wanted.unwrap_or(&[]), "{name}");
-        assert!(rt; told.reads <= most_reads, "{name}");
+        let told = told_of(rt.alloc(), content)?;
+        assert!(rt; is_told(&told, wanted, most_reads), "{name}");
     }
     Ok(())
 }
@@ -102,9 +114,7 @@ fn roots_are_data_blocks_and_count_once(rt: HostRuntime) -> Result<(), Fail> {
     let mut flash = flash_with(rt.alloc(), &[], Content::Names(b"a", b"b"))?;
     for (roots, wanted, most_reads) in ROOTS {
         let told = told(rt.alloc(), &mut flash, roots)?;
-        assert_eq!(rt; told.fault, wanted.err(), "{roots:?}");
-        assert_eq!(rt; told.marked.as_slice(), wanted.unwrap_or(&[]), "{roots:?}");
-        assert!(rt; told.reads <= most_reads, "{roots:?}");
+        assert!(rt; is_told(&told, wanted, most_reads), "{roots:?}");
     }
     Ok(())
 }

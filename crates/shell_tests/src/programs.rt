@@ -165,47 +165,70 @@ fn a_refused_format_leaves_the_image(rt: HostRuntime) -> Result<(), Fail> {
     Ok(())
 }
 
-/// The status and the message of a run of the script, and whether the image stays as it was.
+/// The status and the message of a run of a script on a fresh image, and whether the image stays as it
+/// was; it may be one that cannot be written.
 fn run_on<R: Read, W: Write>(
+    alloc: Global,
+    is_full: bool,
+    reader: &mut R,
+    out: &mut W,
+) -> Result<(u8, String, bool), Fail> {
+    let mut files = OneFile::new(alloc);
+    files.bytes = fresh_image(alloc)?;
+    files.is_full = is_full;
+    run_on_file(alloc, &mut files, reader, out)
+}
+
+fn run_on_file<R: Read, W: Write>(
     alloc: Global,
     files: &mut OneFile,
     reader: &mut R,
     out: &mut W,
 ) -> Result<(u8, String, bool), Fail> {
     let words = words_of(alloc, &["run", "x"])?;
-    let before = Vec::from_slice(alloc, &files.bytes)?;
     let mut err: Vec<u8> = Vec::new(alloc);
     let status = tool(files, alloc, &words, reader, out, &mut err);
-    let is_same = files.bytes.as_slice() == before.as_slice();
-    Ok((status, String::from_utf8(err)?, is_same))
+    let err = String::from_utf8(err)?;
+    Ok((status, err, is_fresh(alloc, files)?))
+}
+
+/// Whether a file holds the fresh image.
+fn is_fresh(alloc: Global, files: &OneFile) -> Result<bool, AllocError> {
+    Ok(files.bytes.as_slice() == fresh_image(alloc)?.as_slice())
 }
 
 #[test]
 fn a_script_that_breaks_off_leaves_the_image(rt: HostRuntime) -> Result<(), Fail> {
-    let alloc = rt.alloc();
-    let mut files = OneFile::new(alloc);
-    files.bytes = fresh_image(alloc)?;
     let mut reader = Broken {
         bytes: b"mkdir /a\nsync\n",
     };
-    let mut out: Vec<u8> = Vec::new(alloc);
-    let (status, err, is_same) = run_on(alloc, &mut files, &mut reader, &mut out)?;
+    let mut out: Vec<u8> = Vec::new(rt.alloc());
+    let (status, err, is_same) = run_on(rt.alloc(), false, &mut reader, &mut out)?;
     assert_eq!(rt; (status, err.as_str(), is_same), (1, "uffs: input\n", true));
     assert_eq!(rt; out.as_slice(), &b"ok\nok\n"[..]);
+    Ok(())
+}
+
+#[test]
+fn an_output_that_breaks_off_leaves_the_image(rt: HostRuntime) -> Result<(), Fail> {
     let mut script: &[u8] = b"mkdir /a\nsync\n";
     let mut out = Full {
-        bytes: Vec::new(alloc),
+        bytes: Vec::new(rt.alloc()),
         room: 4,
     };
-    let (status, err, is_same) = run_on(alloc, &mut files, &mut script, &mut out)?;
+    let (status, err, is_same) = run_on(rt.alloc(), false, &mut script, &mut out)?;
     assert_eq!(rt;
         (status, err.as_str(), is_same),
         (1, "uffs: output\n", true)
     );
-    files.is_full = true;
+    Ok(())
+}
+
+#[test]
+fn an_image_that_cannot_be_written_is_told(rt: HostRuntime) -> Result<(), Fail> {
     let mut script: &[u8] = b"mkdir /a\nsync\n";
-    let mut out: Vec<u8> = Vec::new(alloc);
-    let (status, err, is_same) = run_on(alloc, &mut files, &mut script, &mut out)?;
+    let mut out: Vec<u8> = Vec::new(rt.alloc());
+    let (status, err, is_same) = run_on(rt.alloc(), true, &mut script, &mut out)?;
     assert_eq!(rt;
         (status, err.as_str(), is_same),
         (1, "uffs: cannot write x\n", true)

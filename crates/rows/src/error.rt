@@ -1,5 +1,8 @@
 //! Why a row could not be run.
+use flash_image::ImageFault;
 use fs_types::Fault;
+use hex::FromHexError;
+use shell::FileFault;
 use std::alloc::{AllocError, AllocFailed};
 use thiserror::Error;
 
@@ -12,6 +15,12 @@ pub enum RowError {
     /// The system could not be made.
     #[error("refused: {0}")]
     Refused(Fault),
+    /// The file of the image was not read.
+    #[error("the image was not read: {0}")]
+    Unread(FileFault),
+    /// The file of the image spells no flash.
+    #[error("no image: {0}")]
+    Image(ImageFault),
     /// The script did not run to its end.
     #[error("the script did not run to its end")]
     Ended,
@@ -35,5 +44,26 @@ impl<T: Drop> From<AllocFailed<T>> for RowError {
 impl From<Fault> for RowError {
     fn from(fault: Fault) -> RowError {
         RowError::Refused(fault)
+    }
+}
+
+impl From<FileFault> for RowError {
+    fn from(fault: FileFault) -> RowError {
+        RowError::Unread(fault)
+    }
+}
+
+impl From<ImageFault> for RowError {
+    fn from(fault: ImageFault) -> RowError {
+        RowError::Image(fault)
+    }
+}
+
+impl From<FromHexError> for RowError {
+    fn from(error: FromHexError) -> RowError {
+        match error {
+            FromHexError::OutOfMemory => RowError::Memory,
+            _ => RowError::Layout,
+        }
     }
 }

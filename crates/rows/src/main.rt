@@ -5,9 +5,11 @@
 #![tactic(auto)]
 
 mod error;
+mod look;
 mod nodes;
 mod row;
 mod runs;
+mod sight;
 
 use anyhow::{Context, Result};
 use error::RowError;
@@ -81,8 +83,8 @@ fn run_sides<R: Files + AllocGlobal + Print>(rt: &R, source: &Source<'_>) -> Res
     Ok(differences.is_empty())
 }
 
-/// Runs a row on a side, and answers how many lines it ran. A difference is appended, and an error
-/// tells the row and the side.
+/// Runs a row on a side, and answers how many lines it ran, those that look at the flash afterwards
+/// among them. A difference is appended, and an error tells the row and the side.
 fn run_side<R: Files + AllocGlobal>(
     rt: &R,
     source: &Source<'_>,
@@ -99,22 +101,24 @@ fn try_side<R: Files + AllocGlobal>(
     differences: &mut String,
 ) -> Result<usize, RowError> {
     let row = Row::read(rt.alloc(), source.text, side)?;
-    let written = written_on(rt, source.image, &row, side)?;
+    let written = written_on(rt, source.image, &row, side, differences)?;
     append_difference(differences, &row, side, written.as_str())?;
-    Ok(row.steps.len())
+    Ok(row.steps.len().saturating_add(row.looks.len()))
 }
 
-/// What a row writes on a side.
+/// What a row writes on a side. What it says of the flash and is not so is appended.
 fn written_on<R: Files + AllocGlobal>(
     rt: &R,
     image: &str,
     row: &Row<'_>,
     side: Side,
+    differences: &mut String,
 ) -> Result<String, RowError> {
+    let alloc = rt.alloc();
     match side {
-        Side::Plain => run_plain(rt.alloc(), row),
-        Side::Flash => run_on_flash(rt.alloc(), row),
-        Side::Nodes(nodes) => run_with_nodes(rt.alloc(), row, nodes),
-        Side::Image => run_on_image(&mut HostFiles::new(rt), rt.alloc(), image, row),
+        Side::Plain => run_plain(alloc, row),
+        Side::Flash => run_on_flash(alloc, row, differences),
+        Side::Nodes(nodes) => run_with_nodes(alloc, row, nodes, differences),
+        Side::Image => run_on_image(&mut HostFiles::new(rt), alloc, image, row, differences),
     }
 }

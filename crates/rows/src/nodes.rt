@@ -4,8 +4,10 @@ ghost use Rattle.flash_model.specs.Simulation.{device_of};
 ghost use Rattle.upkeep.specs.Systems.{IsSystem};
 
 use crate::error::RowError;
-use crate::row::Row;
+use crate::row::{Row, Side};
 use crate::runs::text_of;
+use crate::sight::Sight;
+use allocator::Ring;
 use flash_model::{Flash, SimFlash};
 use fs_types::Answer;
 use script::{Line, LineAnswer, print_answer, read_line};
@@ -13,12 +15,32 @@ use shell::carry_out;
 use std::alloc::Global;
 use undofs::{System, format, mount_with};
 
-/// Runs a row on a flash in memory that was formatted, with so many nodes in memory, 1 to 64.
-pub fn run_with_nodes(alloc: Global, row: &Row<'_>, nodes: usize) -> Result<String, RowError> {
+/// Runs a row on a flash in memory that was formatted, with so many nodes in memory, 1 to 64, and
+/// looks at the flash and at the used blocks.
+pub fn run_with_nodes(
+    alloc: Global,
+    row: &Row<'_>,
+    nodes: usize,
+    differences: &mut String,
+) -> Result<String, RowError> {
     let mut flash = SimFlash::new(alloc, row.geometry, &row.plan)?;
     format(alloc, &mut flash, row.history)?;
     let mut system = Some(mount_with(alloc, &mut flash, nodes)?);
-    run_lines(alloc, row, &mut flash, &mut system, nodes)
+    let written = run_lines(alloc, row, &mut flash, &mut system, nodes)?;
+    let sight = Sight {
+        flash: &flash,
+        ring: ring_of(&system),
+    };
+    sight.append_missed(alloc, differences, row, Side::Nodes(nodes))?;
+    Ok(written)
+}
+
+/// The used blocks of the system that is mounted.
+fn ring_of(system: &Option<System>) -> Option<&Ring> {
+    match system {
+        Some(system) => Some(&system.state.storage.ring),
+        None => None,
+    }
 }
 
 fn run_lines(

@@ -1,5 +1,6 @@
 //! A row: a script with the replies that are expected, and what it runs on.
 use crate::error::RowError;
+use crate::look::{Claim, Look};
 use flash_model::{FaultKind, Geometry, PlannedFault};
 use script::kind_of;
 use std::alloc::Global;
@@ -29,6 +30,17 @@ impl Side {
             Side::Image => "image",
         }
     }
+
+    /// Whether this can be looked at here: the plain machine has no flash, and used blocks are told
+    /// where a system is at hand.
+    fn shows(self, claim: Claim<'_>) -> bool {
+        match (self, claim) {
+            (Side::Plain, _) => false,
+            (Side::Nodes(_), _) => true,
+            (_, Claim::Used { .. }) => false,
+            _ => true,
+        }
+    }
 }
 
 /// A line of a script, with its reply.
@@ -45,6 +57,8 @@ pub struct Row<'a> {
     pub history: u32,
     pub plan: Vec<PlannedFault>,
     pub steps: Vec<Step<'a>>,
+    /// What is looked at on the flash afterwards.
+    pub looks: Vec<Look<'a>>,
 }
 
 /// The sizes that a row has where it does not say others.
@@ -62,6 +76,7 @@ impl<'a> Row<'a> {
             history: 8,
             plan: Vec::new(alloc),
             steps: Vec::new(alloc),
+            looks: Vec::new(alloc),
         };
         row.take(text, side)?;
         Ok(row)
@@ -81,7 +96,7 @@ impl<'a> Row<'a> {
                 self.add(line.take(), reply, is_skipped)?;
                 is_skipped = false;
             } else {
-                self.set(text_line)?;
+                self.set(text_line, side)?;
             }
         }
         Ok(())
@@ -100,11 +115,16 @@ impl<'a> Row<'a> {
         Ok(())
     }
 
-    /// Takes a setting; other lines tell a reader something.
-    fn set(&mut self, text_line: &str) -> Result<(), RowError> {
+    /// Takes a setting, or a look at the flash; other lines tell a reader something.
+    fn set(&mut self, text_line: &'a str, side: Side) -> Result<(), RowError> {
         let Some((key, value)) = text_line.split_once(": ") else {
             return Ok(());
         };
+        if let Some(look) = Look::read(key, value)?
+            && side.shows(look.claim)
+        {
+            self.looks.push(look)?;
+        }
         match key {
             "page" => self.geometry.page = number(value)?,
             "pages" => self.geometry.pages = number(value)?,

@@ -2,6 +2,8 @@
 //! line for each of its own.
 use crate::error::RowError;
 use crate::row::{Row, Side};
+use crate::sight::Sight;
+use flash_image::decode;
 use flash_model::SimFlash;
 use fs_types::{Answer, Fault, Reply};
 use plain_machine::{PlainMachine, Space};
@@ -63,11 +65,29 @@ fn told(outcome: Result<Reply, Fault>) -> LineAnswer {
     }
 }
 
-/// Runs a row on a flash in memory that was formatted, as one script.
-pub fn run_on_flash(alloc: Global, row: &Row<'_>) -> Result<String, RowError> {
+/// Runs a row on a flash in memory that was formatted, as one script, and looks at the flash.
+pub fn run_on_flash(
+    alloc: Global,
+    row: &Row<'_>,
+    differences: &mut String,
+) -> Result<String, RowError> {
     let mut flash = SimFlash::new(alloc, row.geometry, &row.plan)?;
     format(alloc, &mut flash, row.history)?;
-    run_as_script(alloc, row, &mut flash)
+    let written = run_as_script(alloc, row, &mut flash)?;
+    look_at(alloc, row, Side::Flash, &flash, differences)?;
+    Ok(written)
+}
+
+/// Looks at a flash on which no system is at hand.
+fn look_at(
+    alloc: Global,
+    row: &Row<'_>,
+    side: Side,
+    flash: &SimFlash,
+    differences: &mut String,
+) -> Result<(), RowError> {
+    let sight = Sight { flash, ring: None };
+    sight.append_missed(alloc, differences, row, side)
 }
 
 /// Runs the lines of a row as one script.
@@ -89,17 +109,23 @@ fn script_of(alloc: Global, row: &Row<'_>) -> Result<String, AllocError> {
     Ok(script)
 }
 
-/// Runs a row by the program on an image of this name, which it makes first.
+/// Runs a row by the program on an image of this name, which it makes first, and looks at the flash
+/// of the image.
 pub fn run_on_image<F: ImageFiles>(
     files: &mut F,
     alloc: Global,
     name: &str,
     row: &Row<'_>,
+    differences: &mut String,
 ) -> Result<String, RowError> {
     make_image(files, alloc, name, row)?;
     let words = words_of(alloc, "run", name)?;
     let script = script_of(alloc, row)?;
-    call(files, alloc, &words, script.as_str())
+    let written = call(files, alloc, &words, script.as_str())?;
+    let bytes = files.read(alloc, name)?;
+    let flash = decode(alloc, &bytes)?;
+    look_at(alloc, row, Side::Image, &flash, differences)?;
+    Ok(written)
 }
 
 /// Makes an image of the sizes of a row.

@@ -131,11 +131,10 @@ fn the_image_written_out_is_read(rt: HostRuntime) -> Result<(), Fail> {
     Ok(())
 }
 
-/// Each decoding makes the room of a flash, so every fifth length is tried.
 #[test]
 fn beginnings_are_truncated(rt: HostRuntime) -> Result<(), Fail> {
     let image = fresh_image(rt.alloc())?;
-    for len in (0..image.len()).step_by(5) {
+    for len in 0..image.len() {
         if let Some(front) = image.get(..len) {
             assert_fault(&rt, rt.alloc(), front, ImageFault::Truncated);
         }

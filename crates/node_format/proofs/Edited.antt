@@ -134,25 +134,25 @@ pub record IsMade (front back : List Item) (name : Name) (place : Option Place) 
   pub counted : count ≡ length front + (length (entry_to name place) + length back)
   pub made : bytes ≡ codes "UFND" ++ (little_bytes 4 count ++ (little_bytes 4 (length (items_bytes front) + (length (items_bytes (entry_to name place)) + length (items_bytes back))) ++ (replicate 4 0 ++ (items_bytes front ++ (items_bytes (entry_to name place) ++ items_bytes back)))))
 
-pub made_directory : (front back : List Item) (name : Name) (place : Option Place) (bytes : List ℕ) → are_entries (front ++ (entry_to name place ++ back)) ≡ true → IsMade front back name place bytes
-    → IsDirectory bytes (front ++ (entry_to name place ++ back))
-made_directory front back name place bytes lawful m =
+made_spelling : (front back : List Item) (name : Name) (place : Option Place) (bytes : List ℕ) → IsMade front back name place bytes
+    → bytes ≡ directory_bytes (replicate 4 0) (front ++ (entry_to name place ++ back))
+made_spelling front back name place bytes m =
     let items = front ++ (entry_to name place ++ back) in
     let text = items_bytes-around front back name place in
     let count : m.count ≡ length items = m.counted ∙ ap (λ (k : ℕ). length front + k) (sym (length-append (entry_to name place) back)) ∙ sym (length-append front (entry_to name place ++ back)) in
     let used : length (items_bytes front) + (length (items_bytes (entry_to name place)) + length (items_bytes back)) ≡ length (items_bytes items) =
     ap (λ (k : ℕ). length (items_bytes front) + k) (sym (length-append (items_bytes (entry_to name place)) (items_bytes back)))
     ∙ sym (length-append (items_bytes front) (items_bytes (entry_to name place) ++ items_bytes back)) ∙ ap length (sym text) in
-    record {
-      lawful = lawful;
-      unread = replicate 4 0;
-      four = refl;
-      spelling = m.made ∙ λ i. codes "UFND" ++ (little_bytes 4 (count i) ++ (little_bytes 4 (used i) ++ (replicate 4 0 ++ sym text i)));
-    }
+    m.made ∙ λ i. codes "UFND" ++ (little_bytes 4 (count i) ++ (little_bytes 4 (used i) ++ (replicate 4 0 ++ sym text i)))
 
-pub edited : (items front back : List Item) (name : Name) (place found : Option Place) (bytes : List ℕ) → IsSplit items name front found back → IsDirectory bytes (front ++ (entry_to name place ++ back)) → IsEdited items name place bytes
-edited items front back name place found bytes split d = record {
+pub made_directory : (front back : List Item) (name : Name) (place : Option Place) (bytes : List ℕ) → are_entries (front ++ (entry_to name place ++ back)) ≡ true → IsMade front back name place bytes
+    → IsDirectory bytes (front ++ (entry_to name place ++ back))
+made_directory front back name place bytes lawful m = record { lawful = lawful; unread = replicate 4 0; four = refl; spelling = made_spelling front back name place bytes m }
+
+pub edited : (items front back : List Item) (name : Name) (place found : Option Place) (bytes : List ℕ) → IsSplit items name front found back → IsDirectory bytes (front ++ (entry_to name place ++ back)) → bytes ≡ directory_bytes (replicate 4 0) (front ++ (entry_to name place ++ back)) → IsEdited items name place bytes
+edited items front back name place found bytes split d spells = record {
   items = front ++ (entry_to name place ++ back);
+  written = spells;
   spelled = directory_again bytes (front ++ (entry_to name place ++ back)) d;
   leads = λ other. named_around front back name place found split.before split.after other
       ∙ ap (λ (x : List Item). cond (same_name name other) place (named x other)) (sym split.parts);
@@ -194,7 +194,7 @@ written items front back name place found fc bc fb mb bb bytes split f b lawful 
       made = is ∙ λ i. in_parts (fc + (length (entry_to name place) + bc)) (f.spelled i) (middle i) (b.spelled i);
     } in
     let d = made_directory front back name place bytes entries made in
-    record { edit = edited items front back name place found bytes split d; node = λ block capacity. directory_is_node block bytes new capacity d }
+    record { edit = edited items front back name place found bytes split d (made_spelling front back name place bytes made); node = λ block capacity. directory_is_node block bytes new capacity d }
 
 pub written_with : (items front back : List Item) (name : Name) (place : Place) (found : Option Place) (fc bc : ℕ) (fb mb bb bytes : List ℕ) → IsSplit items name front found back
     → length items ≤ 32 → (named items name ≡ None → length items < 32) → is_name name ≡ true → is_place place ≡ true

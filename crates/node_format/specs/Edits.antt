@@ -1,9 +1,9 @@
 -- How the entries of a directory lie around a name, and a directory with one entry changed.
-use Rattle.std.specs.Prelude.{◌≡◌, ℕ, ◌-◌, true, length, take, Option, Some, None, List, [], ◌∷◌, ◌++◌, if◌then◌else◌}
+use Rattle.std.specs.Prelude.{◌≡◌, ℕ, ◌-◌, true, length, take, replicate, Option, Some, None, List, [], ◌∷◌, ◌++◌, if◌then◌else◌}
 use Rattle.std.specs.List.{list_all}
 use Rattle.fs_types.specs.Names.{Name, same_name}
 use Rattle.node_format.specs.Items.{Item, is_before, named}
-use Rattle.node_format.specs.Directories.{items_at, directory_at, AreSpelled}
+use Rattle.node_format.specs.Directories.{items_at, directory_at, directory_bytes, AreSpelled}
 use Rattle.node_format.specs.declared.places.Place.{Place}
 
 -- the bytes before the others are the spelling of so many entries
@@ -25,4 +25,6 @@ pub record IsSplit (items : List Item) (name : Name) (front : List Item) (found 
 pub record IsEdited (old : List Item) (name : Name) (place : Option Place) (bytes : List ℕ) : Type 0 where
   pub items : List Item
   pub spelled : directory_at bytes ≡ Some items
+  -- the one spelling that is written: four zero bytes where nothing is looked at
+  pub written : bytes ≡ directory_bytes (replicate 4 0) items
   pub leads : (other : Name) → named items other ≡ (if same_name name other then place else named old other)

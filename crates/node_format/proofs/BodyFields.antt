@@ -1,5 +1,5 @@
 -- The fields of bytes that are added piece by piece, and the slots of an index.
-use Rattle.std.proofs.Common.{◌≡◌, ◌↔◌, ℕ, zero, suc, ◌+◌, ◌*◌, ◌/◌, ◌%◌, ◌^◌, ◌<◌, ◌≤◌, inl, inr, List, [], ◌++◌, length, get_or, Some, sym, ap, ◌∙◌, arith}
+use Rattle.std.proofs.Common.{◌≡◌, ◌↔◌, ℕ, zero, suc, ◌+◌, ◌*◌, ◌/◌, ◌%◌, ◌^◌, ◌<◌, ◌≤◌, inl, inr, List, [], ◌++◌, length, get_or, Some, sym, ap, subst, ◌∙◌, arith}
 use Rattle.std.specs.Prelude.{codes, slice_index, IsTrue, true, nat_eq, nat_lt, nat_le}
 use Rattle.std.proofs.Math.Nat.{div-add-mod', mod-eq_of_lt, mul-mod_left, mul-le-mul_right, one-mul}
 use Rattle.std.proofs.Math.Pow.{pow_mono}
@@ -8,7 +8,7 @@ use Rattle.std.proofs.lemmas.List.{get_or_append_left, get_or-append-add, length
 use Rattle.byteorder.specs.Endian.{little_bytes}
 use Rattle.byteorder.specs.Numbers.{little_number-reads_back}
 use Rattle.node_format.specs.Headers.{field, body_header, IsNode}
-use Rattle.node_format.specs.BodyNodes.{HasSlot, IsBodySpelling}
+use Rattle.node_format.specs.BodyNodes.{HasSlot, IsSlot, IsBodySpelling}
 use Rattle.node_format.specs.declared.headers.TheConstants.{SLOTS}
 
 -- a field of the front
@@ -34,33 +34,33 @@ field_after xs ys place k e =
 field_last : (xs : List ℕ) (n place : ℕ) → n < 2 ^ 32 → place ≡ length xs → field (xs ++ little_bytes 4 n) place ≡ n
 field_last xs n place lt e = field_after xs (little_bytes 4 n) place 0 (omega arith) ∙ little_number-reads_back 4 n [] (omega arith)
 
--- the first slots were added, each with its pointer
-pub record HasSlots (old : List ℕ) (pointers : List ℕ) (count : ℕ) (new : List ℕ) : Type 0 where
+-- the first slots of the node of an index were added, each with its pointer or 0
+pub record HasSlots (old : List ℕ) (index : ℕ) (pointers : List ℕ) (count : ℕ) (new : List ℕ) : Type 0 where
   pub before : (place : ℕ) → place + 4 ≤ length old → field new place ≡ field old place
-  pub slots : (x : ℕ) → x < count → field new (length old + 4 * x) ≡ slice_index pointers x
+  pub slots : (x : ℕ) → x < count → IsSlot index pointers x (field new (length old + 4 * x))
   pub size : length new ≡ length old + 4 * count
 
-pub one_place : (old pointers new : List ℕ) (count n : ℕ) → HasSlots old pointers count new → n < 2 ^ 32 → n ≡ slice_index pointers count → HasSlots old pointers (count + 1) (new ++ little_bytes 4 n)
-one_place old pointers new count n has lt is = record {
+pub one_place : (old : List ℕ) (index : ℕ) (pointers new : List ℕ) (count n : ℕ) → HasSlots old index pointers count new → n < 2 ^ 32 → IsSlot index pointers count n → HasSlots old index pointers (count + 1) (new ++ little_bytes 4 n)
+one_place old index pointers new count n has lt is = record {
   before = λ place within. field_front new (little_bytes 4 n) place (omega (arith, has.size)) ∙ has.before place within;
   slots = λ x below. elim (cases_lt x count) [
-    | inl lower ↦ field_front new (little_bytes 4 n) (length old + 4 * x) (omega (arith, has.size)) ∙ has.slots x lower
+    | inl lower ↦ subst (IsSlot index pointers x) (sym (field_front new (little_bytes 4 n) (length old + 4 * x) (omega (arith, has.size)))) (has.slots x lower)
     | inr upper ↦ last x below upper
   ];
   size = omega (arith, length-append new (little_bytes 4 n), has.size);
 }
   where
-    last : (x : ℕ) → x < count + 1 → count ≤ x → field (new ++ little_bytes 4 n) (length old + 4 * x) ≡ slice_index pointers x
+    last : (x : ℕ) → x < count + 1 → count ≤ x → IsSlot index pointers x (field (new ++ little_bytes 4 n) (length old + 4 * x))
     last x below upper =
-        let same : x ≡ count = omega arith in
-        field_last new n (length old + 4 * x) lt (omega (arith, has.size)) ∙ is ∙ ap (slice_index pointers) (sym same)
+        let same : count ≡ x = omega arith in
+        subst (IsSlot index pointers x) (sym (field_last new n (length old + 4 * x) lt (omega (arith, has.size)))) (subst (λ (y : ℕ). IsSlot index pointers y n) same is)
 
 -- the header of a body node
 abbrev pub header_bytes : ℕ → ℕ → List ℕ
 header_bytes index used = codes "UFNB" ++ (little_bytes 4 index ++ (little_bytes 4 used ++ little_bytes 4 0))
 
 pub spelled : (index : ℕ) (pointers bytes placed : List ℕ) → index < 2 ^ 32 → 1 ≤ length bytes → body_header + length bytes < 2 ^ 32
-    → HasSlots (header_bytes index (length bytes)) pointers 16 placed → IsBodySpelling (placed ++ bytes) index pointers bytes
+    → HasSlots (header_bytes index (length bytes)) index pointers 16 placed → IsBodySpelling (placed ++ bytes) index pointers bytes
 spelled index pointers bytes placed fits some capacity has =
     let header = header_bytes index (length bytes) in
     let long : length placed ≡ 80 = has.size in
@@ -73,7 +73,7 @@ spelled index pointers bytes placed fits some capacity has =
       index_is = at 4 (omega arith) ∙ little_number-reads_back 4 index (little_bytes 4 (length bytes) ++ little_bytes 4 0) (omega arith);
       used = used;
       unread = at 12 (omega arith);
-      slots = λ x below. field_front placed bytes (16 + 4 * x) (omega arith) ∙ has.slots x below;
+      slots = λ x below. subst (IsSlot index pointers x) (sym (field_front placed bytes (16 + 4 * x) (omega arith))) (has.slots x below);
       size = size;
       data_is = drop_at placed bytes 80 long;
     }

@@ -17,12 +17,17 @@ Divides x index = (m : ℕ) × (index ≡ m * 2 ^ x)
 abbrev pub HasSlot : ℕ → ℕ → Type 0
 HasSlot index x = (x < SLOTS) × (0 < index) × Divides x index
 
--- the bytes spell the body node of an index, with pointers in its first slots, 0 in the others, and data
+-- the number in a slot of the node of an index: the pointer where the index has that slot, else 0
+pub record IsSlot (index : ℕ) (pointers : List ℕ) (x number : ℕ) : Type 0 where
+  pub pointer : HasSlot index x → number ≡ slice_index pointers x
+  pub empty : (HasSlot index x → ⊥) → number ≡ 0
+
+-- the bytes spell the body node of an index, with pointers in the slots that it has, 0 in the others, and data
 pub record IsBodySpelling (bytes : List ℕ) (index : ℕ) (pointers data_bytes : List ℕ) : Type 0 where
   pub node : IsBodyNode bytes
   pub index_is : field bytes 4 ≡ index
   pub used : field bytes 8 ≡ length data_bytes
   pub unread : field bytes 12 ≡ 0
-  pub slots : (x : ℕ) → x < SLOTS → field bytes (16 + 4 * x) ≡ slice_index pointers x
+  pub slots : (x : ℕ) → x < SLOTS → IsSlot index pointers x (field bytes (16 + 4 * x))
   pub size : length bytes ≡ body_header + length data_bytes
   pub data_is : drop body_header bytes ≡ data_bytes

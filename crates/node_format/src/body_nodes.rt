@@ -2,7 +2,7 @@
 ghost use Rattle.std.specs.Prelude.{◌≡◌, ℕ, ◌+◌, ◌*◌, ◌^◌, ◌<◌, ◌≤◌, ◌++◌, ◌↔◌, IsTrue, length, drop, slice_index, codes, Some, IfSome, OnOk, IfOk};
 ghost use Rattle.byteorder.specs.Endian.{little_bytes};
 ghost use Rattle.node_format.specs.Headers.{field, body_header, IsNode};
-ghost use Rattle.node_format.specs.BodyNodes.{IsBodyNode, HasSlot, IsBodySpelling};
+ghost use Rattle.node_format.specs.BodyNodes.{IsBodyNode, HasSlot, IsSlot, IsBodySpelling};
 ghost use Rattle.node_format.specs.declared.headers.TheConstants.{SLOTS};
 
 use crate::headers::{BODY_HEADER, SLOTS};
@@ -140,20 +140,32 @@ fn header(alloc: Global, index: u32, used: u32) -> Result<Vec<u8>, AllocError>
     Ok(out)
 }
 
-/// Adds the slots, with these pointers and 0 in the others.
-fn push_slots(out: &mut Vec<u8>, pointers: &[u32]) -> Result<(), AllocError>
+/// The number in a slot of the node of an index: its pointer, or 0 where the index has no such slot.
+fn number_in_slot(index: u32, pointers: &[u32], slot: usize) -> u32
+    ensures { IsSlot index pointers.now slot result }
+{
+    if has_slot(index, slot) {
+        pointers.get(slot).copied().unwrap_or(0)
+    } else {
+        0
+    }
+}
+
+/// Adds the slots of the node of an index, with these pointers where it has the slot and 0 elsewhere.
+fn push_slots(out: &mut Vec<u8>, index: u32, pointers: &[u32]) -> Result<(), AllocError>
     ensures old { OnOk result ((slot : ℕ) → slot + 4 ≤ length out.old.items → field out.new.items slot ≡ field out.old.items slot) }
-    ensures slots { OnOk result ((x : ℕ) → x < SLOTS → field out.new.items (length out.old.items + 4 * x) ≡ slice_index pointers.now x) }
+    ensures slots { OnOk result ((x : ℕ) → x < SLOTS → IsSlot index pointers.now x (field out.new.items (length out.old.items + 4 * x))) }
     ensures size { OnOk result (length out.new.items ≡ length out.old.items + 64) }
 {
     for slot in 0..SLOTS {
-        push_number(out, pointers.get(slot).copied().unwrap_or(0))?;
+        push_number(out, number_in_slot(index, pointers, slot))?;
     }
     Ok(())
 }
 
 /// The bytes of the body node of an index, with the blocks that its first slots name, at most
-/// 16, and with its data, at least one byte.
+/// 16, and with its data, at least one byte. Slots that the index does not have are 0, whatever
+/// `pointers` has for them.
 pub fn body_node(
     alloc: Global,
     index: u32,
@@ -167,7 +179,7 @@ pub fn body_node(
     ensures node { IfOk result (λ node. (block : ℕ) → body_header + length bytes.now ≤ block → IsNode block node.items) }
 {
     let mut out = header(alloc, index, bytes.len() as u32)?;
-    push_slots(&mut out, pointers)?;
+    push_slots(&mut out, index, pointers)?;
     out.extend_from_slice(bytes)?;
     Ok(out)
 }

@@ -1,11 +1,11 @@
 -- Bodies while nodes are written: what is held stays, and a body grows by a node.
 use Rattle.std.proofs.Common.{◌≡◌, ℕ, zero, suc, ◌+◌, ◌-◌, ◌*◌, ◌^◌, ◌/◌, ◌%◌, ◌<◌, ◌≤◌, min, ◌⊎◌, inl, inr, Bool, true, false, Option, Some, None, Result, Ok, Err, List, [], ◌∷◌, ◌++◌, length, slice_index, take, drop, if◌then◌else◌, ◌==◌, refl, sym, ap, subst, ◌∙◌, arith, suc-mul}
 use Rattle.std.specs.Prelude.{IfOk, IfErr}
-use Rattle.std.proofs.lemmas.List.{take_all, take-take, length-take-le, length-drop}
+use Rattle.std.proofs.lemmas.List.{take_all, take_min, take-take, length-take-le, length-drop}
 use Rattle.std.proofs.lemmas.Nat.{mul-le, le-div, div-add-mod', mod_below}
 use Rattle.std.proofs.Math.Seq.{take-add}
 use Rattle.fs_types.specs.Names.{Path}
-use Rattle.plain_trees.specs.Contents.{Entry, resized}
+use Rattle.plain_trees.specs.Contents.{Entry, resized, read_from}
 use Rattle.node_format.specs.Headers.{field, body_header, body_magic, IsNode}
 use Rattle.node_format.specs.BodyNodes.{IsBodySpelling, HasSlot}
 use Rattle.node_format.specs.declared.places.Place.TheVariants.{Dir, File}
@@ -17,7 +17,7 @@ use Rattle.block_trees.proofs.Frames.{frame_law}
 use Rattle.block_trees.proofs.Reaching.{reached_own, reached_below, before_named}
 use Rattle.skip_list_file.specs.declared.bodies.Body.{Body}
 use Rattle.skip_list_file.specs.Reading.{AreBlocks}
-use Rattle.skip_list_file.specs.Writing.{edited, slot_before, AreLinked, IsFront, IsGrown, IsWritten, OnlyReaches}
+use Rattle.skip_list_file.specs.Writing.{edited, slot_before, AreLinked, IsFront, IsGrown, IsWritten, HoldsNode, HoldsPart, OnlyReaches}
 use Rattle.skip_list_file.proofs.Fronts.{has_head, body_length}
 use Rattle.skip_list_file.proofs.Chains.{chain_node}
 use Rattle.skip_list_file.proofs.Parts.{data_length}
@@ -94,13 +94,15 @@ slots_stay capacity old new kept kept' head (suc i) keeps linked held x has =
     sym (back_stays capacity old new kept kept' keeps i (2 ^ x - 1) head (omega (arith, divides_least x (suc i) has.1 has.2)) linked.0 (held has.1))
 
 pub grown : (capacity : ℕ) (old new : Blocks) (kept kept' : ℕ → Bool) (head i next : ℕ) (bytes : List ℕ) → Keeps kept old kept' new → IsBody capacity old head (i * capacity) → IsHeld old kept (File head (i * capacity))
-    → (0 < i → length (data_of (old head)) ≡ capacity) → 0 < length bytes → length bytes ≤ capacity → IsNext old new head i next bytes → kept next ≡ false → kept' next ≡ true → IsGrown capacity old new kept kept' head i next bytes
-grown capacity old new kept kept' head i next bytes keeps whole held full some fits node was_free is_kept =
+    → (0 < i → length (data_of (old head)) ≡ capacity) → 0 < length bytes → length bytes ≤ capacity → IsNext old new head i next bytes → HoldsNode (new next) i bytes → kept next ≡ false → kept' next ≡ true → IsGrown capacity old new kept kept' head i next bytes
+grown capacity old new kept kept' head i next bytes keeps whole held full some fits node holds was_free is_kept =
     record {
       whole = more.whole;
       shown = more.shown ∙ ap (λ (front : List ℕ). front ++ bytes) stays.shown;
       held = λ root names b r. all_kept b (more.reached b (subst (λ (n : ℕ). Reached new (n ∷ []) b) (sym names.1) r));
-      reached = λ b r. fresh b (more.reached b r);
+      fresh = was_free;
+      node = holds;
+      reached = λ b r. before b (more.reached b r);
     }
   where
     stays : Stays capacity old new kept' head (i * capacity)
@@ -124,9 +126,9 @@ grown capacity old new kept kept' head i next bytes keeps whole held full some f
     all_kept b (inl here) = ap kept' (sym here) ∙ is_kept
     all_kept b (inr (below, reached)) = stays.held head (size below, refl) b reached
 
-    fresh : (b : ℕ) → (next ≡ b) ⊎ ((0 < i) × Reached new (head ∷ []) b) → (kept b ≡ false) ⊎ ((0 < i) × Reached old (head ∷ []) b)
-    fresh b (inl here) = inl (ap kept (sym here) ∙ was_free)
-    fresh b (inr (below, reached)) = inr (below, stays.reached (size below) b reached)
+    before : (b : ℕ) → (next ≡ b) ⊎ ((0 < i) × Reached new (head ∷ []) b) → (next ≡ b) ⊎ ((0 < i) × Reached old (head ∷ []) b)
+    before b (inl here) = inl here
+    before b (inr (below, reached)) = inr (below, stays.reached (size below) b reached)
 
 -- the node of a block from the bytes that were written
 pub is_next : (old new : Blocks) (head i next : ℕ) (pointers bytes node : List ℕ) → new next ≡ Some node → IsBodySpelling node i pointers bytes
@@ -134,7 +136,7 @@ pub is_next : (old new : Blocks) (head i next : ℕ) (pointers bytes node : List
 is_next old new head i next pointers bytes node is spelled slots = record {
   index = ap index_of is ∙ found (field node 0) spelled.node.magic ∙ ap (λ (n : ℕ). Some n) spelled.index_is;
   bytes = ap data_of is ∙ spelled.data_is;
-  slots = λ x has. ap (λ (n : Option (List ℕ)). pointer_of n x) is ∙ spelled.slots x has.0 ∙ slots x has;
+  slots = λ x has. ap (λ (n : Option (List ℕ)). pointer_of n x) is ∙ (spelled.slots x has.0).pointer has ∙ slots x has;
 }
   where
     found : (magic : ℕ) → magic ≡ body_magic → (if magic == body_magic then Some (field node 4) else None) ≡ Some (field node 4)
@@ -156,12 +158,13 @@ head_full block capacity f head (suc i) capacity_is least is whole some =
 
 -- ---- a body made node by node
 
--- the first bytes of what is wanted stand in a body that reaches what the old one did, and blocks that were not kept
+-- the first bytes of what is wanted stand in a body that reaches what the old one did, and blocks that were
+-- not kept, with their parts
 pub record IsBegun (capacity : ℕ) (f0 : Blocks) (kept0 : ℕ → Bool) (from : Body) (bytes : List ℕ) (f : Blocks) (kept : ℕ → Bool) (head size : ℕ) : Type 0 where
   pub whole : IsBody capacity f head size
   pub shown : body capacity f head size ≡ take size bytes
   pub held : IsHeld f kept (File head size)
-  pub reached : 0 < size → (b : ℕ) → Reached f (head ∷ []) b → ((0 < from.length) × Reached f0 (from.head ∷ []) b) ⊎ (kept0 b ≡ false)
+  pub reached : 0 < size → (b : ℕ) → Reached f (head ∷ []) b → ((0 < from.length) × Reached f0 (from.head ∷ []) b) ⊎ ((kept0 b ≡ false) × HoldsPart capacity bytes (f b))
 
 -- the nodes of the old body before the edit
 pub begun_front : (capacity : ℕ) (f : Blocks) (kept : ℕ → Bool) (from : Body) (bytes : List ℕ) (front size : ℕ) → size ≤ from.length → IsHeld f kept (File from.head from.length)
@@ -175,9 +178,9 @@ begun_front capacity f kept from bytes front size le held is same = record {
 
 -- one node more
 pub begun_more : (capacity : ℕ) (f0 f f' : Blocks) (kept0 kept kept' : ℕ → Bool) (from : Body) (bytes : List ℕ) (head i next : ℕ) (chunk : List ℕ) (count size : ℕ) → 0 < capacity
-    → IsBegun capacity f0 kept0 from bytes f kept head (i * capacity) → IsGrown capacity f f' kept kept' head i next chunk → ((b : ℕ) → kept b ≡ false → kept0 b ≡ false)
-    → chunk ≡ take count (drop (i * capacity) bytes) → length chunk ≡ count → size ≡ i * capacity + count → IsBegun capacity f0 kept0 from bytes f' kept' next size
-begun_more capacity f0 f f' kept0 kept kept' from bytes head i next chunk count size least begun more was chunk_is counted size_is =
+    → Keeps kept f kept' f' → IsBegun capacity f0 kept0 from bytes f kept head (i * capacity) → IsGrown capacity f f' kept kept' head i next chunk → ((b : ℕ) → kept b ≡ false → kept0 b ≡ false)
+    → chunk ≡ take count (drop (i * capacity) bytes) → chunk ≡ read_from bytes (i * capacity) capacity → length chunk ≡ count → size ≡ i * capacity + count → IsBegun capacity f0 kept0 from bytes f' kept' next size
+begun_more capacity f0 f f' kept0 kept kept' from bytes head i next chunk count size least keeps begun more was chunk_is part counted size_is =
     let long : i * capacity + length chunk ≡ size = omega arith in
     let added : i * capacity + count ≡ size = omega arith in
     record {
@@ -188,9 +191,16 @@ begun_more capacity f0 f f' kept0 kept kept' from bytes head i next chunk count 
       reached = λ some b r. on b (more.reached b r);
     }
   where
-    on : (b : ℕ) → (kept b ≡ false) ⊎ ((0 < i) × Reached f (head ∷ []) b) → ((0 < from.length) × Reached f0 (from.head ∷ []) b) ⊎ (kept0 b ≡ false)
-    on b (inl fresh) = inr (was b fresh)
-    on b (inr (below, reached)) = begun.reached (product_some capacity i least below) b reached
+    again : (b : ℕ) → f' b ≡ f b → ((0 < from.length) × Reached f0 (from.head ∷ []) b) ⊎ ((kept0 b ≡ false) × HoldsPart capacity bytes (f b))
+        → ((0 < from.length) × Reached f0 (from.head ∷ []) b) ⊎ ((kept0 b ≡ false) × HoldsPart capacity bytes (f' b))
+    again b same (inl old) = inl old
+    again b same (inr (free, holds)) = inr (free, subst (HoldsPart capacity bytes) (sym same) holds)
+
+    on : (b : ℕ) → (next ≡ b) ⊎ ((0 < i) × Reached f (head ∷ []) b) → ((0 < from.length) × Reached f0 (from.head ∷ []) b) ⊎ ((kept0 b ≡ false) × HoldsPart capacity bytes (f' b))
+    on b (inl here) = inr (was b (ap kept (sym here) ∙ more.fresh), subst (λ (n : ℕ). HoldsPart capacity bytes (f' n)) here (i, subst (HoldsNode (f' next) i) part more.node))
+    on b (inr (below, reached)) =
+        let size = product_some capacity i least below in
+        again b (keeps.same b (begun.held head (size, refl) b reached)) (begun.reached size b reached)
 
 before_end : (capacity i last size : ℕ) → last * capacity < size → i ≤ last → i * capacity < size
 before_end capacity i last size lt le =
@@ -240,15 +250,17 @@ part_long old offset bytes size start count chunk is fits = ap length is ∙ par
 
 -- one turn: a node of the next bytes more, or of what is left of them
 pub turn : (capacity : ℕ) (f0 f f' : Blocks) (kept0 kept kept' : ℕ → Bool) (from : Body) (bytes : List ℕ) (head i next size : ℕ) → 0 < capacity → i * capacity < size → length bytes ≡ size
-    → IsBegun capacity f0 kept0 from bytes f kept head (min (i * capacity) size) → IsGrown capacity f f' kept kept' head i next (take (min capacity (size - i * capacity)) (drop (i * capacity) bytes))
+    → Keeps kept f kept' f' → IsBegun capacity f0 kept0 from bytes f kept head (min (i * capacity) size) → IsGrown capacity f f' kept kept' head i next (take (min capacity (size - i * capacity)) (drop (i * capacity) bytes))
     → ((b : ℕ) → kept b ≡ false → kept0 b ≡ false) → IsBegun capacity f0 kept0 from bytes f' kept' next (min ((i + 1) * capacity) size)
-turn capacity f0 f f' kept0 kept kept' from bytes head i next size least within long begun more was =
+turn capacity f0 f f' kept0 kept kept' from bytes head i next size least within long keeps begun more was =
     let count : ℕ = min capacity (size - i * capacity) in
     let so_far : min (i * capacity) size ≡ i * capacity = omega arith in
     let rows : (i + 1) * capacity ≡ i * capacity + capacity = omega arith in
     let here = subst (IsBegun capacity f0 kept0 from bytes f kept head) so_far begun in
     let counted = part_length bytes (i * capacity) count size long (omega arith) in
-    begun_more capacity f0 f f' kept0 kept kept' from bytes head i next (take count (drop (i * capacity) bytes)) count (min ((i + 1) * capacity) size) least here more was refl counted (omega arith)
+    let left : size - i * capacity ≡ length (drop (i * capacity) bytes) = omega (arith, length-drop (i * capacity) bytes) in
+    let part = ap (λ (n : ℕ). take (min capacity n) (drop (i * capacity) bytes)) left ∙ take_min capacity (drop (i * capacity) bytes) in
+    begun_more capacity f0 f f' kept0 kept kept' from bytes head i next (take count (drop (i * capacity) bytes)) count (min ((i + 1) * capacity) size) least keeps here more was refl part counted (omega arith)
 
 -- what a node more gives, said of the state before a call that only reads
 pub grown_from : (capacity : ℕ) (f f' f'' : Blocks) (kept kept' kept'' : ℕ → Bool) (head i next : ℕ) (bytes bytes' : List ℕ) → f' ≡ f → kept' ≡ kept → bytes ≡ bytes'
@@ -266,13 +278,17 @@ written_whole capacity f0 f kept0 kept from to bytes begun counted = record {
   counted = counted;
 }
 
-pub written_reaches : (capacity : ℕ) (f0 f : Blocks) (kept0 kept : ℕ → Bool) (from to : Body) (bytes : List ℕ) → IsBegun capacity f0 kept0 from bytes f kept to.head to.length → OnlyReaches f0 f kept0 from to
-written_reaches capacity f0 f kept0 kept from to bytes begun root b names r =
+pub written_reaches : (capacity : ℕ) (f0 f : Blocks) (kept0 kept : ℕ → Bool) (from to : Body) (bytes : List ℕ) → IsBegun capacity f0 kept0 from bytes f kept to.head to.length → to.length ≡ length bytes → OnlyReaches capacity f0 f kept0 from to
+written_reaches capacity f0 f kept0 kept from to bytes begun counted root b names r =
     on (begun.reached names.0 b (subst (λ (n : ℕ). Reached f (n ∷ []) b) (sym names.1) r))
   where
-    on : ((0 < from.length) × Reached f0 (from.head ∷ []) b) ⊎ (kept0 b ≡ false) → ((first : ℕ) × PlaceNames (File from.head from.length) first × Reached f0 (first ∷ []) b) ⊎ (kept0 b ≡ false)
+    shown : body capacity f to.head to.length ≡ bytes
+    shown = begun.shown ∙ take_all to.length bytes (omega arith)
+
+    on : ((0 < from.length) × Reached f0 (from.head ∷ []) b) ⊎ ((kept0 b ≡ false) × HoldsPart capacity bytes (f b))
+        → ((first : ℕ) × PlaceNames (File from.head from.length) first × Reached f0 (first ∷ []) b) ⊎ ((kept0 b ≡ false) × HoldsPart capacity (body capacity f to.head to.length) (f b))
     on (inl (below, reached)) = inl (from.head, (below, refl), reached)
-    on (inr fresh) = inr fresh
+    on (inr (free, holds)) = inr (free, subst (λ (xs : List ℕ). HoldsPart capacity xs (f b)) (sym shown) holds)
 
 -- ---- a body cut
 

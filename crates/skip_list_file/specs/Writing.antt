@@ -1,14 +1,14 @@
 -- Bodies written anew from a node on, where the nodes before it are shared.
-use Rattle.std.specs.Prelude.{◌≡◌, ◌⊎◌, ℕ, zero, suc, ◌+◌, ◌-◌, ◌*◌, ◌%◌, ◌^◌, ◌<◌, ◌≤◌, min, Bool, false, ◌&&◌, nat_le, nat_lt, if◌then◌else◌, slice_index, List, [], ◌∷◌, ◌++◌, length, take}
+use Rattle.std.specs.Prelude.{◌≡◌, ◌⊎◌, ℕ, zero, suc, ◌+◌, ◌-◌, ◌*◌, ◌%◌, ◌^◌, ◌<◌, ◌≤◌, min, Bool, false, ◌&&◌, nat_le, nat_lt, if◌then◌else◌, slice_index, Option, Some, List, [], ◌∷◌, ◌++◌, length, take}
 use Rattle.fs_types.specs.declared.faults.Fault.{Fault}
 use Rattle.fs_types.specs.declared.faults.Fault.TheVariants.{FlashFull, ReadOnly, ReadFailed, PowerCut, NoMemory}
-use Rattle.plain_trees.specs.Contents.{resized, overwritten}
+use Rattle.plain_trees.specs.Contents.{resized, overwritten, read_from}
 use Rattle.node_format.specs.declared.places.Place.TheVariants.{File}
 use Rattle.block_trees.specs.Bodies as bodies
 use Rattle.block_trees.specs.Bodies.{Blocks, index_of, back, IsChain, IsLinked, IsBody}
 use Rattle.block_trees.specs.Reached.{Reached, IsHeld, PlaceNames}
 use Rattle.skip_list_file.specs.declared.bodies.Body.{Body}
-use Rattle.node_format.specs.BodyNodes.{HasSlot}
+use Rattle.node_format.specs.BodyNodes.{HasSlot, IsBodySpelling}
 
 -- a body has these bytes, and all that it reaches is kept
 pub record IsWritten (capacity : ℕ) (f : Blocks) (kept : ℕ → Bool) (body : Body) (bytes : List ℕ) : Type 0 where
@@ -17,11 +17,25 @@ pub record IsWritten (capacity : ℕ) (f : Blocks) (kept : ℕ → Bool) (body :
   pub held : IsHeld f kept (File body.head body.length)
   pub counted : body.length ≡ length bytes
 
--- each block that the new body reaches was reached by the old one, or was not kept before
-abbrev pub OnlyReaches : Blocks → Blocks → (ℕ → Bool) → Body → Body → Type 0
-OnlyReaches old new kept from to =
+-- a block holds the body node of an index as it is spelled: these bytes, and 0 in its zero field and in
+-- each slot that the index does not have
+pub record HoldsNode (node : Option (List ℕ)) (index : ℕ) (bytes : List ℕ) : Type 0 where
+  pub spelling : List ℕ
+  pub pointers : List ℕ
+  pub held : node ≡ Some spelling
+  pub spelled : IsBodySpelling spelling index pointers bytes
+
+-- a block holds a node of a body with these bytes: as many of them as a node has room for, or as are left
+abbrev pub HoldsPart : ℕ → List ℕ → Option (List ℕ) → Type 0
+HoldsPart capacity bytes node = (index : ℕ) × HoldsNode node index (read_from bytes (index * capacity) capacity)
+
+-- each block that the new body reaches was reached by the old one, or was not kept before and holds a
+-- node of the new one
+abbrev pub OnlyReaches : ℕ → Blocks → Blocks → (ℕ → Bool) → Body → Body → Type 0
+OnlyReaches capacity old new kept from to =
     (root block : ℕ) → PlaceNames (File to.head to.length) root → Reached new (root ∷ []) block
-    → ((first : ℕ) × PlaceNames (File from.head from.length) first × Reached old (first ∷ []) block) ⊎ (kept block ≡ false)
+    → ((first : ℕ) × PlaceNames (File from.head from.length) first × Reached old (first ∷ []) block)
+    ⊎ ((kept block ≡ false) × HoldsPart capacity (bodies.body capacity new to.head to.length) (new block))
 
 -- the refusals of a change of a body: what reads and writes are refused with, but Damaged
 abbrev pub IsWritingFault : Fault → Type 0
@@ -65,9 +79,12 @@ pub record IsFront (capacity : ℕ) (f : Blocks) (head size front part : ℕ) : 
   pub shown : bodies.body capacity f front part ≡ take part (bodies.body capacity f head size)
   pub reached : 0 < part → (b : ℕ) → Reached f (front ∷ []) b → Reached f (head ∷ []) b
 
--- one node more: the body of full nodes goes on by these bytes, and reaches that node and what it reached
+-- one node more, which holds these bytes: the body of full nodes goes on by them, and reaches that node
+-- and what it reached
 pub record IsGrown (capacity : ℕ) (old new : Blocks) (kept kept' : ℕ → Bool) (head i next : ℕ) (bytes : List ℕ) : Type 0 where
   pub whole : IsBody capacity new next (i * capacity + length bytes)
   pub shown : bodies.body capacity new next (i * capacity + length bytes) ≡ bodies.body capacity old head (i * capacity) ++ bytes
   pub held : IsHeld new kept' (File next (i * capacity + length bytes))
-  pub reached : (b : ℕ) → Reached new (next ∷ []) b → (kept b ≡ false) ⊎ ((0 < i) × Reached old (head ∷ []) b)
+  pub fresh : kept next ≡ false
+  pub node : HoldsNode (new next) i bytes
+  pub reached : (b : ℕ) → Reached new (next ∷ []) b → (next ≡ b) ⊎ ((0 < i) × Reached old (head ∷ []) b)

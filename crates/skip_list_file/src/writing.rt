@@ -290,7 +290,7 @@ fn write_nodes<N: Nodes>(
     requires old { AreBlocks (N.node nodes.old) change.body.head start.old.items }
     requires count { length start.old.items ≡ nodes_between change.capacity (change.offset + length bytes.now) change.body.length }
     ensures written { IfOk result (λ new. spec.IsWritten change.capacity (N.node nodes.new) (N.kept nodes.new) new (spec.edited (bodies.body change.capacity (N.node nodes.old) change.body.head change.body.length) change.offset bytes.now change.size)) }
-    ensures reaches { IfOk result (λ new. spec.OnlyReaches (N.node nodes.old) (N.node nodes.new) (N.kept nodes.old) change.body new) }
+    ensures reaches { IfOk result (λ new. spec.OnlyReaches change.capacity (N.node nodes.old) (N.node nodes.new) (N.kept nodes.old) change.body new) }
     ensures reads { (digits : ℕ) → HasDigits (head_index change.capacity change.body.length) digits → N.reads nodes.new ≤ N.reads nodes.old + (nodes_between change.capacity (change.offset + length bytes.now) change.body.length + (1 + 2 * digits)) }
     ensures why { IfErr result (λ fault. N.causes nodes.old nodes.new fault) }
     ensures faults { IfErr result spec.IsWritingFault }
@@ -338,7 +338,7 @@ fn change_body<N: Nodes>(
     requires longer { body.length ≤ size }
     requires changed { min offset body.length < size }
     ensures written { IfOk result (λ new. spec.IsWritten (N.limit nodes.old - body_header) (N.node nodes.new) (N.kept nodes.new) new (spec.edited (bodies.body (N.limit nodes.old - body_header) (N.node nodes.old) body.head body.length) offset bytes.now size)) }
-    ensures reaches { IfOk result (λ new. spec.OnlyReaches (N.node nodes.old) (N.node nodes.new) (N.kept nodes.old) body new) }
+    ensures reaches { IfOk result (λ new. spec.OnlyReaches (N.limit nodes.old - body_header) (N.node nodes.old) (N.node nodes.new) (N.kept nodes.old) body new) }
     ensures why { IfErr result (λ fault. N.causes nodes.old nodes.new fault) }
     ensures faults { IfErr result spec.IsWritingFault }
     ensures reads { (digits : ℕ) → HasDigits (head_index (N.limit nodes.old - body_header) body.length) digits → N.reads nodes.new ≤ N.reads nodes.old + (2 * nodes_between (N.limit nodes.old - body_header) (offset + length bytes.now) body.length + (1 + 5 * digits)) }
@@ -382,7 +382,7 @@ pub fn write_range<N: Nodes>(
     requires fits { offset + length bytes.now ≤ MAX_FILE_BYTES }
     requires length { body.length ≤ MAX_FILE_BYTES }
     ensures written { IfOk result (λ new. spec.IsWritten (N.limit nodes.old - body_header) (N.node nodes.new) (N.kept nodes.new) new (overwritten (bodies.body (N.limit nodes.old - body_header) (N.node nodes.old) body.head body.length) offset bytes.now)) }
-    ensures reaches { IfOk result (λ new. spec.OnlyReaches (N.node nodes.old) (N.node nodes.new) (N.kept nodes.old) body new) }
+    ensures reaches { IfOk result (λ new. spec.OnlyReaches (N.limit nodes.old - body_header) (N.node nodes.old) (N.node nodes.new) (N.kept nodes.old) body new) }
     ensures keeps { Keeps (N.kept nodes.old) (N.node nodes.old) (N.kept nodes.new) (N.node nodes.new) }
     ensures reads { (digits : ℕ) → HasDigits (head_index (N.limit nodes.old - body_header) body.length) digits → N.reads nodes.new ≤ N.reads nodes.old + (2 * nodes_between (N.limit nodes.old - body_header) (offset + length bytes.now) body.length + (1 + 5 * digits)) }
     ensures count { IfOk result (λ _. N.writes nodes.new ≡ N.writes nodes.old + pwrite_need (N.limit nodes.old - body_header) body.length offset (length bytes.now)) }
@@ -412,7 +412,7 @@ pub fn set_length<N: Nodes>(
     requires held { IsHeld (N.node nodes.old) (N.kept nodes.old) (File body.head body.length) }
     requires most { length ≤ MAX_FILE_BYTES }
     ensures written { IfOk result (λ new. spec.IsWritten (N.limit nodes.old - body_header) (N.node nodes.new) (N.kept nodes.new) new (resized (bodies.body (N.limit nodes.old - body_header) (N.node nodes.old) body.head body.length) length)) }
-    ensures reaches { IfOk result (λ new. spec.OnlyReaches (N.node nodes.old) (N.node nodes.new) (N.kept nodes.old) body new) }
+    ensures reaches { IfOk result (λ new. spec.OnlyReaches (N.limit nodes.old - body_header) (N.node nodes.old) (N.node nodes.new) (N.kept nodes.old) body new) }
     ensures keeps { Keeps (N.kept nodes.old) (N.node nodes.old) (N.kept nodes.new) (N.node nodes.new) }
     ensures reads { (digits : ℕ) → HasDigits (head_index (N.limit nodes.old - body_header) body.length) digits → N.reads nodes.new ≤ N.reads nodes.old + (1 + 5 * digits) }
     ensures count { IfOk result (λ _. N.writes nodes.new ≡ N.writes nodes.old + ftruncate_need (N.limit nodes.old - body_header) body.length length) }

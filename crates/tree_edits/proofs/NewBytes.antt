@@ -91,10 +91,10 @@ abbrev pub IsFrom : Blocks → (ℕ → Bool) → ℕ → Blocks → Body → Ty
 IsFrom old kept from mid x = (root block : ℕ) → PlaceNames (File x.head x.length) root → Reached mid (root ∷ []) block → Reached old (from ∷ []) block ⊎ (kept block ≡ false)
 
 -- a body made of that of a file of the tree
-pub from_file : (old mid : Blocks) (kept : ℕ → Bool) (from : ℕ) (path : Path) (x y : Body) → look_up old from path ≡ Ok (found.File x.head x.length) → bodies.OnlyReaches old mid kept x y → IsFrom old kept from mid y
-from_file old mid kept from path x y led only root block names reached = elim (only root block names reached) [
+pub from_file : (capacity : ℕ) (old mid : Blocks) (kept : ℕ → Bool) (from : ℕ) (path : Path) (x y : Body) → look_up old from path ≡ Ok (found.File x.head x.length) → bodies.OnlyReaches capacity old mid kept x y → IsFrom old kept from mid y
+from_file capacity old mid kept from path x y led only root block names reached = elim (only root block names reached) [
   | inl before ↦ inl (reached_leads old path from before.0 block (File x.head x.length) (found_leads_file old from path x.head x.length led) before.1 before.2)
-  | inr fresh ↦ inr fresh
+  | inr fresh ↦ inr fresh.0
 ]
 
 -- ---- the new root

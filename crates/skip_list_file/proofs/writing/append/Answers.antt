@@ -2,6 +2,7 @@ use Rattle.std.proofs.Common.{◌≡◌, ℕ, ◌<◌, ◌-◌, List, length, re
 use Rattle.block_trees.specs.Bodies.{Blocks, data_of, back, pointer_of}
 use Rattle.node_format.specs.BodyNodes.{IsBodySpelling}
 use Rattle.block_trees.specs.Reached.{Keeps}
+use Rattle.skip_list_file.specs.Writing.{HoldsNode}
 use Rattle.skip_list_file.proofs.Appended.{IsNext}
 use Rattle.skip_list_file.proofs.Growth.{are_linked, back_stays, product_some, grown, is_next, head_full}
 use Rattle.skip_list_file.proofs.Marks.{linked_before, table_on}
@@ -24,8 +25,14 @@ returns-clause-grown g c =
     subst (λ (node : List ℕ). IsBodySpelling node c.args.index c.args.table.now.blocks c.args.bytes.now) (sym c.deref.ensures.value) c.in_ok-node.ensures.spelled in
     let node : IsNext f (g.N.Nodes.node new) c.args.head c.args.index next c.args.bytes.now =
     is_next f (g.N.Nodes.node new) c.args.head c.args.index next c.args.table.now.blocks c.args.bytes.now c.deref.result.now c.in_ok-block.ensures.written spelled c.requires.slots in
+    let holds : HoldsNode (g.N.Nodes.node new next) c.args.index c.args.bytes.now = record {
+      spelling = c.deref.result.now;
+      pointers = c.args.table.now.blocks;
+      held = c.in_ok-block.ensures.written;
+      spelled = spelled;
+    } in
     grown capacity f (g.N.Nodes.node new) (g.N.Nodes.kept old) (g.N.Nodes.kept new) c.args.head c.args.index next c.args.bytes.now keeps c.requires.whole c.requires.held full c.requires.some c.requires.fits
-    node c.in_ok-block.ensures.fresh c.in_ok-block.ensures.kept
+    node holds c.in_ok-block.ensures.fresh c.in_ok-block.ensures.kept
 
 pub returns-clause-table : goal.returns-clause-table
 returns-clause-table g c last is =

@@ -118,5 +118,8 @@ returns-clause-written g c =
 
 pub returns-clause-reaches : goal.returns-clause-reaches
 returns-clause-reaches g c =
-    subst (λ (k : ℕ → Bool). OnlyReaches (g.N.Nodes.node c.args.nodes.now) (g.N.Nodes.node c.write_nodes.new.nodes) k c.args.body c.in_ok-new.new) c.start_at.ensures.looks.same_kept
-    (subst (λ (h : Blocks). OnlyReaches h (g.N.Nodes.node c.write_nodes.new.nodes) (g.N.Nodes.kept c.start_at.new.nodes) c.args.body c.in_ok-new.new) c.start_at.ensures.looks.same_nodes c.in_ok-new.ensures.reaches)
+    let capacity : ℕ = c.block_bytes-capacity.result - 80 in
+    let new = g.N.Nodes.node c.write_nodes.new.nodes in
+    subst (λ (r : ℕ). OnlyReaches r (g.N.Nodes.node c.args.nodes.now) new (g.N.Nodes.kept c.args.nodes.now) c.args.body c.in_ok-new.new) (ap (λ (n : ℕ). n - 80) c.block_bytes-capacity.ensures.value)
+    (subst (λ (k : ℕ → Bool). OnlyReaches capacity (g.N.Nodes.node c.args.nodes.now) new k c.args.body c.in_ok-new.new) c.start_at.ensures.looks.same_kept
+    (subst (λ (h : Blocks). OnlyReaches capacity h new (g.N.Nodes.kept c.start_at.new.nodes) c.args.body c.in_ok-new.new) c.start_at.ensures.looks.same_nodes c.in_ok-new.ensures.reaches))

@@ -110,13 +110,17 @@ loop-index-preserved g c =
       same = λ b kept. g.met.N.Nodes.same_node old at b c.requires.sound c.loop-index.invariant.works.came kept;
       stays = λ b kept. g.met.N.Nodes.stays_kept old at b c.loop-index.invariant.works.came kept;
     } in
+    let kept_on : Keeps (g.N.Nodes.kept at) (g.N.Nodes.node at) (g.N.Nodes.kept c.write_node.new.nodes) (g.N.Nodes.node c.write_node.new.nodes) = record {
+      same = λ b kept. g.met.N.Nodes.same_node at c.write_node.new.nodes b c.loop-index.invariant.works.sound c.write_node.ensures.works.came kept;
+      stays = λ b kept. g.met.N.Nodes.stays_kept at c.write_node.new.nodes b c.write_node.ensures.works.came kept;
+    } in
     let stays = body_stays change.capacity f (g.N.Nodes.node at) (g.N.Nodes.kept old) (g.N.Nodes.kept at) change.body.head change.body.length keeps c.requires.whole c.requires.body in
     let wanted : List ℕ = spec.edited (body change.capacity f change.body.head change.body.length) change.offset c.args.bytes.now change.size in
     let more = subst (λ (b : List ℕ). spec.IsGrown change.capacity (g.N.Nodes.node at) (g.N.Nodes.node c.write_node.new.nodes) (g.N.Nodes.kept at) (g.N.Nodes.kept c.write_node.new.nodes) c.loop-index.head i c.in_ok-head.head
     (take (min change.capacity (change.size - i * change.capacity)) (drop (i * change.capacity) (spec.edited b change.offset c.args.bytes.now change.size)))) stays.shown c.in_ok-head.ensures.grown in
     record {
       begun = turn change.capacity f (g.N.Nodes.node at) (g.N.Nodes.node c.write_node.new.nodes) (g.N.Nodes.kept old) (g.N.Nodes.kept at) (g.N.Nodes.kept c.write_node.new.nodes) change.body wanted c.loop-index.head i c.in_ok-head.head change.size
-          least within (edited_length _ change.offset c.args.bytes.now change.size) c.loop-index.invariant.begun more (λ b fresh. g.met.N.Nodes.was_fresh old at b c.loop-index.invariant.works.came fresh);
+          least within (edited_length _ change.offset c.args.bytes.now change.size) kept_on c.loop-index.invariant.begun more (λ b fresh. g.met.N.Nodes.was_fresh old at b c.loop-index.invariant.works.came fresh);
       table = c.in_ok-head.ensures.table;
       reads = few_on change.capacity change.body.length change.offset end c.args.first i (min change.capacity (change.size - i * change.capacity)) (g.N.Nodes.reads old) (g.N.Nodes.reads at) (g.N.Nodes.reads c.write_node.new.nodes) (length c.args.start.old.items)
           least c.requires.first c.loop-index.auto.index (omega arith) c.requires.count
@@ -145,7 +149,7 @@ returns-clause-reaches g c =
     let wanted : List ℕ = spec.edited (body change.capacity f change.body.head change.body.length) change.offset c.args.bytes.now change.size in
     let ends = all_ends change.capacity c.loop-index.index change.size (omega (arith, c.requires.least)) (omega (arith, c.loop-index-test.false, c.loop-index.auto.index-end, starts_before change.capacity (min change.offset change.body.length) change.size (omega (arith, c.requires.least)) c.requires.changed, c.requires.first)) in
     let begun = subst (IsBegun change.capacity f (g.N.Nodes.kept c.args.nodes.now) change.body wanted (g.N.Nodes.node at) (g.N.Nodes.kept at) c.loop-index.head) ends c.loop-index.invariant.begun in
-    written_reaches change.capacity f (g.N.Nodes.node at) (g.N.Nodes.kept c.args.nodes.now) (g.N.Nodes.kept at) change.body to wanted begun
+    written_reaches change.capacity f (g.N.Nodes.node at) (g.N.Nodes.kept c.args.nodes.now) (g.N.Nodes.kept at) change.body to wanted begun (sym (edited_length _ change.offset c.args.bytes.now change.size))
 
 pub returns-clause-reads : goal.returns-clause-reads
 returns-clause-reads g c =

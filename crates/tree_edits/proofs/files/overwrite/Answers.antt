@@ -47,7 +47,7 @@ returns-clause-root g c =
     (file_bytes capacity (g.N.Nodes.node old) c.args.root c.args.path.now c.args.body.head c.args.body.length c.requires.rooted c.requires.found) c.in_ok-new.ensures.written in
     file_result capacity (g.N.Nodes.node old) (g.N.Nodes.node mid) (g.N.Nodes.node new) (g.N.Nodes.kept old) (g.N.Nodes.kept mid) (g.N.Nodes.kept new) c.args.root c.args.path.now (found.File c.args.body.head c.args.body.length) c.in_ok-new.new
     (overwritten (bytes_at (root_tree capacity (g.N.Nodes.node old) c.args.root) c.args.path.now) c.args.offset c.args.bytes.now) c.put_body.result c.write_range.ensures.keeps c.put_body.ensures.keeps c.requires.held c.requires.rooted c.requires.lawful c.requires.found tt written
-    (from_file (g.N.Nodes.node old) (g.N.Nodes.node mid) (g.N.Nodes.kept old) c.args.root c.args.path.now c.args.body c.in_ok-new.new c.requires.found c.in_ok-new.ensures.reaches) c.put_body.ensures.rewritten c.put_body.ensures.reaches
+    (from_file capacity (g.N.Nodes.node old) (g.N.Nodes.node mid) (g.N.Nodes.kept old) c.args.root c.args.path.now c.args.body c.in_ok-new.new c.requires.found c.in_ok-new.ensures.reaches) c.put_body.ensures.rewritten c.put_body.ensures.reaches
 
 pub put_body-requires-clause-sound : goal.put_body-requires-clause-sound
 put_body-requires-clause-sound g c = c.write_range.ensures.works.sound

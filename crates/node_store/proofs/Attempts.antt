@@ -25,6 +25,7 @@ added_on s m t bytes b evolved added = record {
   fresh = Evolved_fresh s m b evolved added.fresh;
   kept = added.kept;
   node = added.node;
+  pages = added.pages;
   room = added.room;
 }
 

@@ -13,7 +13,7 @@ use Rattle.flash_model.specs.Geometry.{block_bytes, IsGeometry, is_page_size}
 use Rattle.flash_model.specs.Device.{Device, Page, bytes_of, erased, unreadable, block_of}
 use Rattle.flash_model.specs.Blocks.{block_of-at}
 use Rattle.node_format.specs.Headers.{node_size, IsNode, field, body_magic, directory_magic, body_size, directory_size}
-use Rattle.node_store.specs.NodePages.{first_data, and_page, joined, pages_for, size_in, bytes_at, node_at, page_bytes, HasPages, node_of}
+use Rattle.node_store.specs.NodePages.{first_data, and_page, joined, pages_for, size_in, bytes_at, node_at, page_bytes, HasPages, HoldsNode, node_of}
 
 -- a node has at least its header, and fits in its block
 pub record IsWithin (block size : ℕ) : Type 0 where
@@ -94,6 +94,10 @@ pages_for-most page pages size some fits =
 factor_some : (n k : ℕ) → 0 < n * k → 0 < n
 factor_some zero k h = absurd (omega arith)
 factor_some (suc n) k h = omega arith
+
+page_some : (n k : ℕ) → 0 < n * k → 0 < k
+page_some n zero h = absurd (omega arith)
+page_some n (suc k) h = omega arith
 
 -- some bytes need some page
 pub pages_for-some : (page size : ℕ) → 0 < page → 0 < size → 0 < pages_for page size
@@ -357,6 +361,28 @@ node_of-pages d b bytes lawful least below node pages =
     cond-true (nat_le first_data b && nat_lt b d.geometry.blocks) _ _
     (and_from (nat_le first_data b) (nat_lt b d.geometry.blocks) (le-leb first_data b least) (lt-ltb b d.geometry.blocks below))
     ∙ node_at-pages d.geometry d.pages (b * d.geometry.pages) bytes lawful node pages.each
+
+-- the pages that a node needs are in its block
+node_pages-most : (g : Geometry) (bytes : List ℕ) → IsNode (block_bytes g) bytes → pages_for g.page (length bytes) ≤ g.pages
+node_pages-most g bytes node =
+    let size = size_within (block_bytes g) (length bytes) bytes node in
+    pages_for-most g.page g.pages (length bytes) (page_some g.pages g.page (omega arith)) size.most
+
+-- a block holds its node while its pages stay
+pub HoldsNode_same : (d e : Device) (b : ℕ) → e.geometry ≡ d.geometry → ((p : ℕ) → block_of d p ≡ b → e.pages p ≡ d.pages p) → HoldsNode d b → HoldsNode e b
+HoldsNode_same d e b geometry same holds =
+    let bytes = holds.bytes in
+    let most = node_pages-most d.geometry bytes holds.node in
+    record {
+      bytes = bytes;
+      node = subst (λ (g : Geometry). IsNode (block_bytes g) bytes) (sym geometry) holds.node;
+      pages = record {
+        each = subst (λ (g : Geometry). (j : ℕ) → j < pages_for g.page (length bytes) → e.pages (b * g.pages + j) ≡ bytes_of (page_bytes g.page j bytes)) (sym geometry)
+            (λ j below. same (b * d.geometry.pages + j) (block_of-at d b j (omega arith)) ∙ holds.pages.each j below);
+        rest = subst (λ (g : Geometry). (j : ℕ) → pages_for g.page (length bytes) ≤ j → j < g.pages → e.pages (b * g.pages + j) ≡ erased) (sym geometry)
+            (λ j from below. same (b * d.geometry.pages + j) (block_of-at d b j below) ∙ holds.pages.rest j from below);
+      };
+    }
 
 first_joined : (page : Page) (xs : List ℕ) → and_page (Some []) page ≡ Some xs → page ≡ bytes_of xs
 first_joined erased xs h = cc

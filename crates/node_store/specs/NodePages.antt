@@ -1,11 +1,11 @@
 -- The node in a block: the bytes of its pages from place 0 on, as many as the node needs.
-use Rattle.std.specs.Prelude.{◌≡◌, ℕ, zero, suc, ◌+◌, ◌*◌, ◌<◌, ◌&&◌, nat_le, nat_lt, if◌then◌else◌, List, [], length, ◌++◌, take, drop, replicate, Option, Some, None, option_map, option_and_then}
+use Rattle.std.specs.Prelude.{◌≡◌, ℕ, zero, suc, ◌+◌, ◌*◌, ◌<◌, ◌≤◌, ◌&&◌, nat_le, nat_lt, if◌then◌else◌, List, [], length, ◌++◌, take, drop, replicate, Option, Some, None, option_map, option_and_then}
 use Rattle.std.specs.Int.{div_ceil}
 use Rattle.flash_model.specs.declared.sizes.Geometry.{Geometry}
 use Rattle.flash_model.specs.declared.sizes.TheConstants.{FIRST_DATA_BLOCK}
 use Rattle.flash_model.specs.Geometry.{block_bytes}
-use Rattle.flash_model.specs.Device.{Device, Page, bytes_of}
-use Rattle.node_format.specs.Headers.{node_size}
+use Rattle.flash_model.specs.Device.{Device, Page, bytes_of, erased}
+use Rattle.node_format.specs.Headers.{node_size, IsNode}
 
 -- the blocks below this one are anchors, and hold no nodes
 abbrev pub first_data : ℕ
@@ -42,10 +42,18 @@ node_at g pages first = option_and_then (bytes_at g pages first) (size_in (block
 abbrev pub page_bytes : ℕ → ℕ → List ℕ → List ℕ
 page_bytes page place bytes = take page (drop (place * page) bytes ++ replicate page 0)
 
--- the pages of a block hold the bytes, from place 0 on
+-- the pages of a block hold the bytes, from place 0 on, and zeros behind them; the pages that they do not need are erased
 pub record HasPages (d : Device) (b : ℕ) (bytes : List ℕ) : Type 0 where
   pub each : (j : ℕ) → j < pages_for d.geometry.page (length bytes)
       → d.pages (b * d.geometry.pages + j) ≡ bytes_of (page_bytes d.geometry.page j bytes)
+  pub rest : (j : ℕ) → pages_for d.geometry.page (length bytes) ≤ j → j < d.geometry.pages
+      → d.pages (b * d.geometry.pages + j) ≡ erased
+
+-- the pages of a block hold the bytes of a node, and nothing else
+pub record HoldsNode (d : Device) (b : ℕ) : Type 0 where
+  pub bytes : List ℕ
+  pub node : IsNode (block_bytes d.geometry) bytes
+  pub pages : HasPages d b bytes
 
 -- the bytes of the node in a data block, none where it holds none
 abbrev pub node_of : Device → ℕ → Option (List ℕ)

@@ -7,7 +7,8 @@ use Rattle.fs_types.specs.declared.faults.Fault.{Fault}
 use Rattle.fs_types.specs.declared.faults.Fault.TheVariants.{FlashFull, ReadOnly, PowerCut, NoMemory}
 use Rattle.flash_model.specs.Device.{Device, block_of}
 use Rattle.allocator.specs.Ring.{Ring, IsDataBlock, IsNext, is_busy, free_count}
-use Rattle.node_store.specs.NodePages.{first_data, node_of, pages_for}
+use Rattle.node_store.specs.NodePages.{first_data, node_of, pages_for, HasPages, HoldsNode}
+use Rattle.node_store.specs.Writing.{IsFilledInOrder}
 use Rattle.flash_model.specs.Reading.{OnlyReads}
 
 -- the parts that a store works on
@@ -47,6 +48,11 @@ pub record Evolved (s t : Storage) : Type 0 where
   -- no page of a kept block or of an anchor changes
   pub kept_pages : (p : ℕ) → is_kept s (block_of s.device p) ≡ true → t.device.pages p ≡ s.device.pages p
   pub anchor_pages : (p : ℕ) → block_of s.device p < first_data → t.device.pages p ≡ s.device.pages p
+  -- nor any of a block that is not kept then
+  pub free_pages : (p : ℕ) → is_kept t (block_of s.device p) ≡ false → t.device.pages p ≡ s.device.pages p
+  -- a block that became kept was filled in order, and unless it is bad or power went, it holds a node
+  pub order : (b : ℕ) → is_kept t b ≡ true → is_kept s b ≡ false → IsFilledInOrder s.device b t.device
+  pub filled : t.device.powered ≡ true → (b : ℕ) → is_kept t b ≡ true → is_kept s b ≡ false → set.contains t.bad b ≡ false → HoldsNode t.device b
   pub kept : (b : ℕ) → is_kept s b ≡ true → is_kept t b ≡ true
   -- the note gains each block that became kept, and loses none
   pub noted : (b : ℕ) → is_kept t b ≡ true → is_kept s b ≡ false → set.contains t.ring.note b ≡ true
@@ -71,11 +77,12 @@ pub record IsUntouched (s t : Storage) : Type 0 where
   pub bad : t.bad ≡ s.bad
   pub ring : t.ring ≡ s.ring
 
--- a block that was not kept is kept, and holds the node; there is room in the bad list
+-- a block that was not kept is kept, and its pages hold the node and nothing else; there is room in the bad list
 pub record IsAdded (s : Storage) (bytes : List ℕ) (t : Storage) (b : ℕ) : Type 0 where
   pub fresh : is_kept s b ≡ false
   pub kept : is_kept t b ≡ true
   pub node : node_of t.device b ≡ Some bytes
+  pub pages : HasPages t.device b bytes
   pub room : set.len t.bad < MAX_BAD_BLOCKS
 
 -- block b was taken last: the first data block in ring order, after the one taken last before, that was not used then and

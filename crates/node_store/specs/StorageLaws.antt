@@ -10,17 +10,18 @@ use Rattle.std.proofs.lemmas.Cmp.{nat_cmp_total}
 use Rattle.std.proofs.lemmas.List.Sums.{sum_by-cons}
 use Rattle.flash_model.specs.declared.sizes.Geometry.{Geometry}
 use Rattle.flash_model.specs.declared.device.DevFault.{DevFault}
-use Rattle.flash_model.specs.declared.device.DevFault.TheVariants.{Failed}
+use Rattle.flash_model.specs.declared.device.DevFault.TheVariants.{Failed, PowerCut}
 use Rattle.flash_model.specs.Geometry.{IsGeometry, block_bytes}
 use Rattle.flash_model.specs.Device.{Device, block_of, failed}
 use Rattle.allocator.specs.Ring.{Ring, IsDataBlock, IsNext, is_busy, free_count}
 use Rattle.allocator.specs.RingLaws.{next_on}
 use Rattle.allocator.specs.FreeCount.{free_count-alike}
-use Rattle.node_store.specs.NodePages.{first_data}
+use Rattle.node_store.specs.NodePages.{first_data, HasPages, HoldsNode}
 use Rattle.node_format.specs.Headers.{IsNode}
-use Rattle.node_store.specs.NodeLaws.{node_of-pages}
+use Rattle.node_store.specs.NodeLaws.{node_of-pages, HoldsNode_same}
 use Rattle.flash_model.specs.Reading.{OnlyReads_itself, OnlyReads_on}
-use Rattle.node_store.specs.Writing.{WritesBlock}
+use Rattle.node_store.specs.Writing.{Ends, IsFilledInOrder, WritesBlock}
+use Rattle.node_store.specs.WritingLaws.{order_on, order_from}
 use Rattle.node_store.specs.Storage.{Storage, storage, is_kept, IsTaken, Evolved, IsUntouched, IsAdded, Pays, IsNextBlock, PassesBad}
 use Rattle.fs_types.specs.declared.limits.TheConstants.{MAX_BAD_BLOCKS}
 
@@ -30,6 +31,9 @@ Evolved_itself s = record {
   blocks = refl;
   kept_pages = λ p kept. refl;
   anchor_pages = λ p below. refl;
+  free_pages = λ p free. refl;
+  order = λ b kept fresh. absurd (both_ways (is_kept s b) fresh kept);
+  filled = λ on b kept fresh good. absurd (both_ways (is_kept s b) fresh kept);
   kept = λ b kept. kept;
   noted = λ b kept fresh. absurd (both_ways (is_kept s b) fresh kept);
   note_stays = λ b noted. noted;
@@ -46,6 +50,16 @@ Evolved_itself s = record {
   taken = refl;
 }
 
+-- a block that is not kept later was not kept before
+pub Evolved_fresh : (s t : Storage) (b : ℕ) → Evolved s t → is_kept t b ≡ false → is_kept s b ≡ false
+Evolved_fresh s t b e fresh =
+    elim (cases_Bool (is_kept s b)) [ inl was ↦ absurd (both_ways (is_kept t b) fresh (e.kept b was)) | inr not_so ↦ not_so ]
+
+-- a block that is not bad later was not bad before
+still_good : (t u : Storage) (b : ℕ) → Evolved t u → set.contains u.bad b ≡ false → set.contains t.bad b ≡ false
+still_good t u b e good =
+    elim (cases_Bool (set.contains t.bad b)) [ inl was ↦ absurd (both_ways (set.contains u.bad b) good (e.stays_bad b was)) | inr not_so ↦ not_so ]
+
 pub Evolved_on : (s t u : Storage) → Evolved s t → Evolved t u → Evolved s u
 Evolved_on s t u e f =
     let same : (p : ℕ) → block_of t.device p ≡ block_of s.device p = λ p. ap (λ (g : Geometry). p / g.pages) e.geometry in
@@ -54,6 +68,19 @@ Evolved_on s t u e f =
       blocks = f.blocks ∙ e.blocks;
       kept_pages = λ p kept. f.kept_pages p (ap (is_kept t) (same p) ∙ e.kept (block_of s.device p) kept) ∙ e.kept_pages p kept;
       anchor_pages = λ p below. f.anchor_pages p (subst (λ b. b < first_data) (sym (same p)) below) ∙ e.anchor_pages p below;
+      free_pages = λ p free.
+          f.free_pages p (ap (is_kept u) (same p) ∙ free) ∙ e.free_pages p (Evolved_fresh t u (block_of s.device p) f free);
+      order = λ b kept fresh. elim (cases_Bool (is_kept t b)) [
+        | inl then_kept ↦ order_on s.device t.device u.device b f.geometry same
+            (λ p own. f.kept_pages p (ap (is_kept t) own ∙ then_kept)) (e.order b then_kept fresh)
+        | inr then_fresh ↦ order_from s.device t.device u.device b same
+            (λ p own. e.free_pages p (ap (is_kept t) own ∙ then_fresh)) (f.order b kept then_fresh)
+      ];
+      filled = λ on b kept fresh good. elim (cases_Bool (is_kept t b)) [
+        | inl then_kept ↦ HoldsNode_same t.device u.device b f.geometry (λ p own. f.kept_pages p (ap (is_kept t) own ∙ then_kept))
+            (e.filled (f.was_on on) b then_kept fresh (still_good t u b f good))
+        | inr then_fresh ↦ f.filled on b kept then_fresh good
+      ];
       kept = λ b kept. f.kept b (e.kept b kept);
       noted = λ b kept fresh. elim (cases_Bool (is_kept t b)) [
         | inl then_kept ↦ f.note_stays b (e.noted b then_kept fresh)
@@ -82,11 +109,6 @@ Evolved_on s t u e f =
       taken = f.taken ∙ e.taken;
     }
 
--- a block that is not kept later was not kept before
-pub Evolved_fresh : (s t : Storage) (b : ℕ) → Evolved s t → is_kept t b ≡ false → is_kept s b ≡ false
-Evolved_fresh s t b e fresh =
-    elim (cases_Bool (is_kept s b)) [ inl was ↦ absurd (both_ways (is_kept t b) fresh (e.kept b was)) | inr not_so ↦ not_so ]
-
 pub Untouched_itself : (s : Storage) → IsUntouched s s
 Untouched_itself s = record { device = OnlyReads_itself s.device; bad = refl; ring = refl }
 
@@ -104,6 +126,9 @@ Untouched_evolved s t u = record {
   blocks = ap (λ (r : Ring). r.blocks) u.ring;
   kept_pages = λ p kept. u.device.pages p;
   anchor_pages = λ p below. u.device.pages p;
+  free_pages = λ p free. u.device.pages p;
+  order = λ b kept fresh. absurd (both_ways (is_kept t b) (ap (λ (r : Ring). set.contains r.used b) u.ring ∙ fresh) kept);
+  filled = λ on b kept fresh good. absurd (both_ways (is_kept t b) (ap (λ (r : Ring). set.contains r.used b) u.ring ∙ fresh) kept);
   kept = λ b kept. ap (λ (r : Ring). set.contains r.used b) u.ring ∙ kept;
   noted = λ b kept fresh. absurd (both_ways (is_kept t b) (ap (λ (r : Ring). set.contains r.used b) u.ring ∙ fresh) kept);
   note_stays = λ b noted. ap (λ (r : Ring). set.contains r.note b) u.ring ∙ noted;
@@ -124,15 +149,56 @@ Untouched_evolved s t u = record {
 apart_from : (s : Storage) (b c : ℕ) → is_kept s b ≡ false → is_kept s c ≡ true → c ≢ b
 apart_from s b c fresh kept same = both_ways (is_kept s c) (ap (is_kept s) same ∙ fresh) kept
 
+-- the bad list with one block more
+listed : (bad : set.FinSet nat_cmp) (b c : ℕ) → set.contains (set.insert bad b) c ≡ (eqb c b || set.contains bad c)
+listed bad b c = set.contains-insert nat_cmp_total bad b c ∙ ap (λ t. t || set.contains bad c) (unsigned_tied c b)
+
+stays_listed : (bad : set.FinSet nat_cmp) (b c : ℕ) → set.contains bad c ≡ true → set.contains (set.insert bad b) c ≡ true
+stays_listed bad b c was = listed bad b c ∙ or_right (eqb c b) (set.contains bad c) was
+
+here_listed : (bad : set.FinSet nat_cmp) (b c : ℕ) → c ≡ b → set.contains (set.insert bad b) c ≡ true
+here_listed bad b c same = listed bad b c ∙ or_left (eqb c b) (set.contains bad c) (eq-eqb c b same)
+
+pub new_listed : (bad : set.FinSet nat_cmp) (b c : ℕ) → set.contains (set.insert bad b) c ≡ true → set.contains bad c ≡ false → c ≡ b
+new_listed bad b c now good =
+    elim (or_cases (eqb c b) (set.contains bad c) (sym (listed bad b c) ∙ now)) [
+      | inl same ↦ eqb-true c b same
+      | inr bad_before ↦ absurd (both_ways (set.contains bad c) good bad_before)
+    ]
+
+-- the block that became used with a take is the one taken
+became : (old : Ring) (bad : set.FinSet nat_cmp) (b : ℕ) (new : Ring) (c : ℕ) → IsTaken old bad b new → set.contains new.used c ≡ true
+    → set.contains old.used c ≡ false → c ≡ b
+became old bad b new c take used fresh = new_listed old.used b c (ap (λ s. set.contains s c) (sym take.only) ∙ used) fresh
+
+-- a block that is not used after a take is another
+apart_then : (old : Ring) (bad : set.FinSet nat_cmp) (b : ℕ) (new : Ring) (c : ℕ) → IsTaken old bad b new → set.contains new.used c ≡ false → c ≢ b
+apart_then old bad b new c take free same = both_ways (set.contains new.used c) free (ap (set.contains new.used) same ∙ take.used)
+
+-- where power stays on and no operation failed, the bytes were written
+written_on : (d : Device) (b : ℕ) (bytes : List ℕ) (result : Result (Unit {0}) DevFault) → Ends d b bytes result → failed result ≡ 0 → d.powered ≡ true
+    → HasPages d b bytes
+written_on d b bytes (Ok u) ends none on = ends
+written_on d b bytes (Err Failed) ends none on = cc
+written_on d b bytes (Err PowerCut) ends none on = absurd (both_ways d.powered ends on)
+
 -- a take, and a write of the block in which no operation failed
 pub took_good : (s : Storage) (b : ℕ) (ring : Ring) (bytes : List ℕ) (d : Device) (result : Result (Unit {0}) DevFault)
-    → IsTaken s.ring s.bad b ring → WritesBlock s.device b bytes d result → failed result ≡ 0
+    → IsNode (block_bytes s.device.geometry) bytes → IsTaken s.ring s.bad b ring → WritesBlock s.device b bytes d result → failed result ≡ 0
     → Evolved s (record { device = d; bad = s.bad; ring = ring })
-took_good s b ring bytes d result take w none = record {
+took_good s b ring bytes d result node take w none = record {
   geometry = w.geometry;
   blocks = take.blocks;
   kept_pages = λ p kept. w.others p (apart_from s b (block_of s.device p) take.fresh kept);
   anchor_pages = λ p below. w.others p (λ same. absurd (omega (arith, take.data_block.0)));
+  free_pages = λ p free. w.others p (apart_then s.ring s.bad b ring (block_of s.device p) take free);
+  order = λ c kept fresh. subst (λ n. IsFilledInOrder s.device n d) (sym (became s.ring s.bad b ring c take kept fresh)) w.order;
+  filled = λ on c kept fresh good.
+      subst (HoldsNode d) (sym (became s.ring s.bad b ring c take kept fresh)) (record {
+        bytes = bytes;
+        node = subst (λ (g : Geometry). IsNode (block_bytes g) bytes) (sym w.geometry) node;
+        pages = written_on d b bytes result w.ends none on;
+      });
   kept = take.kept;
   noted = take.noted;
   note_stays = take.note_stays;
@@ -148,20 +214,6 @@ took_good s b ring bytes d result take w none = record {
   stays_off = w.stays_off;
   taken = take.paid;
 }
-
--- the bad list with one block more
-listed : (bad : set.FinSet nat_cmp) (b c : ℕ) → set.contains (set.insert bad b) c ≡ (eqb c b || set.contains bad c)
-listed bad b c = set.contains-insert nat_cmp_total bad b c ∙ ap (λ t. t || set.contains bad c) (unsigned_tied c b)
-
-stays_listed : (bad : set.FinSet nat_cmp) (b c : ℕ) → set.contains bad c ≡ true → set.contains (set.insert bad b) c ≡ true
-stays_listed bad b c was = listed bad b c ∙ or_right (eqb c b) (set.contains bad c) was
-
-pub new_listed : (bad : set.FinSet nat_cmp) (b c : ℕ) → set.contains (set.insert bad b) c ≡ true → set.contains bad c ≡ false → c ≡ b
-new_listed bad b c now good =
-    elim (or_cases (eqb c b) (set.contains bad c) (sym (listed bad b c) ∙ now)) [
-      | inl same ↦ eqb-true c b same
-      | inr bad_before ↦ absurd (both_ways (set.contains bad c) good bad_before)
-    ]
 
 -- a used block is as busy when it is listed
 busy_alike : (r : Ring) (bad : set.FinSet nat_cmp) (b c : ℕ) → set.contains r.used b ≡ true → is_busy r (set.insert bad b) c ≡ is_busy r bad c
@@ -189,6 +241,10 @@ took_bad s b ring bytes d take w = record {
   blocks = take.blocks;
   kept_pages = λ p kept. w.others p (apart_from s b (block_of s.device p) take.fresh kept);
   anchor_pages = λ p below. w.others p (λ same. absurd (omega (arith, take.data_block.0)));
+  free_pages = λ p free. w.others p (apart_then s.ring s.bad b ring (block_of s.device p) take free);
+  order = λ c kept fresh. subst (λ n. IsFilledInOrder s.device n d) (sym (became s.ring s.bad b ring c take kept fresh)) w.order;
+  filled = λ on c kept fresh good.
+      absurd (both_ways (set.contains (set.insert s.bad b) c) good (here_listed s.bad b c (became s.ring s.bad b ring c take kept fresh)));
   kept = take.kept;
   noted = take.noted;
   note_stays = take.note_stays;
@@ -234,6 +290,7 @@ took_added s b ring bytes d u lawful blocks node room take w =
       kept = take.used;
       node = node_of-pages d b bytes (subst IsGeometry same lawful) take.data_block.0 below
           (subst (λ (g : Geometry). IsNode (block_bytes g) bytes) same node) w.ends;
+      pages = w.ends;
       room = room;
     }
 
@@ -259,7 +316,7 @@ was_used : (old : Ring) (bad : set.FinSet nat_cmp) (b : ℕ) (new : Ring) (c : �
 was_used old bad b new c take other used =
     elim (cases_Bool (set.contains old.used c)) [
       | inl was ↦ was
-      | inr was_not ↦ absurd (other (new_listed old.used b c (ap (λ s. set.contains s c) (sym take.only) ∙ used) was_not))
+      | inr was_not ↦ absurd (other (became old bad b new c take used was_not))
     ]
 
 pub Passes_itself : (s : Storage) → PassesBad s s
@@ -275,7 +332,7 @@ Passes_next s t u b e passes at = record { next = passes u.bad b e.stays_bad at.
 -- a take passes the block that it takes, where this one is bad afterwards
 pub took_passed : (s : Storage) (b : ℕ) (ring : Ring) (d : Device) → IsTaken s.ring s.bad b ring → PassesBad s (storage d (set.insert s.bad b) ring)
 took_passed s b ring d take = λ bad c has next.
-    let here : set.contains bad b ≡ true = has b (listed s.bad b b ∙ or_left (eqb b b) (set.contains s.bad b) (eq-eqb b b refl)) in
+    let here : set.contains bad b ≡ true = has b (here_listed s.bad b b refl) in
     let after : IsNext (is_busy ring bad) s.ring.blocks b c =
     subst (λ last. IsNext (is_busy ring bad) s.ring.blocks last c) take.last (subst (λ n. IsNext (is_busy ring bad) n ring.last c) take.blocks next) in
     next_on (is_busy s.ring s.bad) (is_busy ring bad) (is_busy s.ring bad) s.ring.blocks s.ring.last b c take.last_block take.next after

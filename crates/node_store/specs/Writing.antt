@@ -1,9 +1,27 @@
 -- What an attempt to write bytes to a block leaves.
-use Rattle.std.specs.Prelude.{◌≡◌, ◌≢◌, ℕ, ◌+◌, ◌*◌, ◌<◌, ◌≤◌, true, false, List, Result, Ok, Err}
+use Rattle.std.specs.Prelude.{◌≡◌, ◌≢◌, ◌⊎◌, ℕ, ◌+◌, ◌*◌, ◌<◌, ◌≤◌, Bool, true, false, List, Result, Ok, Err}
 use Rattle.flash_model.specs.declared.device.DevFault.{DevFault}
 use Rattle.flash_model.specs.declared.device.DevFault.TheVariants.{Failed, PowerCut}
-use Rattle.flash_model.specs.Device.{Device, bytes_of, erased, block_of, failed}
+use Rattle.flash_model.specs.Device.{Device, Page, bytes_of, erased, unreadable, block_of, failed}
 use Rattle.node_store.specs.NodePages.{page_bytes, HasPages}
+
+-- whether a page holds bytes
+abbrev pub has_data : Page → Bool
+has_data (bytes_of _) = true
+has_data _ = false
+
+-- no page of a block has data behind one that has none
+pub record IsInOrder (d : Device) (b : ℕ) : Type 0 where
+  pub behind : (j k : ℕ) → j < k → k < d.geometry.pages → has_data (d.pages (b * d.geometry.pages + j)) ≡ false
+      → has_data (d.pages (b * d.geometry.pages + k)) ≡ false
+
+-- what the erase of a block leaves that was not done: each of its pages is as it was, erased or unreadable
+abbrev pub IsUnerased : Device → ℕ → Device → Type 0
+IsUnerased old b new = (p : ℕ) → block_of old p ≡ b → (new.pages p ≡ old.pages p) ⊎ ((new.pages p ≡ erased) ⊎ (new.pages p ≡ unreadable))
+
+-- the pages of a block were programmed from place 0 on, unless it was not erased
+abbrev pub IsFilledInOrder : Device → ℕ → Device → Type 0
+IsFilledInOrder old b new = IsUnerased old b new ⊎ IsInOrder new b
 
 -- the block has the bytes, or is worn, or power is off
 abbrev pub Ends : Device → ℕ → List ℕ → Result (Unit {0}) DevFault → Type 0
@@ -21,6 +39,7 @@ pub record WritesBlock (old : Device) (b : ℕ) (bytes : List ℕ) (new : Device
   pub cuts : old.cuts ≤ new.cuts
   pub was_on : new.powered ≡ true → old.powered ≡ true
   pub stays_off : old.powered ≡ false → new ≡ old
+  pub order : IsFilledInOrder old b new
   pub ends : Ends new b bytes result
 
 -- the pages before a place have their bytes, those from it on are erased, and no operation failed so far

@@ -1,16 +1,16 @@
 -- How erases and programs make up an attempt to write a block.
-use Rattle.std.specs.Prelude.{◌≡◌, ◌≢◌, ℕ, ◌+◌, ◌*◌, ◌/◌, ◌<◌, ◌≤◌, Bool, true, false, if◌then◌else◌, List, length, Result, Ok, Err, refl}
+use Rattle.std.specs.Prelude.{◌≡◌, ◌≢◌, ◌⊎◌, ℕ, ◌+◌, ◌*◌, ◌/◌, ◌<◌, ◌≤◌, Bool, true, false, if◌then◌else◌, List, length, Result, Ok, Err, refl}
 use Rattle.std.proofs.Common.{sym, ◌∙◌, ap, subst, inl, inr, arith}
-use Rattle.std.proofs.lemmas.Bool.{cases_eq}
+use Rattle.std.proofs.lemmas.Bool.{cases_eq, cases_lt, cases_Bool, both_ways}
 use Rattle.flash_model.specs.declared.sizes.Geometry.{Geometry}
 use Rattle.flash_model.specs.declared.device.DevFault.{DevFault}
 use Rattle.flash_model.specs.declared.device.DevFault.TheVariants.{Failed, PowerCut}
-use Rattle.flash_model.specs.Device.{Device, bytes_of, erased, block_of, Operates, Programs, Erases}
+use Rattle.flash_model.specs.Device.{Device, Page, bytes_of, erased, unreadable, block_of, Operates, Programs, Erases}
 use Rattle.flash_model.specs.Geometry.{IsGeometry, block_bytes}
 use Rattle.flash_model.specs.Blocks.{block_of-at}
 use Rattle.node_store.specs.NodePages.{page_bytes, pages_for}
 use Rattle.node_store.specs.NodeLaws.{has_room, pages_for-most}
-use Rattle.node_store.specs.Writing.{WritesBlock, IsWriting}
+use Rattle.node_store.specs.Writing.{has_data, IsInOrder, IsUnerased, IsFilledInOrder, WritesBlock, IsWriting}
 
 -- before the first program
 pub IsWriting_start : (d : Device) (b : ℕ) (bytes : List ℕ)
@@ -59,6 +59,42 @@ program_next old mid new b place p bytes page u w below at is programs = record 
   stays_off = λ off. programs.operates.off (ap (λ (x : Device). x.powered) (w.stays_off off) ∙ off) ∙ w.stays_off off;
 }
 
+-- pages that have data up to a place, and none from it on, are in order
+order_until : (d : Device) (g : Geometry) (b n : ℕ) → d.geometry ≡ g
+    → ((j : ℕ) → j < n → has_data (d.pages (b * g.pages + j)) ≡ true)
+    → ((j : ℕ) → n ≤ j → j < g.pages → has_data (d.pages (b * g.pages + j)) ≡ false) → IsInOrder d b
+order_until d g b n same full none = record {
+  behind = subst (λ (h : Geometry). (j k : ℕ) → j < k → k < h.pages → has_data (d.pages (b * h.pages + j)) ≡ false → has_data (d.pages (b * h.pages + k)) ≡ false)
+      (sym same)
+      (λ j k before below empty. elim (cases_lt k n) [
+        | inl within ↦ absurd (both_ways (has_data (d.pages (b * g.pages + j))) empty (full j (omega arith)))
+        | inr past ↦ none k past below
+      ]);
+}
+
+-- so are those of a block after the program of its next page, whatever it leaves
+program_order : (old mid new : Device) (b place p : ℕ) (bytes : List ℕ) → IsWriting old b bytes place mid
+    → p ≡ b * old.geometry.pages + place → new.geometry ≡ old.geometry
+    → ((q : ℕ) → q ≢ p → new.pages q ≡ mid.pages q) → IsInOrder new b
+program_order old mid new b place p bytes w at geometry others =
+    let written : (j : ℕ) → j < place → has_data (new.pages (b * old.geometry.pages + j)) ≡ true = λ j below.
+    ap has_data (others (b * old.geometry.pages + j) (λ same. absurd (omega arith)) ∙ w.written j below) in
+    let blank : (j : ℕ) → place + 1 ≤ j → j < old.geometry.pages → has_data (new.pages (b * old.geometry.pages + j)) ≡ false = λ j from below.
+    ap has_data (others (b * old.geometry.pages + j) (λ same. absurd (omega arith)) ∙ w.blank j (omega arith) below) in
+    elim (cases_Bool (has_data (new.pages (b * old.geometry.pages + place)))) [
+      | inl full ↦ order_until new old.geometry b (place + 1) geometry
+          (λ j below. elim (cases_eq j place) [
+            | inl same ↦ ap (λ k. has_data (new.pages (b * old.geometry.pages + k))) same ∙ full
+            | inr apart ↦ written j (omega arith)
+          ])
+          blank
+      | inr empty ↦ order_until new old.geometry b place geometry written
+          (λ j from below. elim (cases_eq j place) [
+            | inl same ↦ ap (λ k. has_data (new.pages (b * old.geometry.pages + k))) same ∙ empty
+            | inr apart ↦ blank j (omega arith) below
+          ])
+    ]
+
 -- after the last page
 pub all_written : (old new : Device) (b : ℕ) (bytes : List ℕ) (u : Unit {0})
     → IsWriting old b bytes (pages_for old.geometry.page (length bytes)) new → WritesBlock old b bytes new (Ok u)
@@ -71,8 +107,11 @@ all_written old new b bytes u w = record {
   cuts = w.cuts;
   was_on = w.was_on;
   stays_off = w.stays_off;
+  order = inr (order_until new old.geometry b (pages_for old.geometry.page (length bytes)) w.geometry (λ j below. ap has_data (w.written j below))
+      (λ j from below. ap has_data (w.blank j from below)));
   ends = record {
     each = subst (λ (g : Geometry). (j : ℕ) → j < pages_for g.page (length bytes) → new.pages (b * g.pages + j) ≡ bytes_of (page_bytes g.page j bytes)) (sym w.geometry) w.written;
+    rest = subst (λ (g : Geometry). (j : ℕ) → pages_for g.page (length bytes) ≤ j → j < g.pages → new.pages (b * g.pages + j) ≡ erased) (sym w.geometry) w.blank;
   };
 }
 
@@ -103,6 +142,7 @@ program_fails old mid new b place p bytes page Failed w below at programs =
       cuts = omega arith;
       was_on = λ on. w.was_on (was_on mid new (Err Failed) 0 1 programs.operates on);
       stays_off = λ off. programs.operates.off (ap (λ (x : Device). x.powered) (w.stays_off off) ∙ off) ∙ w.stays_off off;
+      order = inr (program_order old mid new b place p bytes w at (programs.operates.geometry ∙ w.geometry) programs.others);
       ends = worn.here;
     }
 program_fails old mid new b place p bytes page PowerCut w below at programs = record {
@@ -114,6 +154,7 @@ program_fails old mid new b place p bytes page PowerCut w below at programs = re
   cuts = omega arith;
   was_on = λ on. w.was_on (was_on mid new (Err PowerCut) 0 0 programs.operates on);
   stays_off = λ off. programs.operates.off (ap (λ (x : Device). x.powered) (w.stays_off off) ∙ off) ∙ w.stays_off off;
+  order = inr (program_order old mid new b place p bytes w at (programs.operates.geometry ∙ w.geometry) programs.others);
   ends = programs.operates.power;
 }
 
@@ -130,6 +171,7 @@ erase_fails old new b bytes Failed erases =
       cuts = omega arith;
       was_on = was_on old new (Err Failed) 0 1 erases.operates;
       stays_off = erases.operates.off;
+      order = inl (λ p own. erases.own p own);
       ends = worn.here;
     }
 erase_fails old new b bytes PowerCut erases = record {
@@ -141,6 +183,7 @@ erase_fails old new b bytes PowerCut erases = record {
   cuts = omega arith;
   was_on = was_on old new (Err PowerCut) 0 0 erases.operates;
   stays_off = erases.operates.off;
+  order = inl (λ p own. erases.own p own);
   ends = erases.operates.power;
 }
 
@@ -151,6 +194,30 @@ erase_blank old new b u erases j below =
     let same : block_of old (b * new.geometry.pages + j) ≡ b =
     ap (λ (g : Geometry). (b * new.geometry.pages + j) / g.pages) (sym erases.operates.geometry) ∙ block_of-at new b j below in
     erases.own (b * new.geometry.pages + j) same
+
+-- pages that were erased have no data where the next erase was not done
+no_data : (was now : Page) → was ≡ erased → (now ≡ was) ⊎ ((now ≡ erased) ⊎ (now ≡ unreadable)) → has_data now ≡ false
+no_data was now blank left =
+    elim left [
+      | inl same ↦ ap has_data (same ∙ blank)
+      | inr other ↦ elim other [ inl here ↦ ap has_data here | inr lost ↦ ap has_data lost ]
+    ]
+
+-- programs of an erased block fill it in order
+order_after : (old mid new : Device) (b : ℕ) (u : Unit {0}) → new.geometry ≡ mid.geometry → Erases old b mid (Ok u) → IsFilledInOrder mid b new → IsInOrder new b
+order_after old mid new b u geometry erases filled =
+    elim filled [
+      | inl unerased ↦ record {
+        behind = λ j k before below empty.
+            let here : block_of mid (b * new.geometry.pages + k) ≡ b =
+            ap (λ (g : Geometry). (b * new.geometry.pages + k) / g.pages) (sym geometry) ∙ block_of-at new b k below in
+            let first : block_of old (b * new.geometry.pages + k) ≡ b =
+            ap (λ (g : Geometry). (b * new.geometry.pages + k) / g.pages) (sym erases.operates.geometry) ∙ here in
+            no_data (mid.pages (b * new.geometry.pages + k)) (new.pages (b * new.geometry.pages + k))
+            (erases.own (b * new.geometry.pages + k) first) (unerased (b * new.geometry.pages + k) here);
+      }
+      | inr order ↦ order
+    ]
 
 -- an erase, and then the programs
 pub erase_then : (old mid new : Device) (b : ℕ) (bytes : List ℕ) (u : Unit {0}) (result : Result (Unit {0}) DevFault)
@@ -165,6 +232,7 @@ erase_then old mid new b bytes u result erases w = record {
   cuts = omega arith;
   was_on = λ on. was_on old mid (Ok u) 0 0 erases.operates (w.was_on on);
   stays_off = λ off. w.stays_off (ap (λ (x : Device). x.powered) (erases.operates.off off) ∙ off) ∙ erases.operates.off off;
+  order = inr (order_after old mid new b u w.geometry erases w.order);
   ends = w.ends;
 }
 
@@ -180,3 +248,32 @@ place_below g h place size same lawful fits below =
 pub one_more : (on : Bool) (before after : ℕ) → after ≡ before + (if on then 1 else 0) → after ≤ before + 1
 one_more true before after e = omega (arith, e)
 one_more false before after e = omega (arith, e)
+
+-- blocks that are filled in order stay so while their pages do
+in_order_same : (d e : Device) (b : ℕ) → e.geometry ≡ d.geometry → ((p : ℕ) → block_of d p ≡ b → e.pages p ≡ d.pages p) → IsInOrder d b → IsInOrder e b
+in_order_same d e b geometry same order = record {
+  behind = subst (λ (g : Geometry). (j k : ℕ) → j < k → k < g.pages → has_data (e.pages (b * g.pages + j)) ≡ false → has_data (e.pages (b * g.pages + k)) ≡ false)
+      (sym geometry)
+      (λ j k before below empty.
+      ap has_data (same (b * d.geometry.pages + k) (block_of-at d b k below))
+      ∙ order.behind j k before below (ap has_data (sym (same (b * d.geometry.pages + j) (block_of-at d b j (omega arith)))) ∙ empty));
+}
+
+pub order_on : (s t u : Device) (b : ℕ) → u.geometry ≡ t.geometry → ((p : ℕ) → block_of t p ≡ block_of s p)
+    → ((p : ℕ) → block_of t p ≡ b → u.pages p ≡ t.pages p) → IsFilledInOrder s b t → IsFilledInOrder s b u
+order_on s t u b geometry blocks same filled =
+    elim filled [
+      | inl unerased ↦ inl (λ p own.
+          subst (λ now. (now ≡ s.pages p) ⊎ ((now ≡ erased) ⊎ (now ≡ unreadable))) (sym (same p (blocks p ∙ own))) (unerased p own))
+      | inr order ↦ inr (in_order_same t u b geometry same order)
+    ]
+
+-- what filled a block in order did so from before, where its pages were the same
+pub order_from : (s t u : Device) (b : ℕ) → ((p : ℕ) → block_of t p ≡ block_of s p)
+    → ((p : ℕ) → block_of s p ≡ b → t.pages p ≡ s.pages p) → IsFilledInOrder t b u → IsFilledInOrder s b u
+order_from s t u b blocks before filled =
+    elim filled [
+      | inl unerased ↦ inl (λ p own.
+          subst (λ was. (u.pages p ≡ was) ⊎ ((u.pages p ≡ erased) ⊎ (u.pages p ≡ unreadable))) (before p own) (unerased p (blocks p ∙ own)))
+      | inr order ↦ inr order
+    ]

@@ -134,6 +134,9 @@ fn write_next<F: Flash>(
 /// order after the one taken last, but for those that were used and those that are bad by then. It is
 /// listed first in the cache. Where the bad list is at its limit before, nothing is done; where memory
 /// is wanted for the node in the cache, no block is taken for it.
+///
+/// The pages of the block hold the node's bytes, with zeros behind them in the last one, and the rest
+/// are erased. Each block that is taken is erased, and then programmed from its first page on.
 #[tactic(auto, using(crate::specs::StorageLaws::Untouched_itself, crate::specs::FittingLaws::still_itself))]
 pub fn write_node<F: Flash>(
     flash: &mut F,

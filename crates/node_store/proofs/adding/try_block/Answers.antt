@@ -23,7 +23,7 @@ returns-in-Ok-clause-tries g c =
 pub returns-in-Ok-clause-evolved : goal.returns-in-Ok-clause-evolved
 returns-in-Ok-clause-evolved g c =
     took_good (storage (g.F.Flash.device c.args.flash.now) c.args.bad.now c.args.ring.now) c.args.block c.take_block.new.ring
-    c.args.bytes.now (g.F.Flash.device c.write_block.new.flash) _ c.take_block.ensures c.in-Ok.ensures.writes refl
+    c.args.bytes.now (g.F.Flash.device c.write_block.new.flash) _ c.requires.node c.take_block.ensures c.in-Ok.ensures.writes refl
 
 -- the block of the failed write, and the list with it
 module _ (g : Over) (c : After-list_block g) where
@@ -90,7 +90,7 @@ returns-in-Ok-clause-pays g c = pays_good (storage (g.F.Flash.device c.args.flas
 pub returns-in-Err-PowerCut-clause-evolved : goal.returns-in-Err-PowerCut-clause-evolved
 returns-in-Err-PowerCut-clause-evolved g c =
     took_good (storage (g.F.Flash.device c.args.flash.now) c.args.bad.now c.args.ring.now) c.args.block c.take_block.new.ring
-    c.args.bytes.now (g.F.Flash.device c.write_block.new.flash) _ c.take_block.ensures (rw c.in-Err-PowerCut.field-0-is at c.in-Err-PowerCut.ensures.writes) refl
+    c.args.bytes.now (g.F.Flash.device c.write_block.new.flash) _ c.requires.node c.take_block.ensures (rw c.in-Err-PowerCut.field-0-is at c.in-Err-PowerCut.ensures.writes) refl
 
 pub returns-in-Err-PowerCut-clause-pays : goal.returns-in-Err-PowerCut-clause-pays
 returns-in-Err-PowerCut-clause-pays g c = pays_good (storage (g.F.Flash.device c.args.flash.now) c.args.bad.now c.args.ring.now) c.args.block c.take_block.new.ring (g.F.Flash.device c.write_block.new.flash) c.take_block.ensures

@@ -2,7 +2,6 @@
 ghost use Rattle.std.specs.Prelude.{◌≡◌, ◌≢◌, ◌↔◌, ◌⊎◌, ◌<◌, ℕ, List, [], true, false, is_some, nat_eq, length, drop, find, not, Some, Err, IfOk, IfErr, OnOk, OnErr};
 ghost use Rattle.std.specs.FinSet as set;
 ghost use Rattle.std.specs.Map.{keys_of, remove_entry};
-ghost use Rattle.node_cache.specs.declared.caches.TheConstants.{MAX_CACHED_NODES};
 ghost use Rattle.node_cache.specs.Cache.{node_in, with_first, with_blocks, first_bytes, IsBounded};
 
 use allocator::Ring;
@@ -36,7 +35,7 @@ impl NodeCache {
     /// No block is listed, and there is room for `room`; [`Fault::Invalid`] where this is not 1 to 64.
     pub fn new(alloc: Global, room: usize) -> Result<NodeCache, Fault>
         ensures ok { IfOk result (λ c. c ≡ record { entries = []; room = room }) }
-        ensures room { (result ≡ Err Fault.Invalid) ↔ ((room < 1) ⊎ (MAX_CACHED_NODES < room)) }
+        ensures room { (result ≡ Err Fault.Invalid) ↔ ((room < 1) ⊎ (64 < room)) }
         ensures err { IfErr result (λ fault. fault ≢ Fault.Invalid → fault ≡ Fault.NoMemory) }
     {
         if MAX_CACHED_NODES < room {

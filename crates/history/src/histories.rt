@@ -1,5 +1,5 @@
 //! A bounded list of versions with a cursor, and checkpoints by name.
-ghost use Rattle.std.specs.Prelude.{◌≡◌, ◌<◌, ◌≤◌, Some, None, drop, vec_len, vec_capacity, unwrap_or, IfOk, IfErr, OnOk, OnErr};
+ghost use Rattle.std.specs.Prelude.{◌≡◌, ◌+◌, ◌<◌, ◌≤◌, Some, None, drop, vec_len, vec_capacity, unwrap_or, IfOk, IfErr, OnOk, OnErr};
 ghost use Rattle.history_machine.specs.History.{fresh, changed, undo_refusal, undone, redo_refusal, redone, serial_refusal, gone_to, forget_refusal, forgotten, present_root, checkpoint_refusal, with_checkpoint, name_refusal, without_checkpoint};
 ghost use Rattle.history.specs.Answers.{answer};
 ghost use Rattle.history.specs.Kept.{IsKept};
@@ -16,7 +16,8 @@ use std::marker::Model;
 /// A history over roots of any type: 1 to `limit` versions, oldest first, with a cursor at the present
 /// one, and at most 16 checkpoints.
 ///
-/// Undo, redo, goto, forget, a change and the removal of a checkpoint take no memory.
+/// Undo, redo, goto, forget, a change and the removal of a checkpoint take no memory: there is room for
+/// one version more than `limit`, and no call makes it larger.
 #[derive(Debug, Drop)]
 pub struct History<R> {
     versions: Vec<Version<R>>,
@@ -28,7 +29,7 @@ pub struct History<R> {
 }
 
 impl<R> Model for History<R> {
-    ghost use Rattle.std.specs.Prelude.{◌<◌, vec_capacity};
+    ghost use Rattle.std.specs.Prelude.{◌≡◌, ◌+◌, vec_capacity};
     ghost use Rattle.history_machine.specs.History.{Past};
     ghost use Rattle.history.specs.Kept.{IsKept};
 
@@ -36,7 +37,7 @@ impl<R> Model for History<R> {
 
     ghost view = { λ h. record { versions = h.versions.items; cursor = h.cursor; dropped = h.dropped; next = h.next; checkpoints = h.checkpoints.entries; limit = h.limit } };
 
-    ghost invariant = { λ h. IsKept (record { versions = h.versions.items; cursor = h.cursor; dropped = h.dropped; next = h.next; checkpoints = h.checkpoints.entries; limit = h.limit }) × (h.limit < vec_capacity h.versions) };
+    ghost invariant = { λ h. IsKept (record { versions = h.versions.items; cursor = h.cursor; dropped = h.dropped; next = h.next; checkpoints = h.checkpoints.entries; limit = h.limit }) × (vec_capacity h.versions ≡ h.limit + 1) };
 }
 
 impl<R: Drop> History<R> {
@@ -60,7 +61,7 @@ impl<R: Drop> History<R> {
         })
     }
 
-    /// The history of these parts, with room for one version more than `limit`: it takes no memory.
+    /// The history of these parts. The versions have room for one more than `limit`: it takes no memory.
     pub fn restore(
         versions: Vec<Version<R>>,
         cursor: usize,
@@ -70,7 +71,7 @@ impl<R: Drop> History<R> {
         limit: usize,
     ) -> Self
         requires kept { IsKept (record { versions = versions.items; cursor = cursor; dropped = dropped; next = next; checkpoints = checkpoints.entries; limit = limit }) }
-        requires room { limit < vec_capacity versions }
+        requires room { vec_capacity versions ≡ limit + 1 }
         ensures { result ≡ record { versions = versions.items; cursor = cursor; dropped = dropped; next = next; checkpoints = checkpoints.entries; limit = limit } }
     {
         History {

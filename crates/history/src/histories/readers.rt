@@ -1,5 +1,5 @@
 //! What a history tells of itself.
-ghost use Rattle.std.specs.Prelude.{◌≡◌, ◌<◌, ◌==◌, Some, None, length, map, position, IfOk, MatchResult};
+ghost use Rattle.std.specs.Prelude.{◌≡◌, ◌+◌, ◌<◌, ◌==◌, Some, None, length, map, position, IfOk, MatchResult};
 ghost use Rattle.history_machine.specs.History.{present_root, place_of, serial_refusal, checkpoint_root, name_refusal, view_refusal, view_root};
 ghost use Rattle.history.specs.Kept.{IsKept};
 
@@ -43,6 +43,13 @@ impl<R> History<R> {
         ensures { result ≡ self.now.limit }
     {
         self.limit
+    }
+
+    /// How many versions there is room for: one more than are kept at most, whatever was called.
+    pub fn room(&self) -> usize
+        ensures { result ≡ self.now.limit + 1 }
+    {
+        self.versions.capacity()
     }
 
     /// The checkpoints with their roots, in byte order of their names, at most 16.

@@ -49,12 +49,12 @@ refused_is x y e = cc
 -- a payload is refused as damaged or of another geometry
 payload_refused : (g : Geometry) (sequence : ℕ) (bytes : List ℕ) (fault : Fault) → payload_at g sequence bytes ≡ Err fault → (fault ≡ Damaged) ⊎ (fault ≡ BadGeometry)
 payload_refused g sequence bytes fault e =
-    from (ltb (length bytes) shortest || ltb longest (length bytes)) (not (little_from 0 4 bytes == format)) (not (tells_sizes g bytes)) (meaning_of sequence bytes) e
+    from (ltb (length bytes) shortest || not (little_from 0 4 bytes == format)) (not (tells_sizes g bytes)) (ltb longest (length bytes)) (meaning_of sequence bytes) e
   where
-    from : (long other sizes : Bool) (meaning : Option Record) → cond long (refused Damaged) (cond other (refused Damaged) (cond sizes (refused BadGeometry) (ok_or meaning Damaged))) ≡ Err fault → (fault ≡ Damaged) ⊎ (fault ≡ BadGeometry)
-    from true other sizes meaning e = inl (refused_is Damaged fault e)
-    from false true sizes meaning e = inl (refused_is Damaged fault e)
-    from false false true meaning e = inr (refused_is BadGeometry fault e)
+    from : (other sizes long : Bool) (meaning : Option Record) → cond other (refused Damaged) (cond sizes (refused BadGeometry) (cond long (refused Damaged) (ok_or meaning Damaged))) ≡ Err fault → (fault ≡ Damaged) ⊎ (fault ≡ BadGeometry)
+    from true sizes long meaning e = inl (refused_is Damaged fault e)
+    from false true long meaning e = inr (refused_is BadGeometry fault e)
+    from false false true meaning e = inl (refused_is Damaged fault e)
     from false false false None e = inl (refused_is Damaged fault e)
     from false false false (Some r) e = absurd cc
 

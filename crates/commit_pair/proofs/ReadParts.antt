@@ -1,5 +1,5 @@
 -- What was read, one page after the other.
-use Rattle.std.proofs.Common.{◌≡◌, ◌≢◌, ℕ, suc, ◌+◌, ◌-◌, ◌/◌, ◌<◌, ◌≤◌, Bool, true, false, cond, ltb, leb, List, ◌++◌, length, Option, Some, None, inl, inr, refl, sym, ap, subst, ◌∙◌, append_assoc, arith}
+use Rattle.std.proofs.Common.{◌≡◌, ◌≢◌, ℕ, suc, ◌+◌, ◌-◌, ◌/◌, ◌<◌, ◌≤◌, Bool, true, false, cond, ltb, leb, List, ◌++◌, length, Option, Some, None, Err, inl, inr, refl, sym, ap, subst, ◌∙◌, append_assoc, arith}
 use Rattle.std.specs.FinSet as set
 use Rattle.std.specs.Ordering.{nat_cmp}
 use Rattle.std.proofs.lemmas.Bool.{cases_Bool, and_right, lt-ltb, lt-leb, le-leb}
@@ -11,10 +11,12 @@ use Rattle.fs_types.specs.declared.faults.Fault.TheVariants.{ReadFailed, PowerCu
 use Rattle.flash_model.specs.declared.sizes.Geometry.{Geometry}
 use Rattle.flash_model.specs.Device.{Device, Page, bytes_of}
 use Rattle.record_format.specs.Pages.{head_of, used_bytes}
+use Rattle.record_format.specs.Payloads.{payload_at}
 use Rattle.record_format.specs.declared.pages.PageHead.{PageHead}
 use Rattle.commit_pair.specs.Anchored.{AreErased}
 use Rattle.commit_pair.specs.Parts.{first_data, Part, part_of, parts_on, part_bytes, head_at, is_part, are_parts, is_record, record_head, considered, best_below, best_on, newest_at, bytes_from, held_bytes}
 use Rattle.commit_pair.specs.declared.best.Best.{Best}
+use Rattle.commit_pair.specs.Payloads.{IsFront}
 use Rattle.commit_pair.specs.Reading.{OnlyReads, ReadCause}
 
 -- the part in a page of an anchor whose bytes are read
@@ -126,11 +128,12 @@ bytes_end g parts p n count bytes total le so_far =
     let k : count - n ≡ 0 = omega arith in
     sym (ap (λ m. bytes ++ bytes_from g parts p n m) k ∙ append-nil bytes) ∙ so_far
 
-pub bytes_long : (g : Geometry) (parts : ℕ → Option Part) (p n count most : ℕ) (bytes more total : List ℕ) → n < count → more ≡ part_bytes (parts (p + n)) → most < length bytes + length more
-    → bytes ++ bytes_from g parts p n (count - n) ≡ total → most < length total
-bytes_long g parts p n count most bytes more total lt is long so_far =
-    let all = ap length (bytes_go_on g parts p n count bytes more total lt is so_far) in
-    omega (arith, length-append bytes more, length-append (bytes ++ more) (bytes_from g parts p (n + 1) (count - (n + 1))))
+-- a payload of which the first bytes are refused whatever follows
+pub long_refused : (g : Geometry) (sequence : ℕ) (front bytes rest total : List ℕ) (fault : Fault) → IsFront bytes front → bytes ++ rest ≡ total
+    → ((others : List ℕ) → 0 < length others → payload_at g sequence (front ++ others) ≡ Err fault) → payload_at g sequence total ≡ Err fault
+long_refused g sequence front bytes rest total fault is so_far refuses =
+    ap (payload_at g sequence) (sym so_far ∙ ap (λ (x : List ℕ). x ++ rest) is.is ∙ append_assoc front is.rest rest)
+    ∙ refuses (is.rest ++ rest) (let some = is.some in omega (arith, length-append is.rest rest))
 
 -- a part that is read later is the part that was there
 pub read_on : (g : Geometry) (old mid : ℕ → Page) (p : ℕ) (shown : List ℕ) (found : Option PageHead) → mid ≡ old

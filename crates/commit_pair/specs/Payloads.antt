@@ -1,10 +1,10 @@
--- The payload of a record that is written.
-use Rattle.std.specs.Prelude.{◌≡◌, ℕ, List, Ok}
+-- The payload of a record that is written, and the first bytes of one that is too long.
+use Rattle.std.specs.Prelude.{◌≡◌, ℕ, ◌<◌, List, ◌++◌, length, Ok}
 use Rattle.std.specs.FinSet as set
 use Rattle.std.specs.Ordering.{nat_cmp}
 use Rattle.std.specs.List.Sorted.{IsStrictlyIncreasing}
 use Rattle.record_format.specs.declared.records.Record.{Record}
-use Rattle.record_format.specs.Payloads.{payload_at}
+use Rattle.record_format.specs.Payloads.{longest, payload_at}
 
 -- the bytes mean this record on a flash of its sizes, with a sequence, and with the list of bad blocks in ascending order
 pub record Means (r : Record) (sequence : ℕ) (bad : set.FinSet nat_cmp) (bytes : List ℕ) : Type 0 where
@@ -12,3 +12,10 @@ pub record Means (r : Record) (sequence : ℕ) (bad : set.FinSet nat_cmp) (bytes
   pub ascends : IsStrictlyIncreasing list
   pub listed : set.from_list list ≡ bad
   pub means : payload_at r.geometry sequence bytes ≡ Ok (record r { sequence = sequence; bad = list })
+
+-- these are the first bytes of a payload that is longer than any
+pub record IsFront (payload front : List ℕ) : Type 0 where
+  pub rest : List ℕ
+  pub some : 0 < length rest
+  pub full : length front ≡ longest
+  pub is : payload ≡ front ++ rest

@@ -151,9 +151,7 @@ fn read_best<F: Flash>(
     let Some(found) = best.found else {
         return Ok(None);
     };
-    let Some(payload) = find_payload(flash, geometry, found, page)? else {
-        return Err(Fault::Damaged);
-    };
+    let payload = find_payload(flash, geometry, found, page)?;
     let newest = read_payload(alloc, geometry, found.head.sequence, payload.as_slice())?;
     Ok(Some(newest))
 }

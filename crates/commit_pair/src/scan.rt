@@ -1,9 +1,11 @@
 //! All pages of all anchors, gone over once.
-ghost use Rattle.std.specs.Prelude.{◌≡◌, ◌≢◌, ℕ, ◌+◌, ◌*◌, ◌%◌, ◌≤◌, ◌<◌, length, IfOk, IfErr, MatchOption};
+ghost use Rattle.std.specs.Prelude.{◌≡◌, ◌≢◌, ◌⊎◌, ℕ, ◌+◌, ◌*◌, ◌%◌, ◌≤◌, ◌<◌, ◌++◌, length, Err, IfOk, IfErr};
 ghost use Rattle.std.specs.Bool.{OnTrue, OnFalse};
 ghost use Rattle.flash_model.specs.Device.{erased};
 ghost use Rattle.flash_model.specs.Geometry.{IsGeometry};
+ghost use Rattle.record_format.specs.Payloads.{payload_at};
 ghost use Rattle.commit_pair.specs.Parts as spec;
+ghost use Rattle.commit_pair.specs.Payloads.{IsFront};
 ghost use Rattle.commit_pair.specs.Reading.{IsEnd, OnlyReads, ReadCause};
 
 use crate::best::{Best, Found};
@@ -11,7 +13,7 @@ use crate::parts::{FIRST_DATA, read_head, read_record_head};
 use arrayvec::ArrayVec;
 use flash_model::{DevFault, Flash, Geometry, PageState};
 use fs_types::Fault;
-use record_format::{HEAD_SIZE, LONGEST_PAYLOAD, PageHead, Payload};
+use record_format::{HEAD_SIZE, LONGEST_PAYLOAD, PageHead, Payload, refuse_long};
 
 /// The valid record of greatest sequence on the anchors, and whether another has its sequence.
 pub(crate) fn find_best<F: Flash>(
@@ -53,31 +55,45 @@ fn bytes_of(head: Option<PageHead>, page: &[u8]) -> &[u8]
     }
 }
 
-/// The payload of a record that was found, or None where it is longer than any payload.
+/// Puts bytes after those of a payload, as far as there is room, and answers whether there was room
+/// for all.
+fn push_bytes(payload: &mut Payload, bytes: &[u8]) -> bool
+    ensures all { OnTrue result (payload.new.items ≡ payload.old.items ++ bytes.now) }
+    ensures front { OnFalse result (IsFront (payload.old.items ++ bytes.now) payload.new.items) }
+{
+    let room = LONGEST_PAYLOAD - payload.len();
+    if room < bytes.len() {
+        payload.try_extend_from_slice(&bytes[..room]).unwrap();
+        return false;
+    }
+    payload.try_extend_from_slice(bytes).unwrap();
+    true
+}
+
+/// The payload of a record that was found. One that is longer than any is refused by its first bytes;
+/// no more of it are kept.
 pub(crate) fn find_payload<F: Flash>(
     flash: &mut F,
     geometry: Geometry,
     found: Found,
     buffer: &mut [u8],
-) -> Result<Option<Payload>, Fault>
+) -> Result<Payload, Fault>
     requires same { (F.device flash.old).geometry ≡ geometry }
     requires lawful { IsGeometry geometry }
     requires in_range { found.page + found.head.count ≤ spec.first_data * geometry.pages }
     requires whole { length buffer.old ≡ geometry.page }
-    ensures payload { IfOk result (λ read. MatchOption read (2408 < length (spec.payload_of geometry (spec.parts_on geometry (F.device flash.old).pages) found)) (λ payload. payload.items ≡ spec.payload_of geometry (spec.parts_on geometry (F.device flash.old).pages) found)) }
+    ensures payload { IfOk result (λ payload. payload.items ≡ spec.payload_of geometry (spec.parts_on geometry (F.device flash.old).pages) found) }
     ensures only_reads { OnlyReads (F.device flash.old) (F.device flash.new) }
-    ensures why { IfErr result (ReadCause (F.device flash.old) (F.device flash.new)) }
+    ensures why { IfErr result (λ fault. ReadCause (F.device flash.old) (F.device flash.new) fault ⊎ (payload_at geometry found.head.sequence (spec.payload_of geometry (spec.parts_on geometry (F.device flash.old).pages) found) ≡ Err fault)) }
 {
     let mut payload = ArrayVec::new();
     for n in 0..found.head.count {
         let head = read_head(flash, geometry, found.page + n as u32, buffer)?;
-        let bytes = bytes_of(head, buffer);
-        if payload.len() + bytes.len() > LONGEST_PAYLOAD {
-            return Ok(None);
+        if !push_bytes(&mut payload, bytes_of(head, buffer)) {
+            return Err(refuse_long(geometry, payload.as_slice()));
         }
-        payload.try_extend_from_slice(bytes).unwrap();
     }
-    Ok(Some(payload))
+    Ok(payload)
 }
 
 /// Whether a page of an anchor is erased.

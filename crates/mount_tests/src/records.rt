@@ -115,3 +115,17 @@ fn other_payloads_are_refused(rt: HostRuntime) -> Result<(), Fail> {
     assert_eq!(rt; short, Some(Fault::Damaged));
     Ok(())
 }
+
+/// A payload of 2,409 bytes, on a flash of its sizes and on another.
+#[test]
+fn sizes_come_before_the_length_of_a_payload(rt: HostRuntime) -> Result<(), Fail> {
+    let mut long = FRESH[20..].to_vec(rt.alloc())?;
+    long.resize(2409, 0)?;
+    let other = Geometry {
+        blocks: 64,
+        ..SIZES
+    };
+    let refusals = [SIZES, other].map(|sizes| read_payload(rt.alloc(), sizes, 1, &long).err());
+    assert_eq!(rt; refusals, [Some(Fault::Damaged), Some(Fault::BadGeometry)]);
+    Ok(())
+}

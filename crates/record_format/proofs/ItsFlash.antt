@@ -100,10 +100,10 @@ meant (Some x) r e = ap (λ (y : Record). Some y) (good_is x r e)
 
 pub means_its_flash : MeansItsFlash
 means_its_flash g sequence bytes r e =
-    let short = accepted Damaged (ltb (length bytes) shortest || ltb longest (length bytes)) _ r e in
-    let other = accepted Damaged (not (eqb (little_from 0 4 bytes) format)) _ r short.1 in
+    let other = accepted Damaged (ltb (length bytes) shortest || not (eqb (little_from 0 4 bytes) format)) _ r e in
     let sizes = accepted BadGeometry (not (tells_sizes g bytes)) _ r other.1 in
-    let means : meaning_of sequence bytes ≡ Some r = meant (meaning_of sequence bytes) r sizes.1 in
+    let long = accepted Damaged (ltb longest (length bytes)) _ r sizes.1 in
+    let means : meaning_of sequence bytes ≡ Some r = meant (meaning_of sequence bytes) r long.1 in
     let tells = not_false (tells_sizes g bytes) sizes.0 in
     let first = both_true (eqb (little_from 4 4 bytes) g.page) _ tells in
     let rest = both_true (eqb (little_from 8 4 bytes) g.pages) (eqb (little_from 12 4 bytes) g.blocks) first.1 in

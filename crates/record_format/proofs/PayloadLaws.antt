@@ -113,7 +113,7 @@ tells r fit =
     rw (eq-eqb _ _ page, eq-eqb _ _ pages, eq-eqb _ _ blocks) refl
 
 abbrev payload_from : Bool → Bool → Bool → Option Record → Result Record Fault
-payload_from long other sizes meaning = cond long (Err Damaged) (cond other (Err Damaged) (cond sizes (Err BadGeometry) (ok_or meaning Damaged)))
+payload_from other sizes long meaning = cond other (Err Damaged) (cond sizes (Err BadGeometry) (cond long (Err Damaged) (ok_or meaning Damaged)))
 
 pub written_is_read : WrittenIsRead
 written_is_read r lawful fit =
@@ -121,5 +121,4 @@ written_is_read r lawful fit =
     let least : ltb (length (payload_bytes r)) shortest ≡ false = le-ltb _ _ (let h = size.0 in omega arith) in
     let most : ltb longest (length (payload_bytes r)) ≡ false = le-ltb _ _ size.1 in
     let means = spelling_means r 0 0 lawful fit (omega arith) in
-    let long : (ltb (length (payload_bytes r)) shortest || ltb longest (length (payload_bytes r))) ≡ false = rw (least, most) refl in
-    λ i. payload_from (long i) false (not (tells r fit.sizes i)) (means i)
+    λ i. payload_from (least i || false) (not (tells r fit.sizes i)) (most i) (means i)

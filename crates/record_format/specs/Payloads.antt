@@ -184,10 +184,10 @@ meaning_of sequence bytes = do
 abbrev pub tells_sizes : Geometry → List ℕ → Bool
 tells_sizes g bytes = (little_from 4 4 bytes == g.page) && ((little_from 8 4 bytes == g.pages) && (little_from 12 4 bytes == g.blocks))
 
--- what a payload on a flash of these sizes means, or why it means nothing: the length and the format come first, then the sizes, then the rest
+-- what a payload on a flash of these sizes means, or why it means nothing: the format comes first, then the sizes, then the rest, a payload that is too long among it
 abbrev pub payload_at : Geometry → ℕ → List ℕ → Result Record Fault
 payload_at g sequence bytes =
-    if nat_lt (length bytes) shortest || nat_lt longest (length bytes) then Err Damaged
-    else if not (little_from 0 4 bytes == format) then Err Damaged
+    if nat_lt (length bytes) shortest || not (little_from 0 4 bytes == format) then Err Damaged
     else if not (tells_sizes g bytes) then Err BadGeometry
+    else if nat_lt longest (length bytes) then Err Damaged
     else ok_or (meaning_of sequence bytes) Damaged

@@ -12,6 +12,6 @@ mod writing;
 
 pub use laws::{page_laws, payload_laws};
 pub use pages::{HEAD_SIZE, PageHead, write_page};
-pub use reading::read_payload;
+pub use reading::{read_payload, refuse_long};
 pub use records::{Checkpoint, LONGEST_PAYLOAD, Payload, Record};
 pub use writing::write_payload;

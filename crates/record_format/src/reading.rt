@@ -1,5 +1,5 @@
 //! What a payload means.
-ghost use Rattle.std.specs.Prelude.{◌≡◌, ◌≢◌, true, ◌≤◌, ◌+◌, ◌<◌, length, Ok, Err, IfOk, IfErr};
+ghost use Rattle.std.specs.Prelude.{◌≡◌, ◌≢◌, ℕ, true, ◌≤◌, ◌+◌, ◌<◌, List, ◌++◌, length, Ok, Err, IfOk, IfErr};
 ghost use Rattle.std.specs.Option.{option_map};
 ghost use Rattle.std.specs.Str.{bytes_eq};
 ghost use Rattle.byteorder.specs.Endian.{little_from};
@@ -152,9 +152,9 @@ fn tells_sizes(geometry: Geometry, bytes: &[u8]) -> bool
 
 /// The record that a payload means on a flash of these sizes, with the sequence of its pages.
 ///
-/// `Damaged` where the payload has under 16 or over 2,408 bytes, or is of another format;
-/// `BadGeometry` where it tells other sizes; then `Damaged` for every other departure. `NoMemory`
-/// where memory could not be had.
+/// `Damaged` where the payload has under 16 bytes or is of another format; `BadGeometry` where it
+/// tells other sizes; then `Damaged` for every other departure, over 2,408 bytes among them.
+/// `NoMemory` where memory could not be had.
 pub fn read_payload(
     alloc: Global,
     geometry: Geometry,
@@ -164,15 +164,28 @@ pub fn read_payload(
     ensures ok { IfOk result (λ found. payload.payload_at geometry sequence bytes.now ≡ Ok found) }
     ensures err { IfErr result (λ fault. fault ≢ Fault.NoMemory → payload.payload_at geometry sequence bytes.now ≡ Err fault) }
 {
-    if bytes.len() < SHORTEST || bytes.len() > LONGEST_PAYLOAD {
-        return Err(Fault::Damaged);
-    }
-    if LittleEndian::read_u32(bytes) != FORMAT {
+    if bytes.len() < SHORTEST || LittleEndian::read_u32(bytes) != FORMAT {
         return Err(Fault::Damaged);
     }
     if !tells_sizes(geometry, bytes) {
         return Err(Fault::BadGeometry);
     }
+    if bytes.len() > LONGEST_PAYLOAD {
+        return Err(Fault::Damaged);
+    }
     let found = record_of(alloc, sequence, bytes)?;
     found.ok_or(Fault::Damaged)
+}
+
+/// Why a payload that is longer than any is refused on a flash of these sizes, by its first 2,408
+/// bytes: `BadGeometry` where it is of the format and tells other sizes, `Damaged` else.
+pub fn refuse_long(geometry: Geometry, front: &[u8]) -> Fault
+    requires { length front.now ≡ payload.longest }
+    ensures { (sequence : ℕ) (rest : List ℕ) → 0 < length rest → payload.payload_at geometry sequence (front.now ++ rest) ≡ Err result }
+{
+    if number_at(front, 0) == FORMAT && !tells_sizes(geometry, front) {
+        Fault::BadGeometry
+    } else {
+        Fault::Damaged
+    }
 }

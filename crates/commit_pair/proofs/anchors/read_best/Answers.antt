@@ -1,4 +1,4 @@
-use Rattle.std.proofs.Common.{◌≡◌, Some, Result, ap, sym, ◌∙◌, inl}
+use Rattle.std.proofs.Common.{◌≡◌, Some, Result, refl, ap, sym, ◌∙◌, inl, inr}
 use Rattle.fs_types.specs.declared.faults.Fault.{Fault}
 use Rattle.record_format.specs.declared.records.Record.{Record}
 use Rattle.commit_pair.specs.Reading.{OnlyReads_itself}
@@ -27,7 +27,7 @@ pub returns-in_err-newest-clause-why : goal.returns-in_err-newest-clause-why
 returns-in_err-newest-clause-why g c =
     let p = err_from_is_err_and c.from_residual-in_err-newest.result c.from_residual-in_err-newest.ensures.1 in
     let old = g.F.Flash.device c.args.flash.now in
-    let held : c.as_slice.result.now ≡ payload_of c.args.geometry (parts_on c.args.geometry old.pages) c.in-Some.found = c.as_slice.ensures.value ∙ (rw c.in-Some-2.is at c.in_ok-payload.ensures.payload) in
+    let held : c.as_slice.result.now ≡ payload_of c.args.geometry (parts_on c.args.geometry old.pages) c.in-Some.found = c.as_slice.ensures.value ∙ c.in_ok-payload.ensures.payload in
     rw (p.1, p.2) (payload_cause old (g.F.Flash.device c.find_payload.new.flash) c.args.geometry c.in-Some.found.head.sequence c.as_slice.result.now c.in_err-newest.field-0.0
     (committed_at old c.args.geometry c.args.best c.in-Some.found c.as_slice.result.now c.requires.same c.requires.best c.if-best.false c.in-Some.is held) c.in_err-newest.ensures.err)
 
@@ -52,7 +52,14 @@ returns-in_err-payload-clause-only_reads g c = c.in_err-payload.ensures.only_rea
 pub returns-in_err-payload-clause-why : goal.returns-in_err-payload-clause-why
 returns-in_err-payload-clause-why g c =
     let p = err_from_is_err_and c.from_residual.result c.from_residual.ensures.1 in
-    rw (p.1, p.2) (read_cause (g.F.Flash.device c.args.flash.now) (g.F.Flash.device c.find_payload.new.flash) c.in_err-payload.field-0.0 c.in_err-payload.ensures.why)
+    let old = g.F.Flash.device c.args.flash.now in
+    let new = g.F.Flash.device c.find_payload.new.flash in
+    let fault = c.in_err-payload.field-0.0 in
+    let bytes = payload_of c.args.geometry (parts_on c.args.geometry old.pages) c.in-Some.found in
+    rw (p.1, p.2) (elim c.in_err-payload.ensures.why [
+      | inl cause ↦ read_cause old new fault cause
+      | inr refused ↦ payload_cause old new c.args.geometry c.in-Some.found.head.sequence bytes fault (committed_at old c.args.geometry c.args.best c.in-Some.found bytes c.requires.same c.requires.best c.if-best.false c.in-Some.is refl) (λ apart. refused)
+    ])
 
 pub returns-in_err-newest-clause-newest : goal.returns-in_err-newest-clause-newest
 returns-in_err-newest-clause-newest g c = rw (err_from_is_err_and c.from_residual-in_err-newest.result c.from_residual-in_err-newest.ensures.1).1 tt
@@ -66,7 +73,7 @@ returns-in_err-newest-clause-only_reads g c = c.in_ok-payload.ensures.only_reads
 pub returns-clause-newest : goal.returns-clause-newest
 returns-clause-newest g c =
     let old = g.F.Flash.device c.args.flash.now in
-    let held : c.as_slice.result.now ≡ payload_of c.args.geometry (parts_on c.args.geometry old.pages) c.in-Some.found = c.as_slice.ensures.value ∙ (rw c.in-Some-2.is at c.in_ok-payload.ensures.payload) in
+    let held : c.as_slice.result.now ≡ payload_of c.args.geometry (parts_on c.args.geometry old.pages) c.in-Some.found = c.as_slice.ensures.value ∙ c.in_ok-payload.ensures.payload in
     committed_at old c.args.geometry c.args.best c.in-Some.found c.as_slice.result.now c.requires.same c.requires.best c.if-best.false c.in-Some.is held ∙ ap (λ (r : Result Record Fault). Some r) c.in_ok-newest.ensures.ok
 
 pub returns-clause-found : goal.returns-clause-found

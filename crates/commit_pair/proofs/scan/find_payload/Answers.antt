@@ -1,19 +1,12 @@
-use Rattle.std.proofs.Common.{◌≡◌, ℕ, List, ◌+◌, ◌-◌, ◌*◌, ◌++◌, ap, ◌∙◌, arith}
+use Rattle.std.proofs.Common.{◌≡◌, ℕ, List, ◌+◌, ◌-◌, ◌*◌, ◌++◌, sym, ap, ◌∙◌, inl, inr}
+use Rattle.record_format.specs.Payloads.{payload_at}
 use Rattle.std.proofs.lemmas.Result.{err_from_is_err_and}
 use Rattle.commit_pair.specs.Parts.{parts_on, bytes_from}
+use Rattle.commit_pair.specs.Payloads.{IsFront}
 use Rattle.commit_pair.specs.Reading.{OnlyReads_on}
 use Rattle.commit_pair.proofs.Places.{below_end, long_enough}
-use Rattle.commit_pair.proofs.ReadParts.{ReadCause_on, part_held, read_on, bytes_go_on, bytes_end, bytes_long}
+use Rattle.commit_pair.proofs.ReadParts.{ReadCause_on, part_held, read_on, bytes_go_on, bytes_end, long_refused}
 use Rattle.commit_pair.proofs.scan.find_payload.Goals as goal
-
-pub returns-then-len-bytes-gt-LONGEST_PAYLOAD-clause-payload : goal.returns-then-len-bytes-gt-LONGEST_PAYLOAD-clause-payload
-returns-then-len-bytes-gt-LONGEST_PAYLOAD-clause-payload g c =
-    let old = g.F.Flash.device c.args.flash.now in
-    let parts = parts_on c.args.geometry old.pages in
-    let p = c.args.found.page + c.loop-n.n in
-    let read = read_on c.args.geometry old.pages (g.F.Flash.device c.loop-n.flash).pages p c.read_head.new.buffer c.in_ok-head.head c.loop-n.invariant.only_reads.pages c.in_ok-head.ensures.part in
-    bytes_long c.args.geometry parts c.args.found.page c.loop-n.n c.args.found.head.count 2408 c.loop-n.payload.items c.bytes_of-bytes.result.now _ c.loop-n-test.true
-    (c.bytes_of-bytes.ensures ∙ part_held parts p c.read_head.new.buffer c.in_ok-head.head read) (let e = c.len.ensures.value in omega arith) c.loop-n.invariant.bytes
 
 pub loop-n-preserved : goal.loop-n-preserved
 loop-n-preserved g c =
@@ -22,12 +15,12 @@ loop-n-preserved g c =
     let parts = parts_on c.args.geometry old.pages in
     let p = c.args.found.page + c.loop-n.n in
     let read = read_on c.args.geometry old.pages mid.pages p c.read_head.new.buffer c.in_ok-head.head c.loop-n.invariant.only_reads.pages c.in_ok-head.ensures.part in
-    let added : c.try_extend_from_slice.new.self.items ≡ c.loop-n.payload.items ++ c.bytes_of-bytes.result.now = rw c.unwrap.ensures at c.try_extend_from_slice.ensures.ok in
+    let added : c.push_bytes.new.payload.items ≡ c.loop-n.payload.items ++ c.bytes_of.result.now = rw c.if-not-push_bytes.false at c.push_bytes.ensures.all in
     record {
       only_reads = OnlyReads_on old mid (g.F.Flash.device c.read_head.new.flash) c.loop-n.invariant.only_reads c.in_ok-head.ensures.only_reads;
       bytes = ap (λ (x : List ℕ). x ++ bytes_from c.args.geometry parts c.args.found.page (c.loop-n.n + 1) (c.args.found.head.count - (c.loop-n.n + 1))) added
-          ∙ bytes_go_on c.args.geometry parts c.args.found.page c.loop-n.n c.args.found.head.count c.loop-n.payload.items c.bytes_of-bytes.result.now _ c.loop-n-test.true
-          (c.bytes_of-bytes.ensures ∙ part_held parts p c.read_head.new.buffer c.in_ok-head.head read) c.loop-n.invariant.bytes;
+          ∙ bytes_go_on c.args.geometry parts c.args.found.page c.loop-n.n c.args.found.head.count c.loop-n.payload.items c.bytes_of.result.now _ c.loop-n-test.true
+          (c.bytes_of.ensures ∙ part_held parts p c.read_head.new.buffer c.in_ok-head.head read) c.loop-n.invariant.bytes;
     }
 
 pub returns-clause-payload : goal.returns-clause-payload
@@ -55,13 +48,26 @@ returns-in_err-head-clause-only_reads g c = OnlyReads_on (g.F.Flash.device c.arg
 pub returns-in_err-head-clause-why : goal.returns-in_err-head-clause-why
 returns-in_err-head-clause-why g c =
     let p = err_from_is_err_and c.from_residual.result c.from_residual.ensures.1 in
-    rw (p.1, p.2) (ReadCause_on (g.F.Flash.device c.args.flash.now) (g.F.Flash.device c.loop-n.flash) (g.F.Flash.device c.read_head.new.flash) c.in_err-head.field-0.0 c.loop-n.invariant.only_reads c.in_err-head.ensures.why)
+    rw (p.1, p.2) (inl (ReadCause_on (g.F.Flash.device c.args.flash.now) (g.F.Flash.device c.loop-n.flash) (g.F.Flash.device c.read_head.new.flash) c.in_err-head.field-0.0 c.loop-n.invariant.only_reads c.in_err-head.ensures.why))
+
+pub returns-then-not-push_bytes-clause-why : goal.returns-then-not-push_bytes-clause-why
+returns-then-not-push_bytes-clause-why g c =
+    let old = g.F.Flash.device c.args.flash.now in
+    let parts = parts_on c.args.geometry old.pages in
+    let p = c.args.found.page + c.loop-n.n in
+    let read = read_on c.args.geometry old.pages (g.F.Flash.device c.loop-n.flash).pages p c.read_head.new.buffer c.in_ok-head.head c.loop-n.invariant.only_reads.pages c.in_ok-head.ensures.part in
+    let front : IsFront (c.loop-n.payload.items ++ c.bytes_of.result.now) c.push_bytes.new.payload.items = rw c.if-not-push_bytes.true at c.push_bytes.ensures.front in
+    inr (long_refused c.args.geometry c.args.found.head.sequence c.push_bytes.new.payload.items (c.loop-n.payload.items ++ c.bytes_of.result.now)
+    (bytes_from c.args.geometry parts c.args.found.page (c.loop-n.n + 1) (c.args.found.head.count - (c.loop-n.n + 1))) _ c.refuse_long.result front
+    (bytes_go_on c.args.geometry parts c.args.found.page c.loop-n.n c.args.found.head.count c.loop-n.payload.items c.bytes_of.result.now _ c.loop-n-test.true
+    (c.bytes_of.ensures ∙ part_held parts p c.read_head.new.buffer c.in_ok-head.head read) c.loop-n.invariant.bytes)
+    (λ others some. ap (λ (x : List ℕ). payload_at c.args.geometry c.args.found.head.sequence (x ++ others)) (sym c.as_slice.ensures.value) ∙ c.refuse_long.ensures c.args.found.head.sequence others some))
 
 pub returns-clause-only_reads : goal.returns-clause-only_reads
 returns-clause-only_reads g c = c.loop-n.invariant.only_reads
 
-pub bytes_of-bytes-requires : goal.bytes_of-bytes-requires
-bytes_of-bytes-requires g c = long_enough c.args.geometry c.read_head.new.buffer c.requires.lawful (c.read_head.auto.buffer ∙ c.loop-n.auto.buffer ∙ c.requires.whole)
+pub bytes_of-requires : goal.bytes_of-requires
+bytes_of-requires g c = long_enough c.args.geometry c.read_head.new.buffer c.requires.lawful (c.read_head.auto.buffer ∙ c.loop-n.auto.buffer ∙ c.requires.whole)
 
-pub returns-then-len-bytes-gt-LONGEST_PAYLOAD-clause-only_reads : goal.returns-then-len-bytes-gt-LONGEST_PAYLOAD-clause-only_reads
-returns-then-len-bytes-gt-LONGEST_PAYLOAD-clause-only_reads g c = OnlyReads_on (g.F.Flash.device c.args.flash.now) (g.F.Flash.device c.loop-n.flash) (g.F.Flash.device c.read_head.new.flash) c.loop-n.invariant.only_reads c.in_ok-head.ensures.only_reads
+pub returns-then-not-push_bytes-clause-only_reads : goal.returns-then-not-push_bytes-clause-only_reads
+returns-then-not-push_bytes-clause-only_reads g c = OnlyReads_on (g.F.Flash.device c.args.flash.now) (g.F.Flash.device c.loop-n.flash) (g.F.Flash.device c.read_head.new.flash) c.loop-n.invariant.only_reads c.in_ok-head.ensures.only_reads

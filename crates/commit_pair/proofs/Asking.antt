@@ -146,3 +146,15 @@ tried_failed old new b e =
       omega arith,
       omega arith,
     )
+
+-- one operation was asked for, whatever came of it
+pub tried_once : (old new : Device) (done : Bool) → Tries old new 1 done → new.operations ≡ old.operations + 1
+tried_once old new true tries = tries.1
+tried_once old new false tries = omega (arith, tries.1, tries.2)
+
+one_at_most : (on : Bool) → cond on 1 0 ≤ 1
+one_at_most true = omega arith
+one_at_most false = omega arith
+
+pub asks_one : (old new : Device) (b : ℕ) (result : Result (Unit {0}) DevFault) → Erases old b new result → new.operations ≤ old.operations + 1
+asks_one old new b result e = let h = e.operates.operations in let one = one_at_most old.powered in omega arith

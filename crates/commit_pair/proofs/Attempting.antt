@@ -47,7 +47,14 @@ commits_at : (was now : ℕ → Page) (r : Record) (sequence : ℕ) (before afte
 commits_at was now r sequence before after bytes anchor place count found done is lt page head placed end list means =
     let at = if_done r.geometry was now (record { page = anchor * r.geometry.pages + place; head = head_for r.geometry sequence bytes count 0 }) (record { sequence = sequence; payload = bytes }) done is placed in
     let here : record { page = anchor * r.geometry.pages + place; head = head_for r.geometry sequence bytes count 0 } ≡ found = λ i. record { page = (sym page) i; head = (sym head) i } in (
-      record { bytes = bytes; newest = at.newest; means = subst (λ bad. Means r sequence bad bytes) (same_list before after anchor done is list) means },
+      record {
+        bytes = bytes;
+        newest = at.newest;
+        means = subst (λ bad. Means r sequence bad bytes) (same_list before after anchor done is list) means;
+        found = record { page = anchor * r.geometry.pages + place; head = head_for r.geometry sequence bytes count 0 };
+        place = at.place;
+        written = at.written;
+      },
       record {
         place = at.place ∙ ap (λ (f : Found). Some f) here;
         end = end_of r.geometry now anchor place count found lt page (ap (λ (h : PageHead). h.count) head) (end is);
@@ -68,7 +75,14 @@ failed_untouched old new now anchor is others p good = others p (λ here. absurd
 -- where the record may stand
 placed_committed : (now : ℕ → Page) (r : Record) (sequence : ℕ) (bad : set.FinSet nat_cmp) (bytes : List ℕ) (page : ℕ) (head : PageHead) → Means r sequence bad bytes
     → IsAt r.geometry now (record { page = page; head = head }) (record { sequence = sequence; payload = bytes }) → IsCommitted now r sequence bad
-placed_committed now r sequence bad bytes page head means at = record { bytes = bytes; newest = at.newest; means = means }
+placed_committed now r sequence bad bytes page head means at = record {
+  bytes = bytes;
+  newest = at.newest;
+  means = means;
+  found = record { page = page; head = head };
+  place = at.place;
+  written = at.written;
+}
 
 attempts_cut : (was now : ℕ → Page) (r : Record) (sequence : ℕ) (bad : set.FinSet nat_cmp) (bytes : List ℕ) (page : ℕ) (head : PageHead) (fault : Fault) → fault ≡ PowerCut → Means r sequence bad bytes
     → Placed r.geometry was now (record { page = page; head = head }) (record { sequence = sequence; payload = bytes }) (Err fault) → Attempts was now r sequence bad (Err fault)

@@ -1,9 +1,9 @@
 -- Where a commit begins, and what is remembered after one that was refused.
-use Rattle.std.proofs.Common.{◌≡◌, ◌≢◌, ℕ, ◌+◌, ◌*◌, ◌/◌, ◌<◌, ◌≤◌, false, Option, Some, None, Result, Ok, Err, refl, sym, ap, subst, ◌∙◌, inl, inr, arith}
+use Rattle.std.proofs.Common.{◌≡◌, ◌≢◌, ℕ, ◌+◌, ◌*◌, ◌/◌, ◌<◌, ◌≤◌, ◌^◌, ◌-◌, ◌==◌, Bool, true, false, cond, not, Option, Some, None, Result, Ok, Err, refl, sym, ap, subst, ◌∙◌, inl, inr, arith}
 use Rattle.std.specs.Prelude.{IfErr}
 use Rattle.std.specs.FinSet as set
 use Rattle.std.specs.Ordering.{nat_cmp}
-use Rattle.std.proofs.lemmas.Bool.{both_ways}
+use Rattle.std.proofs.lemmas.Bool.{both_ways, eqb-true, eq-eqb}
 use Rattle.std.proofs.lemmas.Nat.{div-mul-add, div_below}
 use Rattle.std.specs.Option.{option_map}
 use Rattle.record_format.specs.Payloads.{payload_at}
@@ -15,7 +15,7 @@ use Rattle.flash_model.specs.Device.{Device, Page, erased, block_of}
 use Rattle.record_format.specs.declared.records.Record.{Record}
 use Rattle.commit_pair.specs.declared.best.Found.{Found}
 use Rattle.commit_pair.specs.declared.anchors.Anchors.{Anchors}
-use Rattle.commit_pair.specs.Parts.{first_data, Entry, part_of, parts_on, newest_at, newest_on, greatest_on}
+use Rattle.commit_pair.specs.Parts.{first_data, Entry, Part, part_of, parts_on, best_on, newest_at, newest_on, sequence_of, greatest_on}
 use Rattle.commit_pair.specs.Reading.{OnlyReads, IsEnd, ReadCause}
 use Rattle.commit_pair.specs.Anchored.{OnlyAnchors}
 use Rattle.commit_pair.specs.Keeping.{Keeps, AreOlder, Spares}
@@ -75,6 +75,36 @@ module _ (d : Device) (g : Geometry) (bad : set.FinSet nat_cmp) (anchors : Ancho
 -- a sequence above the greatest is above all
 pub above_all : (g : Geometry) (old mid : ℕ → Page) (n : ℕ) → mid ≡ old → n ≡ greatest_on g old → AreOlder g mid (n + 1)
 above_all g old mid n same is = subst (λ (pages : ℕ → Page). AreOlder g pages (n + 1)) (sym same) (λ q head lt valid. let most = greatest_most g old q head lt valid in omega arith)
+
+best_found : (g : Geometry) (parts : ℕ → Option Part) (found : Found) → newest_at g parts ≡ Some found → (best_on g parts).found ≡ Some found
+best_found g parts found is = on (best_on g parts).twice is
+  where
+    on : (twice : Bool) → cond twice None (best_on g parts).found ≡ Some found → (best_on g parts).found ≡ Some found
+    on true e = absurd cc
+    on false e = e
+
+-- the sequence of the newest record, whose place is known, is the greatest
+known_greatest : (d : Device) (g : Geometry) (bad : set.FinSet nat_cmp) (anchors : Anchors) → d.geometry ≡ g → MayCommit d bad anchors → remembered anchors ≢ None → sequence_of (remembered anchors) ≡ greatest_on g d.pages
+known_greatest d g bad anchors same ready some = elim ready [
+  | inl k ↦
+      let place = subst (λ (h : Geometry). newest_at h (parts_on h d.pages) ≡ Some k.found) same k.place in
+      ap sequence_of k.here ∙ sym (ap sequence_of (best_found g (parts_on g d.pages) k.found place))
+  | inr k ↦ absurd (some k.none)
+]
+
+not_false : (b : Bool) → not b ≡ false → b ≡ true
+not_false true e = refl
+not_false false e = absurd cc
+
+-- whether a sequence is left
+pub none_left : (d : Device) (bad : set.FinSet nat_cmp) (anchors : Anchors) (left : Bool) → MayCommit d bad anchors → left ≡ not (sequence_of (remembered anchors) == 2 ^ 64 - 1) → left ≡ false → greatest_on d.geometry d.pages ≡ 2 ^ 64 - 1
+none_left d bad anchors left ready tells is =
+    let last : sequence_of (remembered anchors) ≡ 2 ^ 64 - 1 = eqb-true _ _ (not_false _ (sym tells ∙ is)) in
+    sym (known_greatest d d.geometry bad anchors refl ready (λ none. let clash : 0 ≡ 2 ^ 64 - 1 = sym (ap sequence_of none) ∙ last in omega arith)) ∙ last
+
+pub one_left : (d : Device) (g : Geometry) (bad : set.FinSet nat_cmp) (anchors : Anchors) (left : Bool) → d.geometry ≡ g → MayCommit d bad anchors → left ≡ not (sequence_of (remembered anchors) == 2 ^ 64 - 1) → left ≡ true
+    → greatest_on g d.pages ≡ 2 ^ 64 - 1 → remembered anchors ≢ None → ⊥
+one_left d g bad anchors left same ready tells is all some = both_ways left (tells ∙ ap not (eq-eqb _ _ (known_greatest d g bad anchors same ready some ∙ all))) is
 
 -- reads alone
 pub reads_only_anchors : (d e : Device) (bad : set.FinSet nat_cmp) → OnlyReads d e → OnlyAnchors d bad e bad

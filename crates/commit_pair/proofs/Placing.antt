@@ -138,6 +138,7 @@ module _ (law : PageIsRead) (g : Geometry) (lawful : IsGeometry g) (old new : �
         place = place;
         newest = ap (option_map (λ (found : Found). record { sequence = found.head.sequence; payload = payload_of g (parts_on g new) found })) place
             ∙ ap (λ (x : List ℕ). Some (record { sequence = sequence; payload = x })) bytes;
+        written = λ m below. has.done m (omega arith);
       }
 
 -- a record that is written at a place of an anchor

@@ -4,22 +4,25 @@ use Rattle.std.specs.FinSet as set
 use Rattle.std.specs.Ordering.{nat_cmp}
 use Rattle.fs_types.specs.declared.faults.Fault.{Fault}
 use Rattle.fs_types.specs.declared.faults.Fault.TheVariants.{ReadOnly, PowerCut}
-use Rattle.flash_model.specs.Device.{Device, Page, block_of}
+use Rattle.flash_model.specs.Device.{Device, Page, bytes_of, block_of}
 use Rattle.read_only.specs.Modes.{is_read_only}
 use Rattle.record_format.specs.declared.records.Record.{Record}
 use Rattle.commit_pair.specs.declared.best.Found.{Found}
 use Rattle.commit_pair.specs.Anchored.{OnlyAnchors, Asked}
 use Rattle.commit_pair.specs.Parts.{first_data, parts_on, newest_at, newest_on}
 use Rattle.commit_pair.specs.Payloads.{Means}
-use Rattle.commit_pair.specs.Programming.{Fills}
+use Rattle.commit_pair.specs.Programming.{bytes_for, Fills}
 use Rattle.commit_pair.specs.Reading.{IsEnd}
 use Rattle.commit_pair.specs.Keeping.{Keeps}
 
--- the newest record on the pages means this one, with a sequence and a list of bad blocks
+-- the newest record on the pages means this one, with a sequence and a list of bad blocks, and its pages are those of its one spelling
 pub record IsCommitted (pages : ℕ → Page) (r : Record) (sequence : ℕ) (bad : set.FinSet nat_cmp) : Type 0 where
   pub bytes : List ℕ
   pub newest : newest_on r.geometry pages ≡ Some (record { sequence = sequence; payload = bytes })
   pub means : Means r sequence bad bytes
+  pub found : Found
+  pub place : newest_at r.geometry (parts_on r.geometry pages) ≡ Some found
+  pub written : (n : ℕ) → n < found.head.count → pages (found.page + n) ≡ bytes_of (bytes_for r.geometry sequence bytes found.head.count n)
 
 -- the newest record begins at this place, and all pages after it on its anchor are erased
 pub record Stands (pages : ℕ → Page) (r : Record) (found : Found) : Type 0 where

@@ -1,12 +1,13 @@
 -- What stays of the records on the anchors.
-use Rattle.std.specs.Prelude.{◌≡◌, ◌≢◌, ◌⊎◌, ℕ, ◌*◌, ◌/◌, ◌<◌, Some, None, Result, Ok, Err, true, false, Bool}
+use Rattle.std.specs.Prelude.{◌≡◌, ◌≢◌, ◌⊎◌, ℕ, ◌+◌, ◌*◌, ◌/◌, ◌<◌, Some, None, Result, Ok, Err, true, false, Bool}
 use Rattle.fs_types.specs.declared.faults.Fault.{Fault}
 use Rattle.fs_types.specs.declared.faults.Fault.TheVariants.{PowerCut}
 use Rattle.flash_model.specs.declared.sizes.Geometry.{Geometry}
-use Rattle.flash_model.specs.Device.{Page}
+use Rattle.flash_model.specs.Device.{Page, bytes_of}
 use Rattle.record_format.specs.declared.pages.PageHead.{PageHead}
 use Rattle.commit_pair.specs.declared.best.Found.{Found}
 use Rattle.commit_pair.specs.Parts.{first_data, Entry, part_of, parts_on, record_head, newest_at, newest_on}
+use Rattle.commit_pair.specs.Programming.{bytes_for}
 
 -- the newest record is what it was, at its place, and each record that is valid was valid
 pub record Keeps (g : Geometry) (was now : ℕ → Page) : Type 0 where
@@ -18,10 +19,11 @@ pub record Keeps (g : Geometry) (was now : ℕ → Page) : Type 0 where
 abbrev pub AreOlder : Geometry → (ℕ → Page) → ℕ → Type 0
 AreOlder g pages sequence = (q : ℕ) (head : PageHead) → q < first_data * g.pages → record_head g (parts_on g pages) q ≡ Some head → head.sequence < sequence
 
--- a record is the newest one, at this place
+-- a record is the newest one, at this place, and its pages hold no byte but those that it is spelled with
 pub record IsAt (g : Geometry) (pages : ℕ → Page) (found : Found) (entry : Entry) : Type 0 where
   pub place : newest_at g (parts_on g pages) ≡ Some found
   pub newest : newest_on g pages ≡ Some entry
+  pub written : (n : ℕ) → n < found.head.count → pages (found.page + n) ≡ bytes_of (bytes_for g entry.sequence entry.payload found.head.count n)
 
 -- a record was written, or its anchor failed, or power went: the newest record is the new one, or what it was
 abbrev pub Placed : Geometry → (ℕ → Page) → (ℕ → Page) → Found → Entry → Result Bool Fault → Type 0

@@ -1,5 +1,5 @@
 -- What is remembered of the anchors from call to call, and what a commit makes of it.
-use Rattle.std.specs.Prelude.{◌≡◌, ◌≢◌, ◌⊎◌, ℕ, ◌+◌, ◌/◌, ◌-◌, ◌^◌, ◌<◌, true, false, Option, Some, None}
+use Rattle.std.specs.Prelude.{◌≡◌, ◌≢◌, ◌⊎◌, ℕ, ◌+◌, ◌/◌, ◌-◌, ◌^◌, ◌<◌, true, false, Option, Some, None, Result, Err, IsErr}
 use Rattle.std.specs.FinSet as set
 use Rattle.std.specs.Ordering.{nat_cmp}
 use Rattle.fs_types.specs.declared.faults.Fault.{Fault}
@@ -55,6 +55,13 @@ pub record IsPlaced (old : Device) (was : set.FinSet nat_cmp) (anchors : Anchors
   pub goes : GoesTo r was now home place found.page
   pub begun : found.page / old.geometry.pages ≡ home → Asked old new (reads + found.head.count)
   pub elsewhere : found.page / old.geometry.pages ≢ home → Asked old new (reads + (1 + found.head.count))
+
+-- what a commit leaves where no sequence is left: nothing is written. Where the place of the newest record is known that is told before all else but read-only mode
+pub record RefusesLast (old : Device) (was : set.FinSet nat_cmp) (anchors : Anchors) (new : Device) (now : set.FinSet nat_cmp) (result : Result (Unit {0}) Fault) : Type 0 where
+  pub refused : IsErr result
+  pub pages : new.pages ≡ old.pages
+  pub list : now ≡ was
+  pub known : remembered anchors ≢ None → is_read_only was ≡ false → (result ≡ Err Overflow) × (new ≡ old)
 
 -- why a commit is refused. All but the first come only where the list was short enough on entry; of the others power alone may go once something was written
 abbrev pub CommitCause : Device → set.FinSet nat_cmp → Anchors → Device → set.FinSet nat_cmp → Fault → Type 0

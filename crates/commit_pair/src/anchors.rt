@@ -119,6 +119,10 @@ impl Anchors {
         ensures only_anchors { OnlyAnchors (F.device flash.old) bad.old (F.device flash.new) bad.new }
         ensures reads { (F.device flash.new).failed_reads ≡ (F.device flash.old).failed_reads }
         ensures forgets { remembered self.new ≡ None }
+
+        // Each anchor is erased once, and nothing else is asked for.
+        ensures operations { (F.device flash.new).operations ≤ (F.device flash.old).operations + spec.first_data }
+        ensures each_once { OnOk result ((F.device flash.new).operations ≡ (F.device flash.old).operations + spec.first_data) }
         ensures why { IfErr result (λ fault. (fault ≡ Fault.PowerCut) × ((F.device flash.new).powered ≡ false)) }
     {
         *self = Anchors::new();

@@ -31,6 +31,7 @@ pub(crate) fn erase_anchor<F: Flash>(
     ensures only_anchors { OnlyAnchors (F.device flash.old) bad.old (F.device flash.new) bad.new }
     ensures reads { (F.device flash.new).failed_reads ≡ (F.device flash.old).failed_reads }
     ensures tries { IfOk result (Tries (F.device flash.old) (F.device flash.new) 1) }
+    ensures operations { (F.device flash.new).operations ≤ (F.device flash.old).operations + 1 }
     ensures why { IfErr result (λ fault. (fault ≡ Fault.PowerCut) × ((F.device flash.new).powered ≡ false)) }
 {
     match flash.erase(anchor) {
@@ -52,6 +53,8 @@ pub(crate) fn erase_anchors<F: Flash>(flash: &mut F, bad: &mut BadBlocks) -> Res
     ensures fades { Fades (F.device flash.old).pages (F.device flash.new).pages }
     ensures only_anchors { OnlyAnchors (F.device flash.old) bad.old (F.device flash.new) bad.new }
     ensures reads { (F.device flash.new).failed_reads ≡ (F.device flash.old).failed_reads }
+    ensures operations { (F.device flash.new).operations ≤ (F.device flash.old).operations + first_data }
+    ensures each_once { OnOk result ((F.device flash.new).operations ≡ (F.device flash.old).operations + first_data) }
     ensures why { IfErr result (λ fault. (fault ≡ Fault.PowerCut) × ((F.device flash.new).powered ≡ false)) }
 {
     for anchor in 0..FIRST_DATA {

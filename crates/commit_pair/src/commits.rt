@@ -1,16 +1,16 @@
 //! Commits of records on the anchors.
-ghost use Rattle.std.specs.Prelude.{◌≡◌, ◌≢◌, ◌⊎◌, ℕ, ◌+◌, ◌-◌, ◌*◌, ◌/◌, ◌^◌, ◌<◌, ◌≤◌, [], true, false, length, None, IfOk, OnOk, OnErr, IfErr, IsErr, Err, vec_capacity};
+ghost use Rattle.std.specs.Prelude.{◌≡◌, ◌≢◌, ◌⊎◌, ℕ, ◌+◌, ◌-◌, ◌*◌, ◌/◌, ◌^◌, ◌<◌, ◌≤◌, ◌==◌, [], true, false, not, length, None, IfOk, OnOk, OnErr, IfErr, Err, vec_capacity};
 ghost use Rattle.std.specs.FinSet as set;
 ghost use Rattle.flash_model.specs.Geometry.{IsGeometry};
 ghost use Rattle.read_only.specs.Modes.{is_read_only};
 ghost use Rattle.record_format.specs.Payloads.{is_record};
-ghost use Rattle.commit_pair.specs.Parts.{first_data, greatest_on};
+ghost use Rattle.commit_pair.specs.Parts.{first_data, sequence_of, greatest_on};
 ghost use Rattle.commit_pair.specs.Anchored.{OnlyAnchors};
 ghost use Rattle.commit_pair.specs.Keeping.{AreOlder};
-ghost use Rattle.commit_pair.specs.Newest.{remembered};
+ghost use Rattle.commit_pair.specs.Newest.{remembered, IsUncleared};
 ghost use Rattle.commit_pair.specs.Reading.{OnlyReads, ReadCause};
 ghost use Rattle.commit_pair.specs.Committing.{IsLowest, Commits, Untouched, TryCause};
-ghost use Rattle.commit_pair.specs.Remembering.{MayCommit, BeginsAt, ReadsNone, IsPlaced, CommitCause};
+ghost use Rattle.commit_pair.specs.Remembering.{MayCommit, BeginsAt, ReadsNone, IsPlaced, RefusesLast, CommitCause};
 
 use crate::anchors::Anchors;
 use crate::left::find_greatest;
@@ -37,6 +37,17 @@ fn lowest_good(bad: &BadBlocks) -> u32
 }
 
 impl Anchors {
+    /// Whether a sequence is left for the record after the newest one, whose place is remembered.
+    /// True where none is: the sequence is not known then.
+    pub fn has_next_sequence(&self) -> bool
+        ensures { result ≡ not (sequence_of (remembered self.now) == 2 ^ 64 - 1) }
+    {
+        match self.newest {
+            Some(newest) => newest.head.sequence != u64::MAX,
+            None => true,
+        }
+    }
+
     /// Commits a record: it is the newest one then, with the next sequence and the list as it is
     /// left. Its own sequence and bad list are not read. The anchors were read or cleared before,
     /// and no block of the list is past the end of the flash.
@@ -51,7 +62,8 @@ impl Anchors {
     /// `ReadOnly` as soon as seven anchors or 256 blocks are in the list; `Overflow` where the
     /// greatest sequence is the greatest number there is; `PowerCut` where power is off; `NoMemory`
     /// where room for a page could not be had, before any operation of the flash; `ReadFailed` only
-    /// in the first commit after `clear`. After a refusal the newest record is the one it was, and
+    /// in the first commit after `clear`. Where no sequence is left `Overflow` comes before
+    /// `NoMemory`, but in the first commit after `clear`, which has to read first. After a refusal the newest record is the one it was, and
     /// a commit may follow; after `PowerCut` it may be the new one, and `newest` or `clear` has to
     /// come first.
     pub fn commit<F: Flash>(
@@ -72,20 +84,24 @@ impl Anchors {
         ensures untouched { IfErr result (λ fault. fault ≢ Fault.PowerCut → Untouched (F.device flash.old) bad.new (F.device flash.new)) }
         ensures ready { result ≢ Err Fault.PowerCut → MayCommit (F.device flash.new) bad.new self.new }
 
-        // A place that is remembered is forgotten by no answer.
+        // A place that is remembered is forgotten by no answer, and after Ok the anchors count as cleared no more.
         ensures known { OnOk result (remembered self.new ≢ None) }
+        ensures uncleared { OnOk result (IsUncleared self.new) }
         ensures same { OnErr result (self.new ≡ self.old) }
 
         // Read-only mode is met at once, and never left by an answer of Ok.
         ensures at_once { is_read_only bad.old ≡ true → (result ≡ Err Fault.ReadOnly) × (F.device flash.new ≡ F.device flash.old) × (bad.new ≡ bad.old) }
         ensures open { OnOk result (is_read_only bad.new ≡ false) }
 
-        // Nothing is written where no sequence is left.
-        ensures last { greatest_on saved.now.geometry (F.device flash.old).pages ≡ 2 ^ 64 - 1 → IsErr result × ((F.device flash.new).pages ≡ (F.device flash.old).pages) × (bad.new ≡ bad.old) }
+        // Nothing is written where no sequence is left; where that is known before, nothing is asked.
+        ensures last { greatest_on saved.now.geometry (F.device flash.old).pages ≡ 2 ^ 64 - 1 → RefusesLast (F.device flash.old) bad.old self.old (F.device flash.new) bad.new result }
         ensures why { IfErr result (CommitCause (F.device flash.old) bad.old self.old (F.device flash.new) bad.new) }
     {
         if is_read_only(bad) {
             return Err(Fault::ReadOnly);
+        }
+        if !self.has_next_sequence() {
+            return Err(Fault::Overflow);
         }
         let geometry = saved.geometry;
         let mut page = vec![in alloc; 0u8; geometry.page as usize]?;
@@ -155,6 +171,7 @@ impl Anchors {
         ensures untouched { IfErr result (λ fault. fault ≢ Fault.PowerCut → Untouched (F.device flash.old) bad.new (F.device flash.new)) }
         ensures ready { result ≢ Err Fault.PowerCut → MayCommit (F.device flash.new) bad.new self.new }
         ensures known { OnOk result (remembered self.new ≢ None) }
+        ensures uncleared { OnOk result (IsUncleared self.new) }
         ensures same { OnErr result (self.new ≡ self.old) }
         ensures open { OnOk result (is_read_only bad.new ≡ false) }
         ensures why { IfErr result (TryCause (F.device flash.new) bad.new) }

@@ -3,7 +3,7 @@ use Rattle.std.specs.FinSet as set
 use Rattle.std.proofs.lemmas.Bool.{false≢true}
 use Rattle.commit_pair.specs.Anchored.{OnlyAnchors}
 use Rattle.commit_pair.proofs.Places.{anchor_on_flash}
-use Rattle.commit_pair.proofs.Asking.{tried_done, tried_failed}
+use Rattle.commit_pair.proofs.Asking.{tried_done, tried_failed, asks_one}
 use Rattle.commit_pair.proofs.Anchoring.{touched, touched_bad, erase_touches, erase_fades, erase_reads, ok_with_room}
 use Rattle.commit_pair.proofs.clearing.erase_anchor.Goals as goal
 
@@ -70,3 +70,12 @@ returns-in-Err-PowerCut-clause-only_anchors g c = touched (g.F.Flash.device c.ar
 
 pub returns-in-Err-PowerCut-clause-why : goal.returns-in-Err-PowerCut-clause-why
 returns-in-Err-PowerCut-clause-why g c = (refl, (rw c.in-Err-PowerCut.field-0-is at c.in-Err-PowerCut.ensures.operates).power)
+
+pub returns-in-Ok-clause-operations : goal.returns-in-Ok-clause-operations
+returns-in-Ok-clause-operations g c = asks_one (g.F.Flash.device c.args.flash.now) (g.F.Flash.device c.erase.new.self) c.args.anchor _ c.in-Ok.ensures
+
+pub returns-in-Err-Failed-clause-operations : goal.returns-in-Err-Failed-clause-operations
+returns-in-Err-Failed-clause-operations g c = asks_one (g.F.Flash.device c.args.flash.now) (g.F.Flash.device c.erase.new.self) c.args.anchor _ c.in-Err-Failed.ensures
+
+pub returns-in-Err-PowerCut-clause-operations : goal.returns-in-Err-PowerCut-clause-operations
+returns-in-Err-PowerCut-clause-operations g c = asks_one (g.F.Flash.device c.args.flash.now) (g.F.Flash.device c.erase.new.self) c.args.anchor _ c.in-Err-PowerCut.ensures

@@ -28,6 +28,7 @@ returns-clause-means c = λ sequence.
       list = c.as_slice.result.now;
       ascends = ascends t;
       listed = listed t;
+      spelled = c.write_payload.ensures.spelled;
       means = means_with c.payload_laws.ensures.written c.args.saved.now c.as_slice.result.now sequence c.write_payload.result.items (lawful t) c.write_payload.ensures.fits c.write_payload.ensures.spelled;
     }
 

@@ -8,7 +8,7 @@ use Rattle.std.proofs.lemmas.Result.{err_from_is_err_and}
 use Rattle.commit_pair.specs.Parts.{greatest_on}
 use Rattle.commit_pair.proofs.Anchoring.{OnlyAnchors_on, OnlyAnchors_itself}
 use Rattle.commit_pair.proofs.Asking.{placed_after}
-use Rattle.commit_pair.proofs.Beginning.{above_all, reads_only_anchors, reads_untouched, reads_may_commit, reads_keep, reads_commit, read_commit_cause, try_commit_cause, if_err_each}
+use Rattle.commit_pair.proofs.Beginning.{above_all, reads_only_anchors, reads_untouched, reads_may_commit, reads_keep, reads_commit, read_commit_cause, try_commit_cause, if_err_each, none_left, one_left}
 use Rattle.commit_pair.proofs.Following.{Commits_on, refused_on}
 use Rattle.commit_pair.proofs.anchors.Anchors.commit.Goals as goal
 
@@ -110,7 +110,39 @@ pub returns-then-is_read_only-clause-at_once : goal.returns-then-is_read_only-cl
 returns-then-is_read_only-clause-at_once g c = λ full. (refl, refl, refl)
 
 pub returns-then-is_read_only-clause-last : goal.returns-then-is_read_only-clause-last
-returns-then-is_read_only-clause-last g c = λ all. (refl, refl, refl)
+returns-then-is_read_only-clause-last g c = λ all. record {
+  refused = refl;
+  pages = refl;
+  list = refl;
+  known = λ some good. absurd (both_ways (is_read_only c.args.bad.now) good (sym c.is_read_only.ensures ∙ c.if-is_read_only.true));
+}
+
+pub returns-then-not-has_next_sequence-clause-last : goal.returns-then-not-has_next_sequence-clause-last
+returns-then-not-has_next_sequence-clause-last g c = λ all. record {
+  refused = refl;
+  pages = refl;
+  list = refl;
+  known = λ some good. (refl, refl);
+}
+
+pub returns-then-not-has_next_sequence-clause-why : goal.returns-then-not-has_next_sequence-clause-why
+returns-then-not-has_next_sequence-clause-why g c =
+    (none_left (g.F.Flash.device c.args.flash.now) c.args.bad.now c.args.self.now c.has_next_sequence.result c.requires.ready c.has_next_sequence.ensures c.if-not-has_next_sequence.true, refl, refl)
+
+pub returns-then-not-has_next_sequence-clause-only_anchors : goal.returns-then-not-has_next_sequence-clause-only_anchors
+returns-then-not-has_next_sequence-clause-only_anchors g c = OnlyAnchors_itself (g.F.Flash.device c.args.flash.now) c.args.bad.now
+
+pub returns-then-not-has_next_sequence-clause-untouched : goal.returns-then-not-has_next_sequence-clause-untouched
+returns-then-not-has_next_sequence-clause-untouched g c = λ other p good. refl
+
+pub returns-then-not-has_next_sequence-clause-commits : goal.returns-then-not-has_next_sequence-clause-commits
+returns-then-not-has_next_sequence-clause-commits g c = Keeps_itself c.args.saved.now.geometry (g.F.Flash.device c.args.flash.now).pages
+
+pub returns-then-not-has_next_sequence-clause-ready : goal.returns-then-not-has_next_sequence-clause-ready
+returns-then-not-has_next_sequence-clause-ready g c = λ other. c.requires.ready
+
+pub returns-then-not-has_next_sequence-clause-at_once : goal.returns-then-not-has_next_sequence-clause-at_once
+returns-then-not-has_next_sequence-clause-at_once g c = λ full. absurd (both_ways (is_read_only c.args.bad.now) (sym c.is_read_only.ensures ∙ c.if-is_read_only.false) full)
 
 pub returns-then-is_read_only-clause-why : goal.returns-then-is_read_only-clause-why
 returns-then-is_read_only-clause-why g c = sym c.is_read_only.ensures ∙ c.if-is_read_only.true
@@ -143,7 +175,12 @@ pub returns-in_err-page-clause-at_once : goal.returns-in_err-page-clause-at_once
 returns-in_err-page-clause-at_once g c = λ full. absurd (both_ways (is_read_only c.args.bad.now) (sym c.is_read_only.ensures ∙ c.if-is_read_only.false) full)
 
 pub returns-in_err-page-clause-last : goal.returns-in_err-page-clause-last
-returns-in_err-page-clause-last g c = λ all. (c.from_residual.ensures.0, refl, refl)
+returns-in_err-page-clause-last g c = λ all. record {
+  refused = c.from_residual.ensures.0;
+  pages = refl;
+  list = refl;
+  known = λ some good. absurd (one_left (g.F.Flash.device c.args.flash.now) c.args.saved.now.geometry c.args.bad.now c.args.self.now c.has_next_sequence.result c.requires.same c.requires.ready c.has_next_sequence.ensures c.if-not-has_next_sequence.false all some);
+}
 
 pub returns-in_err-greatest-clause-placed : goal.returns-in_err-greatest-clause-placed
 returns-in_err-greatest-clause-placed g c = rw (err_from_is_err_and c.from_residual-in_err-greatest.result c.from_residual-in_err-greatest.ensures.1).1 tt
@@ -161,7 +198,12 @@ pub returns-in_err-greatest-clause-at_once : goal.returns-in_err-greatest-clause
 returns-in_err-greatest-clause-at_once g c = λ full. absurd (both_ways (is_read_only c.args.bad.now) (sym c.is_read_only.ensures ∙ c.if-is_read_only.false) full)
 
 pub returns-in_err-greatest-clause-last : goal.returns-in_err-greatest-clause-last
-returns-in_err-greatest-clause-last g c = λ all. (c.from_residual-in_err-greatest.ensures.0, c.in_err-greatest.ensures.only_reads.pages, refl)
+returns-in_err-greatest-clause-last g c = λ all. record {
+  refused = c.from_residual-in_err-greatest.ensures.0;
+  pages = c.in_err-greatest.ensures.only_reads.pages;
+  list = refl;
+  known = λ some good. absurd (one_left (g.F.Flash.device c.args.flash.now) c.args.saved.now.geometry c.args.bad.now c.args.self.now c.has_next_sequence.result c.requires.same c.requires.ready c.has_next_sequence.ensures c.if-not-has_next_sequence.false all some);
+}
 
 pub returns-in_err-greatest-clause-untouched : goal.returns-in_err-greatest-clause-untouched
 returns-in_err-greatest-clause-untouched g c =
@@ -176,7 +218,12 @@ pub returns-then-greatest-clause-at_once : goal.returns-then-greatest-clause-at_
 returns-then-greatest-clause-at_once g c = λ full. absurd (both_ways (is_read_only c.args.bad.now) (sym c.is_read_only.ensures ∙ c.if-is_read_only.false) full)
 
 pub returns-then-greatest-clause-last : goal.returns-then-greatest-clause-last
-returns-then-greatest-clause-last g c = λ all. (refl, c.in_ok-greatest.ensures.only_reads.pages, refl)
+returns-then-greatest-clause-last g c = λ all. record {
+  refused = refl;
+  pages = c.in_ok-greatest.ensures.only_reads.pages;
+  list = refl;
+  known = λ some good. absurd (one_left (g.F.Flash.device c.args.flash.now) c.args.saved.now.geometry c.args.bad.now c.args.self.now c.has_next_sequence.result c.requires.same c.requires.ready c.has_next_sequence.ensures c.if-not-has_next_sequence.false all some);
+}
 
 pub returns-then-greatest-clause-why : goal.returns-then-greatest-clause-why
 returns-then-greatest-clause-why g c =
@@ -212,3 +259,12 @@ commit_as-requires-clause-on_flash g c = c.requires.on_flash
 
 pub commit_as-requires-clause-open : goal.commit_as-requires-clause-open
 commit_as-requires-clause-open g c = sym c.is_read_only.ensures ∙ c.if-is_read_only.false
+
+pub returns-in_err-page-clause-uncleared : goal.returns-in_err-page-clause-uncleared
+returns-in_err-page-clause-uncleared g c = rw (err_from_is_err_and c.from_residual.result c.from_residual.ensures.1).1 tt
+
+pub returns-in_err-greatest-clause-uncleared : goal.returns-in_err-greatest-clause-uncleared
+returns-in_err-greatest-clause-uncleared g c = rw (err_from_is_err_and c.from_residual-in_err-greatest.result c.from_residual-in_err-greatest.ensures.1).1 tt
+
+pub returns-clause-uncleared : goal.returns-clause-uncleared
+returns-clause-uncleared g c = c.commit_as.ensures.uncleared

@@ -1,6 +1,6 @@
 -- The step of a change that writes a path of the present tree anew and makes the new root the present one.
-use Rattle.std.proofs.Common.{◌≡◌, ℕ, ◌<◌, ◌≤◌, true, false, Some, None, Result, Ok, length, refl, sym, ap, subst, ◌∙◌, inr, arith}
-use Rattle.std.proofs.lemmas.Bool.{and_parts, and_from, leb-true}
+use Rattle.std.proofs.Common.{◌≡◌, ℕ, ◌<◌, ◌≤◌, true, false, Option, Some, None, Result, Ok, length, refl, sym, ap, subst, ◌∙◌, inr, arith}
+use Rattle.std.proofs.lemmas.Bool.{true≢false, and_parts, and_from, leb-true}
 use Rattle.std.specs.Prelude.{nat_le, is_some, is_none, if◌then◌else◌}
 use Rattle.std.specs.List.{list_all}
 use Rattle.std.specs.Option.{option_map_or}
@@ -30,7 +30,7 @@ use Rattle.working_state.specs.Worked.{IsWorked, IsLooked}
 use Rattle.working_state.proofs.Roots.{AllRoots, ReachesBefore, after_change, at_history, with_history, all_reach}
 use Rattle.working_state.proofs.Standing.{keeps, AllStand, worked_trees, worked_machine, worked_later, worked_mounted, worked_before, looked_worked, worked_on}
 use Rattle.working_state.proofs.PathCalls.{present_tree_is, present_stands}
-use Rattle.working_state.proofs.Refusals.{write_refuses, cause_later}
+use Rattle.working_state.proofs.Refusals.{accepted_begins, write_refuses, cause_later}
 use Rattle.working_state.proofs.Steps.{writes-version, still_machine}
 
 pub path_within : (path : Path) → is_path path ≡ true → length path ≤ 16
@@ -55,6 +55,14 @@ later_writable a b l = ap is_read_only l.untouched.bad
 pub later_serial : (a b : Moment) → IsLooked a b → b.state.history.next < last_serial → a.state.history.next < last_serial
 later_serial a b l left = subst (λ (x : Past ℕ). x.next < last_serial) l.rest.history left
 
+-- a version comes of an accepted call
+pub version_accepted : (m : Machine) (call : Call) → makes_version m call ≡ true → refusal m call ≡ None
+version_accepted m call version = by (refusal m call) (and_parts (is_none (refusal m call)) (is_some (tree_after m call)) version).0
+  where
+    by : (o : Option Fault) → is_none o ≡ true → o ≡ None
+    by None none = refl
+    by (Some fault) none = absurd (true≢false (sym none))
+
 -- the nodes of a version are not written
 pub writing_refuses : (a b : Moment) (f : Device) (st : Storage) (edit : Edit) (call : Call) (fault : Fault) → IsLooked a b → is_light call ≡ false → makes_version (machine_at a) call ≡ true
     → 0 < change_need (capacity_at a) (machine_at a) call → edits.need (capacity_at b) edit ≤ change_need (capacity_at a) (machine_at a) call → IsUnwritten b.device b.state.history b.state.storage edit fault f st
@@ -67,7 +75,7 @@ writing_refuses a b f st edit call fault l heavy version more few work =
     let same = later.taken in
     let free = ap (λ (r : Ring). r.takes) l.untouched.ring in
     let bad = ap set.len l.untouched.bad in
-    inr (write_refuses (seen_at a) (seen_at c) m call fault heavy (needs (capacity_at a) m call version more) (writes-version m call version) (sym (later_writable a b l) ∙ work.writable) (later_serial a b l work.serial_left) work.why.kind
+    inr (write_refuses (seen_at a) (seen_at c) m call fault (accepted_begins m call (version_accepted m call version) heavy) (needs (capacity_at a) m call version more) (writes-version m call version) (sym (later_writable a b l) ∙ work.writable) (later_serial a b l work.serial_left) work.why.kind
     (λ full. let short = work.why.few_free full in omega arith)
     (cause_later (seen_at a) (seen_at b) (seen_at c) fault later work.why.why))
 

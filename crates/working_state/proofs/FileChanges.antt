@@ -178,6 +178,10 @@ below_root a path m file = not-root (present_tree (machine_at a)) path (present-
 some_more : (a b : ℕ) → 0 < b → 0 < a + b
 some_more a b some = omega arith
 
+pub some_heavy : (descriptor offset : ℕ) (bytes : List ℕ) → (length bytes == 0) ≡ false → is_light (Call.Pwrite descriptor offset bytes) ≡ false
+some_heavy descriptor offset [] some = absurd (true≢false some)
+some_heavy descriptor offset (b ∷ bytes) some = refl
+
 pub pwrite_change : (m : Machine) (descriptor offset : ℕ) (bytes : List ℕ) (path : Path) → IsPathOf m.descriptors descriptor path → refusal m (Call.Pwrite descriptor offset bytes) ≡ None → (length bytes == 0) ≡ false → 0 < length path
     → IsFileChange m (Call.Pwrite descriptor offset bytes) path (overwritten (bytes_at (present_tree m) path) offset bytes)
 pwrite_change m descriptor offset bytes path has fine some below = record {
@@ -185,7 +189,7 @@ pwrite_change m descriptor offset bytes path has fine some below = record {
   after = ap (option_and_then (λ (d : Descriptor). if length bytes == 0 then None else Some (file_put (present_tree m) d.path (overwritten (bytes_at (present_tree m) d.path) offset bytes)))) has.1
       ∙ ap (λ b. if b then None else Some (file_put (present_tree m) path (overwritten (bytes_at (present_tree m) path) offset bytes))) some;
   files = refl;
-  heavy = refl;
+  heavy = some_heavy descriptor offset bytes some;
   moves = refl;
   paths = refl;
   more = λ capacity.

@@ -1,7 +1,7 @@
 -- The steps of reading bytes of files.
 use Rattle.std.proofs.Common.{◌≡◌, ℕ, true, false, Option, Some, None, Result, Ok, Err, List, [], ◌∷◌, refl, sym, ap, subst, ◌∙◌, inl, inr}
 use Rattle.std.proofs.lemmas.Bool.{cases_Bool, true≢false}
-use Rattle.std.specs.Prelude.{IsTrue, IsSome, IfOk, IfErr, if◌then◌else◌}
+use Rattle.std.specs.Prelude.{IsTrue, IsSome, is_none, IfOk, IfErr, if◌then◌else◌}
 use Rattle.std.specs.FinMap.{get}
 use Rattle.std.specs.Option.{option_or, option_map_or}
 use Rattle.fs_types.specs.Names.{Path}
@@ -29,9 +29,9 @@ use Rattle.skip_list_file.specs.Reading.{is_body_fault}
 use Rattle.working_state.specs.Moments.{Moment, machine_at, seen_at, IsMountedAt, IsStep, tree_at}
 use Rattle.working_state.specs.Reading.{refuse_directory, file_refusal, IsRead}
 use Rattle.working_state.specs.Seen.{Seen}
-use Rattle.working_state.specs.Steps.{replied, is_light, is_cut_answer, MayRefuse}
+use Rattle.working_state.specs.Steps.{replied, begins_work, is_cut_answer, MayRefuse}
 use Rattle.working_state.specs.Worked.{IsLooked, WorkCause}
-use Rattle.working_state.proofs.PathCalls.{found_tells, refused_tells, present_tree_is, OnlyReads, read_done}
+use Rattle.working_state.proofs.PathCalls.{LooksUp, found_tells, refused_tells, present_tree_is, OnlyReads, read_done}
 use Rattle.working_state.proofs.Refusals.{refused_step}
 use Rattle.working_state.proofs.Standing.{looked_worked}
 use Rattle.working_state.proofs.Views.{Shows, view_tree_is, view_looks}
@@ -91,15 +91,15 @@ module _ (capacity : ℕ) (f : Blocks) (root : ℕ) (path : Path) (is : IsRoot c
 
 -- Steps.
 
-body_refuses : (old new : Seen) (m : Machine) (call : Call) (fault : Fault) → is_light call ≡ false → is_body_fault fault ≡ true → WorkCause old fault new → MayRefuse old m call fault new
-body_refuses old new m call ReadFailed heavy is why = (heavy, why)
-body_refuses old new m call PowerCut heavy is why = (heavy, why)
-body_refuses old new m call NoMemory heavy is why = heavy
-body_refuses old new m call _ heavy is why = absurd (true≢false (sym is))
+body_refuses : (old new : Seen) (m : Machine) (call : Call) (fault : Fault) → begins_work m call ≡ true → is_body_fault fault ≡ true → WorkCause old fault new → MayRefuse old m call fault new
+body_refuses old new m call ReadFailed begins is why = (begins, why)
+body_refuses old new m call PowerCut begins is why = (begins, why)
+body_refuses old new m call NoMemory begins is why = begins
+body_refuses old new m call _ begins is why = absurd (true≢false (sym is))
 
 -- a call reads of the file at a path of the tree of a root
 pub record ReadsFile (a : Moment) (call : Call) (root : ℕ) (path : Path) (offset count : ℕ) : Type 0 where
-  pub heavy : is_light call ≡ false
+  pub begins : begins_work (machine_at a) call ≡ true
   pub by_path : refusal (machine_at a) call ≡ file_refusal (tree_at a root) path
   pub only : OnlyReads (machine_at a) call
   pub replies : (space : Space) → reply_of space (machine_at a) call ≡ Reply.Bytes (read_from (bytes_at (tree_at a root) path) offset count)
@@ -113,7 +113,7 @@ read_step a b call root path offset count (Ok bytes) m l reads read refused why 
     read_done a b call (Reply.Bytes bytes) m l reads.only (reads.by_path ∙ read.accepted) (λ space. reads.replies space ∙ ap Reply.Bytes (sym read.read))
 read_step a b call root path offset count (Err fault) m l reads read refused why =
     refused_step a b call fault m (looked_worked a b l) (elim (cases_Bool (is_body_fault fault)) [
-      | inl is ↦ inr (body_refuses (seen_at a) (seen_at b) (machine_at a) call fault reads.heavy is (why is))
+      | inl is ↦ inr (body_refuses (seen_at a) (seen_at b) (machine_at a) call fault reads.begins is (why is))
       | inr other ↦ inl (reads.by_path ∙ refused other)
     ])
 
@@ -121,11 +121,14 @@ read_step a b call root path offset count (Err fault) m l reads read refused why
 
 pub view_reads : (a : Moment) (view : View) (path : Path) (offset count root : ℕ) → IsMountedAt a → Shows a.state.history view root → ReadsFile a (Call.ReadAt view path offset count) root path offset count
 view_reads a view path offset count root m shows = record {
-  heavy = refl;
-  by_path = (view_looks a view path (Call.ReadAt view path offset count) refuse_directory refl root m shows refl).by_path;
+  begins = looks.begins;
+  by_path = looks.by_path;
   only = record { stays = refl; no_version = refl; no_record = refl };
   replies = λ space. ap (λ (t : Tree). Reply.Bytes (read_from (bytes_at t path) offset count)) (view_tree_is a view root shows);
 }
+  where
+    looks : LooksUp a (Call.ReadAt view path offset count) root path refuse_directory
+    looks = view_looks a view path (Call.ReadAt view path offset count) refuse_directory refl root m shows refl
 
 -- An open file.
 
@@ -151,7 +154,7 @@ pub record IsOpen (files : Descriptors) (descriptor : ℕ) (path : Path) : Type 
 
 pub open_reads : (a : Moment) (descriptor : ℕ) (path : Path) (offset count root : ℕ) → IsMountedAt a → present_root a.state.history ≡ Some root → IsOpen a.state.files descriptor path → ReadsFile a (Call.Pread descriptor offset count) root path offset count
 open_reads a descriptor path offset count root m is opened = record {
-  heavy = refl;
+  begins = ap is_none accepted;
   by_path = accepted ∙ sym (ap (λ t. file_refusal t path) (sym (present_tree_is a root is)) ∙ file_is_read (present_tree (machine_at a)) path (present-file_tree (machine_at a) m.machine) file);
   only = record { stays = refl; no_version = refl; no_record = refl };
   replies = λ space.

@@ -33,7 +33,7 @@ use Rattle.directory.specs.Lookups.{look_up, entry_of, is_path_fault, IsLookupFa
 use Rattle.directory.proofs.LookupLaws.{found_is, found_leads, found_leads_file, missing_parent, refused_is}
 use Rattle.working_state.specs.Moments.{Moment, machine_at, seen_at, IsMountedAt, nodes_at, capacity_at, tree_at}
 use Rattle.working_state.specs.Seen.{Seen}
-use Rattle.working_state.specs.Steps.{is_light, MayRefuse, IsLater}
+use Rattle.working_state.specs.Steps.{begins_work, MayRefuse, IsLater}
 use Rattle.directory.specs.Depths.{IsDeeper, IsDepthFault}
 use Rattle.working_state.specs.Renames.{target_refusal, lacks_room}
 use Rattle.working_state.specs.Worked.{IsLooked, WorkCause, ReadCause}
@@ -63,11 +63,11 @@ read_later old mid new PowerCut later why = why
 read_later old mid new NoMemory later why = tt
 read_later old mid new _ later why = absurd why
 
-pub read_may : (old new : Seen) (m : Machine) (call : Call) (fault : Fault) → is_light call ≡ false → ReadCause old fault new → MayRefuse old m call fault new
-read_may old new m call ReadFailed heavy why = (heavy, why)
-read_may old new m call PowerCut heavy why = (heavy, why)
-read_may old new m call NoMemory heavy why = heavy
-read_may old new m call _ heavy why = absurd why
+pub read_may : (old new : Seen) (m : Machine) (call : Call) (fault : Fault) → begins_work m call ≡ true → ReadCause old fault new → MayRefuse old m call fault new
+read_may old new m call ReadFailed begins why = (begins, why)
+read_may old new m call PowerCut begins why = (begins, why)
+read_may old new m call NoMemory begins why = begins
+read_may old new m call _ begins why = absurd why
 
 -- a look at depths is refused so
 pub depth_cause : (old new : Seen) (fault : Fault) → IsDepthFault fault → WorkCause old fault new → ReadCause old fault new

@@ -2,7 +2,7 @@
 use Rattle.std.proofs.Common.{◌≡◌, ℕ, Bool, true, false, Option, Some, None, Ok, Err, [], ◌∷◌, length, refl, sym, ap, ◌∙◌, inl, inr, arith}
 use Rattle.std.proofs.lemmas.Bool.{cases_Bool, ne_eqb}
 use Rattle.std.specs.Prelude.{if◌then◌else◌, ◌==◌}
-use Rattle.std.specs.Option.{option_or, is_some}
+use Rattle.std.specs.Option.{option_or, is_some, is_none}
 use Rattle.std.specs.FinMap.{get}
 use Rattle.fs_types.specs.Names.{Name, Path, is_path}
 use Rattle.plain_trees.specs.Contents.{Contents, Entry, parent_of, lookup_refusal}
@@ -96,13 +96,13 @@ mkdir_told a path root fault m is e =
     ∙ told_refuses (nodes_at a) root path fault there full e
 
 -- a look up that was refused, by whether the nodes tell of it
-pub mkdir_fault : (a b : Moment) (path : Path) (root : ℕ) (fault : Fault) → IsMountedAt a → present_root a.state.history ≡ Some root
+pub mkdir_fault : (a b : Moment) (path : Path) (root : ℕ) (fault : Fault) → IsMountedAt a → present_root a.state.history ≡ Some root → (length path == 0) ≡ false
     → (is_path_fault fault ≡ true → look_up (nodes_at a) root path ≡ Err fault)
     → (is_path_fault fault ≡ false → WorkCause (seen_at a) fault (seen_at b)) → IsLookupFault fault
     → IsRefused a (Call.Mkdir path) fault b
-mkdir_fault a b path root fault m is refused why lookup = elim (cases_Bool (is_path_fault fault)) [
+mkdir_fault a b path root fault m is below refused why lookup = elim (cases_Bool (is_path_fault fault)) [
   | inl told ↦ inl (mkdir_told a path root fault m is (refused told))
-  | inr other ↦ inr (read_refuses (seen_at a) (seen_at b) (machine_at a) (Call.Mkdir path) fault refl other lookup (why other))
+  | inr other ↦ inr (read_refuses (seen_at a) (seen_at b) (machine_at a) (Call.Mkdir path) fault (ap (λ b. is_none (if b then Some Exists else None)) below) other lookup (why other))
 ]
 
 -- what is refused or not for what was found, which is also called `y`

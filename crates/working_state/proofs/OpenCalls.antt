@@ -104,7 +104,7 @@ pub open_fault : (a b : Moment) (path : Path) (flags : OpenFlags) (root : ℕ) (
     → IsRefused a (Call.Open path flags) fault b
 open_fault a b path flags root fault m is lawful refused why lookup = elim (cases_Bool (is_path_fault fault)) [
   | inl told ↦ inl (open_told a path flags root fault m is lawful (refused told))
-  | inr other ↦ inr (read_refuses (seen_at a) (seen_at b) (machine_at a) (Call.Open path flags) fault refl other lookup (why other))
+  | inr other ↦ inr (read_refuses (seen_at a) (seen_at b) (machine_at a) (Call.Open path flags) fault (ap (λ b. is_none (cond (not b) (Some Invalid) None)) lawful) other lookup (why other))
 ]
 
 -- what was found is refused

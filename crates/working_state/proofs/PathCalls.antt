@@ -26,7 +26,7 @@ use Rattle.directory.specs.declared.lookups.Found.TheVariants as found
 use Rattle.directory.specs.Lookups.{look_up, entry_of, is_path_fault, IsLookupFault}
 use Rattle.directory.proofs.LookupLaws.{found_is, found_leads, refused_is}
 use Rattle.working_state.specs.Moments.{Moment, machine_at, seen_at, IsMountedAt, IsRefused, IsStep, nodes_at, capacity_at, tree_at}
-use Rattle.working_state.specs.Steps.{is_light, is_for_record}
+use Rattle.working_state.specs.Steps.{begins_work, is_for_record}
 use Rattle.working_state.specs.Mounted.{IsStanding}
 use Rattle.working_state.specs.Worked.{IsLooked, WorkCause}
 use Rattle.working_state.proofs.Roots.{of_present}
@@ -78,7 +78,7 @@ refused_tells capacity f root path refuse is fault e =
 -- a call looks a path up in the tree of a root, and refuses what stands there
 pub record LooksUp (a : Moment) (call : Call) (root : ℕ) (path : Path) (refuse : Entry → Option Fault) : Type 0 where
   pub rooted : IsRoot (capacity_at a) (nodes_at a) root
-  pub heavy : is_light call ≡ false
+  pub begins : begins_work (machine_at a) call ≡ true
   pub by_path : refusal (machine_at a) call ≡ found_refusal (tree_at a root) path refuse
 
 module _ (a : Moment) (call : Call) (root : ℕ) (path : Path) (refuse : Entry → Option Fault) (looks : LooksUp a call root path refuse) where
@@ -104,7 +104,7 @@ module _ (a : Moment) (call : Call) (root : ℕ) (path : Path) (refuse : Entry �
       → IsRefused a call fault b
   look_refused b fault refused why is = elim (cases_Bool (is_path_fault fault)) [
     | inl tells ↦ inl (told fault (refused tells))
-    | inr other ↦ inr (read_refuses (seen_at a) (seen_at b) (machine_at a) call fault looks.heavy other is (why other))
+    | inr other ↦ inr (read_refuses (seen_at a) (seen_at b) (machine_at a) call fault looks.begins other is (why other))
   ]
 
   -- a directory that was found is one

@@ -1,24 +1,52 @@
 -- Steps of refused calls, and what is remembered of an answer that the power is off.
-use Rattle.std.proofs.Common.{◌≡◌, ◌+◌, ◌<◌, Bool, true, false, ◌&&◌, ◌||◌, Result, Ok, Err, inl, inr, refl, sym, subst, ◌∙◌, arith}
+use Rattle.std.proofs.Common.{◌≡◌, ◌+◌, ◌<◌, Bool, true, false, cond, ◌&&◌, ◌||◌, Option, Some, None, length, Result, Ok, Err, inl, inr, refl, sym, subst, ◌∙◌, arith}
 use Rattle.std.proofs.lemmas.Bool.{true≢false, both_ways, and_parts, or_cases}
-use Rattle.std.specs.Prelude.{IsTrue, IfErr, OnErr}
-use Rattle.history_machine.specs.Machine.{Machine, need}
+use Rattle.std.specs.Option.{option_or, is_none}
+use Rattle.std.specs.Prelude.{IsTrue, IfErr, OnErr, not, ◌==◌}
+use Rattle.history_machine.specs.Descriptors.{are_lawful}
+use Rattle.history_machine.specs.History.{view_refusal}
+use Rattle.history_machine.specs.Machine.{Machine, need, refusal}
 use Rattle.fs_types.specs.declared.calls.Call.{Call}
 use Rattle.fs_types.specs.declared.calls.Reply.{Reply}
 use Rattle.fs_types.specs.declared.faults.Fault.{Fault}
-use Rattle.fs_types.specs.declared.faults.Fault.TheVariants.{NoEntry, NotDirectory, FlashFull, ReadOnly, ReadFailed, PowerCut, NoMemory, Damaged}
+use Rattle.fs_types.specs.declared.faults.Fault.TheVariants.{NoEntry, NotDirectory, Exists, Invalid, Busy, FlashFull, ReadOnly, ReadFailed, PowerCut, NoMemory, Damaged}
 use Rattle.directory.specs.Lookups.{is_path_fault, IsLookupFault}
 use Rattle.directory.specs.Trails.{IsChangeFault}
 use Rattle.working_state.specs.Moments.{Moment, machine_at, seen_at, IsMountedAt, Steps, IsRefused, IsStep, moment}
 use Rattle.working_state.specs.Leaves.{Leaves}
 use Rattle.working_state.specs.Roots.{ReachesNew}
 use Rattle.working_state.specs.Seen.{Seen}
-use Rattle.working_state.specs.Steps.{last_serial, replied, is_light, is_writing, is_cut, is_cut_answer, MayRefuse, IsLater, CallStep, tells_space}
+use Rattle.working_state.specs.Steps.{last_serial, replied, is_light, unlooked_refusal, begins_work, is_writing, is_cut, is_cut_answer, MayRefuse, IsLater, CallStep, tells_space}
 use Rattle.working_state.specs.Mounted.{IsMounted}
 use Rattle.working_state.specs.Worked.{IsWorked, WorkCause}
 use Rattle.working_state.specs.declared.state.State.{State}
 use Rattle.working_state.proofs.CutCalls.{answered_off}
 use Rattle.working_state.proofs.Standing.{worked_machine, worked_later}
+
+-- Calls that come to their work.
+
+first_fits : (b : Bool) (fault : Fault) (o : Option Fault) → cond b (Some fault) o ≡ None → cond b (Some fault) None ≡ None
+first_fits true fault o fine = fine
+first_fits false fault o fine = refl
+
+left_fits : (r o : Option Fault) → option_or r o ≡ None → r ≡ None
+left_fits None o fine = refl
+left_fits (Some fault) o fine = fine
+
+-- what is accepted was not refused before anything was looked up
+unlooked_none : (m : Machine) (call : Call) → refusal m call ≡ None → unlooked_refusal m call ≡ None
+unlooked_none m (Call.Open path flags) fine = first_fits (not (are_lawful flags)) Invalid _ fine
+unlooked_none m (Call.Rename old new) fine = refl
+unlooked_none m (Call.Unlink path) fine = refl
+unlooked_none m (Call.Mkdir path) fine = first_fits (length path == 0) Exists _ fine
+unlooked_none m (Call.Rmdir path) fine = first_fits (length path == 0) Busy _ fine
+unlooked_none m (Call.Stat view path) fine = left_fits (view_refusal m.history view) _ fine
+unlooked_none m (Call.List view path) fine = left_fits (view_refusal m.history view) _ fine
+unlooked_none m (Call.ReadAt view path offset count) fine = left_fits (view_refusal m.history view) _ fine
+unlooked_none m _ fine = fine
+
+pub accepted_begins : (m : Machine) (call : Call) → refusal m call ≡ None → is_light call ≡ false → begins_work m call ≡ true
+accepted_begins m call fine heavy = (λ i. not (heavy i) && is_none (unlooked_none m call fine i))
 
 -- Causes.
 
@@ -26,24 +54,24 @@ not_so : IsTrue false → ⊥
 not_so h = true≢false (sym h)
 
 -- a look up's refusal that no node tells of
-pub read_refuses : (old new : Seen) (m : Machine) (call : Call) (fault : Fault) → is_light call ≡ false → is_path_fault fault ≡ false → IsLookupFault fault → WorkCause old fault new → MayRefuse old m call fault new
-read_refuses old new m call ReadFailed heavy other is why = (heavy, why)
-read_refuses old new m call PowerCut heavy other is why = (heavy, why)
-read_refuses old new m call NoMemory heavy other is why = heavy
-read_refuses old new m call NoEntry heavy other is why = absurd (true≢false other)
-read_refuses old new m call NotDirectory heavy other is why = absurd (true≢false other)
-read_refuses old new m call Damaged heavy other is why = absurd (true≢false other)
-read_refuses old new m call _ heavy other is why = absurd (not_so is)
+pub read_refuses : (old new : Seen) (m : Machine) (call : Call) (fault : Fault) → begins_work m call ≡ true → is_path_fault fault ≡ false → IsLookupFault fault → WorkCause old fault new → MayRefuse old m call fault new
+read_refuses old new m call ReadFailed begins other is why = (begins, why)
+read_refuses old new m call PowerCut begins other is why = (begins, why)
+read_refuses old new m call NoMemory begins other is why = begins
+read_refuses old new m call NoEntry begins other is why = absurd (true≢false other)
+read_refuses old new m call NotDirectory begins other is why = absurd (true≢false other)
+read_refuses old new m call Damaged begins other is why = absurd (true≢false other)
+read_refuses old new m call _ begins other is why = absurd (not_so is)
 
 -- a refusal of the nodes of a version, where read-only mode was off and a serial was left
-pub write_refuses : (old new : Seen) (m : Machine) (call : Call) (fault : Fault) → is_light call ≡ false → 0 < need old.capacity m call → is_writing m call ≡ true → old.read_only ≡ false → m.history.next < last_serial → IsChangeFault fault
+pub write_refuses : (old new : Seen) (m : Machine) (call : Call) (fault : Fault) → begins_work m call ≡ true → 0 < need old.capacity m call → is_writing m call ≡ true → old.read_only ≡ false → m.history.next < last_serial → IsChangeFault fault
     → (fault ≡ FlashFull → old.free + old.listed < new.listed + need old.capacity m call) → WorkCause old fault new → MayRefuse old m call fault new
-write_refuses old new m call FlashFull heavy needs writes off left is few why = (needs, off, left, record { none_free = why; few_free = few refl })
-write_refuses old new m call ReadOnly heavy needs writes off left is few why = (writes, why, λ _ _. left)
-write_refuses old new m call ReadFailed heavy needs writes off left is few why = (heavy, why)
-write_refuses old new m call PowerCut heavy needs writes off left is few why = (heavy, why)
-write_refuses old new m call NoMemory heavy needs writes off left is few why = heavy
-write_refuses old new m call _ heavy needs writes off left is few why = absurd (not_so is)
+write_refuses old new m call FlashFull begins needs writes off left is few why = (needs, off, left, record { none_free = why; few_free = few refl })
+write_refuses old new m call ReadOnly begins needs writes off left is few why = (writes, why, λ _ _. left)
+write_refuses old new m call ReadFailed begins needs writes off left is few why = (begins, why)
+write_refuses old new m call PowerCut begins needs writes off left is few why = (begins, why)
+write_refuses old new m call NoMemory begins needs writes off left is few why = begins
+write_refuses old new m call _ begins needs writes off left is few why = absurd (not_so is)
 
 -- a cause between later states
 pub cause_later : (old mid new : Seen) (fault : Fault) → IsLater old mid → WorkCause mid fault new → WorkCause old fault new

@@ -184,7 +184,7 @@ checkpointed a name (Ok x) p on writable free ok why err =
 checkpointed a name (Err fault) p on writable free ok why err =
     let want : fault ≡ Fault.NoMemory = why ∙ ap (λ o. unwrap_or o Fault.NoMemory) free in
     subst (λ q. Steps a (Call.Checkpoint name) (Err fault) (at_history a q)) (sym err)
-    (subst (λ f. Steps a (Call.Checkpoint name) (Err f) a) (sym want) (refused a (Call.Checkpoint name) Fault.NoMemory on refl (inr refl)))
+    (subst (λ f. Steps a (Call.Checkpoint name) (Err f) a) (sym want) (refused a (Call.Checkpoint name) Fault.NoMemory on refl (inr (ap is_none (checkpoint_refusal-map (tree_at a) a.state.history name ∙ free)))))
 
 -- Log tells nothing of roots.
 

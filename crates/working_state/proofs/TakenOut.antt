@@ -2,7 +2,7 @@
 use Rattle.std.proofs.Common.{◌≡◌, ℕ, ◌<◌, ◌≤◌, Bool, true, false, Option, Some, None, Ok, List, [], ◌∷◌, length, refl, sym, ap, subst, ◌∙◌, inl, arith}
 use Rattle.std.proofs.lemmas.Bool.{lt-ltb}
 use Rattle.std.proofs.lemmas.List.{length-map}
-use Rattle.std.specs.Prelude.{nat_lt, unwrap_or, if◌then◌else◌, ◌==◌}
+use Rattle.std.specs.Prelude.{is_none, nat_lt, unwrap_or, if◌then◌else◌, ◌==◌}
 use Rattle.fs_types.specs.Names.{Path, is_path}
 use Rattle.plain_trees.specs.Trees.{Tree, remove, entry_count}
 use Rattle.history_machine.specs.History.{present_root}
@@ -32,7 +32,7 @@ use Rattle.working_state.proofs.PathCalls.{present_tree_is, present_stands, Look
 pub rmdir_looks : (a : Moment) (path : Path) (root : ℕ) → IsMountedAt a → present_root a.state.history ≡ Some root → (length path == 0) ≡ false → LooksUp a (Call.Rmdir path) root path (rmdir_refusal (tree_at a root) path)
 rmdir_looks a path root m is below = record {
   rooted = (present_stands a root m is).rooted;
-  heavy = refl;
+  begins = ap (λ b. is_none (if b then Some Busy else None)) below;
   by_path = ap (λ (t : Tree). if length path == 0 then Some Busy else found_refusal t path (rmdir_refusal t path)) (present_tree_is a root is)
       ∙ ap (λ b. if b then Some Busy else found_refusal (tree_at a root) path (rmdir_refusal (tree_at a root) path)) below;
 }
@@ -105,7 +105,7 @@ file_below f root (n ∷ path) head size e = omega arith
 pub unlink_looks : (a : Moment) (path : Path) (root : ℕ) → IsMountedAt a → present_root a.state.history ≡ Some root → LooksUp a (Call.Unlink path) root path (unlink_refusal (machine_at a) path)
 unlink_looks a path root m is = record {
   rooted = (present_stands a root m is).rooted;
-  heavy = refl;
+  begins = refl;
   by_path = ap (λ (t : Tree). found_refusal t path (unlink_refusal (machine_at a) path)) (present_tree_is a root is);
 }
 

@@ -2,7 +2,7 @@
 use Rattle.std.proofs.Common.{◌≡◌, ℕ, false, Option, Some, None, List, refl, ap, subst, ◌∙◌, inl}
 use Rattle.std.proofs.lemmas.Option.{get_or_from_slice_get, slice_get_within}
 use Rattle.std.specs.Prelude.{slice_get, unwrap_or}
-use Rattle.std.specs.Option.{option_or, option_map, option_and_then}
+use Rattle.std.specs.Option.{is_none, option_or, option_map, option_and_then}
 use Rattle.fs_types.specs.Names.{Path}
 use Rattle.plain_trees.specs.Contents.{Entry}
 use Rattle.plain_trees.specs.Trees.{bare}
@@ -16,7 +16,7 @@ use Rattle.fs_types.specs.declared.calls.View.TheVariants.{Present, Serial, Chec
 use Rattle.fs_types.specs.declared.faults.Fault.{Fault}
 use Rattle.plain_trees.proofs.Beneath.{None≢Some, same_Some}
 use Rattle.working_state.specs.Moments.{Moment, machine_at, IsMountedAt, IsRefused, tree_at}
-use Rattle.working_state.specs.Steps.{is_light}
+use Rattle.working_state.specs.Steps.{begins_work}
 use Rattle.working_state.specs.Mounted.{IsStanding}
 use Rattle.working_state.specs.declared.state.State.{State}
 use Rattle.working_state.proofs.Roots.{AllRoots, of_versions, of_present, of_checkpoint}
@@ -55,10 +55,10 @@ view_fine a view = view_refusal-map (tree_at a) a.state.history view
 
 module _ (a : Moment) (view : View) (path : Path) (call : Call) (refuse : Entry → Option Fault) (by_view : refusal (machine_at a) call ≡ view_path_refusal (machine_at a) view path refuse) where
   -- a view that shows a root leaves the path to refuse
-  pub view_looks : (root : ℕ) → IsMountedAt a → Shows a.state.history view root → is_light call ≡ false → LooksUp a call root path refuse
-  view_looks root m shows heavy = record {
+  pub view_looks : (root : ℕ) → IsMountedAt a → Shows a.state.history view root → begins_work (machine_at a) call ≡ is_none (view_refusal (machine_at a).history view) → LooksUp a call root path refuse
+  view_looks root m shows by_fine = record {
     rooted = (view_stands a view root m shows).rooted;
-    heavy = heavy;
+    begins = by_fine ∙ ap is_none (view_fine a view ∙ shows.fine);
     by_path = by_view
         ∙ ap (λ o. option_or o (found_refusal (view_tree (machine_at a) view) path refuse)) (view_fine a view ∙ shows.fine)
         ∙ ap (λ t. found_refusal t path refuse) (view_tree_is a view root shows);

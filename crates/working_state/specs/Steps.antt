@@ -1,10 +1,12 @@
 -- What a call on a mounted system answers and leaves: the step of the machine, or a further refusal with its cause.
-use Rattle.std.specs.Prelude.{◌≡◌, ◌⊎◌, ℕ, ◌+◌, ◌-◌, ◌^◌, ◌<◌, ◌≤◌, Bool, true, false, ◌&&◌, ◌||◌, is_some, Some, None, Result, Ok, Err}
+use Rattle.std.specs.Prelude.{◌≡◌, ◌⊎◌, ℕ, ◌+◌, ◌-◌, ◌^◌, ◌<◌, ◌≤◌, Bool, true, false, not, ◌==◌, ◌&&◌, ◌||◌, is_some, is_none, Option, Some, None, [], length, Result, Ok, Err, if◌then◌else◌}
+use Rattle.history_machine.specs.Descriptors.{are_lawful}
+use Rattle.history_machine.specs.History.{view_refusal}
 use Rattle.history_machine.specs.Machine.{Machine, Space, refusal, answer, next, is_accepted, makes_version, need, tree_after}
 use Rattle.fs_types.specs.declared.calls.Call.{Call}
 use Rattle.fs_types.specs.declared.calls.Reply.{Reply}
 use Rattle.fs_types.specs.declared.faults.Fault.{Fault}
-use Rattle.fs_types.specs.declared.faults.Fault.TheVariants.{FlashFull, ReadOnly, Overflow, ReadFailed, PowerCut, NoMemory}
+use Rattle.fs_types.specs.declared.faults.Fault.TheVariants.{Exists, Invalid, Busy, FlashFull, ReadOnly, Overflow, ReadFailed, PowerCut, NoMemory}
 use Rattle.working_state.specs.Seen.{Seen}
 
 -- the greatest serial is given to no version
@@ -22,10 +24,27 @@ empty x = Reply.Empty
 -- calls that take no memory and do no device operation
 abbrev pub is_light : Call → Bool
 is_light (Call.Close descriptor) = true
+is_light (Call.Pwrite descriptor offset []) = true
 is_light Call.Undo = true
 is_light Call.Redo = true
 is_light (Call.Goto serial) = true
 is_light _ = false
+
+-- the refusal of a call that comes before anything is looked up
+abbrev pub unlooked_refusal : Machine → Call → Option Fault
+unlooked_refusal m (Call.Open path flags) = if not (are_lawful flags) then Some Invalid else None
+unlooked_refusal m (Call.Rename old new) = None
+unlooked_refusal m (Call.Unlink path) = None
+unlooked_refusal m (Call.Mkdir path) = if length path == 0 then Some Exists else None
+unlooked_refusal m (Call.Rmdir path) = if length path == 0 then Some Busy else None
+unlooked_refusal m (Call.Stat view path) = view_refusal m.history view
+unlooked_refusal m (Call.List view path) = view_refusal m.history view
+unlooked_refusal m (Call.ReadAt view path offset count) = view_refusal m.history view
+unlooked_refusal m call = refusal m call
+
+-- the call comes to a look-up, or to its work
+abbrev pub begins_work : Machine → Call → Bool
+begins_work m call = not (is_light call) && is_none (unlooked_refusal m call)
 
 -- calls that make no version and are refused in read-only mode all the same
 abbrev pub is_for_record : Call → Bool
@@ -58,15 +77,15 @@ pub record IsFull (old : Seen) (nodes : ℕ) (new : Seen) : Type 0 where
 
 -- a refusal that the machine does not give, with its cause. The checks before the work are in order: read-only mode (16),
 -- and for a version the serials, or for a commit its sequence (22). So where no block is left for the nodes of a version,
--- neither had refused it; and where read-only mode came on in the work, a serial was left. A read failed; the device is off;
--- memory was wanted
+-- neither had refused it; and where read-only mode came on in the work, a serial was left. Where the call came to a look-up
+-- or to its work: a read failed; the device is off; memory was wanted
 abbrev pub MayRefuse : Seen → Machine → Call → Fault → Seen → Type 0
 MayRefuse old m call FlashFull new = (0 < need old.capacity m call) × (old.read_only ≡ false) × (m.history.next < last_serial) × IsFull old (need old.capacity m call) new
 MayRefuse old m call ReadOnly new = (is_writing m call ≡ true) × (new.read_only ≡ true) × (old.read_only ≡ false → makes_version m call ≡ true → m.history.next < last_serial)
-MayRefuse old m call Overflow new = (old.read_only ≡ false) × (((makes_version m call ≡ true) × (m.history.next ≡ last_serial)) ⊎ (is_sync call ≡ true))
-MayRefuse old m call ReadFailed new = (is_light call ≡ false) × (old.failed_reads < new.failed_reads)
-MayRefuse old m call PowerCut new = (is_light call ≡ false) × (new.powered ≡ false)
-MayRefuse old m call NoMemory new = is_light call ≡ false
+MayRefuse old m call Overflow new = (old.read_only ≡ false) × (((makes_version m call ≡ true) × (m.history.next ≡ last_serial)) ⊎ ((is_sync call ≡ true) × (is_accepted m call ≡ true)))
+MayRefuse old m call ReadFailed new = (begins_work m call ≡ true) × (old.failed_reads < new.failed_reads)
+MayRefuse old m call PowerCut new = (begins_work m call ≡ true) × (new.powered ≡ false)
+MayRefuse old m call NoMemory new = begins_work m call ≡ true
 MayRefuse old m call _ new = ⊥
 
 -- a call is refused by the machine, or for one of these causes

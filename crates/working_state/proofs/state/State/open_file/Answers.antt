@@ -15,6 +15,7 @@ use Rattle.working_state.specs.Moments.{Moment, moment, machine_at, nodes_at}
 use Rattle.working_state.proofs.ChangedCalls.{looked_ready, looked_stands, at_present, pushed_by, refused_change}
 use Rattle.working_state.proofs.OpenCalls.{changes_is, found_below, at_answer, refused_answer, opened_answer}
 use Rattle.working_state.proofs.OpenChanges.{found_takes, open_change, open_descriptors}
+use Rattle.working_state.proofs.Refusals.{accepted_begins}
 use Rattle.working_state.proofs.state.State.open_file.Goals as goal
 
 pub returns-in_err-found : goal.returns-in_err-found
@@ -33,7 +34,7 @@ returns-in_err-clone g c =
     let e = g.F.Flash.device c.check_open.new.flash in
     let call = Call.Open c.args.path.now c.args.flags in
     at_answer Reply.Fd (moment d c.args.self.now) (moment e c.check_open.new.self) call NoMemory c.from_residual-in_err-clone.result (p.1 ∙ ap Err p.2)
-    (refused_answer (moment d c.args.self.now) (moment e c.check_open.new.self) call NoMemory c.requires c.check_open.ensures.looked refl (inr refl))
+    (refused_answer (moment d c.args.self.now) (moment e c.check_open.new.self) call NoMemory c.requires c.check_open.ensures.looked refl (inr (accepted_begins (machine_at (moment d c.args.self.now)) call c.in_ok-found.ensures.accepted refl)))
 
 pub returns-then-not-is_changed : goal.returns-then-not-is_changed
 returns-then-not-is_changed g c =

@@ -12,6 +12,7 @@ use Rattle.working_state.proofs.ChangedCalls.{looked_ready, looked_stands, same_
 use Rattle.working_state.proofs.FileChanges as changes
 use Rattle.working_state.proofs.MovedEntries.{read_may}
 use Rattle.working_state.proofs.OpenCalls.{at_answer, refused_answer}
+use Rattle.working_state.proofs.Refusals.{accepted_begins}
 use Rattle.working_state.proofs.Standing.{looked_at, looked_worked}
 use Rattle.working_state.proofs.state.State.resize_file.Goals as goal
 
@@ -32,7 +33,7 @@ returns-in_err-body g c =
     let path = c.in_ok-path.path.now in
     let looked = looked_at a b.device c.find_body.new.storage c.find_body.ensures.looked in
     at_answer empty a b call c.in_err-body.field-0.0 c.from_residual-in_err-body.result (p.1 ∙ ap Err p.2)
-    (refused_answer a b call c.in_err-body.field-0.0 c.requires looked refl (inr (read_may (seen_at a) (seen_at b) (machine_at a) call c.in_err-body.field-0.0 refl c.in_err-body.ensures.why)))
+    (refused_answer a b call c.in_err-body.field-0.0 c.requires looked refl (inr (read_may (seen_at a) (seen_at b) (machine_at a) call c.in_err-body.field-0.0 (accepted_begins (machine_at a) call c.in_ok-path.ensures.ok refl) c.in_err-body.ensures.why)))
 
 pub returns-then-from-size : goal.returns-then-from-size
 returns-then-from-size g c =

@@ -1,10 +1,12 @@
 -- The step of a call that is tried once, or twice.
-use Rattle.std.proofs.Common.{◌≡◌, ◌≢◌, ◌⊎◌, inl, inr, ℕ, ◌+◌, ◌*◌, ◌<◌, ◌≤◌, Bool, true, false, not, ◌||◌, Some, Result, Ok, Err, List, [], ◌∷◌, count_by, refl, sym, ap, subst, ◌∙◌, arith}
+use Rattle.std.proofs.Common.{◌≡◌, ◌≢◌, ◌⊎◌, inl, inr, ℕ, ◌+◌, ◌*◌, ◌<◌, ◌≤◌, Bool, true, false, not, ◌||◌, Option, Some, None, Result, Ok, Err, List, [], ◌∷◌, count_by, refl, sym, ap, subst, ◌∙◌, arith}
 use Rattle.std.proofs.lemmas.Bool.{true≢false, both_ways, and_parts}
 use Rattle.std.proofs.lemmas.List.Elements.{Contains-append_cases}
 use Rattle.std.specs.Prelude.{◌/◌, is_some, if◌then◌else◌, Contains}
 use Rattle.std.specs.FinSet as set
+use Rattle.std.specs.Option.{option_and_then}
 use Rattle.std.specs.Ordering.{nat_cmp}
+use Rattle.history_machine.specs.Descriptors.{Descriptor, descriptor_at}
 use Rattle.history_machine.specs.History.{Past}
 use Rattle.allocator.specs.Ring.{data_blocks, free_count, is_busy}
 use Rattle.history_machine.specs.Machine.{Machine, Space, makes_version, need, change_need, is_accepted, tree_after}
@@ -25,11 +27,13 @@ use Rattle.read_only.specs.Modes.{is_read_only}
 use Rattle.working_state.specs.Mounted.{KeepsPages}
 use Rattle.working_state.specs.Roots.{HasRoot, IsReached, IsSpace}
 use Rattle.working_state.specs.Seen.{Seen, capacity_of, seen_on, machine_on}
-use Rattle.working_state.specs.Steps.{last_serial, is_sync, is_light, is_cut, is_cut_answer, is_writing, tells_space, MayRefuse, Refuses, IsDone, IsLater}
+use Rattle.working_state.specs.Steps.{last_serial, is_sync, is_light, begins_work, is_cut, is_cut_answer, is_writing, tells_space, MayRefuse, Refuses, IsDone, IsLater}
 use Rattle.working_state.specs.Steps as once_only
 use Rattle.working_state.specs.Worked.{ReadCause}
 use Rattle.working_state.specs.declared.state.State.{State}
+use Rattle.working_state.proofs.ChangeSteps.{version_accepted}
 use Rattle.working_state.proofs.CutCalls.{own_says}
+use Rattle.working_state.proofs.Refusals.{accepted_begins}
 use Rattle.upkeep.specs.Mounts.{roots_of}
 use Rattle.upkeep.specs.Saved.{saved_trees, IsWhole}
 use Rattle.upkeep.specs.Commits.{Saves, SaveCause, KeepsRecord, RecordAfter, TriesOnce}
@@ -132,6 +136,11 @@ heavy_call m (Call.Close descriptor) some = absurd (true≢false (sym some))
 heavy_call m Call.Undo some = absurd (true≢false (sym some))
 heavy_call m Call.Redo some = absurd (true≢false (sym some))
 heavy_call m (Call.Goto serial) some = absurd (true≢false (sym some))
+heavy_call m (Call.Pwrite descriptor offset []) some = absurd (by (descriptor_at m.descriptors descriptor) some)
+  where
+    by : (o : Option Descriptor) → is_some (option_and_then (λ (d : Descriptor). let none : Option Tree = None in none) o) ≡ true → ⊥
+    by None wrong = true≢false (sym wrong)
+    by (Some d) wrong = true≢false (sym wrong)
 heavy_call m _ some = refl
 
 -- what is known of a call that found the flash full
@@ -142,7 +151,7 @@ record IsFull (d : Device) (m : System) (call : Call) (b : Device) (k : System) 
   writable : is_read_only m.state.storage.bad ≡ false
   serial_left : (machine_on d m.state).history.next < last_serial
   writing : is_writing (machine_on d m.state) call ≡ true
-  is_heavy : is_light call ≡ false
+  begins : begins_work (machine_on d m.state) call ≡ true
   no_commit : is_sync call ≡ false
   no_space : tells_space call ≡ false
 
@@ -169,7 +178,7 @@ is_full d b m k call first = by m.state.is_off refl first.step.answers
           writable = why.1;
           serial_left = why.2;
           writing = writes (machine_on d m.state) call makes;
-          is_heavy = heavy_call (machine_on d m.state) call some;
+          begins = accepted_begins (machine_on d m.state) call (version_accepted (machine_on d m.state) call makes) (heavy_call (machine_on d m.state) call some);
           no_commit = no_sync (machine_on d m.state) call some;
           no_space = tells_none (machine_on d m.state) call some;
         }
@@ -321,14 +330,14 @@ module _ (d b c : Device) (m k q : System) (call : Call) (s : IsSystem d m) (fir
     commit_cause : (fault : Fault) → SaveCause b (unmarked k) c q fault → Refuses (seen_on d m.state) (machine_on d m.state) call fault (seen_on c q.state) ⊎ (twice × IsOfSecond fault)
     commit_cause ReadOnly why = inl (inr (facts.writing, why, λ _ _. facts.serial_left))
     commit_cause Overflow why = inr (is_twice, tt)
-    commit_cause PowerCut why = inl (inr (facts.is_heavy, why))
-    commit_cause NoMemory why = inl (inr facts.is_heavy)
+    commit_cause PowerCut why = inl (inr (facts.begins, why))
+    commit_cause NoMemory why = inl (inr facts.begins)
     commit_cause _ why = absurd why
 
     read_cause : (x : Seen) (fault : Fault) → (seen_on d m.state).failed_reads ≤ x.failed_reads → ReadCause x fault (seen_on c q.state) → Refuses (seen_on d m.state) (machine_on d m.state) call fault (seen_on c q.state) ⊎ (twice × IsOfSecond fault)
-    read_cause x ReadFailed more why = inl (inr (facts.is_heavy, omega (arith, more, why)))
-    read_cause x PowerCut more why = inl (inr (facts.is_heavy, why))
-    read_cause x NoMemory more why = inl (inr facts.is_heavy)
+    read_cause x ReadFailed more why = inl (inr (facts.begins, omega (arith, more, why)))
+    read_cause x PowerCut more why = inl (inr (facts.begins, why))
+    read_cause x NoMemory more why = inl (inr facts.begins)
     read_cause x _ more why = absurd why
 
     by_power : (result : Result Reply Fault) (fault : Fault) → result ≡ Err fault → Refuses (seen_on d m.state) (machine_on d m.state) call fault (seen_on c q.state) ⊎ (twice × IsOfSecond fault) → machine_on c q.state ≡ machine_on d m.state → q.state.is_off ≡ is_cut fault

@@ -2,7 +2,7 @@
 use Rattle.std.proofs.Common.{◌≡◌, ◌⊎◌, inl, inr, ℕ, zero, suc, ◌+◌, ◌-◌, ◌<◌, ◌≤◌, Bool, true, false, cond, ◌||◌, Option, Some, None, Bor, Result, Ok, Err, List, [], ◌∷◌, refl, sym, ap, ◌∙◌, arith}
 use Rattle.std.proofs.lemmas.Bool.{true≢false}
 use Rattle.std.proofs.lemmas.List.Sums.{sum_by-cons}
-use Rattle.std.specs.Prelude.{is_some, Contains, OnOk, OnErr, IfErr, not, count_by}
+use Rattle.std.specs.Prelude.{is_some, is_none, Contains, OnOk, OnErr, IfErr, not, count_by}
 use Rattle.std.specs.List.{range_with_len}
 use Rattle.std.specs.FinSet as set
 use Rattle.std.specs.Ordering.{nat_cmp}
@@ -27,7 +27,7 @@ use Rattle.commit_pair.specs.Anchored.{OnlyAnchors}
 use Rattle.commit_pair.specs.Committing.{Commits}
 use Rattle.working_state.specs.Roots.{IsReached}
 use Rattle.working_state.specs.Seen.{Seen, seen_on, machine_on}
-use Rattle.working_state.specs.Steps.{is_sync, is_cut, is_cut_answer, is_light, is_writing, replied, empty, tells_space, IsLater, Answers, MayRefuse}
+use Rattle.working_state.specs.Steps.{is_sync, is_cut, is_cut_answer, begins_work, is_writing, replied, empty, tells_space, IsLater, Answers, MayRefuse}
 use Rattle.working_state.proofs.BadCounts.{len-within, stays_read_only}
 use Rattle.working_state.specs.declared.state.State.{State}
 use Rattle.upkeep.specs.Mounts.{history_of, roots_of}
@@ -51,11 +51,11 @@ pub record IsSyncing (m : Machine) (call : Call) : Type 0 where
   pub answered : (space : Space) → answer space m call ≡ Ok Reply.Empty
   pub leaves : next m call ≡ m
   pub no_version : makes_version m call ≡ false
-  pub heavy : is_light call ≡ false
+  pub begins : begins_work m call ≡ true
   pub writing : is_writing m call ≡ true
 
 pub sync_syncs : (m : Machine) → IsSyncing m Call.Sync
-sync_syncs m = record { sync = refl; accepted = refl; answered = λ space. refl; leaves = refl; no_version = refl; heavy = refl; writing = refl }
+sync_syncs m = record { sync = refl; accepted = refl; answered = λ space. refl; leaves = refl; no_version = refl; begins = refl; writing = refl }
 
 pub fsync_syncs : (m : Machine) (descriptor : ℕ) → refusal m (Call.Fsync descriptor) ≡ None → IsSyncing m (Call.Fsync descriptor)
 fsync_syncs m descriptor accepted = record {
@@ -64,7 +64,7 @@ fsync_syncs m descriptor accepted = record {
   answered = λ space. rw accepted refl;
   leaves = rw accepted refl;
   no_version = rw accepted refl;
-  heavy = refl;
+  begins = rw accepted refl;
   writing = rw accepted refl;
 }
 
@@ -148,9 +148,9 @@ module _ {T : Type 0} (d e : Device) (m n : System) (result : Result T Fault) (s
   -- why it is refused
   may_refuse : (call : Call) (fault : Fault) → IsSyncing (machine_on d m.state) call → SaveCause d m e n fault → MayRefuse (seen_on d m.state) (machine_on d m.state) call fault (seen_on e n.state)
   may_refuse call ReadOnly is why = (is.writing, why, λ off makes. absurd (true≢false (sym makes ∙ is.no_version)))
-  may_refuse call Overflow is why = (why.0, inr is.sync)
-  may_refuse call PowerCut is why = (is.heavy, why)
-  may_refuse call NoMemory is why = is.heavy
+  may_refuse call Overflow is why = (why.0, inr (is.sync, ap is_none is.accepted))
+  may_refuse call PowerCut is why = (is.begins, why)
+  may_refuse call NoMemory is why = is.begins
   may_refuse call _ is why = absurd why
 
   -- the blocks that the newest record reaches are used

@@ -261,12 +261,13 @@ pub not_none : (o : Option Record) (r : Record) → o ≡ Some r → o ≢ None
 not_none o r is none = absurd cc
 
 pub mounts : (d e f : Device) (r : Record) (m : System) → committed_on d ≡ Some (Ok r) → OnlyReads e f → IsUncleared m.anchors
-    → ((bad : set.FinSet nat_cmp) → MayCommit e bad m.anchors) → IsLoaded f r m.state → IsMountOf d f m
-mounts d e f r m is reads uncleared may loaded = record {
+    → ((bad : set.FinSet nat_cmp) → MayCommit e bad m.anchors) → IsLoaded f r m.state → m.pass ≡ None → IsMountOf d f m
+mounts d e f r m is reads uncleared may loaded none = record {
   newest = r;
   holds = is;
   loaded = loaded;
   remembers = knows_on e f m.state.storage.bad m.anchors reads (knows e m.state.storage.bad m.anchors uncleared (may m.state.storage.bad));
+  pass = none;
 }
 
 -- ---- why a mount is refused

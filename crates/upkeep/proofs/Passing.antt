@@ -41,7 +41,7 @@ use Rattle.working_state.specs.Steps.{is_cut_answer}
 use Rattle.working_state.specs.Worked.{ReadCause}
 use Rattle.working_state.specs.declared.state.State.{State}
 use Rattle.upkeep.specs.Mounts.{history_of, roots_of}
-use Rattle.upkeep.specs.Reclaiming.{GoesOnFrom, EndsPass, StepEnds, Stays, Reclaims}
+use Rattle.upkeep.specs.Reclaiming.{GoesOnFrom, Advances, EndsPass, StepEnds, Stays, Reclaims}
 use Rattle.upkeep.specs.Saved.{saved_on}
 use Rattle.upkeep.specs.Systems.{IsSystem, IsRunning, MustStay}
 use Rattle.upkeep.specs.declared.systems.System.{System}
@@ -137,7 +137,7 @@ module _ (d e : Device) (m n : System) (s : IsSystem d m) (on : m.state.is_off �
   }
 
   pub kept_stays : Stays d m e n
-  kept_stays = record { reads = k.reads; history = k.history; machine = machine; bad = k.bad; last = k.last; takes = k.takes; anchors = k.anchors }
+  kept_stays = record { reads = k.reads; history = k.history; machine = machine; bad = k.bad; last = k.last; takes = k.takes; anchors = k.anchors; room = k.fits.same_room }
 
   -- a marking goes on, as long as no block leaves the note and what its roots reach stays used
   pub kept_running : (p : Pass) → ((b : ℕ) → set.contains m.state.storage.ring.used b ≡ true → set.contains n.state.storage.ring.used b ≡ true)
@@ -147,15 +147,15 @@ module _ (d e : Device) (m n : System) (s : IsSystem d m) (on : m.state.is_off �
       (λ b must. inl (still_must b must)) running
 
   -- a step of the marking
-  pub advanced : (p q : Pass) → (q.blocks ≡ p.blocks) × (q.roots ≡ p.roots) → (IsPass (node_of d) p → IsPass (node_of d) q) → IsRunning e n p → IsRunning e n q
-  advanced p q same_parts on_with running = record {
-    blocks = same_parts.0 ∙ running.blocks;
+  pub advanced : (p q : Pass) → Advances p q → (IsPass (node_of d) p → IsPass (node_of d) q) → IsRunning e n p → IsRunning e n q
+  advanced p q goes on_with running = record {
+    blocks = goes.blocks ∙ running.blocks;
     marking = λ none. running.marking (λ pass.
         let before = subst (λ (f : Blocks). IsPass f p) (same_nodes d e same) pass in
         none (subst (λ (f : Blocks). IsPass f q) (sym (same_nodes d e same)) (on_with before)));
-    held = λ b reached. running.held b (subst (λ (l : List ℕ). Reached (node_of e) l b) same_parts.1 reached);
-    nodes = λ b reached. running.nodes b (subst (λ (l : List ℕ). Reached (node_of e) l b) same_parts.1 reached);
-    taken = λ b must apart. running.taken b must (λ reached. apart (subst (λ (l : List ℕ). Reached (node_of e) l b) (sym same_parts.1) reached));
+    held = λ b reached. running.held b (subst (λ (l : List ℕ). Reached (node_of e) l b) goes.roots reached);
+    nodes = λ b reached. running.nodes b (subst (λ (l : List ℕ). Reached (node_of e) l b) goes.roots reached);
+    taken = λ b must apart. running.taken b must (λ reached. apart (subst (λ (l : List ℕ). Reached (node_of e) l b) (sym goes.roots) reached));
   }
 
 pub stays_on : (d e f : Device) (l m n : System) → Stays d l e m → Stays e m f n → Stays d l f n
@@ -167,6 +167,7 @@ stays_on d e f l m n a b = record {
   last = b.last ∙ a.last;
   takes = b.takes ∙ a.takes;
   anchors = b.anchors ∙ a.anchors;
+  room = b.room ∙ a.room;
 }
 
 -- ---- a marking is taken up
@@ -279,12 +280,12 @@ module _ (d e : Device) (m : System) (st : Storage) (s : IsSystem d m) (on : m.s
   looked_system none = kept_system d e m (with_storage m st m.pass) s on (looked_keeps m.pass) (subst (λ (o : Option Pass). IfSome o (IsRunning e (with_storage m st m.pass))) (sym none) tt)
 
   -- the marking goes on
-  pub going_system : (p q : Pass) → (q.blocks ≡ p.blocks) × (q.roots ≡ p.roots) → (IsPass (node_of d) p → IsPass (node_of d) q) → IsRunning d m p → IsSystem e (with_storage m st (Some q))
-  going_system p q same_parts on_with running =
+  pub going_system : (p q : Pass) → Advances p q → (IsPass (node_of d) p → IsPass (node_of d) q) → IsRunning d m p → IsSystem e (with_storage m st (Some q))
+  going_system p q goes on_with running =
       let n = with_storage m st (Some q) in
       let keeps = looked_keeps (Some q) in
       kept_system d e m n s on keeps
-      (advanced d e m n s on keeps p q same_parts on_with
+      (advanced d e m n s on keeps p q goes on_with
       (kept_running d e m n s on keeps p (λ b used. ap (λ (r : Ring). set.contains r.used b) l.untouched.ring ∙ used) (ap (λ (r : Ring). r.note) l.untouched.ring) running))
 
   -- no block that its roots reach lacks its node
@@ -293,10 +294,10 @@ module _ (d e : Device) (m : System) (st : Storage) (s : IsSystem d m) (on : m.s
 
   -- ---- it ends
 
-  module _ (p q : Pass) (marks : BlockSet) (running : IsRunning d m p) (same_parts : (q.blocks ≡ p.blocks) × (q.roots ≡ p.roots)) (on_with : IsPass (node_of d) p → IsPass (node_of d) q)
+  module _ (p q : Pass) (marks : BlockSet) (running : IsRunning d m p) (goes : Advances p q) (on_with : IsPass (node_of d) p → IsPass (node_of d) q)
       (exact : (f : Blocks) → IsPass f q → (b : ℕ) → (set.contains marks.members b ≡ true) ↔ Reached f q.roots b) where
     marked : IsPass (node_of d) p → (b : ℕ) → (set.contains marks.members b ≡ true) ↔ Reached (node_of d) p.roots b
-    marked pass b = subst (λ (l : List ℕ). (set.contains marks.members b ≡ true) ↔ Reached (node_of d) l b) same_parts.1 (exact (node_of d) (on_with pass) b)
+    marked pass b = subst (λ (l : List ℕ). (set.contains marks.members b ≡ true) ↔ Reached (node_of d) l b) goes.roots (exact (node_of d) (on_with pass) b)
 
     pub all_marked : (b : ℕ) → Reached (node_of d) p.roots b → set.contains marks.members b ≡ true
     all_marked b reached = by (set.contains marks.members b) refl
@@ -384,9 +385,10 @@ module _ (d e : Device) (m : System) (st : Storage) (s : IsSystem d m) (on : m.s
       to = q;
       was = subst (λ (x : set.FinSet nat_cmp). GoesOnFrom old p x) (sym same_note) from;
       is = none;
-      roots = same_parts.1;
+      on = goes;
       next = done.0;
       all = done.1;
+      marking = λ none_is. running.marking (λ pass. none_is (on_with pass));
       reached = λ b reached. union_left marks.members st.ring.note b (all_marked b reached);
       taken = λ b noted. union_right marks.members st.ring.note b noted;
       only = others_go;
@@ -409,7 +411,7 @@ pub record IsStepped (d e : Device) (m n : System) (p q : Pass) (st : Storage) :
   pub noted : n ≡ with_note m n.state.storage.ring.note
   pub from : GoesOnFrom m p n.state.storage.ring.note
   pub begun : m.pass ≡ None → (p.blocks ≡ m.state.storage.ring.blocks) × ((f : Blocks) → IsPass f p)
-  pub same : (q.blocks ≡ p.blocks) × (q.roots ≡ p.roots)
+  pub goes : Advances p q
   pub looked : HasLooked d n.state.storage e st
 
 module _ (d e : Device) (m n : System) (p q : Pass) (st : Storage) (t : IsStepped d e m n p q st) where
@@ -448,7 +450,7 @@ module _ (d e : Device) (m n : System) (p q : Pass) (st : Storage) (t : IsSteppe
 
   -- it goes on
   pub goes_system : (IsPass (node_of d) p → IsPass (node_of d) q) → IsSystem e (with_storage n st (Some q))
-  goes_system on_with = going_system d e n st first step_is_on t.looked p q t.same on_with running
+  goes_system on_with = going_system d e n st first step_is_on t.looked p q t.goes on_with running
 
   -- it ends
   module _ (marks : BlockSet) (u : Storage) (is : u ≡ marked_in st marks) (blocks : AreDataBlocks st.ring.blocks st.ring.used)
@@ -457,13 +459,13 @@ module _ (d e : Device) (m n : System) (p q : Pass) (st : Storage) (t : IsSteppe
     last = with_storage n u n.pass
 
     pub all_system : IsSystem e last
-    all_system = ended_system d e n st first step_is_on t.looked p q marks running t.same on_with exact u is blocks none
+    all_system = ended_system d e n st first step_is_on t.looked p q marks running t.goes on_with exact u is blocks none
 
     pub all_stays : Stays d m e last
-    all_stays = stays_on d d e m n last first_stays (ended_stays d e n st first step_is_on t.looked p q marks running t.same on_with exact u is blocks)
+    all_stays = stays_on d d e m n last first_stays (ended_stays d e n st first step_is_on t.looked p q marks running t.goes on_with exact u is blocks)
 
     pub all_ends : (budget : ℕ) → (q.next ≤ p.next + budget) × IsFinished q → EndsPass d m budget last
-    all_ends budget done = ends d e n st first step_is_on t.looked p q marks running t.same on_with exact m budget u is t.from done none
+    all_ends budget done = ends d e n st first step_is_on t.looked p q marks running t.goes on_with exact m budget u is t.from done none
 
 -- ---- whether power went
 
@@ -505,13 +507,13 @@ module _ (d e : Device) (m n : System) (budget : ℕ) (answer : Result Bool Faul
       by (Err _) cut ends = absurd (true≢false (sym cut))
 
   still_ends : (r : Result Bool Fault) → StepEnds d m budget r e n → StepEnds d m budget r e left
-  still_ends (Ok false) o = record { from = o.from; to = o.to; was = o.was; is = o.is; roots = o.roots; next = o.next; left = o.left; few = o.few; used = o.used }
-  still_ends (Ok true) o = record { from = o.from; to = o.to; was = o.was; is = o.is; roots = o.roots; next = o.next; all = o.all; reached = o.reached; taken = o.taken; only = o.only }
+  still_ends (Ok false) o = record { from = o.from; to = o.to; was = o.was; is = o.is; on = o.on; next = o.next; left = o.left; few = o.few; used = o.used }
+  still_ends (Ok true) o = record { from = o.from; to = o.to; was = o.was; is = o.is; on = o.on; next = o.next; all = o.all; marking = o.marking; reached = o.reached; taken = o.taken; only = o.only }
   still_ends (Err fault) o = o
 
   is_reclaimed : Reclaims d m budget answer e left
   is_reclaimed = record {
-    stays = record { reads = stays.reads; history = stays.history; machine = stays.machine; bad = stays.bad; last = stays.last; takes = stays.takes; anchors = stays.anchors };
+    stays = record { reads = stays.reads; history = stays.history; machine = stays.machine; bad = stays.bad; last = stays.last; takes = stays.takes; anchors = stays.anchors; room = stays.room };
     ends = λ _. still_ends answer ends;
     off = ap (λ (b : Bool). b || is_cut_answer answer) (still_on ∙ sym on);
     stopped = λ off. absurd (both_ways m.state.is_off on off);

@@ -214,21 +214,22 @@ module _ {T : Type 0} (d e : Device) (m n : System) (result : Result T Fault) (s
       of_fault _ c = c
 
       by : (r : Result T Fault) → Saves d m r e n → Saves d m (replied empty r) e n
-      by (Ok x) a = record { commits = a.commits; only_anchors = a.only_anchors; used_pages = a.used_pages; state = a.state; writable = a.writable; overflow = λ is. absurd cc }
-      by (Err fault) a = record { commits = of_fault fault a.commits; only_anchors = a.only_anchors; used_pages = a.used_pages; state = a.state; writable = tt; overflow = λ is. a.overflow (ap Err (same_fault is)) }
+      by (Ok x) a = record { commits = a.commits; only_anchors = a.only_anchors; used_pages = a.used_pages; state = a.state; writable = a.writable; placed = a.placed; overflow = λ is. absurd cc }
+      by (Err fault) a = record { commits = of_fault fault a.commits; only_anchors = a.only_anchors; used_pages = a.used_pages; state = a.state; writable = tt; placed = tt; overflow = λ is. a.overflow (ap Err (same_fault is)) }
         where
           same_fault : {x y : Fault} → failed_reply x ≡ failed_reply y → x ≡ y
           same_fault e = cc
 
   -- a call that committed
-  pub committed : (call : Call) → IsSyncing (machine_on d m.state) call → IfErr result (SaveCause d m e n) → TriesOnce d m call (replied empty result) e n
-  committed call is why = record {
+  pub committed : (call : Call) → IsSyncing (machine_on d m.state) call → IfErr result (SaveCause d m e n) → n.pass ≡ m.pass → TriesOnce d m call (replied empty result) e n
+  committed call is why same_pass = record {
     step = record { later = later; answers = answers call is why };
     leaves = λ none. absurd (true≢false (sym is.sync ∙ none));
     saves = λ sync. replied_saves;
     told = λ tells. absurd (tells_none call is.sync tells);
     refused = unchanged result;
     stopped = λ off. absurd (true≢false (sym off ∙ on));
+    pass = same_pass;
     pages = λ p reached. saves.used_pages p (reached_used (block_of d p) reached);
     after = record_after call is.sync;
   }
@@ -287,6 +288,7 @@ refused_saves d m fault off other = record {
   used_pages = λ p is. refl;
   state = λ i. record m.state { is_off = sym off i };
   writable = tt;
+  placed = tt;
   overflow = λ is. absurd (other (same_fault is));
 }
   where
@@ -302,6 +304,7 @@ off_step d m call sync off = record {
   told = λ tells. tt;
   refused = refl;
   stopped = λ is. (refl, refl);
+  pass = refl;
   pages = λ p reached. refl;
   after = kept_record d m PowerCut _ call;
 }
@@ -319,6 +322,7 @@ closed_step d m call sync on refused = record {
   told = λ tells. tt;
   refused = refl;
   stopped = λ is. (refl, refl);
+  pass = refl;
   pages = λ p reached. refl;
   after = kept_record d m BadDescriptor _ call;
 }

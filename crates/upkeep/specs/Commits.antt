@@ -16,6 +16,7 @@ use Rattle.record_format.specs.declared.records.Record.{Record}
 use Rattle.commit_pair.specs.Parts.{greatest_on}
 use Rattle.commit_pair.specs.Anchored.{OnlyAnchors}
 use Rattle.commit_pair.specs.Committing.{Commits}
+use Rattle.commit_pair.specs.Remembering.{IsPlaced}
 use Rattle.working_state.specs.Leaves.{Leaves}
 use Rattle.working_state.specs.Mounted.{KeepsPages}
 use Rattle.working_state.specs.Roots.{IsSpace}
@@ -40,6 +41,9 @@ pub record Saves {T : Type 0} (old : Device) (m : System) (result : Result T Fau
   pub used_pages : (p : ℕ) → set.contains m.state.storage.ring.used (block_of old p) ≡ true → new.pages p ≡ old.pages p
   pub state : n.state ≡ record m.state { storage = record m.state.storage { bad = n.state.storage.bad }; is_off = m.state.is_off || is_cut_answer result }
   pub writable : OnOk result (is_read_only n.state.storage.bad ≡ false)
+  -- the record is where a commit after the newest one puts it, and nothing was read: each of its pages was programmed, an anchor
+  -- erased only where it is on another one, and what came beside came on anchors that failed
+  pub placed : OnOk result (IsPlaced old m.state.storage.bad m.anchors (record_on old m.state) 0 new n.state.storage.bad)
   pub overflow : result ≡ Err Overflow → greatest_on old.geometry old.pages ≡ 2 ^ 64 - 1
 
 -- why a commit is refused: read-only mode; no sequence is left; the device is off; memory was wanted
@@ -75,6 +79,8 @@ pub record TriesOnce (old : Device) (m : System) (call : Call) (result : Result 
   pub told : tells_space call ≡ true → IfOk result (λ reply. (space : Space) × IsSpace new n.state space × (answer space (machine_on old m.state) call ≡ Ok reply))
   pub refused : OnErr result (n.state.history ≡ m.state.history)
   pub stopped : m.state.is_off ≡ true → (new ≡ old) × (n ≡ m)
+  -- the marking that goes on is as it was
+  pub pass : n.pass ≡ m.pass
   -- no page changes of a block that a version or a checkpoint reaches
   pub pages : KeepsPages old m.state new
   pub after : RecordAfter (is_sync call ≡ true) call result old (machine_on old m.state).history new

@@ -61,6 +61,7 @@ pub record IsMountOf (old new : Device) (system : System) : Type 0 where
   pub holds : committed_on old ≡ Some (Ok newest)
   pub loaded : IsLoaded new newest system.state
   pub remembers : KnowsNewest new system.state.storage.bad system.anchors
+  pub pass : system.pass ≡ None
 
 -- the newest record is sound, but some version or checkpoint of it has no tree
 abbrev pub LacksTrees : Device → Type 0

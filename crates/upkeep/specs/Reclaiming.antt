@@ -8,7 +8,7 @@ use Rattle.flash_model.specs.Device.{Device}
 use Rattle.flash_model.specs.Reading.{OnlyReads}
 use Rattle.node_store.specs.NodePages.{node_of}
 use Rattle.block_trees.specs.Reached.{Reached}
-use Rattle.reclaim.specs.Passes.{Pass}
+use Rattle.reclaim.specs.Passes.{Pass, IsPass, Begins}
 use Rattle.working_state.specs.Seen.{seen_on, machine_on}
 use Rattle.working_state.specs.Steps.{is_cut_answer}
 use Rattle.working_state.specs.Worked.{ReadCause}
@@ -22,13 +22,19 @@ GoesOnFrom m p note =
     ((m.pass ≡ Some p) × (note ≡ m.state.storage.ring.note))
     ⊎ ((m.pass ≡ None) × (p.roots ≡ roots_of m.state.history ++ m.record_roots.items) × (p.next ≡ 0) × (note ≡ set.empty))
 
+-- a marking went on from another: it is of the same flash and roots, and what was marked before is marked, in the same order
+pub record Advances (from to : Pass) : Type 0 where
+  pub blocks : to.blocks ≡ from.blocks
+  pub roots : to.roots ≡ from.roots
+  pub begins : Begins from.order to.order
+
 -- so many blocks more were read, and some are left: the greatest budget is for all
 pub record GoesOn (m : System) (budget : ℕ) (n : System) : Type 0 where
   pub from : Pass
   pub to : Pass
   pub was : GoesOnFrom m from n.state.storage.ring.note
   pub is : n.pass ≡ Some to
-  pub roots : to.roots ≡ from.roots
+  pub on : Advances from to
   pub next : to.next ≡ from.next + budget
   pub left : to.next < length to.order
   pub few : budget < 2 ^ 64 - 1
@@ -41,9 +47,11 @@ pub record EndsPass (d : Device) (m : System) (budget : ℕ) (n : System) : Type
   pub to : Pass
   pub was : GoesOnFrom m from n.state.storage.ring.note
   pub is : n.pass ≡ None
-  pub roots : to.roots ≡ from.roots
+  pub on : Advances from to
   pub next : to.next ≤ from.next + budget
   pub all : to.next ≡ length to.order
+  -- it is a marking: so its list has exactly the blocks that the roots reach, each once
+  pub marking : (IsPass (node_of d) to → ⊥) → ⊥
   pub reached : (b : ℕ) → Reached (node_of d) from.roots b → set.contains n.state.storage.ring.used b ≡ true
   pub taken : (b : ℕ) → set.contains n.state.storage.ring.note b ≡ true → set.contains n.state.storage.ring.used b ≡ true
   pub only : (b : ℕ) → (Reached (node_of d) from.roots b → ⊥) → set.contains n.state.storage.ring.note b ≡ false → set.contains n.state.storage.ring.used b ≡ false
@@ -64,6 +72,7 @@ pub record Stays (old : Device) (m : System) (new : Device) (n : System) : Type 
   pub last : n.state.storage.ring.last ≡ m.state.storage.ring.last
   pub takes : n.state.storage.ring.takes ≡ m.state.storage.ring.takes
   pub anchors : n.anchors ≡ m.anchors
+  pub room : n.state.storage.cache.room ≡ m.state.storage.cache.room
 
 -- a step of reclaiming, whatever it answers. Once a call has answered that the power is off, nothing changes
 pub record Reclaims (old : Device) (m : System) (budget : ℕ) (result : Result Bool Fault) (new : Device) (n : System) : Type 0 where

@@ -12,7 +12,7 @@ ghost use Rattle.working_state.specs.Leaves.{HasLooked};
 ghost use Rattle.working_state.specs.Seen.{seen_of};
 ghost use Rattle.working_state.specs.Worked.{ReadCause};
 ghost use Rattle.upkeep.specs.Mounts.{roots_of};
-ghost use Rattle.upkeep.specs.Reclaiming.{GoesOnFrom, StepEnds, Stays, Reclaims};
+ghost use Rattle.upkeep.specs.Reclaiming.{GoesOnFrom, Advances, StepEnds, Stays, Reclaims};
 ghost use Rattle.upkeep.specs.Systems.{IsSystem};
 
 use crate::restoring::list_roots;
@@ -108,7 +108,7 @@ fn step_on<F: Flash>(
     requires fits { Fits (F.device flash.old) storage.old }
     requires blocks { pass.old.blocks ≡ (F.device flash.old).geometry.blocks }
     ensures pass { IsPass (node_of (F.device flash.old)) pass.old → OnOk result (IsPass (node_of (F.device flash.old)) pass.new) }
-    ensures same { (pass.new.blocks ≡ pass.old.blocks) × (pass.new.roots ≡ pass.old.roots) }
+    ensures on { Advances pass.old pass.new }
     ensures more { result ≡ Ok false → (pass.new.next ≡ pass.old.next + budget) × (pass.new.next < length pass.new.order) }
     ensures done { result ≡ Ok true → (pass.new.next ≤ pass.old.next + budget) × IsFinished pass.new }
     ensures all { result ≡ Ok false → budget < 2 ^ 64 - 1 }
@@ -126,7 +126,7 @@ fn step_in<F: Flash>(store: &mut Store<'_, F>, pass: &mut Pass, budget: u64) -> 
     requires blocks { pass.old.blocks ≡ (F.device store.old.flash.now).geometry.blocks }
     ensures follows { Follows F.device store.old store.new }
     ensures pass { IsPass (node_of (F.device store.old.flash.now)) pass.old → OnOk result (IsPass (node_of (F.device store.old.flash.now)) pass.new) }
-    ensures same { (pass.new.blocks ≡ pass.old.blocks) × (pass.new.roots ≡ pass.old.roots) }
+    ensures on { Advances pass.old pass.new }
     ensures more { result ≡ Ok false → (pass.new.next ≡ pass.old.next + budget) × (pass.new.next < length pass.new.order) }
     ensures done { result ≡ Ok true → (pass.new.next ≤ pass.old.next + budget) × IsFinished pass.new }
     ensures all { result ≡ Ok false → budget < 2 ^ 64 - 1 }

@@ -126,10 +126,12 @@ begin_cause d was s FlashFull e t are bad ring written used why =
         grown = grown d was e t evolved;
         all = all_bad was t.bad d.geometry.blocks (λ b has new. subst (λ (n : ℕ). IsDataBlock n b) evolved.blocks (used b (evolved.bad_used b has new))) many;
         many = many;
+        by_data = evolved.bad_data;
       },
     )
 begin_cause d was s ReadOnly e t are bad ring written used why =
-    (t.bad, record { grown = grown d was e t (begins d was s (parts.storage e t.bad t.ring) bad ring written.evolved); full = why })
+    let evolved = begins d was s (parts.storage e t.bad t.ring) bad ring written.evolved in
+    (t.bad, record { grown = grown d was e t evolved; full = why; by_data = evolved.bad_data })
 begin_cause d was s PowerCut e t are bad ring written used why = why
 begin_cause d was s NoMemory e t are bad ring written used why = tt
 begin_cause d was s _ e t are bad ring written used why = absurd why
@@ -199,6 +201,7 @@ written_begun d was limit s e t h files root lawful bad ring fits written kept e
       evolved = begins d was s (parts.storage e t.bad t.ring) bad ring written.evolved;
       paid = omega arith;
       root_block = first_root d s e t root ring next;
+      last = next.last;
     }
 
 -- The flash, and the refusals that write no root.

@@ -1,5 +1,5 @@
 -- What `df` tells: the roots of a history, the blocks that they reach, and its step.
-use Rattle.std.proofs.Common.{◌≡◌, ◌≢◌, inl, inr, ℕ, zero, suc, ◌-◌, ◌<◌, ◌≤◌, Bool, true, false, ◌||◌, not, None, Result, Ok, Err, List, [], ◌∷◌, count_by, map, refl, sym, ap, subst, ◌∙◌, arith}
+use Rattle.std.proofs.Common.{◌≡◌, ◌≢◌, inl, inr, ℕ, zero, suc, ◌+◌, ◌-◌, ◌<◌, ◌≤◌, Bool, true, false, ◌||◌, not, None, Result, Ok, Err, List, [], ◌∷◌, count_by, length, map, refl, sym, ap, subst, ◌∙◌, arith}
 use Rattle.std.proofs.lemmas.Bool.{cases_lt, both_ways, true≢false}
 use Rattle.std.proofs.lemmas.List.Elements.{Contains-append_left, Contains-append_right, Contains-append_cases}
 use Rattle.std.specs.Prelude.{◌↔◌, ◌⊎◌, Contains, IfOk, IfErr}
@@ -25,6 +25,7 @@ use Rattle.node_store.specs.Stores.{Causes}
 use Rattle.node_store.specs.declared.stores.Store.{Store}
 use Rattle.block_trees.specs.Bodies.{Blocks}
 use Rattle.block_trees.specs.Reached.{Reached, IsFirst, IsNamed}
+use Rattle.reclaim.specs.Passes.{Pass, AreReached, HasRead}
 use Rattle.reclaim.specs.Verified.{AreRoots}
 use Rattle.reclaim.proofs.Soundness.{trees_hold_nodes}
 use Rattle.working_state.specs.Moments.{Moment, machine_at, seen_at, IsMountedAt, IsStep}
@@ -36,6 +37,7 @@ use Rattle.working_state.specs.Worked.{IsLooked, ReadCause}
 use Rattle.working_state.specs.declared.state.State.{State}
 use Rattle.working_state.proofs.Refusals.{in_refusal, refused_step, remembering, remembered_mounted}
 use Rattle.working_state.proofs.Standing.{looked_worked, worked_reaches, looked_leaves, worked_later, worked_machine, worked_mounted}
+use Rattle.upkeep.specs.Costs.{ReadsEach}
 use Rattle.upkeep.specs.Mounts.{roots_of}
 use Rattle.upkeep.proofs.Syncs.{reached_from}
 
@@ -107,6 +109,22 @@ space_told a b blocks reached reply m l many marked says =
       },
       sym says,
     )
+
+-- ---- what a marking costs
+
+pub reads_none : (f : Blocks) (roots : List ℕ) (before after : ℕ) → after ≡ before → ReadsEach f roots before after
+reads_none f roots before after same = record {
+  blocks = [];
+  are = record { distinct = λ i j less below same. omega arith; reached = λ b has. absurd (omega (arith, has.1)) };
+  most = omega arith;
+}
+
+pub reads_each : (f : Blocks) (roots : List ℕ) (p : Pass) (before after : ℕ) → p.roots ≡ roots → p.next ≡ 0 → HasRead f p before after → ReadsEach f roots before after
+reads_each f roots p before after same none read = record {
+  blocks = read.seen;
+  are = subst (λ (l : List ℕ). AreReached f l read.seen) same read.are;
+  most = let most = read.most in omega arith;
+}
 
 -- why the blocks that roots reach are not marked
 pub marking_why : {F : Type 0} (device : F → Device) (s t : Store F) (roots : List ℕ) (fault : Fault) → AreRoots (block_bytes (device s.flash.now).geometry) (node_of (device s.flash.now)) roots → IsReadFault fault

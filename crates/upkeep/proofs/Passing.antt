@@ -414,6 +414,10 @@ pub record IsStepped (d e : Device) (m n : System) (p q : Pass) (st : Storage) :
   pub goes : Advances p q
   pub looked : HasLooked d n.state.storage e st
 
+pub is_stepped : (d e : Device) (m n : System) (p q : Pass) (st : Storage) → IsSystem d m → m.state.is_off ≡ false → n ≡ with_note m n.state.storage.ring.note → GoesOnFrom m p n.state.storage.ring.note
+    → (m.pass ≡ None → (p.blocks ≡ m.state.storage.ring.blocks) × ((f : Blocks) → IsPass f p)) → Advances p q → HasLooked d n.state.storage e st → IsStepped d e m n p q st
+is_stepped d e m n p q st system on noted from begun goes looked = record { system = system; on = on; noted = noted; from = from; begun = begun; goes = goes; looked = looked }
+
 module _ (d e : Device) (m n : System) (p q : Pass) (st : Storage) (t : IsStepped d e m n p q st) where
   first : IsSystem d n
   first = noted_system d m t.system t.on n t.noted

@@ -32,8 +32,8 @@ use Rattle.upkeep.specs.Systems.{IsSystem}
 use Rattle.upkeep.specs.declared.systems.System.{System}
 use Rattle.upkeep.proofs.SameRecords.{still_saved, same_trees, still_whole}
 use Rattle.upkeep.proofs.Syncs.{sync_syncs, fsync_syncs}
-use Rattle.undofs.specs.Runs.{Shows, IsSaved, found_after, ReclaimsOn, put_on, MayRefuseMount, Mounts}
-use Rattle.undofs.specs.Sessions.{Stands, world, Serves, Starts}
+use Rattle.undofs.specs.Runs.{Shows, IsSaved, found_after, ReclaimsOn, put_on, MayRefuseMount, Mounts, Happens, Run}
+use Rattle.undofs.specs.Sessions.{IsSound, Stands, world, Moves, IsStart, Starts, Serves, AreServed, IsServed, ServeLaw, IsSession}
 use Rattle.undofs.proofs.RunLaws.{shown, refused_keeps}
 
 -- ---- where no page changes
@@ -98,9 +98,13 @@ abbrev pub answer_of : Result Reply Fault → Answer
 answer_of (Ok reply) = Answer.Done reply
 answer_of (Err fault) = Answer.Refused fault
 
-pub call_serves : (d : Device) (m : System) (call : Call) (result : Result Reply Fault) (e : Device) (n : System) → SystemStep d m call result e n → IsSystem e n
-    → Serves d (Some m) (Event.Call call) (answer_of result) e (Some n)
-call_serves d m call (Ok reply) e n step system found stands =
+-- from each world an event leads to one that stands
+abbrev Leads : Device → Option System → Event → Answer → Device → Option System → List (Past Tree) → Type 0
+Leads d s event answer e t found = (more : List (Past Tree)) × Happens (world d s found) event answer (world e t more) × Stands (world e t more)
+
+call_leads : (d : Device) (m : System) (call : Call) (result : Result Reply Fault) (e : Device) (n : System) (found : List (Past Tree)) → SystemStep d m call result e n → IsSystem e n
+    → Stands (world d (Some m) found) → Leads d (Some m) (Event.Call call) (answer_of result) e (Some n) found
+call_leads d m call (Ok reply) e n found step system stands =
     let working = stands.shown (machine_on d m.state) (m, refl, refl) in
     let more = found_after call (Ok reply) found (machine_on e n.state).history in
     let saved = saved_done d m call e n found stands.saved working reply step in (
@@ -108,7 +112,7 @@ call_serves d m call (Ok reply) e n step system found stands =
       record { before = m; after = n; was = refl; is = refl; step = step; mounted = system; found = refl; saved = saved },
       record { lawful = system.mounted.lawful; saved = saved; shown = shows_system e n more (now_found d m call e n found stands.saved working reply) },
     )
-call_serves d m call (Err fault) e n step system found stands =
+call_leads d m call (Err fault) e n found step system stands =
     let working = stands.shown (machine_on d m.state) (m, refl, refl) in
     let saved = saved_among d m call e n found stands.saved working (Err fault) found step (λ h has. has) in
     let same : machine_on e n.state ≡ machine_on d m.state = refused_keeps _ _ _ m.state.is_off call fault _ _ n.state.is_off step.answers in (
@@ -117,9 +121,10 @@ call_serves d m call (Err fault) e n step system found stands =
       record { lawful = system.mounted.lawful; saved = saved; shown = shows_system e n found (subst (λ (x : Machine). Contains found x.history) (sym same) working) },
     )
 
--- without a system nothing is done
-pub unmounted_serves : (d : Device) (call : Call) → Serves d None (Event.Call call) Answer.Unmounted d None
-unmounted_serves d call found stands = (found, (refl, refl), stands)
+pub call_serves : (d : Device) (m : System) (call : Call) (result : Result Reply Fault) (e : Device) (n : System) → SystemStep d m call result e n → IsSystem e n
+    → Serves d (Some m) (Event.Call call) (answer_of result) e (Some n)
+call_serves d m call (Ok reply) e n step system = record { before = m; after = n; was = refl; is = refl; step = step; mounted = system }
+call_serves d m call (Err fault) e n step system = record { before = m; after = n; was = refl; is = refl; step = step; mounted = system }
 
 -- ---- after a step of reclaiming
 
@@ -143,9 +148,14 @@ module _ (d : Device) (m : System) (budget : ℕ) (e : Device) (n : System) (fou
 
 pub step_serves : (d : Device) (m : System) (budget : ℕ) (result : Result Bool Fault) (e : Device) (n : System) → Reclaims d m budget result e n → IsSystem e n
     → Serves d (Some m) (Event.ReclaimStep budget) (step_answer result) e (Some n)
-step_serves d m budget (Ok done) e n step system found stands =
+step_serves d m budget (Ok done) e n step system = (done, refl, record { before = m; after = n; was = refl; is = refl; step = step; mounted = system })
+step_serves d m budget (Err fault) e n step system = record { before = m; after = n; was = refl; is = refl; step = step; mounted = system }
+
+step_leads : (d : Device) (m : System) (budget : ℕ) (result : Result Bool Fault) (e : Device) (n : System) (found : List (Past Tree)) → Reclaims d m budget result e n → IsSystem e n
+    → Stands (world d (Some m) found) → Leads d (Some m) (Event.ReclaimStep budget) (step_answer result) e (Some n) found
+step_leads d m budget (Ok done) e n found step system stands =
     (found, (done, refl, step_happens d m budget e n found stands (Ok done) step system), step_stands d m budget e n found stands (Ok done) step system)
-step_serves d m budget (Err fault) e n step system found stands =
+step_leads d m budget (Err fault) e n found step system stands =
     (found, step_happens d m budget e n found stands (Err fault) step system, step_stands d m budget e n found stands (Err fault) step system)
 
 -- ---- after a mount
@@ -241,7 +251,65 @@ mount_begins d e m reads mount system =
     let both = mount_stands d e (history ∷ []) lawful saved reads m mount system in
     (history, is, both.0, both.1)
 
--- ---- after a restart
+-- ---- after any event
 
-pub restart_serves : (d : Device) (s : Option System) (answer : Answer) (e : Device) (t : Option System) → Starts (put_on d) answer e t → Serves d s Event.Restart answer e t
-restart_serves d s answer e t starts found stands = starts found stands.lawful (stays_saved d (put_on d) stands.lawful refl (λ p. refl) found stands.saved)
+-- a mount is answered so, on a flash whose newest record is sound
+pub start_leads : (d e : Device) (t : Option System) (answer : Answer) (found : List (Past Tree)) → Starts d answer e t → IsGeometry d.geometry → IsSaved d found
+    → (more : List (Past Tree)) × Mounts d found answer (world e t more) × Stands (world e t more)
+start_leads d e t Answer.Mounted found start lawful saved =
+    subst (λ (x : Option System). (more : List (Past Tree)) × Mounts d found Answer.Mounted (world e x more) × Stands (world e x more)) (sym start.is)
+    (mounted_starts d e found lawful saved start.reads start.system start.holds start.mounted)
+start_leads d e t (Answer.Refused fault) found (none, why, reads) lawful saved =
+    subst (λ (x : Option System). (more : List (Past Tree)) × Mounts d found (Answer.Refused fault) (world e x more) × Stands (world e x more)) (sym none)
+    (refused_starts d e found lawful saved reads fault why)
+start_leads d e t (Answer.Done reply) found start lawful saved = absurd start
+start_leads d e t Answer.Unmounted found start lawful saved = absurd start
+
+-- the systems before and after
+on_systems : (d e : Device) (s t : Option System) (event : Event) (answer : Answer) (found : List (Past Tree)) (m n : System) → s ≡ Some m → t ≡ Some n
+    → (Stands (world d (Some m) found) → Leads d (Some m) event answer e (Some n) found) → Stands (world d s found) → Leads d s event answer e t found
+on_systems d e s t event answer found m n was is leads stands =
+    subst (λ (x : Option System). Leads d s event answer e x found) (sym is)
+    (subst (λ (x : Option System). Leads d x event answer e (Some n) found) (sym was) (leads (subst (λ (x : Option System). Stands (world d x found)) was stands)))
+
+same_world : (d e : Device) (s t : Option System) (found : List (Past Tree)) → e ≡ d → t ≡ s → world e t found ≡ world d s found
+same_world d e s t found device system = λ i. world (device i) (system i) found
+
+pub serve_law : ServeLaw
+serve_law d e s t (Event.Call call) (Answer.Done reply) found h stands =
+    on_systems d e s t (Event.Call call) (Answer.Done reply) found h.before h.after h.was h.is (call_leads d h.before call (Ok reply) e h.after found h.step h.mounted) stands
+serve_law d e s t (Event.Call call) (Answer.Refused fault) found h stands =
+    on_systems d e s t (Event.Call call) (Answer.Refused fault) found h.before h.after h.was h.is (call_leads d h.before call (Err fault) e h.after found h.step h.mounted) stands
+serve_law d e s t (Event.Call call) Answer.Mounted found h stands = absurd h
+serve_law d e s t (Event.Call call) Answer.Unmounted found (none, device, system) stands =
+    let same = same_world d e s t found device system in (found, (none, same), subst Stands (sym same) stands)
+serve_law d e s t (Event.ReclaimStep budget) (Answer.Done reply) found (done, is, h) stands =
+    subst (λ (x : Reply). Leads d s (Event.ReclaimStep budget) (Answer.Done x) e t found) (sym is)
+    (on_systems d e s t (Event.ReclaimStep budget) (Answer.Done (Reply.Step done)) found h.before h.after h.was h.is (step_leads d h.before budget (Ok done) e h.after found h.step h.mounted) stands)
+serve_law d e s t (Event.ReclaimStep budget) (Answer.Refused fault) found h stands =
+    on_systems d e s t (Event.ReclaimStep budget) (Answer.Refused fault) found h.before h.after h.was h.is (step_leads d h.before budget (Err fault) e h.after found h.step h.mounted) stands
+serve_law d e s t (Event.ReclaimStep budget) Answer.Mounted found h stands = absurd h
+serve_law d e s t (Event.ReclaimStep budget) Answer.Unmounted found (none, device, system) stands =
+    let same = same_world d e s t found device system in (found, (none, same), subst Stands (sym same) stands)
+serve_law d e s t Event.Restart answer found h stands =
+    start_leads (put_on d) e t answer found h stands.lawful (stays_saved d (put_on d) stands.lawful refl (λ p. refl) found stands.saved)
+
+-- ---- after events
+
+run_served : (d e : Device) (s t : Option System) (events : List Event) (answers : List Answer) (found : List (Past Tree)) → AreServed d s events answers e t → Stands (world d s found)
+    → (more : List (Past Tree)) × Run (world d s found) events answers (world e t more)
+run_served d e s t [] [] found (device, system) stands = (found, same_world d e s t found device system)
+run_served d e s t [] (answer ∷ answers) found h stands = absurd h
+run_served d e s t (event ∷ events) [] found h stands = absurd h
+run_served d e s t (event ∷ events) (answer ∷ answers) found (between, system, here, rest) stands =
+    let one = serve_law d between s system event answer found here stands in
+    let all = run_served between e system t events answers one.0 rest one.2 in
+    (all.0, (world between system one.0, one.1, all.1))
+
+pub session_served : (d e : Device) (t : Option System) (events : List Event) (answers : List Answer) → IsServed d events answers e t → IsSound d → IsSession d events answers e t
+session_served d e t events [] h sound = absurd h
+session_served d e t events (first ∷ answers) (between, system, start, rest) sound =
+    let saved : IsSaved d (sound.history ∷ []) = record { history = sound.history; saved = sound.saved; among = the_one sound.history; whole = sound.whole } in
+    let begun = start_leads d between system first (sound.history ∷ []) start sound.lawful saved in
+    let all = run_served between e system t events answers begun.0 rest begun.2 in
+    (all.0, (sound.history, world between system begun.0, sound.saved, begun.1, all.1))

@@ -2,6 +2,7 @@ pub mod Committed
 pub mod NewestLaws
 pub mod Places
 pub mod ReadParts
+pub mod ScanLaws
 pub mod WritingLaws
 pub mod WholeLaws
 pub mod Anchoring

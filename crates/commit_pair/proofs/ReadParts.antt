@@ -1,5 +1,5 @@
 -- What was read, one page after the other.
-use Rattle.std.proofs.Common.{◌≡◌, ◌≢◌, ℕ, suc, ◌+◌, ◌-◌, ◌/◌, ◌<◌, ◌≤◌, Bool, true, false, cond, ltb, leb, List, ◌++◌, length, Option, Some, None, Err, inl, inr, refl, sym, ap, subst, ◌∙◌, append_assoc, arith}
+use Rattle.std.proofs.Common.{◌≡◌, ◌≢◌, ℕ, suc, ◌+◌, ◌-◌, ◌/◌, ◌<◌, ◌≤◌, Bool, true, false, cond, ltb, leb, List, ◌++◌, length, Option, Some, None, Result, Err, inl, inr, refl, sym, ap, subst, ◌∙◌, append_assoc, arith}
 use Rattle.std.specs.FinSet as set
 use Rattle.std.specs.Ordering.{nat_cmp}
 use Rattle.std.proofs.lemmas.Bool.{cases_Bool, and_right, lt-ltb, lt-leb, le-leb}
@@ -9,7 +9,9 @@ use Rattle.std.specs.Option.{option_map, option_and_then}
 use Rattle.fs_types.specs.declared.faults.Fault.{Fault}
 use Rattle.fs_types.specs.declared.faults.Fault.TheVariants.{ReadFailed, PowerCut}
 use Rattle.flash_model.specs.declared.sizes.Geometry.{Geometry}
-use Rattle.flash_model.specs.Device.{Device, Page, bytes_of}
+use Rattle.flash_model.specs.Device.{Device, Page, bytes_of, Reads}
+use Rattle.flash_model.specs.declared.device.DevFault.{DevFault}
+use Rattle.flash_model.specs.declared.device.PageState.{PageState}
 use Rattle.record_format.specs.Pages.{head_of, used_bytes}
 use Rattle.record_format.specs.Payloads.{payload_at}
 use Rattle.record_format.specs.declared.pages.PageHead.{PageHead}
@@ -82,6 +84,14 @@ pub erased_read : (d e : Device) (bad : set.FinSet nat_cmp) (n : ℕ) → OnlyRe
 erased_read d e bad n reads is p lt good =
     ap (λ (pages : ℕ → Page). pages p) reads.pages
     ∙ is p (subst (λ (g : Geometry). p / g.pages < n) reads.geometry lt) (subst (λ (g : Geometry). set.contains bad (p / g.pages) ≡ false) reads.geometry good)
+
+-- a read is one operation at most
+one_at_most : (on : Bool) → cond on 1 0 ≤ 1
+one_at_most true = omega arith
+one_at_most false = omega arith
+
+pub reads_one : (old : Device) (p : ℕ) (was : List ℕ) (new : Device) (now : List ℕ) (result : Result PageState DevFault) → Reads old p was new now result → new.operations ≤ old.operations + 1
+reads_one old p was new now result reads = let h = reads.operates.operations in let one = one_at_most old.powered in omega arith
 
 -- one page of a record after the other
 are_parts_first : (g : Geometry) (parts : ℕ → Option Part) (p : ℕ) (first : PageHead) (n others : ℕ) → are_parts g parts p first n (suc others) ≡ (is_part g first n (head_at parts (p + n)) && are_parts g parts p first (n + 1) others)

@@ -1,4 +1,5 @@
 pub mod Parts
+pub mod Scanning
 pub mod Reading
 pub mod Laws
 pub mod Newest

@@ -85,6 +85,11 @@ abbrev pub sequence_of : Option Found → ℕ
 sequence_of None = 0
 sequence_of (Some found) = found.head.sequence
 
+-- how many pages a record has, 0 where there is none
+abbrev pub pages_of : Option Found → ℕ
+pages_of None = 0
+pages_of (Some found) = found.head.count
+
 abbrev pub greatest_on : Geometry → (ℕ → Page) → ℕ
 greatest_on g pages = sequence_of (best_on g (parts_on g pages)).found
 

@@ -12,7 +12,7 @@ ghost use Rattle.fs_types.specs.declared.limits.TheConstants.{MAX_BAD_BLOCKS};
 
 use crate::best::{Best, Found};
 use crate::clearing::erase_anchors;
-use crate::scan::{find_best, find_end, find_payload};
+use crate::scan::{find_best, find_payload};
 use bad_blocks::BadBlocks;
 use flash_model::{Flash, Geometry};
 use fs_types::Fault;
@@ -41,8 +41,8 @@ impl Anchors {
         }
     }
 
-    /// Reads all pages of the eight anchors, and answers the newest record, or None where no record
-    /// is valid. Its place is remembered, so that a commit may follow; after a refusal none is.
+    /// Reads each page of the eight anchors once, and those of the newest record once more, and answers
+    /// that record, or None where no record is valid. Its place is remembered, so that a commit may follow; after a refusal none is.
     ///
     /// `Damaged` where two valid records have the greatest sequence; `Damaged` or `BadGeometry`
     /// where the payload of the newest is no record of a flash of these sizes; `ReadFailed` and
@@ -60,6 +60,7 @@ impl Anchors {
         ensures forgets { OnErr result (remembered self.new ≡ None) }
         ensures uncleared { IsUncleared self.new }
         ensures only_reads { OnlyReads (F.device flash.old) (F.device flash.new) }
+        ensures operations { (F.device flash.new).operations ≤ (F.device flash.old).operations + (spec.first_data * (F.device flash.old).geometry.pages + spec.pages_of (spec.newest_at (F.device flash.old).geometry (spec.parts_on (F.device flash.old).geometry (F.device flash.old).pages))) }
         ensures why { IfErr result (NewestCause (F.device flash.old) (F.device flash.new)) }
     {
         *self = Anchors::new();
@@ -88,14 +89,14 @@ impl Anchors {
         ensures forgets { OnErr result (remembered self.new ≡ None) }
         ensures uncleared { IsUncleared self.new }
         ensures only_reads { OnlyReads (F.device flash.old) (F.device flash.new) }
+        ensures operations { (F.device flash.new).operations ≤ (F.device flash.old).operations + (spec.first_data * (F.device flash.old).geometry.pages + spec.pages_of (spec.newest_at (F.device flash.old).geometry (spec.parts_on (F.device flash.old).geometry (F.device flash.old).pages))) }
         ensures why { IfErr result (NewestCause (F.device flash.old) (F.device flash.new)) }
     {
-        let best = find_best(flash, geometry, page)?;
+        let (best, end) = find_best(flash, geometry, page)?;
         let newest = read_best(alloc, flash, geometry, best, page)?;
         let Some(found) = best.found else {
             return Ok(newest);
         };
-        let end = find_end(flash, geometry, found.page / geometry.pages, page)?;
         self.end = end;
         self.newest = Some(found);
         Ok(newest)
@@ -147,6 +148,7 @@ fn read_best<F: Flash>(
     ensures newest { IfOk result (IsNewestRecord (F.device flash.old)) }
     ensures found { OnOk result (best.found ≡ spec.newest_at geometry (spec.parts_on geometry (F.device flash.old).pages)) }
     ensures only_reads { OnlyReads (F.device flash.old) (F.device flash.new) }
+    ensures operations { (F.device flash.new).operations ≤ (F.device flash.old).operations + spec.pages_of (spec.newest_at geometry (spec.parts_on geometry (F.device flash.old).pages)) }
     ensures why { IfErr result (NewestCause (F.device flash.old) (F.device flash.new)) }
 {
     if best.twice {

@@ -12,6 +12,7 @@ mod parts;
 mod payloads;
 mod programming;
 mod ring;
+mod runs;
 mod scan;
 
 pub use anchors::Anchors;

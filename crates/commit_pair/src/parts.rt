@@ -27,6 +27,7 @@ pub(crate) fn read_head<F: Flash>(
     requires whole { length buffer.old ≡ geometry.page }
     ensures part { IfOk result (λ found. option_map (λ head. record { head = head; bytes = used_bytes head buffer.new }) found ≡ spec.parts_on geometry (F.device flash.old).pages page) }
     ensures only_reads { OnlyReads (F.device flash.old) (F.device flash.new) }
+    ensures operations { (F.device flash.new).operations ≤ (F.device flash.old).operations + 1 }
     ensures why { IfErr result (ReadCause (F.device flash.old) (F.device flash.new)) }
 {
     match flash.read(page, buffer) {
@@ -52,7 +53,7 @@ fn is_filled(geometry: Geometry, count: u16, n: u16, used: u16) -> bool
 }
 
 /// Whether a page is the n-th of the record whose first header is given.
-fn is_part(geometry: Geometry, first: PageHead, n: u16, head: Option<PageHead>) -> bool
+pub(crate) fn is_part(geometry: Geometry, first: PageHead, n: u16, head: Option<PageHead>) -> bool
     requires { 20 ≤ geometry.page }
     ensures { result ≡ spec.is_part geometry first n head }
 {

@@ -1,42 +1,124 @@
 //! All pages of all anchors, gone over once.
-ghost use Rattle.std.specs.Prelude.{◌≡◌, ◌≢◌, ◌⊎◌, ℕ, ◌+◌, ◌*◌, ◌%◌, ◌≤◌, ◌<◌, ◌++◌, length, Err, IfOk, IfErr};
+ghost use Rattle.std.specs.Prelude.{◌≡◌, ◌≢◌, ◌⊎◌, ℕ, ◌+◌, ◌*◌, ◌/◌, ◌≤◌, ◌<◌, ◌++◌, length, Some, Err, IfOk, IfErr};
 ghost use Rattle.std.specs.Bool.{OnTrue, OnFalse};
 ghost use Rattle.flash_model.specs.Device.{erased};
 ghost use Rattle.flash_model.specs.Geometry.{IsGeometry};
 ghost use Rattle.record_format.specs.Payloads.{payload_at};
+ghost use Rattle.commit_pair.specs.declared.best.Found.{Found};
 ghost use Rattle.commit_pair.specs.Parts as spec;
 ghost use Rattle.commit_pair.specs.Payloads.{IsFront};
 ghost use Rattle.commit_pair.specs.Reading.{IsEnd, OnlyReads, ReadCause};
 
 use crate::best::{Best, Found};
-use crate::parts::{FIRST_DATA, read_head, read_record_head};
+use crate::parts::{FIRST_DATA, read_head};
+use crate::runs::Scan;
 use arrayvec::ArrayVec;
 use flash_model::{DevFault, Flash, Geometry, PageState};
 use fs_types::Fault;
 use record_format::{HEAD_SIZE, LONGEST_PAYLOAD, PageHead, Payload, refuse_long};
 
-/// The valid record of greatest sequence on the anchors, and whether another has its sequence.
+/// Reads a page of an anchor: the header of a part of a record or None, and whether the page is
+/// erased.
+fn read_page<F: Flash>(
+    flash: &mut F,
+    geometry: Geometry,
+    page: u32,
+    buffer: &mut [u8],
+) -> Result<(Option<PageHead>, bool), Fault>
+    requires same { (F.device flash.old).geometry ≡ geometry }
+    requires lawful { IsGeometry geometry }
+    requires in_range { page < spec.first_data * geometry.pages }
+    requires whole { length buffer.old ≡ geometry.page }
+    ensures head { IfOk result (λ read. read.0 ≡ spec.head_at (spec.parts_on geometry (F.device flash.old).pages) page) }
+    ensures blank { IfOk result (λ read. OnTrue read.1 ((F.device flash.old).pages page ≡ erased)) }
+    ensures other { IfOk result (λ read. OnFalse read.1 ((F.device flash.old).pages page ≢ erased)) }
+    ensures only_reads { OnlyReads (F.device flash.old) (F.device flash.new) }
+    ensures operations { (F.device flash.new).operations ≤ (F.device flash.old).operations + 1 }
+    ensures why { IfErr result (ReadCause (F.device flash.old) (F.device flash.new)) }
+{
+    match flash.read(page, buffer) {
+        Ok(PageState::Data) => Ok((PageHead::of(buffer), false)),
+        Ok(PageState::Erased) => Ok((None, true)),
+        Ok(PageState::Unreadable) => Ok((None, false)),
+        Err(DevFault::Failed) => Err(Fault::ReadFailed),
+        Err(DevFault::PowerCut) => Err(Fault::PowerCut),
+    }
+}
+
+/// Reads each page of an anchor once: the best record, this anchor's among them, and the place after
+/// the anchor's last page that is not erased.
+fn scan_anchor<F: Flash>(
+    flash: &mut F,
+    geometry: Geometry,
+    anchor: u32,
+    best: Best,
+    buffer: &mut [u8],
+) -> Result<(Best, u32), Fault>
+    requires same { (F.device flash.old).geometry ≡ geometry }
+    requires lawful { IsGeometry geometry }
+    requires anchor { anchor < spec.first_data }
+    requires whole { length buffer.old ≡ geometry.page }
+    requires best { best ≡ spec.best_below geometry (spec.parts_on geometry (F.device flash.old).pages) (anchor * geometry.pages) }
+    ensures best { IfOk result (λ read. read.0 ≡ spec.best_below geometry (spec.parts_on geometry (F.device flash.old).pages) ((anchor + 1) * geometry.pages)) }
+    ensures end { IfOk result (λ read. IsEnd geometry (F.device flash.old).pages anchor geometry.pages read.1) }
+    ensures only_reads { OnlyReads (F.device flash.old) (F.device flash.new) }
+    ensures operations { (F.device flash.new).operations ≤ (F.device flash.old).operations + geometry.pages }
+    ensures why { IfErr result (ReadCause (F.device flash.old) (F.device flash.new)) }
+{
+    let mut scan = Scan { best, run: None };
+    let mut end = 0;
+    for place in 0..geometry.pages {
+        let page = geometry.page_number(anchor, place);
+        let (head, blank) = read_page(flash, geometry, page, buffer)?;
+        scan = scan.next(geometry, page, head);
+        if !blank {
+            end = place + 1;
+        }
+    }
+    Ok((scan.best, end))
+}
+
+/// Whether a record begins on this anchor.
+fn is_on(geometry: Geometry, found: Option<Found>, anchor: u32) -> bool
+    requires { geometry.pages ≢ 0 }
+    ensures on { OnTrue result ((f : Found) → found ≡ Some f → f.page / geometry.pages ≡ anchor) }
+    ensures apart { OnFalse result ((f : Found) → found ≡ Some f → f.page / geometry.pages ≢ anchor) }
+{
+    match found {
+        Some(found) => found.page / geometry.pages == anchor,
+        None => false,
+    }
+}
+
+/// The valid record of greatest sequence on the anchors, whether another has its sequence, and the
+/// place after the last page that is not erased on its anchor. Each page is read once.
 pub(crate) fn find_best<F: Flash>(
     flash: &mut F,
     geometry: Geometry,
     buffer: &mut [u8],
-) -> Result<Best, Fault>
+) -> Result<(Best, u32), Fault>
     requires same { (F.device flash.old).geometry ≡ geometry }
     requires lawful { IsGeometry geometry }
     requires whole { length buffer.old ≡ geometry.page }
-    ensures best { IfOk result (λ best. best ≡ spec.best_on geometry (spec.parts_on geometry (F.device flash.old).pages)) }
+    ensures best { IfOk result (λ read. read.0 ≡ spec.best_on geometry (spec.parts_on geometry (F.device flash.old).pages)) }
+    ensures end { IfOk result (λ read. (found : Found) → read.0.found ≡ Some found → IsEnd geometry (F.device flash.old).pages (found.page / geometry.pages) geometry.pages read.1) }
     ensures only_reads { OnlyReads (F.device flash.old) (F.device flash.new) }
+    ensures operations { (F.device flash.new).operations ≤ (F.device flash.old).operations + spec.first_data * geometry.pages }
     ensures why { IfErr result (ReadCause (F.device flash.old) (F.device flash.new)) }
 {
     let mut best = Best {
         found: None,
         twice: false,
     };
-    for page in 0..FIRST_DATA * geometry.pages {
-        let head = read_record_head(flash, geometry, page, buffer)?;
-        best = best.considered(page, head);
+    let mut end = 0;
+    for anchor in 0..FIRST_DATA {
+        let (next, anchor_end) = scan_anchor(flash, geometry, anchor, best, buffer)?;
+        if is_on(geometry, next.found, anchor) {
+            end = anchor_end;
+        }
+        best = next;
     }
-    Ok(best)
+    Ok((best, end))
 }
 
 /// The payload bytes of a part of a record whose page is in the buffer.
@@ -84,6 +166,7 @@ pub(crate) fn find_payload<F: Flash>(
     requires whole { length buffer.old ≡ geometry.page }
     ensures payload { IfOk result (λ payload. payload.items ≡ spec.payload_of geometry (spec.parts_on geometry (F.device flash.old).pages) found) }
     ensures only_reads { OnlyReads (F.device flash.old) (F.device flash.new) }
+    ensures operations { (F.device flash.new).operations ≤ (F.device flash.old).operations + found.head.count }
     ensures why { IfErr result (λ fault. ReadCause (F.device flash.old) (F.device flash.new) fault ⊎ (payload_at geometry found.head.sequence (spec.payload_of geometry (spec.parts_on geometry (F.device flash.old).pages) found) ≡ Err fault)) }
 {
     let mut payload = ArrayVec::new();
@@ -94,54 +177,4 @@ pub(crate) fn find_payload<F: Flash>(
         }
     }
     Ok(payload)
-}
-
-/// Whether a page of an anchor is erased.
-fn is_blank<F: Flash>(
-    flash: &mut F,
-    geometry: Geometry,
-    page: u32,
-    buffer: &mut [u8],
-) -> Result<bool, Fault>
-    requires same { (F.device flash.old).geometry ≡ geometry }
-    requires lawful { IsGeometry geometry }
-    requires in_range { page < spec.first_data * geometry.pages }
-    requires whole { length buffer.old ≡ geometry.page }
-    ensures blank { IfOk result (λ is. OnTrue is ((F.device flash.old).pages page ≡ erased)) }
-    ensures other { IfOk result (λ is. OnFalse is ((F.device flash.old).pages page ≢ erased)) }
-    ensures only_reads { OnlyReads (F.device flash.old) (F.device flash.new) }
-    ensures why { IfErr result (ReadCause (F.device flash.old) (F.device flash.new)) }
-{
-    match flash.read(page, buffer) {
-        Ok(PageState::Erased) => Ok(true),
-        Ok(PageState::Data) => Ok(false),
-        Ok(PageState::Unreadable) => Ok(false),
-        Err(DevFault::Failed) => Err(Fault::ReadFailed),
-        Err(DevFault::PowerCut) => Err(Fault::PowerCut),
-    }
-}
-
-/// The place after the last page of an anchor that is not erased.
-pub(crate) fn find_end<F: Flash>(
-    flash: &mut F,
-    geometry: Geometry,
-    anchor: u32,
-    buffer: &mut [u8],
-) -> Result<u32, Fault>
-    requires same { (F.device flash.old).geometry ≡ geometry }
-    requires lawful { IsGeometry geometry }
-    requires anchor { anchor < spec.first_data }
-    requires whole { length buffer.old ≡ geometry.page }
-    ensures end { IfOk result (IsEnd geometry (F.device flash.old).pages anchor geometry.pages) }
-    ensures only_reads { OnlyReads (F.device flash.old) (F.device flash.new) }
-    ensures why { IfErr result (ReadCause (F.device flash.old) (F.device flash.new)) }
-{
-    let mut end = 0;
-    for place in 0..geometry.pages {
-        let page = geometry.page_number(anchor, place);
-        if !is_blank(flash, geometry, page, buffer)? {
-            end = place + 1;
-        }
-    }
-    Ok(end)
 }

@@ -1,11 +1,11 @@
-use Rattle.std.proofs.Common.{◌≡◌, Some, Result, refl, ap, sym, ◌∙◌, inl, inr}
+use Rattle.std.proofs.Common.{◌≡◌, Some, Result, refl, ap, sym, ◌∙◌, inl, inr, arith}
 use Rattle.fs_types.specs.declared.faults.Fault.{Fault}
 use Rattle.record_format.specs.declared.records.Record.{Record}
 use Rattle.commit_pair.specs.Reading.{OnlyReads_itself}
 use Rattle.commit_pair.proofs.ReadParts.{found_once}
 use Rattle.std.proofs.lemmas.Result.{err_from_is_err_and}
 use Rattle.commit_pair.specs.declared.best.Best.{Best}
-use Rattle.commit_pair.specs.Parts.{parts_on, payload_of}
+use Rattle.commit_pair.specs.Parts.{parts_on, payload_of, newest_at, pages_of}
 use Rattle.commit_pair.proofs.Committed.{tie_at, none_at, committed_at, payload_cause, read_cause}
 use Rattle.commit_pair.proofs.NewestLaws.{best_ends}
 use Rattle.commit_pair.proofs.anchors.read_best.Goals as goal
@@ -90,3 +90,30 @@ find_payload-requires-clause-lawful g c = c.requires.lawful
 
 pub find_payload-requires-clause-whole : goal.find_payload-requires-clause-whole
 find_payload-requires-clause-whole g c = c.requires.whole
+
+pub returns-in_err-payload-clause-operations : goal.returns-in_err-payload-clause-operations
+returns-in_err-payload-clause-operations g c =
+    let parts = parts_on c.args.geometry (g.F.Flash.device c.args.flash.now).pages in
+    let pages : pages_of (newest_at c.args.geometry parts) ≡ c.in-Some.found.head.count = ap pages_of (sym (found_once c.args.geometry parts c.args.best c.requires.best c.if-best.false) ∙ c.in-Some.is) in
+    let asked = c.in_err-payload.ensures.operations in
+    omega arith
+
+pub returns-in_err-newest-clause-operations : goal.returns-in_err-newest-clause-operations
+returns-in_err-newest-clause-operations g c =
+    let parts = parts_on c.args.geometry (g.F.Flash.device c.args.flash.now).pages in
+    let pages : pages_of (newest_at c.args.geometry parts) ≡ c.in-Some.found.head.count = ap pages_of (sym (found_once c.args.geometry parts c.args.best c.requires.best c.if-best.false) ∙ c.in-Some.is) in
+    let asked = c.in_ok-payload.ensures.operations in
+    omega arith
+
+pub returns-clause-operations : goal.returns-clause-operations
+returns-clause-operations g c =
+    let parts = parts_on c.args.geometry (g.F.Flash.device c.args.flash.now).pages in
+    let pages : pages_of (newest_at c.args.geometry parts) ≡ c.in-Some.found.head.count = ap pages_of (sym (found_once c.args.geometry parts c.args.best c.requires.best c.if-best.false) ∙ c.in-Some.is) in
+    let asked = c.in_ok-payload.ensures.operations in
+    omega arith
+
+pub returns-then-best-clause-operations : goal.returns-then-best-clause-operations
+returns-then-best-clause-operations g c = omega arith
+
+pub returns-in_default-clause-operations : goal.returns-in_default-clause-operations
+returns-in_default-clause-operations g c = omega arith

@@ -4,7 +4,7 @@ use Rattle.flash_model.specs.Geometry.{page_count}
 use Rattle.commit_pair.specs.Parts.{part_of}
 use Rattle.commit_pair.specs.Reading.{OnlyReads_from}
 use Rattle.commit_pair.proofs.Places.{long_enough, anchor_below, page_below}
-use Rattle.commit_pair.proofs.ReadParts.{data_part, no_part}
+use Rattle.commit_pair.proofs.ReadParts.{data_part, no_part, reads_one}
 use Rattle.commit_pair.proofs.parts.read_head.Goals as goal
 
 pub read-requires-clause-in_range : goal.read-requires-clause-in_range
@@ -52,3 +52,18 @@ returns-in-Err-Failed-clause-why g c =
 
 pub returns-in-Err-PowerCut-clause-why : goal.returns-in-Err-PowerCut-clause-why
 returns-in-Err-PowerCut-clause-why g c = (rw c.in-Err-PowerCut.field-0-is at c.in-Err-PowerCut.ensures.operates).power
+
+pub returns-in-Ok-Data-clause-operations : goal.returns-in-Ok-Data-clause-operations
+returns-in-Ok-Data-clause-operations g c = reads_one _ _ _ _ _ _ c.in-Ok-Data.ensures
+
+pub returns-in-Ok-Erased-clause-operations : goal.returns-in-Ok-Erased-clause-operations
+returns-in-Ok-Erased-clause-operations g c = reads_one _ _ _ _ _ _ c.in-Ok-Erased.ensures
+
+pub returns-in-Ok-Unreadable-clause-operations : goal.returns-in-Ok-Unreadable-clause-operations
+returns-in-Ok-Unreadable-clause-operations g c = reads_one _ _ _ _ _ _ c.in-Ok-Unreadable.ensures
+
+pub returns-in-Err-Failed-clause-operations : goal.returns-in-Err-Failed-clause-operations
+returns-in-Err-Failed-clause-operations g c = reads_one _ _ _ _ _ _ c.in-Err-Failed.ensures
+
+pub returns-in-Err-PowerCut-clause-operations : goal.returns-in-Err-PowerCut-clause-operations
+returns-in-Err-PowerCut-clause-operations g c = reads_one _ _ _ _ _ _ c.in-Err-PowerCut.ensures

@@ -1,22 +1,43 @@
-use Rattle.std.proofs.Common.{ℕ, ap, ◌∙◌}
+use Rattle.std.proofs.Common.{◌≡◌, ℕ, ◌+◌, ◌*◌, sym, ap, subst, ◌∙◌, arith}
+use Rattle.std.specs.Prelude.{◌/◌}
 use Rattle.flash_model.specs.Device.{Page}
-use Rattle.commit_pair.specs.Parts.{parts_on, record_head}
-use Rattle.commit_pair.specs.Reading.{OnlyReads_itself, OnlyReads_on}
-use Rattle.commit_pair.proofs.ReadParts.{best_none, best_more}
+use Rattle.commit_pair.specs.Parts.{parts_on, best_below}
+use Rattle.commit_pair.specs.Reading.{IsEnd, OnlyReads_itself, OnlyReads_on}
+use Rattle.commit_pair.proofs.ReadParts.{best_none}
+use Rattle.commit_pair.proofs.ScanLaws.{found_before}
 use Rattle.commit_pair.proofs.scan.find_best.Goals as goal
+use Rattle.commit_pair.proofs.scan.find_best.Goals.{then-is_on, else-is_on}
 
-pub loop-page-init : goal.loop-page-init
-loop-page-init g c = record {
-  only_reads = OnlyReads_itself (g.F.Flash.device c.args.flash.now);
-  best = best_none c.args.geometry (parts_on c.args.geometry (g.F.Flash.device c.args.flash.now).pages);
-}
-
-pub loop-page-preserved : goal.loop-page-preserved
-loop-page-preserved g c =
+pub loop-anchor-init : goal.loop-anchor-init
+loop-anchor-init g c =
     let old = g.F.Flash.device c.args.flash.now in
-    let mid = g.F.Flash.device c.loop-page.flash in
     record {
-      only_reads = OnlyReads_on old mid (g.F.Flash.device c.read_record_head.new.flash) c.loop-page.invariant.only_reads c.in_ok-head.ensures.only_reads;
-      best = best_more c.args.geometry (parts_on c.args.geometry old.pages) c.loop-page.page c.loop-page.best c.considered-best.result c.in_ok-head.head c.loop-page.invariant.best
-          (c.in_ok-head.ensures.head ∙ ap (λ (pages : ℕ → Page). record_head c.args.geometry (parts_on c.args.geometry pages) c.loop-page.page) c.loop-page.invariant.only_reads.pages) c.considered-best.ensures;
+      only_reads = OnlyReads_itself old;
+      operations = omega arith;
+      best = best_none c.args.geometry (parts_on c.args.geometry old.pages) ∙ ap (best_below c.args.geometry (parts_on c.args.geometry old.pages)) (let e : 0 ≡ 0 * c.args.geometry.pages = omega arith in e);
+      end = λ found at. absurd (let e = at in cc);
+    }
+
+pub loop-anchor-preserved : goal.loop-anchor-preserved
+loop-anchor-preserved g c =
+    let old = g.F.Flash.device c.args.flash.now in
+    let mid = g.F.Flash.device c.loop-anchor.flash in
+    let size = c.args.geometry in
+    let parts = parts_on size old.pages in
+    let anchor = c.loop-anchor.anchor in
+    let so_far = c.loop-anchor.invariant in
+    let now : c.in_ok-next.next ≡ best_below size parts ((anchor + 1) * size.pages) =
+    c.in_ok-next.ensures.best ∙ ap (λ (pages : ℕ → Page). best_below size (parts_on size pages) ((anchor + 1) * size.pages)) so_far.only_reads.pages in
+    record {
+      only_reads = OnlyReads_on old mid (g.F.Flash.device c.scan_anchor.new.flash) so_far.only_reads c.in_ok-next.ensures.only_reads;
+      operations = let a = so_far.operations in let b = c.in_ok-next.ensures.operations in let sum : (anchor + 1) * size.pages ≡ anchor * size.pages + size.pages = omega arith in omega arith;
+      best = now;
+      end = λ found at. elim c.if-is_on.branch [
+        | then-is_on w ↦
+            let block : found.page / size.pages ≡ anchor = (rw w.if-is_on.true at c.is_on.ensures.on) found at in
+            subst (IsEnd size old.pages (found.page / size.pages) size.pages) (sym w.end-is) (subst (λ b. IsEnd size old.pages b size.pages c.in_ok-next.anchor_end) (sym block)
+            (subst (λ (pages : ℕ → Page). IsEnd size pages anchor size.pages c.in_ok-next.anchor_end) so_far.only_reads.pages c.in_ok-next.ensures.end))
+        | else-is_on w ↦
+            subst (IsEnd size old.pages (found.page / size.pages) size.pages) (sym w.end-is) (so_far.end found (found_before size parts anchor c.loop-anchor.best c.in_ok-next.next found so_far.best now at ((rw w.if-is_on.false at c.is_on.ensures.apart) found at)))
+      ];
     }

@@ -1,10 +1,14 @@
-use Rattle.std.proofs.Common.{◌≡◌}
+use Rattle.std.proofs.Common.{◌≡◌, ◌+◌, ◌*◌, ◌≤◌, Some}
+use Rattle.std.specs.Prelude.{◌/◌}
+use Rattle.commit_pair.specs.declared.best.Found.{Found}
 use Rattle.commit_pair.specs.Parts.{parts_on, best_below}
-use Rattle.commit_pair.specs.Reading.{OnlyReads}
+use Rattle.commit_pair.specs.Reading.{IsEnd, OnlyReads}
 use Rattle.commit_pair.proofs.scan.find_best.Given as goal
 
-abbrev pub invariant-loop-page : goal.invariant-loop-page
-invariant-loop-page g l = record {
+abbrev pub invariant-loop-anchor : goal.invariant-loop-anchor
+invariant-loop-anchor g l = record {
   only_reads : OnlyReads (g.F.Flash.device l.initial.flash) (g.F.Flash.device l.flash);
-  best : l.best ≡ best_below l.geometry (parts_on l.geometry (g.F.Flash.device l.initial.flash).pages) l.page;
+  operations : (g.F.Flash.device l.flash).operations ≤ (g.F.Flash.device l.initial.flash).operations + l.anchor * l.geometry.pages;
+  best : l.best ≡ best_below l.geometry (parts_on l.geometry (g.F.Flash.device l.initial.flash).pages) (l.anchor * l.geometry.pages);
+  end : (found : Found) → l.best.found ≡ Some found → IsEnd l.geometry (g.F.Flash.device l.initial.flash).pages (found.page / l.geometry.pages) l.geometry.pages l.end;
 }

@@ -1,4 +1,4 @@
-use Rattle.std.proofs.Common.{◌≡◌, ℕ, List, ◌+◌, ◌-◌, ◌*◌, ◌++◌, sym, ap, ◌∙◌, inl, inr}
+use Rattle.std.proofs.Common.{◌≡◌, ℕ, List, ◌+◌, ◌-◌, ◌*◌, ◌++◌, sym, ap, ◌∙◌, inl, inr, arith}
 use Rattle.record_format.specs.Payloads.{payload_at}
 use Rattle.std.proofs.lemmas.Result.{err_from_is_err_and}
 use Rattle.commit_pair.specs.Parts.{parts_on, bytes_from}
@@ -18,6 +18,7 @@ loop-n-preserved g c =
     let added : c.push_bytes.new.payload.items ≡ c.loop-n.payload.items ++ c.bytes_of.result.now = rw c.if-not-push_bytes.false at c.push_bytes.ensures.all in
     record {
       only_reads = OnlyReads_on old mid (g.F.Flash.device c.read_head.new.flash) c.loop-n.invariant.only_reads c.in_ok-head.ensures.only_reads;
+      operations = let a = c.loop-n.invariant.operations in let b = c.in_ok-head.ensures.operations in omega arith;
       bytes = ap (λ (x : List ℕ). x ++ bytes_from c.args.geometry parts c.args.found.page (c.loop-n.n + 1) (c.args.found.head.count - (c.loop-n.n + 1))) added
           ∙ bytes_go_on c.args.geometry parts c.args.found.page c.loop-n.n c.args.found.head.count c.loop-n.payload.items c.bytes_of.result.now _ c.loop-n-test.true
           (c.bytes_of.ensures ∙ part_held parts p c.read_head.new.buffer c.in_ok-head.head read) c.loop-n.invariant.bytes;
@@ -71,3 +72,12 @@ bytes_of-requires g c = long_enough c.args.geometry c.read_head.new.buffer c.req
 
 pub returns-then-not-push_bytes-clause-only_reads : goal.returns-then-not-push_bytes-clause-only_reads
 returns-then-not-push_bytes-clause-only_reads g c = OnlyReads_on (g.F.Flash.device c.args.flash.now) (g.F.Flash.device c.loop-n.flash) (g.F.Flash.device c.read_head.new.flash) c.loop-n.invariant.only_reads c.in_ok-head.ensures.only_reads
+
+pub returns-in_err-head-clause-operations : goal.returns-in_err-head-clause-operations
+returns-in_err-head-clause-operations g c = let a = c.loop-n.invariant.operations in let b = c.in_err-head.ensures.operations in let lt = c.loop-n-test.true in omega arith
+
+pub returns-then-not-push_bytes-clause-operations : goal.returns-then-not-push_bytes-clause-operations
+returns-then-not-push_bytes-clause-operations g c = let a = c.loop-n.invariant.operations in let b = c.in_ok-head.ensures.operations in let lt = c.loop-n-test.true in omega arith
+
+pub returns-clause-operations : goal.returns-clause-operations
+returns-clause-operations g c = let a = c.loop-n.invariant.operations in let end = c.loop-n.auto.n-end in omega arith

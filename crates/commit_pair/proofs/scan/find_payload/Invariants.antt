@@ -1,4 +1,4 @@
-use Rattle.std.proofs.Common.{◌≡◌, ◌-◌, ◌++◌}
+use Rattle.std.proofs.Common.{◌≡◌, ◌≤◌, ◌+◌, ◌-◌, ◌++◌}
 use Rattle.commit_pair.specs.Parts.{parts_on, bytes_from, payload_of}
 use Rattle.commit_pair.specs.Reading.{OnlyReads}
 use Rattle.commit_pair.proofs.scan.find_payload.Given as goal
@@ -6,6 +6,7 @@ use Rattle.commit_pair.proofs.scan.find_payload.Given as goal
 abbrev pub invariant-loop-n : goal.invariant-loop-n
 invariant-loop-n g l = record {
   only_reads : OnlyReads (g.F.Flash.device l.initial.flash) (g.F.Flash.device l.flash);
+  operations : (g.F.Flash.device l.flash).operations ≤ (g.F.Flash.device l.initial.flash).operations + l.n;
   bytes : l.payload.items ++ bytes_from l.geometry (parts_on l.geometry (g.F.Flash.device l.initial.flash).pages) l.found.page l.n (l.found.head.count - l.n)
       ≡ payload_of l.geometry (parts_on l.geometry (g.F.Flash.device l.initial.flash).pages) l.found;
 }

@@ -1,4 +1,4 @@
-use Rattle.std.proofs.Common.{sym, subst}
+use Rattle.std.proofs.Common.{sym, subst, arith}
 use Rattle.std.proofs.lemmas.Result.{err_from_is_err_and}
 use Rattle.flash_model.specs.Geometry.{IsGeometry}
 use Rattle.commit_pair.specs.Reading.{OnlyReads_itself}
@@ -60,3 +60,9 @@ returns-clause-only_reads g c = c.read_newest.ensures.only_reads
 
 pub returns-clause-why : goal.returns-clause-why
 returns-clause-why g c = c.read_newest.ensures.why
+
+pub returns-clause-operations : goal.returns-clause-operations
+returns-clause-operations g c = c.read_newest.ensures.operations
+
+pub returns-in_err-page-clause-operations : goal.returns-in_err-page-clause-operations
+returns-in_err-page-clause-operations g c = omega arith

@@ -91,6 +91,17 @@ some_pages : (k page size : ℕ) → 16 ≤ size → size ≤ k * page → 1 ≤
 some_pages zero page size least fits = omega (arith, least, fits)
 some_pages (suc k) page size least fits = omega arith
 
+-- the first page and the rest are no more reads than a block has pages
+pub block_once : (g h : Geometry) (size a b c : ℕ) (head : List ℕ) → IsGeometry g → h ≡ g → node_size (block_bytes g) head ≡ Some size
+    → b ≤ a + 1 → c ≤ b + (pages_for h.page size - 1) → c ≤ a + g.pages
+block_once g h size a b c head lawful same tells first rest =
+    let room = has_room g lawful in
+    let within = size_within (block_bytes g) size head tells in
+    let most = pages_for-most g.page g.pages size (omega arith) within.most in
+    let last : c ≤ b + (pages_for g.page size - 1) = subst (λ (k : Geometry). c ≤ b + (pages_for k.page size - 1)) same rest in
+    let some = lawful.some_pages in
+    omega (arith, last, first, most, some)
+
 -- the first page and the rest are as many reads as the node has pages
 pub each_once : (g h : Geometry) (size len a b c : ℕ) (head : List ℕ) (result : Result (Unit {0}) Fault) → IsGeometry g → h ≡ g
     → node_size (block_bytes g) head ≡ Some size → b ≤ a + 1 → c ≤ b + (pages_for h.page size - 1) → OnOk result (len ≡ size)

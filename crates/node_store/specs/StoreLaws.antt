@@ -1,5 +1,5 @@
 -- The laws of a store's states.
-use Rattle.std.specs.Prelude.{◌≡◌, ℕ, true, refl}
+use Rattle.std.specs.Prelude.{◌≡◌, ℕ, ◌+◌, ◌*◌, ◌≤◌, true, refl}
 use Rattle.std.specs.FinSet as set
 use Rattle.std.proofs.Common.{sym, ◌∙◌, ap, subst, arith}
 use Rattle.fs_types.specs.declared.faults.Fault.{Fault}
@@ -21,6 +21,10 @@ pub Evolved_node : (s t : Storage) (b : ℕ) → IsGeometry s.device.geometry �
 Evolved_node s t b lawful e kept =
     node_of-same s.device t.device b lawful e.geometry (λ p own. e.kept_pages p (ap (is_kept s) own ∙ kept))
 
+-- one read more asks for the pages of one block more
+pub one_more : (before after reads pages : ℕ) → after ≤ before + pages → after + reads * pages ≤ before + (reads + 1) * pages
+one_more before after reads pages most = omega arith
+
 module _ {F : Type 0} (device : F → Device) where
   pub Follows_itself : (s : Store F) → Follows device s s
   Follows_itself s = record {
@@ -32,6 +36,7 @@ module _ {F : Type 0} (device : F → Device) where
     paid = omega arith;
     untouched = λ same. Untouched_itself (parts device s);
     at_limit = λ full. Untouched_itself (parts device s);
+    asks = λ same. omega arith;
   }
 
   pub Follows_on : (s t u : Store F) → Follows device s t → Follows device t u → Follows device s u
@@ -47,6 +52,11 @@ module _ {F : Type 0} (device : F → Device) where
     at_limit = λ full.
         let first = f.at_limit full in
         Untouched_on (parts device s) (parts device t) (parts device u) first (g.at_limit (ap (λ bads. set.len bads) first.bad ∙ full));
+    asks = λ same.
+        let first = f.asks (omega arith) in
+        let pages = ap (λ (k : Geometry). k.pages) f.evolved.geometry in
+        let second = subst (λ (p : ℕ). (device u.flash.now).operations + t.reads.n * p ≤ (device t.flash.now).operations + u.reads.n * p) pages (g.asks (omega arith)) in
+        omega (arith, first, second);
   }
 
   pub Causes_on : (s t u : Store F) (fault : Fault) → Follows device s t → Causes device t u fault → Causes device s u fault

@@ -1,5 +1,5 @@
 -- How the states of a store follow one another.
-use Rattle.std.specs.Prelude.{◌≡◌, ◌+◌, ◌<◌, ◌≤◌, false}
+use Rattle.std.specs.Prelude.{◌≡◌, ◌+◌, ◌*◌, ◌<◌, ◌≤◌, false}
 use Rattle.std.specs.FinSet as set
 use Rattle.fs_types.specs.declared.limits.TheConstants.{MAX_BAD_BLOCKS}
 use Rattle.fs_types.specs.declared.faults.Fault.{Fault}
@@ -39,6 +39,8 @@ module _ {F : Type 0} (device : F → Device) where
     pub untouched : t.writes.n ≡ s.writes.n → IsUntouched (parts s) (parts t)
     -- where the bad list is at its limit, nothing is written any more
     pub at_limit : set.len s.storage.now.bad ≡ MAX_BAD_BLOCKS → IsUntouched (parts s) (parts t)
+    -- a read asks the device for each page of a block once at most
+    pub asks : t.writes.n ≡ s.writes.n → (device t.flash.now).operations + s.reads.n * (device s.flash.now).geometry.pages ≤ (device s.flash.now).operations + t.reads.n * (device s.flash.now).geometry.pages
 
   -- no block is free, and those that were free were fewer than the writes asked and the blocks that went bad
   pub record IsFull (s t : Store F) : Type 0 where

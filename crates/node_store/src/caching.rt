@@ -22,7 +22,9 @@ fn fetch_node<F: Flash>(flash: &mut F, storage: &mut Storage, block: u32) -> Res
     ensures only_reads { OnlyReads (F.device flash.old) (F.device flash.new) }
     ensures bad { storage.new.bad ≡ storage.old.bad }
     ensures ring { storage.new.ring ≡ storage.old.ring }
+    // Each page of the node is read once, and no more than a block has, whatever is answered.
     ensures operations { OnOk result ((F.device flash.new).operations ≤ (F.device flash.old).operations + pages_for (F.device flash.old).geometry.page (length (first_bytes storage.new.cache.entries))) }
+    ensures most { (F.device flash.new).operations ≤ (F.device flash.old).operations + (F.device flash.old).geometry.pages }
 {
     let Storage {
         page,
@@ -44,7 +46,9 @@ pub fn read_first<F: Flash>(flash: &mut F, storage: &mut Storage, block: u32) ->
     ensures only_reads { OnlyReads (F.device flash.old) (F.device flash.new) }
     ensures bad { storage.new.bad ≡ storage.old.bad }
     ensures ring { storage.new.ring ≡ storage.old.ring }
+    // Each page of the node is read once, and no more than a block has, whatever is answered.
     ensures operations { OnOk result ((F.device flash.new).operations ≤ (F.device flash.old).operations + pages_for (F.device flash.old).geometry.page (length (first_bytes storage.new.cache.entries))) }
+    ensures most { (F.device flash.new).operations ≤ (F.device flash.old).operations + (F.device flash.old).geometry.pages }
 {
     if storage.cache.promote(block) {
         return Ok(());

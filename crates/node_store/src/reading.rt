@@ -108,7 +108,9 @@ pub fn read_node<F: Flash>(
     ensures only_reads { OnlyReads (F.device flash.old) (F.device flash.new) }
     ensures page { vec_len page.new ≡ vec_len page.old }
     ensures room { vec_capacity node.old ≤ vec_capacity node.new }
+    // Each page is read once, and no more than a block has, whatever is answered.
     ensures operations { OnOk result ((F.device flash.new).operations ≤ (F.device flash.old).operations + pages_for (F.device flash.old).geometry.page (vec_len node.new)) }
+    ensures most { (F.device flash.new).operations ≤ (F.device flash.old).operations + (F.device flash.old).geometry.pages }
 {
     let geometry = flash.geometry();
     if block < FIRST_DATA_BLOCK || geometry.blocks <= block {

@@ -5,7 +5,7 @@ use Rattle.node_format.specs.Headers.{node_size}
 use Rattle.node_store.specs.NodePages.{and_page, bytes_at, node_of}
 use Rattle.node_store.specs.NodeLaws.{node_of-first}
 use Rattle.flash_model.specs.Reading.{OnlyReads_on}
-use Rattle.node_store.specs.ReadingLaws.{Brings_from, rest_in_range, rest_has_room, node_after_first, each_once}
+use Rattle.node_store.specs.ReadingLaws.{Brings_from, rest_in_range, rest_has_room, node_after_first, block_once, each_once}
 use Rattle.node_store.proofs.reading.read_node.Goals as goal
 use Rattle.node_store.proofs.reading.read_node.Goals.{In-Some}
 use Rattle.node_store.proofs.reading.read_node.Given.{Over}
@@ -78,3 +78,11 @@ returns-in-Some-clause-operations g c =
     (g.F.Flash.device c.append_pages.new.flash).operations (g.F.Flash.device c.read_rest.new.flash).operations c.append_pages.new.node.items
     c.read_rest.result c.requires.lawful c.append_pages.ensures.only_reads.geometry (size_is g (goal.at.returns-in-Some-clause-operations g c).In-Some)
     c.append_pages.ensures.operations c.read_rest.ensures.operations c.read_rest.ensures.len
+
+pub returns-in-Some-clause-most : goal.returns-in-Some-clause-most
+returns-in-Some-clause-most g c =
+    let old = g.F.Flash.device c.args.flash.now in
+    block_once old.geometry (g.F.Flash.device c.append_pages.new.flash).geometry c.in-Some.size old.operations
+    (g.F.Flash.device c.append_pages.new.flash).operations (g.F.Flash.device c.read_rest.new.flash).operations c.append_pages.new.node.items
+    c.requires.lawful c.append_pages.ensures.only_reads.geometry (size_is g (goal.at.returns-in-Some-clause-most g c).In-Some)
+    c.append_pages.ensures.operations c.read_rest.ensures.operations

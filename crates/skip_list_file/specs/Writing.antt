@@ -22,7 +22,7 @@ pub record IsWritten (capacity : ℕ) (f : Blocks) (kept : ℕ → Bool) (body :
 pub record HoldsNode (node : Option (List ℕ)) (index : ℕ) (bytes : List ℕ) : Type 0 where
   pub spelling : List ℕ
   pub pointers : List ℕ
-  pub held : node ≡ Some spelling
+  pub holds : node ≡ Some spelling
   pub spelled : IsBodySpelling spelling index pointers bytes
 
 -- a block holds a node of a body with these bytes: as many of them as a node has room for, or as are left

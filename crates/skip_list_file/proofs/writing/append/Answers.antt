@@ -28,7 +28,7 @@ returns-clause-grown g c =
     let holds : HoldsNode (g.N.Nodes.node new next) c.args.index c.args.bytes.now = record {
       spelling = c.deref.result.now;
       pointers = c.args.table.now.blocks;
-      held = c.in_ok-block.ensures.written;
+      holds = c.in_ok-block.ensures.written;
       spelled = spelled;
     } in
     grown capacity f (g.N.Nodes.node new) (g.N.Nodes.kept old) (g.N.Nodes.kept new) c.args.head c.args.index next c.args.bytes.now keeps c.requires.whole c.requires.held full c.requires.some c.requires.fits

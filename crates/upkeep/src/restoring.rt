@@ -1,5 +1,5 @@
 //! The parts of a record, as a working state keeps them.
-ghost use Rattle.std.specs.Prelude.{◌≡◌, [], true, ◌<◌, ◌≤◌, ◌++◌, length, map, IfOk, OnOk, vec_capacity};
+ghost use Rattle.std.specs.Prelude.{◌≡◌, [], true, ◌+◌, ◌≤◌, ◌++◌, length, map, IfOk, OnOk, vec_capacity};
 ghost use Rattle.std.specs.FinSet as set;
 ghost use Rattle.std.specs.BTreeMap.{IsOrdered};
 ghost use Rattle.std.specs.List.Sorted.{IsStrictlySortedBy};
@@ -17,6 +17,7 @@ use std::alloc::{AllocError, Global};
 use std::collections::BTreeMap;
 
 /// The versions, with room for one more than `limit`.
+#[tactic(auto, using(crate::proofs::Restored::put_version))]
 fn versions_of(
     alloc: Global,
     limit: usize,
@@ -25,10 +26,12 @@ fn versions_of(
     requires few { length saved.now ≤ limit }
     requires at_most { limit ≤ 64 }
     ensures items { IfOk result (λ versions. versions.items ≡ saved.now) }
-    ensures room { IfOk result (λ versions. limit < vec_capacity versions) }
+    ensures room { IfOk result (λ versions. vec_capacity versions ≡ limit + 1) }
 {
     let mut versions = Vec::with_capacity(alloc, limit + 1)?;
-    versions.extend_from_slice(saved)?;
+    for version in saved {
+        versions.push_reserved(*version);
+    }
     Ok(versions)
 }
 

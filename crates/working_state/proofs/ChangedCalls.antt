@@ -26,6 +26,7 @@ use Rattle.directory.specs.Trails.{IsChangeFault}
 use Rattle.working_state.specs.Moments.{Moment, machine_at, seen_at, IsMountedAt, capacity_at, moment}
 use Rattle.working_state.specs.Changes.{IsReady, edited_tree, ReachesFrom, WorkRefuses, IsPushed, ChangeCause, IsChanged}
 use Rattle.working_state.specs.Leaves.{HasWritten, is_still, Leaves}
+use Rattle.working_state.specs.Looking.{only_looks}
 use Rattle.working_state.specs.Mounted.{IsStanding}
 use Rattle.working_state.specs.Opening.{IsAnswered}
 use Rattle.working_state.specs.Roots.{HasRoot}
@@ -148,7 +149,7 @@ pub record IsChangeBy (a : Moment) (call : Call) (made : ℕ → Tree) (reply : 
   pub fine : refusal (machine_at a) call ≡ None
   pub after : (root : ℕ) → present_root a.state.history ≡ Some root → tree_after (machine_at a) call ≡ Some (made root)
   pub heavy : is_light call ≡ false
-  pub moves : is_still call ≡ false
+  pub moves : is_still call || only_looks call ≡ false
   pub paths : has_paths call ≡ true
   pub more : (capacity : ℕ) → 0 < change_need capacity (machine_at a) call
   pub replies : (space : Space) → reply_of space (machine_at a) call ≡ reply
@@ -162,7 +163,7 @@ abbrev NeedsFew : Moment → Edit → Moment → Call → Type 0
 NeedsFew b edit a call = need (capacity_at b) edit ≤ change_need (capacity_at a) (machine_at a) call
 
 change_leaves : (a b : Moment) (f : Device) (st : Storage) (call : Call) (edit : Edit) → IsLooked a b → HasWritten b.device b.state.storage (need (capacity_at b) edit) f st
-    → is_still call ≡ false → makes_version (machine_at a) call ≡ true → NeedsFew b edit a call → Leaves (machine_at a) call a.device a.state.storage f st
+    → is_still call || only_looks call ≡ false → makes_version (machine_at a) call ≡ true → NeedsFew b edit a call → Leaves (machine_at a) call a.device a.state.storage f st
 change_leaves a b f st call edit l w moves version few =
     let all = needs_all (capacity_at a) (machine_at a) call version in
     written_leaves a b f st call (need (capacity_at b) edit) l w moves version (omega arith)

@@ -2,7 +2,7 @@
 use Rattle.std.proofs.Common.{Bool, ◌≡◌, ℕ, zero, suc, ◌+◌, ◌<◌, ◌≤◌, true, false, Option, Some, None, Result, Ok, Err, List, [], ◌∷◌, length, refl, sym, ap, subst, ◌∙◌, arith}
 use Rattle.std.proofs.lemmas.Bool.{true≢false, eq-eqb, ne_eqb}
 use Rattle.std.proofs.lemmas.List.{length-take}
-use Rattle.std.specs.Prelude.{unwrap_or, is_some, if◌then◌else◌, ◌==◌}
+use Rattle.std.specs.Prelude.{unwrap_or, is_some, ◌||◌, if◌then◌else◌, ◌==◌}
 use Rattle.std.specs.Option.{option_map, option_map_or, option_and_then}
 use Rattle.std.specs.FinMap.{get}
 use Rattle.std.specs.FinSet as set
@@ -24,9 +24,10 @@ use Rattle.node_store.specs.FittingLaws.{still_itself}
 use Rattle.node_store.specs.StorageLaws.{Untouched_itself}
 use Rattle.block_trees.specs.Bodies.{Blocks, body, head_index, data_to, IsBody}
 use Rattle.block_trees.specs.Reached.{IsHeld}
-use Rattle.block_trees.specs.Trees.{entries_in, leads, entry_at}
+use Rattle.block_trees.specs.Trees.{entries_in, leads, entry_at, IsRoot, root_tree}
 use Rattle.block_trees.proofs.Entries.{some_place, place_is}
 use Rattle.block_trees.proofs.Reaching.{held_leads}
+use Rattle.block_trees.proofs.RootMaps.{map_law}
 use Rattle.directory.specs.declared.lookups.Found.{Found}
 use Rattle.directory.specs.declared.lookups.Found.TheVariants as found
 use Rattle.directory.specs.Lookups.{◌>>=◌, look_up, found_in, found_of, below_in, directory_at, is_path_fault, IsLookupFault}
@@ -34,6 +35,7 @@ use Rattle.directory.proofs.LookupLaws.{found_is, found_leads_file}
 use Rattle.working_state.specs.Moments.{Moment, machine_at, storage_at, IsMountedAt, nodes_at, capacity_at, tree_at}
 use Rattle.working_state.specs.Changing.{IsPathOf}
 use Rattle.working_state.specs.Leaves.{is_still}
+use Rattle.working_state.specs.Looking.{only_looks}
 use Rattle.working_state.specs.Seen.{Seen}
 use Rattle.working_state.specs.Steps.{is_light}
 use Rattle.working_state.specs.Opening.{IsAnswered}
@@ -84,7 +86,7 @@ present_file a root path m is file =
     go (Some (place.File head size)) led e = (head, size, leads_looked (nodes_at a) root path head size led)
 
 -- a body is as long as its file
-long_body : (capacity : ℕ) (f : Blocks) (head size : ℕ) → IsBody capacity f head size → length (body capacity f head size) ≡ size
+pub long_body : (capacity : ℕ) (f : Blocks) (head size : ℕ) → IsBody capacity f head size → length (body capacity f head size) ≡ size
 long_body capacity f head zero is = refl
 long_body capacity f head (suc n) is =
     let enough : suc n ≤ length (data_to f (head_index capacity (suc n)) head) = is.1 in
@@ -112,6 +114,14 @@ present_body a root path head size m is led =
       short = omega (arith, most, long_body (capacity_at a) (nodes_at a) head size whole);
     }
 
+-- the length of the file that a look up finds
+pub file_length : (capacity : ℕ) (f : Blocks) (root : ℕ) (path : Path) → IsRoot capacity f root → (x : Found) (head size : ℕ) → look_up f root path ≡ Ok x → x ≡ found.File head size → length (bytes_at (root_tree capacity f root) path) ≡ size
+file_length capacity f root path is x head size led called =
+    let there : look_up f root path ≡ Ok (found.File head size) = subst (λ z. look_up f root path ≡ Ok z) called led in
+    let whole = (is path (place.File head size) (found_leads_file f root path head size there)).0 in
+    ap (λ (o : Option Entry). length (bytes_of o)) (ap (λ (t : Contents). t path) (map_law capacity f root is).same ∙ (found_is capacity f root path (found.File head size) there).1)
+    ∙ long_body capacity f head size whole
+
 -- Refusals.
 
 -- a look up of a file that is there is refused only for what reads are refused for
@@ -132,7 +142,7 @@ pub record IsFileChange (m : Machine) (call : Call) (path : Path) (bytes : List 
   pub after : tree_after m call ≡ Some (file_put (present_tree m) path bytes)
   pub files : descriptors_after m call ≡ m.descriptors
   pub heavy : is_light call ≡ false
-  pub moves : is_still call ≡ false
+  pub moves : is_still call || only_looks call ≡ false
   pub paths : has_paths call ≡ true
   pub more : (capacity : ℕ) → 0 < change_need capacity m call
 
@@ -149,7 +159,7 @@ later_body a c root path head size m is w led = present_body c root path head si
 
 -- a call that changes nothing
 pub same_answer : (a b : Moment) (call : Call) (reply : Reply) → IsMountedAt a → IsLooked a b → OnlyReads (machine_at a) call → refusal (machine_at a) call ≡ None
-    → ((space : Space) → reply_of space (machine_at a) call ≡ reply) → is_still call ≡ false → IsAnswered a call (Ok reply) b false
+    → ((space : Space) → reply_of space (machine_at a) call ≡ reply) → is_still call || only_looks call ≡ false → IsAnswered a call (Ok reply) b false
 same_answer a b call reply m l reads fine replies moves =
     let w = looked_worked a b l in
     record {

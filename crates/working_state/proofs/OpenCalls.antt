@@ -27,6 +27,7 @@ use Rattle.directory.proofs.LookupLaws.{found_is, found_leads_file, missing_pare
 use Rattle.working_state.proofs.Roots.{at_history}
 use Rattle.working_state.specs.Moments.{Moment, moment, machine_at, seen_at, IsMountedAt, IsRefused, nodes_at, capacity_at}
 use Rattle.working_state.specs.Leaves.{is_still, Leaves}
+use Rattle.working_state.specs.Looking.{only_looks}
 use Rattle.working_state.specs.Steps.{replied, is_cut, is_cut_answer, CallStep}
 use Rattle.working_state.specs.Opening.{found_refusal, changes_found, IsAnswered}
 use Rattle.working_state.specs.Worked.{IsWorked, IsLooked, WorkCause}
@@ -174,7 +175,7 @@ refused_work a b call fault m w leaves refuses = record {
 }
 
 -- one that was refused before anything was written
-pub refused_answer : (a b : Moment) (call : Call) (fault : Fault) → IsMountedAt a → IsLooked a b → is_still call ≡ false → IsRefused a call fault b
+pub refused_answer : (a b : Moment) (call : Call) (fault : Fault) → IsMountedAt a → IsLooked a b → is_still call || only_looks call ≡ false → IsRefused a call fault b
     → IsAnswered a call (Err fault) b (is_cut fault)
 refused_answer a b call fault m l moves refuses = refused_work a b call fault m (looked_worked a b l) (looked_leaves a b call l moves) refuses
 

@@ -1,5 +1,5 @@
 -- What stands still stands after reads and writes of nodes, and the machine is the same.
-use Rattle.std.proofs.Common.{◌≡◌, ℕ, ◌-◌, ◌≤◌, true, false, refl, sym, ap, subst, ◌∙◌, inl, arith}
+use Rattle.std.proofs.Common.{◌≡◌, ℕ, ◌-◌, ◌≤◌, true, false, ◌||◌, refl, sym, ap, subst, ◌∙◌, inl, arith}
 use Rattle.std.proofs.lemmas.Bool.{both_ways}
 use Rattle.std.specs.FinSet as set
 use Rattle.history_machine.specs.History.{Past, map_roots}
@@ -24,6 +24,8 @@ use Rattle.block_trees.specs.Trees.{IsRoot, root_tree}
 use Rattle.block_trees.proofs.Frames.{frame_law}
 use Rattle.working_state.specs.Moments.{Moment, machine_at, seen_at, storage_at, IsMountedAt, capacity_at, tree_at, moment}
 use Rattle.working_state.specs.Leaves.{HasLooked, HasWritten, is_still, Leaves}
+use Rattle.working_state.specs.Looking.{only_looks, LooksOnce}
+use Rattle.working_state.proofs.Looks.{looks_still, looks_other, neither}
 use Rattle.working_state.specs.Seen.{capacity_of, tree_on}
 use Rattle.working_state.specs.Roots.{HasRoot, ReachesNew}
 use Rattle.working_state.specs.Steps.{IsLater}
@@ -120,24 +122,32 @@ looks : (a b : Moment) → IsLooked a b → HasLooked a.device a.state.storage b
 looks a b l = record { untouched = l.untouched; fits = l.fits }
 
 -- a call that only read
-pub looked_leaves : (a b : Moment) (call : Call) → IsLooked a b → is_still call ≡ false → Leaves (machine_at a) call a.device a.state.storage b.device b.state.storage
-looked_leaves a b call l moves = record {
+pub read_leaves : (a b : Moment) (call : Call) → IsLooked a b → is_still call ≡ false → LooksOnce (machine_at a) call a.device b.device → Leaves (machine_at a) call a.device a.state.storage b.device b.state.storage
+read_leaves a b call l moves asks = record {
   written = looked_written a.device a.state.storage b.device b.state.storage b.device b.state.storage 0 (need (capacity_at a) (machine_at a) call) (looks a b l) (none_written b.device b.state.storage 0) (omega arith);
   looked = λ _. looks a b l;
   still = λ still. absurd (both_ways (is_still call) moves still);
+  asks = asks;
 }
+
+-- one that may do more than look
+pub looked_leaves : (a b : Moment) (call : Call) → IsLooked a b → is_still call || only_looks call ≡ false → Leaves (machine_at a) call a.device a.state.storage b.device b.state.storage
+looked_leaves a b call l moves =
+    let apart = neither (is_still call) (only_looks call) moves in
+    read_leaves a b call l apart.0 (looks_other (machine_at a) call a.device b.device apart.1)
 
 -- a call that did no device operation
 pub still_leaves : (m : Machine) (d : Device) (s : parts.Storage) (call : Call) → Leaves m call d s d s
-still_leaves m d s call = record { written = none_written d s (need (capacity_of d) m call); looked = λ _. none_looked d s; still = λ _. (refl, refl) }
+still_leaves m d s call = record { written = none_written d s (need (capacity_of d) m call); looked = λ _. none_looked d s; still = λ _. (refl, refl); asks = looks_still m call d }
 
 -- a call that wrote as many nodes as it may
 pub written_leaves : (a b : Moment) (f : Device) (u : parts.Storage) (call : Call) (nodes : ℕ) → IsLooked a b → HasWritten b.device b.state.storage nodes f u
-    → is_still call ≡ false → makes_version (machine_at a) call ≡ true → nodes ≤ need (capacity_at a) (machine_at a) call → Leaves (machine_at a) call a.device a.state.storage f u
+    → is_still call || only_looks call ≡ false → makes_version (machine_at a) call ≡ true → nodes ≤ need (capacity_at a) (machine_at a) call → Leaves (machine_at a) call a.device a.state.storage f u
 written_leaves a b f u call nodes l w moves makes few = record {
   written = looked_written a.device a.state.storage b.device b.state.storage f u nodes (need (capacity_at a) (machine_at a) call) (looks a b l) w few;
   looked = λ none. absurd (both_ways (makes_version (machine_at a) call) none makes);
-  still = λ still. absurd (both_ways (is_still call) moves still);
+  still = λ still. absurd (both_ways (is_still call) (neither (is_still call) (only_looks call) moves).0 still);
+  asks = looks_other (machine_at a) call a.device f (neither (is_still call) (only_looks call) moves).1;
 }
 
 -- all roots stand on

@@ -7,6 +7,7 @@ use Rattle.flash_model.specs.Device.{Device}
 use Rattle.node_store.specs.declared.storage.Storage.{Storage}
 use Rattle.node_store.specs.Fitting.{StillFits}
 use Rattle.node_store.specs.Storage as parts
+use Rattle.working_state.specs.Looking.{LooksOnce}
 use Rattle.working_state.specs.Seen.{capacity_of}
 
 -- nodes were read: all that is kept is as it was
@@ -35,8 +36,10 @@ is_still (Call.RemoveCheckpoint name) = true
 is_still _ = false
 
 -- what a call leaves, whatever it answers: what one try of its change does, in which it writes as many nodes at most as it
--- needs; a call that makes no version only reads; and one that does no device operation leaves all as it was
+-- needs; a call that makes no version only reads; one that does no device operation leaves all as it was; and one that only
+-- looks, looks once
 pub record Leaves (m : Machine) (call : Call) (old : Device) (s : Storage) (new : Device) (t : Storage) : Type 0 where
   pub written : HasWritten old s (need (capacity_of old) m call) new t
   pub looked : makes_version m call ≡ false → HasLooked old s new t
   pub still : is_still call ≡ true → (new ≡ old) × (t ≡ s)
+  pub asks : LooksOnce m call old new

@@ -1,10 +1,11 @@
 //! Paths looked up on the flash.
-ghost use Rattle.std.specs.Prelude.{◌≡◌, true, false, Ok, Err, IfOk, IfErr};
+ghost use Rattle.std.specs.Prelude.{◌≡◌, true, false, length, Ok, Err, IfOk, IfErr};
 ghost use Rattle.node_store.specs.NodePages.{node_of};
 ghost use Rattle.directory.specs.Lookups.{look_up, is_path_fault, IsLookupFault};
 ghost use Rattle.directory.specs.Trails.{IsTrail};
 ghost use Rattle.working_state.specs.Changes.{IsReady};
 ghost use Rattle.working_state.specs.Leaves.{HasLooked};
+ghost use Rattle.working_state.specs.Looking.{Asks};
 ghost use Rattle.working_state.specs.Seen.{seen_of};
 ghost use Rattle.working_state.specs.Worked.{WorkCause};
 
@@ -22,6 +23,7 @@ pub(crate) fn find_path<F: Flash>(
 ) -> Result<(Found, Trail), Fault>
     requires { IsReady (F.device flash.old) storage.old }
     ensures looked { HasLooked (F.device flash.old) storage.old (F.device flash.new) storage.new }
+    ensures asks { Asks (F.device flash.old) (length path.now) (F.device flash.new) }
     ensures nodes { node_of (F.device flash.new) ≡ node_of (F.device flash.old) }
     ensures found { IfOk result (λ r. look_up (node_of (F.device flash.old)) root path.now ≡ Ok r.0) }
     ensures trail { IfOk result (λ r. IsTrail (node_of (F.device flash.old)) root path.now r.1) }

@@ -1,7 +1,8 @@
 //! Bytes of files, on the working state and the flash. Checked in order: whether an earlier call
 //! answered that the power is off, and the call's own refusals.
-ghost use Rattle.std.specs.Prelude.{◌≡◌, ℕ, ◌-◌, true, false, Some, None, IfOk, IfErr};
+ghost use Rattle.std.specs.Prelude.{◌≡◌, ℕ, ◌+◌, ◌-◌, ◌≤◌, true, false, length, Some, None, IfOk, IfErr};
 ghost use Rattle.std.specs.Option.{option_map_or};
+ghost use Rattle.plain_trees.specs.Trees.{bytes_at};
 ghost use Rattle.history_machine.specs.Descriptors.{Descriptor, descriptor_at, can_read};
 ghost use Rattle.fs_types.specs.declared.calls.Call.{Call};
 ghost use Rattle.fs_types.specs.declared.calls.Reply.{Reply};
@@ -12,12 +13,13 @@ ghost use Rattle.block_trees.specs.Trees.{root_tree, IsRoot};
 ghost use Rattle.skip_list_file.specs.Reading.{is_body_fault};
 ghost use Rattle.working_state.specs.Changes.{IsReady};
 ghost use Rattle.working_state.specs.Leaves.{HasLooked};
+ghost use Rattle.working_state.specs.Looking.{AsksForRange, IsReadOf, LooksOnce};
 ghost use Rattle.working_state.specs.Mounted.{IsMounted, StateStep};
 ghost use Rattle.working_state.specs.Reading.{file_refusal, IsRead};
 ghost use Rattle.working_state.specs.Seen.{capacity_of, tree_on, seen_of};
 ghost use Rattle.working_state.specs.Steps.{replied, is_cut_answer};
 ghost use Rattle.working_state.specs.Worked.{IsLooked, WorkCause};
-ghost use Rattle.working_state.specs.Moments.{IsStep, moment};
+ghost use Rattle.working_state.specs.Moments.{IsStep, moment, machine_at};
 
 use crate::state::State;
 use bitflags::Flags;
@@ -62,6 +64,7 @@ impl State {
     ) -> Result<Bytes, Fault>
         requires { IsMounted (F.device flash.old) self.old }
         ensures looked { IsLooked (moment (F.device flash.old) self.old) (moment (F.device flash.new) self.new) }
+        ensures asks { LooksOnce (machine_at (moment (F.device flash.old) self.old)) (Call.ReadAt view.now path.now offset count) (F.device flash.old) (F.device flash.new) }
         ensures step { IsStep (moment (F.device flash.old) self.old) (Call.ReadAt view.now path.now offset count) (replied Reply.Bytes result) (moment (F.device flash.new) self.new) (is_cut_answer result) }
     {
         let root = *self.history.find(view)?;
@@ -98,6 +101,7 @@ impl State {
     ) -> Result<Bytes, Fault>
         requires { IsMounted (F.device flash.old) self.old }
         ensures looked { IsLooked (moment (F.device flash.old) self.old) (moment (F.device flash.new) self.new) }
+        ensures asks { LooksOnce (machine_at (moment (F.device flash.old) self.old)) (Call.Pread descriptor offset count) (F.device flash.old) (F.device flash.new) }
         ensures step { IsStep (moment (F.device flash.old) self.old) (Call.Pread descriptor offset count) (replied Reply.Bytes result) (moment (F.device flash.new) self.new) (is_cut_answer result) }
     {
         let root = self.root();
@@ -130,6 +134,7 @@ fn read_below<F: Flash>(
     requires ready { IsReady (F.device flash.old) storage.old }
     requires rooted { IsRoot (capacity_of (F.device flash.old)) (node_of (F.device flash.old)) root }
     ensures looked { HasLooked (F.device flash.old) storage.old (F.device flash.new) storage.new }
+    ensures asks { AsksForRange (F.device flash.old) (length path.now) (bytes_at (tree_on (F.device flash.old) root) path.now) offset count (F.device flash.new) }
     ensures read { IfOk result (IsRead (tree_on (F.device flash.old) root) path.now offset count) }
     ensures refused { IfErr result (λ fault. is_body_fault fault ≡ false → file_refusal (tree_on (F.device flash.old) root) path.now ≡ Some fault) }
     ensures why { IfErr result (λ fault. is_body_fault fault ≡ true → WorkCause (seen_of (F.device flash.old) storage.old) fault (seen_of (F.device flash.new) storage.new)) }
@@ -152,6 +157,7 @@ fn read_file<N: Nodes>(
     ensures read { IfOk result (IsRead (root_tree (N.limit nodes.old - body_header) (N.node nodes.old) root) path.now offset count) }
     ensures refused { IfErr result (λ fault. is_body_fault fault ≡ false → file_refusal (root_tree (N.limit nodes.old - body_header) (N.node nodes.old) root) path.now ≡ Some fault) }
     ensures why { IfErr result (λ fault. is_body_fault fault ≡ true → N.causes nodes.old nodes.new fault) }
+    ensures reads { (most : ℕ) → IsReadOf (N.limit nodes.old - body_header) (length path.now) (bytes_at (root_tree (N.limit nodes.old - body_header) (N.node nodes.old) root) path.now) offset count most → N.reads nodes.new ≤ N.reads nodes.old + most }
     ensures writes { N.writes nodes.new ≡ N.writes nodes.old }
     ensures follows { N.follows nodes.old nodes.new }
 {

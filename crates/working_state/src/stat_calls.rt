@@ -12,7 +12,8 @@ ghost use Rattle.directory.specs.Lookups.{is_path_fault};
 ghost use Rattle.working_state.specs.Mounted.{IsMounted, StateStep};
 ghost use Rattle.working_state.specs.Steps.{replied, is_cut_answer};
 ghost use Rattle.working_state.specs.Worked.{IsLooked, WorkCause};
-ghost use Rattle.working_state.specs.Moments.{IsStep, moment, seen_at};
+ghost use Rattle.working_state.specs.Looking.{Asks, LooksOnce};
+ghost use Rattle.working_state.specs.Moments.{IsStep, moment, seen_at, machine_at};
 
 use crate::lookups::find_path;
 use crate::state::State;
@@ -43,6 +44,7 @@ impl State {
     ) -> Result<Stat, Fault>
         requires { IsMounted (F.device flash.old) self.old }
         ensures looked { IsLooked (moment (F.device flash.old) self.old) (moment (F.device flash.new) self.new) }
+        ensures asks { LooksOnce (machine_at (moment (F.device flash.old) self.old)) (Call.Stat view.now path.now) (F.device flash.old) (F.device flash.new) }
         ensures step { IsStep (moment (F.device flash.old) self.old) (Call.Stat view.now path.now) (replied Reply.Stat result) (moment (F.device flash.new) self.new) (is_cut_answer result) }
     {
         let root = *self.history.find(view)?;
@@ -58,6 +60,7 @@ impl State {
     pub(crate) fn count_in<F: Flash>(&mut self, flash: &mut F, block: u32) -> Result<usize, Fault>
         requires { IsMounted (F.device flash.old) self.old }
         ensures looked { IsLooked (moment (F.device flash.old) self.old) (moment (F.device flash.new) self.new) }
+        ensures asks { Asks (F.device flash.old) 1 (F.device flash.new) }
         ensures nodes { node_of (F.device flash.new) ≡ node_of (F.device flash.old) }
         ensures count { IfOk result (λ count. (items : List Item) × (entries_in (node_of (F.device flash.old)) block ≡ Some items) × (count ≡ length items)) }
         ensures damaged { IsErrOf result Damaged → entries_in (node_of (F.device flash.old)) block ≡ None }

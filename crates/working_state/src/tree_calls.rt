@@ -15,6 +15,7 @@ ghost use Rattle.block_trees.specs.Trees.{entries_in, names_of};
 ghost use Rattle.directory.specs.declared.lookups.Found.TheVariants.{Missing};
 ghost use Rattle.directory.specs.Lookups.{look_up, is_path_fault};
 ghost use Rattle.directory.specs.Trails.{IsTrail};
+ghost use Rattle.working_state.specs.Looking.{Asks, LooksOnce};
 ghost use Rattle.working_state.specs.Mounted.{IsMounted, StateStep, KeepsPages};
 ghost use Rattle.working_state.specs.Opening.{IsAnswered};
 ghost use Rattle.working_state.specs.Steps.{replied, empty, is_cut_answer, Refuses};
@@ -60,6 +61,7 @@ impl State {
     ) -> Result<Sequence<(Name, bool)>, Fault>
         requires { IsMounted (F.device flash.old) self.old }
         ensures looked { IsLooked (moment (F.device flash.old) self.old) (moment (F.device flash.new) self.new) }
+        ensures asks { LooksOnce (machine_at (moment (F.device flash.old) self.old)) (Call.List view.now path.now) (F.device flash.old) (F.device flash.new) }
         ensures step { IsStep (moment (F.device flash.old) self.old) (Call.List view.now path.now) (replied Reply.Names result) (moment (F.device flash.new) self.new) (is_cut_answer result) }
     {
         let root = *self.history.find(view)?;
@@ -145,6 +147,7 @@ impl State {
     ) -> Result<Sequence<(Name, bool)>, Fault>
         requires { IsMounted (F.device flash.old) self.old }
         ensures looked { IsLooked (moment (F.device flash.old) self.old) (moment (F.device flash.new) self.new) }
+        ensures asks { Asks (F.device flash.old) 1 (F.device flash.new) }
         ensures names { IfOk result (λ names. (items : List Item) × (entries_in (node_of (F.device flash.old)) block ≡ Some items) × (names ≡ names_of items)) }
         ensures damaged { IsErrOf result Damaged → entries_in (node_of (F.device flash.old)) block ≡ None }
         ensures why { IfErr result (λ fault. is_path_fault fault ≡ false → WorkCause (seen_at (moment (F.device flash.old) self.old)) fault (seen_at (moment (F.device flash.new) self.new))) }

@@ -9,6 +9,11 @@ use Rattle.working_state.proofs.FileReads.{view_reads, read_step}
 use Rattle.working_state.proofs.Refusals.{at_fault, refused_step}
 use Rattle.working_state.proofs.Standing.{worked_itself, looked_at}
 use Rattle.working_state.proofs.Views.{view_refuses, view_stands}
+use Rattle.std.proofs.Common.{length, sym, subst}
+use Rattle.plain_trees.specs.Trees.{Tree, bytes_at}
+use Rattle.working_state.specs.Looking.{AsksForRange}
+use Rattle.working_state.proofs.Views.{view_tree_is}
+use Rattle.working_state.proofs.Looks.{asks_none}
 use Rattle.working_state.proofs.state.State.read_view.Goals as goal
 
 pub returns-in_err-root-clause-step : goal.returns-in_err-root-clause-step
@@ -36,3 +41,13 @@ returns-clause-step g c =
     read_step _ _ _ _ _ _ _ c.read_below.result c.requires (looked_at (moment _ c.args.self.now) _ _ read.looked)
     (view_reads (moment (g.F.Flash.device c.args.flash.now) c.args.self.now) c.args.view.now c.args.path.now c.args.offset c.args.count c.in_ok-root.field-0.now c.requires (record { fine = shown.0; shown = shown.1 }))
     read.read read.refused read.why
+
+pub returns-in_err-root-clause-asks : goal.returns-in_err-root-clause-asks
+returns-in_err-root-clause-asks g c = λ most is. asks_none (g.F.Flash.device c.args.flash.now) most
+
+pub returns-clause-asks : goal.returns-clause-asks
+returns-clause-asks g c =
+    let shown = c.in_ok-root.ensures in
+    let d = g.F.Flash.device c.args.flash.now in
+    subst (λ (t : Tree). AsksForRange d (length c.args.path.now) (bytes_at t c.args.path.now) c.args.offset c.args.count (g.F.Flash.device c.read_below.new.flash))
+    (sym (view_tree_is (moment d c.args.self.now) c.args.view.now c.in_ok-root.field-0.now (record { fine = shown.0; shown = shown.1 }))) c.read_below.ensures.asks

@@ -1,0 +1,46 @@
+-- What look-ups ask of the device.
+use Rattle.std.specs.Prelude.{◌≡◌, ℕ, ◌+◌, ◌*◌, ◌≤◌, Bool, true, false, Option, Some, None, List, length}
+use Rattle.fs_types.specs.declared.calls.Call.{Call}
+use Rattle.plain_trees.specs.Trees.{Tree, bytes_at}
+use Rattle.history_machine.specs.Descriptors.{Descriptor, descriptor_at}
+use Rattle.history_machine.specs.Machine.{Machine, present_tree, view_tree}
+use Rattle.flash_model.specs.Device.{Device}
+use Rattle.block_trees.specs.Bodies.{head_index}
+use Rattle.skip_list_file.specs.Reading.{HasDigits, nodes_of_range}
+use Rattle.working_state.specs.Seen.{capacity_of}
+
+-- the device was asked for no more than the pages of so many blocks
+pub record Asks (old : Device) (blocks : ℕ) (new : Device) : Type 0 where
+  pub most : new.operations ≤ old.operations + blocks * old.geometry.pages
+
+-- so many nodes: those on the way to a file, those that hold a range of its bytes, and two for each binary digit of the
+-- index of its last node
+pub record IsReadOf (capacity way : ℕ) (bytes : List ℕ) (offset count nodes : ℕ) : Type 0 where
+  pub digits : ℕ
+  pub enough : HasDigits (head_index capacity (length bytes)) digits
+  pub sum : nodes ≡ way + nodes_of_range capacity (length bytes) offset count + 2 * digits
+
+-- a range of the bytes of a file is read once
+abbrev pub AsksForRange : Device → ℕ → List ℕ → ℕ → ℕ → Device → Type 0
+AsksForRange old way bytes offset count new = (nodes : ℕ) → IsReadOf (capacity_of old) way bytes offset count nodes → Asks old nodes new
+
+-- that of an open file; without one nothing is read
+abbrev pub AsksForOpen : Device → Option Descriptor → Tree → ℕ → ℕ → Device → Type 0
+AsksForOpen old None t offset count new = Asks old 0 new
+AsksForOpen old (Some file) t offset count new = AsksForRange old (length file.path) (bytes_at t file.path) offset count new
+
+-- calls that only look at what stands at a path, or at the bytes of a file
+abbrev pub only_looks : Call → Bool
+only_looks (Call.Stat view path) = true
+only_looks (Call.List view path) = true
+only_looks (Call.ReadAt view path offset count) = true
+only_looks (Call.Pread descriptor offset count) = true
+only_looks _ = false
+
+-- such a call looks once: it reads a node for each name of its path, and then that of the directory or the bytes of the file
+abbrev pub LooksOnce : Machine → Call → Device → Device → Type 0
+LooksOnce m (Call.Stat view path) old new = Asks old (length path + 1) new
+LooksOnce m (Call.List view path) old new = Asks old (length path + 1) new
+LooksOnce m (Call.ReadAt view path offset count) old new = AsksForRange old (length path) (bytes_at (view_tree m view) path) offset count new
+LooksOnce m (Call.Pread descriptor offset count) old new = AsksForOpen old (descriptor_at m.descriptors descriptor) (present_tree m) offset count new
+LooksOnce m _ old new = Unit {0}

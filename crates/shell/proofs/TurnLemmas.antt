@@ -16,7 +16,7 @@ use Rattle.upkeep.specs.Mounts.{IsMountOf, MountCause}
 use Rattle.upkeep.specs.Systems.{IsSystem}
 use Rattle.upkeep.specs.declared.systems.System.{System}
 use Rattle.undofs.specs.Sessions.{Stands, world}
-use Rattle.undofs.proofs.SessionSteps.{mount_begins}
+use Rattle.undofs.proofs.SessionSteps.{mount_begins, serve_law}
 use Rattle.shell.specs.Scripts.{Scene, event_of, RepliesBy, Replies, CarriesOut, LineSession, answer_text, answer_texts, HasTaken, EndsBy, Ends}
 use Rattle.shell.specs.Turns.{Gets, Seat, seat, world_at, scene_at, DoesBy, Does, Writes, Carried, LinesEnd}
 use Rattle.shell.specs.declared.scripts.ScriptFault.{ScriptFault}
@@ -28,7 +28,7 @@ replies_by : (e : Option Event) (line : Line) (s : Seat) (answer : LineAnswer) (
 replies_by None line s answer t (device, system, told) found stands =
     let same : world_at t found ≡ world_at s found = λ i. world (device i) (system i) found in
     (found, (same, told), subst Stands (sym same) stands)
-replies_by (Some event) line s (LineAnswer.Told answer) t serves found stands = serves found stands
+replies_by (Some event) line s (LineAnswer.Told answer) t serves found stands = serve_law s.device t.device s.system t.system event answer found serves stands
 replies_by (Some event) line s LineAnswer.Syntax t none found stands = absurd none
 
 carries_more : (s : Scene) (lines : List (List ℕ)) (answers : List LineAnswer) (t : Scene) (line : List ℕ) (answer : LineAnswer) (u : Scene)

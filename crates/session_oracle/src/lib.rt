@@ -1,0 +1,22 @@
+//! An oracle of sessions over whole trees: what each event may be answered, and what a restart may
+//! find. It knows the plain machine alone, and of the file system what it answers and shows. Beside it
+//! scripts as files give them, whose lines are the events.
+#![tactic(auto)]
+
+mod causes;
+mod images;
+mod needs;
+mod oracles;
+mod replays;
+mod scripts;
+mod shows;
+mod texts;
+mod trees;
+
+pub use causes::Causes;
+pub use images::{flash_of, new_image};
+pub use needs::{has_fewer_free, is_full_before, need};
+pub use oracles::Oracle;
+pub use scripts::{Script, ScriptLine, event_of, events_of};
+pub use shows::{Extent, Shown, Shows, serve_call, show, show_after_restart, show_some};
+pub use texts::text_of;

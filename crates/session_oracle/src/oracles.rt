@@ -1,0 +1,206 @@
+//! The oracle of a session.
+use crate::causes::Causes;
+use crate::replays::{Step, accepts, fresh, replay, replay_all};
+use crate::shows::{Shown, log_text, show};
+use crate::texts::{answer_of, text_of};
+use fs_types::{Answer, Call, Event, Fault, Reply};
+use plain_machine::{PlainMachine, Space};
+use std::alloc::Global;
+
+/// Whether a system is mounted, and has power.
+#[derive(Clone, Copy)]
+enum Seat {
+    Unmounted,
+    Mounted,
+    Off,
+}
+
+/// The plain machine beside a system, and the histories that a restart may find.
+///
+/// These are those after each of the steps from the last accepted sync on, or from the last mount on
+/// where none came since.
+#[derive(Drop)]
+pub struct Oracle<'a> {
+    history: usize,
+    machine: PlainMachine,
+    steps: Vec<Step<'a>>,
+    /// How many of the steps every restart keeps.
+    saved: usize,
+    seat: Seat,
+}
+
+impl<'a> Oracle<'a> {
+    /// The oracle of a session on a new file system that keeps so many versions. No system is mounted.
+    /// [`Fault::Invalid`] for a number of versions that no file system has.
+    pub fn new(alloc: Global, history: usize) -> Result<Oracle<'a>, Fault> {
+        Ok(Oracle {
+            history,
+            machine: fresh(alloc, history)?,
+            steps: Vec::new(alloc),
+            saved: 0,
+            seat: Seat::Unmounted,
+        })
+    }
+
+    /// Whether this may be the answer to the first mount.
+    pub fn judge_mount(&mut self, answer: &Answer, causes: Causes) -> bool {
+        match answer {
+            Answer::Mounted => {
+                self.seat = Seat::Mounted;
+                true
+            }
+            Answer::Refused(fault) => causes.may_refuse_mount(*fault),
+            _ => false,
+        }
+    }
+
+    /// Whether this may be the answer to an event that is no restart, where there may be such causes.
+    pub fn judge(
+        &mut self,
+        alloc: Global,
+        event: &'a Event,
+        answer: Answer,
+        causes: Causes,
+    ) -> Result<bool, Fault> {
+        match self.seat {
+            Seat::Unmounted => Ok(matches!(answer, Answer::Unmounted)),
+            Seat::Off => Ok(matches!(answer, Answer::Refused(Fault::PowerCut))),
+            Seat::Mounted => self.judge_mounted(alloc, event, answer, causes),
+        }
+    }
+
+    fn judge_mounted(
+        &mut self,
+        alloc: Global,
+        event: &'a Event,
+        answer: Answer,
+        causes: Causes,
+    ) -> Result<bool, Fault> {
+        if let Answer::Refused(fault) = &answer {
+            if causes.may_refuse(*fault) {
+                return self.judge_refusal(alloc, event, *fault);
+            }
+        }
+        match event {
+            Event::Call(call) => self.compare(alloc, call, answer),
+            Event::ReclaimStep(_) => Ok(matches!(answer, Answer::Done(Reply::Step(_)))),
+            Event::Restart => Ok(false),
+        }
+    }
+
+    /// Whether the plain machine answers this too. An accepted call is a step.
+    fn compare(&mut self, alloc: Global, call: &'a Call, answer: Answer) -> Result<bool, Fault> {
+        let outcome = self.machine.step(alloc, space_of(&answer), call);
+        let is_accepted = outcome.is_ok();
+        let plain = text_of(alloc, answer_of(outcome))?;
+        let told = text_of(alloc, answer)?;
+        if is_accepted {
+            self.steps.push(Step::Call(call))?;
+            if is_sync(call) {
+                self.saved = self.steps.len();
+            }
+        }
+        Ok(plain.as_slice() == told.as_slice())
+    }
+
+    /// Whether an event may be refused so for a cause that there is. Nothing changes, but for the power.
+    /// A full flash, and read-only mode, refuse only what the plain machine accepts, and a full flash
+    /// only what makes a version.
+    fn judge_refusal(
+        &mut self,
+        alloc: Global,
+        event: &'a Event,
+        fault: Fault,
+    ) -> Result<bool, Fault> {
+        match (fault, event) {
+            (Fault::PowerCut, _) => {
+                self.seat = Seat::Off;
+                Ok(true)
+            }
+            (Fault::ReadFailed, _) => Ok(true),
+            (_, Event::Call(call)) => {
+                let (is_accepted, is_change) = accepts(alloc, &mut self.machine, call)?;
+                self.machine = replay_all(alloc, self.history, &self.steps)?;
+                Ok(is_accepted && (is_change || !matches!(fault, Fault::FlashFull)))
+            }
+            _ => Ok(false),
+        }
+    }
+
+    /// Whether a restart may find a system that shows this. It is mounted then, and what it shows is
+    /// the one history that a restart may find.
+    pub fn restart(&mut self, alloc: Global, shown: &Shown) -> Result<bool, Fault> {
+        match self.find(alloc, shown)? {
+            Some(count) => {
+                self.mount_after(alloc, count)?;
+                Ok(true)
+            }
+            None => Ok(false),
+        }
+    }
+
+    /// After how many of the steps, those that every restart keeps among them, this is shown.
+    fn find(&self, alloc: Global, shown: &Shown) -> Result<Option<usize>, Fault> {
+        let mut machine = fresh(alloc, self.history)?;
+        if self.saved == 0 && shows(alloc, &mut machine, shown)? {
+            return Ok(Some(0));
+        }
+        let mut count = 0usize;
+        for step in &self.steps {
+            replay(alloc, &mut machine, *step)?;
+            count = count.saturating_add(1);
+            if self.saved <= count && shows(alloc, &mut machine, shown)? {
+                return Ok(Some(count));
+            }
+        }
+        Ok(None)
+    }
+
+    /// Keeps the first steps, and restarts.
+    fn mount_after(&mut self, alloc: Global, count: usize) -> Result<(), Fault> {
+        self.steps.truncate(count);
+        self.steps.push(Step::Restart)?;
+        self.saved = self.steps.len();
+        self.machine = replay_all(alloc, self.history, &self.steps)?;
+        self.seat = Seat::Mounted;
+        Ok(())
+    }
+}
+
+/// Whether a machine shows this.
+fn shows(alloc: Global, machine: &mut PlainMachine, shown: &Shown) -> Result<bool, Fault> {
+    if log_text(alloc, machine)?.as_slice() != shown.log.as_slice() {
+        return Ok(false);
+    }
+    let plain = show(alloc, machine)?;
+    Ok(plain.trees.as_slice() == shown.trees.as_slice())
+}
+
+fn is_sync(call: &Call) -> bool {
+    matches!(call, Call::Sync | Call::Fsync { .. })
+}
+
+/// The space that an answer tells, which the plain machine takes from it.
+fn space_of(answer: &Answer) -> Space {
+    match answer {
+        Answer::Done(
+            Reply::Df {
+                blocks,
+                bad,
+                free,
+                anchors,
+            },
+        ) => Space {
+            blocks: *blocks,
+            bad: *bad,
+            free: *free,
+            anchors: *anchors,
+        },
+        _ => Space {
+            blocks: 0,
+            bad: 0,
+            free: 0,
+            anchors: 0,
+        },
+    }
+}

@@ -1,0 +1,162 @@
+//! All that a system shows: its history, and the tree of each version and checkpoint.
+use crate::texts::answer_of;
+use crate::trees::{Root, Walk, show_tree};
+use flash_model::{Flash, SimFlash};
+use fs_types::{Answer, Call, CpName, Event, Fault, MAX_FILE_BYTES, Reply};
+use plain_machine::{PlainMachine, Space};
+use script::{LineAnswer, print_answer};
+use std::alloc::Global;
+use undofs::Fs;
+
+/// The plain machine knows nothing of a flash, and is not asked for it here.
+const NO_SPACE: Space = Space {
+    blocks: 0,
+    bad: 0,
+    free: 0,
+    anchors: 0,
+};
+
+/// All of a tree: it has fewer directories here.
+const WHOLE: Extent = Extent {
+    directories: 4_096,
+    bytes: MAX_FILE_BYTES as u64,
+};
+
+/// What can be asked calls.
+pub trait Shows {
+    /// Carries out a call.
+    fn ask(&mut self, alloc: Global, call: &Call) -> Result<Reply, Fault>;
+}
+
+impl Shows for PlainMachine {
+    fn ask(&mut self, alloc: Global, call: &Call) -> Result<Reply, Fault> {
+        self.step(alloc, NO_SPACE, call)
+    }
+}
+
+impl<'f, F: Flash> Shows for Fs<'f, F> {
+    fn ask(&mut self, alloc: Global, call: &Call) -> Result<Reply, Fault> {
+        self.call(alloc, call)
+    }
+}
+
+/// All that a system shows.
+#[derive(Drop)]
+pub struct Shown {
+    /// What is printed for its history.
+    pub log: Vec<u8>,
+    /// What is printed for each path of each version and checkpoint, with the bytes of each file.
+    pub trees: Vec<u8>,
+}
+
+impl Shown {
+    /// Whether two systems show the same.
+    pub fn is_same(&self, other: &Shown) -> bool {
+        self.log.as_slice() == other.log.as_slice()
+            && self.trees.as_slice() == other.trees.as_slice()
+    }
+}
+
+/// What a system shows. The error is that of the first call that was refused.
+pub fn show<S: Shows>(alloc: Global, system: &mut S) -> Result<Shown, Fault> {
+    show_some(alloc, system, WHOLE)
+}
+
+/// How much of each tree is shown.
+#[derive(Clone, Copy, Debug)]
+pub struct Extent {
+    /// At most so many directories.
+    pub directories: u32,
+    /// At most so many bytes of each file.
+    pub bytes: u64,
+}
+
+/// What a system shows, of each tree so much.
+pub fn show_some<S: Shows>(alloc: Global, system: &mut S, extent: Extent) -> Result<Shown, Fault> {
+    let answer = LineAnswer::Told(answer_of(system.ask(alloc, &Call::Log)));
+    let mut shown = Shown {
+        log: Vec::new(alloc),
+        trees: Vec::new(alloc),
+    };
+    print_answer(&mut shown.log, &answer)?;
+    let mut walk = Walk {
+        system,
+        extent,
+        out: &mut shown.trees,
+    };
+    show_trees(alloc, &mut walk, &answer)?;
+    Ok(shown)
+}
+
+/// What is printed for the history of a system.
+pub fn log_text<S: Shows>(alloc: Global, system: &mut S) -> Result<Vec<u8>, Fault> {
+    let answer = LineAnswer::Told(answer_of(system.ask(alloc, &Call::Log)));
+    let mut log = Vec::new(alloc);
+    print_answer(&mut log, &answer)?;
+    Ok(log)
+}
+
+/// What is printed for the trees of a history.
+fn show_trees<S: Shows>(
+    alloc: Global,
+    walk: &mut Walk<'_, S>,
+    answer: &LineAnswer,
+) -> Result<(), Fault> {
+    match answer {
+        LineAnswer::Told(
+            Answer::Done(
+                Reply::Log {
+                    versions,
+                    checkpoints,
+                    ..
+                },
+            ),
+        ) => {
+            show_versions(alloc, walk, versions.as_slice())?;
+            show_checkpoints(alloc, walk, checkpoints.as_slice())
+        }
+        LineAnswer::Told(Answer::Refused(fault)) => Err(*fault),
+        _ => Err(Fault::Invalid),
+    }
+}
+
+fn show_versions<S: Shows>(
+    alloc: Global,
+    walk: &mut Walk<'_, S>,
+    serials: &[u64],
+) -> Result<(), Fault> {
+    for serial in serials {
+        show_tree(alloc, walk, Root::Serial(*serial))?;
+    }
+    Ok(())
+}
+
+fn show_checkpoints<S: Shows>(
+    alloc: Global,
+    walk: &mut Walk<'_, S>,
+    names: &[CpName],
+) -> Result<(), Fault> {
+    for name in names {
+        show_tree(alloc, walk, Root::Checkpoint(name))?;
+    }
+    Ok(())
+}
+
+/// What a restart shows: the power is put on, and the newest record mounted.
+pub fn show_after_restart(alloc: Global, flash: &mut SimFlash) -> Result<Shown, Fault> {
+    flash.power_on();
+    let mut system = Fs::mount(alloc, flash)?;
+    show(alloc, &mut system)
+}
+
+/// What a mounted system answers to an event that is no restart.
+pub fn serve_call<F: Flash>(alloc: Global, system: &mut Fs<'_, F>, event: &Event) -> Answer {
+    match event {
+        Event::Call(call) => answer_of(system.call(alloc, call)),
+        Event::ReclaimStep(budget) => match system.reclaim_step(alloc, *budget) {
+            Ok(is_done) => Answer::Done(Reply::Step(is_done)),
+            Err(fault) => Answer::Refused(fault),
+        },
+        Event::Restart => Answer::Unmounted,
+    }
+}

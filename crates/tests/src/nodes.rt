@@ -49,7 +49,8 @@ fn entries_of_a_directory(rt: HostRuntime) -> Result<(), Fail> {
     Ok(())
 }
 
-// A body node of index 2, with pointers to blocks 9 and 8, and the bytes `hi`.
+// Body nodes of index 0 and 2, with the bytes `hi`. That of index 2 has pointers to blocks 9 and 8, and 0
+// in the slots after them, whatever block is given for those.
 #[test]
 fn bytes_of_a_body_node(rt: HostRuntime) -> Result<(), Fail> {
     let first = body_node(rt.alloc(), 0, &[], b"hi")?;
@@ -57,7 +58,11 @@ fn bytes_of_a_body_node(rt: HostRuntime) -> Result<(), Fail> {
     expected[..12].copy_from_slice(b"UFNB\0\0\0\0\x02\0\0\0");
     expected[80..].copy_from_slice(b"hi");
     assert_eq!(rt; first.as_slice(), expected.as_slice());
-    let third = body_node(rt.alloc(), 2, &[9, 8], b"hi")?;
+    let third = body_node(rt.alloc(), 2, &[9, 8, 7], b"hi")?;
+    expected[4] = 2;
+    expected[16] = 9;
+    expected[20] = 8;
+    assert_eq!(rt; third.as_slice(), expected.as_slice());
     let node = BodyNode::of(&third).ok_or("a body node")?;
     assert_eq!(rt; node.index(), 2);
     assert_eq!(rt; node.used(), 2);

@@ -1,7 +1,7 @@
 -- The fields of bytes that are added piece by piece, and the slots of an index.
-use Rattle.std.proofs.Common.{◌≡◌, ◌↔◌, ℕ, zero, suc, ◌+◌, ◌*◌, ◌/◌, ◌%◌, ◌^◌, ◌<◌, ◌≤◌, inl, inr, List, [], ◌++◌, length, get_or, Some, sym, ap, subst, ◌∙◌, arith}
-use Rattle.std.specs.Prelude.{codes, slice_index, IsTrue, true, nat_eq, nat_lt, nat_le}
-use Rattle.std.proofs.Math.Nat.{div-add-mod', mod-eq_of_lt, mul-mod_left, mul-le-mul_right, one-mul}
+use Rattle.std.proofs.Common.{◌≡◌, ◌↔◌, ℕ, suc, ◌+◌, ◌*◌, ◌/◌, ◌%◌, ◌^◌, ◌<◌, ◌≤◌, inl, inr, List, [], ◌++◌, length, get_or, Some, sym, ap, subst, ◌∙◌, arith}
+use Rattle.std.specs.Prelude.{codes, IsTrue, true, nat_eq, nat_lt, nat_le}
+use Rattle.std.proofs.Math.Nat.{div-add-mod', mod-eq_of_lt, mul-mod_left, one-mul}
 use Rattle.std.proofs.Math.Pow.{pow_mono}
 use Rattle.std.proofs.lemmas.Bool.{cases_lt, le-leb, lt-ltb, eqb-true, eq-eqb}
 use Rattle.std.proofs.lemmas.List.{get_or_append_left, get_or-append-add, length-append, drop_at}

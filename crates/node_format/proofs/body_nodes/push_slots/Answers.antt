@@ -1,4 +1,4 @@
-use Rattle.std.proofs.Common.{ℕ, ◌+◌, List, sym, subst, arith}
+use Rattle.std.proofs.Common.{◌+◌, sym, subst, arith}
 use Rattle.node_format.proofs.BodyFields.{HasSlots, one_place}
 use Rattle.node_format.proofs.body_nodes.push_slots.Goals as goal
 

@@ -164,6 +164,7 @@ module _ (d e : Device) (m : System) (t : State) (call : Call) (result : Result 
     told = step.told;
     refused = step.refused;
     stopped = λ off. let still = step.stopped off in (still.0, ap (with_state m) still.1);
+    last = λ sync. absurd (true≢false (sym sync ∙ other));
     pass = refl;
     pages = pages;
     after = record {

@@ -1,8 +1,8 @@
 -- The step of a call that commits the working history.
-use Rattle.std.proofs.Common.{◌≡◌, ◌⊎◌, inl, inr, ℕ, zero, suc, ◌+◌, ◌-◌, ◌<◌, ◌≤◌, Bool, true, false, cond, ◌||◌, Option, Some, None, Bor, Result, Ok, Err, List, [], ◌∷◌, refl, sym, ap, ◌∙◌, arith}
+use Rattle.std.proofs.Common.{◌≡◌, ◌⊎◌, inl, inr, ℕ, zero, suc, ◌+◌, ◌-◌, ◌^◌, ◌<◌, ◌≤◌, Bool, true, false, cond, ◌||◌, Option, Some, None, Bor, Result, Ok, Err, List, [], ◌∷◌, refl, sym, ap, ◌∙◌, arith}
 use Rattle.std.proofs.lemmas.Bool.{true≢false}
 use Rattle.std.proofs.lemmas.List.Sums.{sum_by-cons}
-use Rattle.std.specs.Prelude.{is_some, is_none, Contains, OnOk, OnErr, IfErr, not, count_by}
+use Rattle.std.specs.Prelude.{is_some, is_none, if◌then◌else◌, Contains, OnOk, OnErr, IfErr, not, count_by}
 use Rattle.std.specs.List.{range_with_len}
 use Rattle.std.specs.FinSet as set
 use Rattle.std.specs.Ordering.{nat_cmp}
@@ -22,7 +22,9 @@ use Rattle.block_trees.specs.Bodies.{Blocks}
 use Rattle.block_trees.specs.Reached.{Reached, IsFirst, IsNamed}
 use Rattle.record_format.specs.declared.records.Record.{Record}
 use Rattle.node_store.specs.NodePages.{first_data, node_of}
-use Rattle.commit_pair.specs.Parts.{greatest_on}
+use Rattle.commit_pair.specs.declared.best.Found.{Found}
+use Rattle.commit_pair.specs.Newest.{remembered}
+use Rattle.commit_pair.specs.Parts.{parts_on, best_on, sequence_of, greatest_on}
 use Rattle.commit_pair.specs.Anchored.{OnlyAnchors}
 use Rattle.commit_pair.specs.Committing.{Commits}
 use Rattle.working_state.specs.Roots.{IsReached}
@@ -32,15 +34,15 @@ use Rattle.working_state.proofs.BadCounts.{len-within, stays_read_only}
 use Rattle.working_state.specs.declared.state.State.{State}
 use Rattle.upkeep.specs.Mounts.{history_of, roots_of}
 use Rattle.upkeep.specs.Saved.{saved_on, saved_trees}
-use Rattle.upkeep.specs.Commits.{record_on, Saves, SaveCause, RecordAfter, TriesOnce}
+use Rattle.upkeep.specs.Commits.{record_on, Saves, SaveCause, LacksSequence, CommitRefuses, RecordAfter, TriesOnce}
 use Rattle.upkeep.specs.Systems.{IsSystem}
 use Rattle.upkeep.specs.declared.systems.System.{System}
 use Rattle.upkeep.proofs.SameNodes.{same_room}
 use Rattle.upkeep.proofs.AfterCommits.{same, same_history, same_machine, saved_after, stands_after, trees_after, newly_trees}
 use Rattle.upkeep.proofs.Committed.{newly_saved}
 
-abbrev failed_reply : Fault → Result Reply Fault
-failed_reply x = Err x
+abbrev failed_as : (T : Type 0) → Fault → Result T Fault
+failed_as T fault = Err fault
 
 -- ---- calls that commit
 
@@ -217,18 +219,19 @@ module _ {T : Type 0} (d e : Device) (m n : System) (result : Result T Fault) (s
       by (Ok x) a = record { commits = a.commits; only_anchors = a.only_anchors; used_pages = a.used_pages; state = a.state; writable = a.writable; placed = a.placed; overflow = λ is. absurd cc }
       by (Err fault) a = record { commits = of_fault fault a.commits; only_anchors = a.only_anchors; used_pages = a.used_pages; state = a.state; writable = tt; placed = tt; overflow = λ is. a.overflow (ap Err (same_fault is)) }
         where
-          same_fault : {x y : Fault} → failed_reply x ≡ failed_reply y → x ≡ y
+          same_fault : {x y : Fault} → failed_as Reply x ≡ failed_as Reply y → x ≡ y
           same_fault e = cc
 
   -- a call that committed
-  pub committed : (call : Call) → IsSyncing (machine_on d m.state) call → IfErr result (SaveCause d m e n) → n.pass ≡ m.pass → TriesOnce d m call (replied empty result) e n
-  committed call is why same_pass = record {
+  pub committed : (call : Call) → IsSyncing (machine_on d m.state) call → IfErr result (SaveCause d m e n) → n.pass ≡ m.pass → (LacksSequence d m → (result ≡ Err Overflow) × (e ≡ d) × (n ≡ m)) → TriesOnce d m call (replied empty result) e n
+  committed call is why same_pass refuses = record {
     step = record { later = later; answers = answers call is why };
     leaves = λ none. absurd (true≢false (sym is.sync ∙ none));
     saves = λ sync. replied_saves;
     told = λ tells. absurd (tells_none call is.sync tells);
     refused = unchanged result;
     stopped = λ off. absurd (true≢false (sym off ∙ on));
+    last = λ _ _ _ lacks. let refused = refuses lacks in (ap (replied empty) refused.0, refused.1, refused.2);
     pass = same_pass;
     pages = λ p reached. saves.used_pages p (reached_used (block_of d p) reached);
     after = record_after call is.sync;
@@ -265,9 +268,9 @@ kept_record d m fault working call = record {
   kept = inl (λ r is p reached. refl);
 }
 
-keeps_itself : (d : Device) (m : System) (fault : Fault) → Commits {T = Reply} d.pages d.pages (record_on d m.state) (greatest_on d.geometry d.pages + 1) m.state.storage.bad (Err fault)
-keeps_itself d m PowerCut = inl (record { heads = λ q head is. is; place = refl; newest = refl })
-keeps_itself d m _ = record { heads = λ q head is. is; place = refl; newest = refl }
+keeps_itself : (T : Type 0) (d : Device) (m : System) (fault : Fault) → Commits {T = T} d.pages d.pages (record_on d m.state) (greatest_on d.geometry d.pages + 1) m.state.storage.bad (Err fault)
+keeps_itself T d m PowerCut = inl (record { heads = λ q head is. is; place = refl; newest = refl })
+keeps_itself T d m _ = record { heads = λ q head is. is; place = refl; newest = refl }
 
 seen_itself : (a : Seen) → IsLater a a
 seen_itself a = record {
@@ -281,29 +284,47 @@ seen_itself a = record {
   stays_read_only = λ is. is;
 }
 
-refused_saves : (d : Device) (m : System) (fault : Fault) → (m.state.is_off || is_cut fault) ≡ m.state.is_off → (fault ≡ Overflow → ⊥) → Saves {T = Reply} d m (Err fault) d m
-refused_saves d m fault off other = record {
-  commits = keeps_itself d m fault;
+pub refused_saves : {T : Type 0} (d : Device) (m : System) (fault : Fault) → (m.state.is_off || is_cut fault) ≡ m.state.is_off → (fault ≡ Overflow → greatest_on d.geometry d.pages ≡ 2 ^ 64 - 1) → Saves {T = T} d m (Err fault) d m
+refused_saves {T = T} d m fault off last = record {
+  commits = keeps_itself T d m fault;
   only_anchors = kept_anchors d m.state.storage.bad;
   used_pages = λ p is. refl;
   state = λ i. record m.state { is_off = sym off i };
   writable = tt;
   placed = tt;
-  overflow = λ is. absurd (other (same_fault is));
+  overflow = λ is. last (same_fault is);
 }
   where
-    same_fault : {x y : Fault} → failed_reply x ≡ failed_reply y → x ≡ y
+    same_fault : {x y : Fault} → failed_as T x ≡ failed_as T y → x ≡ y
     same_fault e = cc
+
+-- the sequence that is remembered is the greatest
+pub known_greatest : (d : Device) (m : System) → IsSystem d m → m.state.is_off ≡ false → greatest_on d.geometry d.pages ≡ sequence_of (remembered m.anchors)
+known_greatest d m s on = by (best_on d.geometry (parts_on d.geometry d.pages)).twice (best_on d.geometry (parts_on d.geometry d.pages)).found (s.known on).place (s.known on).some
+  where
+    by : (twice : Bool) (found : Option Found) → (if twice then None else found) ≡ remembered m.anchors → is_some (remembered m.anchors) ≡ true → sequence_of found ≡ sequence_of (remembered m.anchors)
+    by true found is some = absurd (true≢false (sym some ∙ ap is_some (sym is)))
+    by false found is some = ap sequence_of is
+
+-- a commit that is refused before anything is asked for
+pub turned_away : (d : Device) (m : System) (fault : Fault) → IsSystem d m → m.state.is_off ≡ false → CommitRefuses m fault
+    → Saves {T = Unit {0}} d m (Err fault) d m × SaveCause d m d m fault × (LacksSequence d m → fault ≡ Overflow)
+turned_away d m ReadOnly s on why = (refused_saves d m ReadOnly (ap (λ (b : Bool). b || false) on ∙ sym on) (λ e. absurd cc), why, λ lacks. absurd (true≢false (sym why ∙ lacks.0)))
+turned_away d m Overflow s on why =
+    let last = known_greatest d m s on ∙ why.1 in
+    (refused_saves d m Overflow (ap (λ (b : Bool). b || false) on ∙ sym on) (λ e. last), (why.0, last), λ lacks. refl)
+turned_away d m _ s on why = absurd why
 
 -- the device is off, as a call told before
 pub off_step : (d : Device) (m : System) (call : Call) → is_sync call ≡ true → m.state.is_off ≡ true → TriesOnce d m call (Err PowerCut) d m
 off_step d m call sync off = record {
   step = record { later = seen_itself (seen_on d m.state); answers = by m.state.is_off off };
   leaves = λ none. absurd (true≢false (sym sync ∙ none));
-  saves = λ is. refused_saves d m PowerCut (ap (λ (b : Bool). b || true) off ∙ sym off) (λ e. cc);
+  saves = λ is. refused_saves d m PowerCut (ap (λ (b : Bool). b || true) off ∙ sym off) (λ e. absurd cc);
   told = λ tells. tt;
   refused = refl;
   stopped = λ is. (refl, refl);
+  last = λ _ on. absurd (true≢false (sym off ∙ on));
   pass = refl;
   pages = λ p reached. refl;
   after = kept_record d m PowerCut _ call;
@@ -318,10 +339,11 @@ pub closed_step : (d : Device) (m : System) (call : Call) → is_sync call ≡ t
 closed_step d m call sync on refused = record {
   step = record { later = seen_itself (seen_on d m.state); answers = by m.state.is_off on };
   leaves = λ none. absurd (true≢false (sym sync ∙ none));
-  saves = λ is. refused_saves d m BadDescriptor (ap (λ (b : Bool). b || false) on ∙ sym on) (λ e. cc);
+  saves = λ is. refused_saves d m BadDescriptor (ap (λ (b : Bool). b || false) on ∙ sym on) (λ e. absurd cc);
   told = λ tells. tt;
   refused = refl;
   stopped = λ is. (refl, refl);
+  last = λ _ _ accepted. absurd (true≢false (sym accepted ∙ ap is_none refused));
   pass = refl;
   pages = λ p reached. refl;
   after = kept_record d m BadDescriptor _ call;

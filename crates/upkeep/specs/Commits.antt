@@ -2,7 +2,7 @@
 use Rattle.std.specs.Prelude.{◌≡◌, ◌⊎◌, ℕ, ◌+◌, ◌-◌, ◌^◌, ◌<◌, true, false, ◌||◌, Some, Result, Ok, Err, IfOk, OnOk, OnErr}
 use Rattle.std.specs.FinSet as set
 use Rattle.history_machine.specs.History.{Past}
-use Rattle.history_machine.specs.Machine.{Space, answer}
+use Rattle.history_machine.specs.Machine.{Space, answer, is_accepted}
 use Rattle.plain_trees.specs.Trees.{Tree}
 use Rattle.fs_types.specs.declared.calls.Call.{Call}
 use Rattle.fs_types.specs.declared.calls.Reply.{Reply}
@@ -13,7 +13,8 @@ use Rattle.node_store.specs.NodePages.{first_data, node_of}
 use Rattle.block_trees.specs.Reached.{Reached}
 use Rattle.read_only.specs.Modes.{is_read_only}
 use Rattle.record_format.specs.declared.records.Record.{Record}
-use Rattle.commit_pair.specs.Parts.{greatest_on}
+use Rattle.commit_pair.specs.Newest.{remembered}
+use Rattle.commit_pair.specs.Parts.{sequence_of, greatest_on}
 use Rattle.commit_pair.specs.Anchored.{OnlyAnchors}
 use Rattle.commit_pair.specs.Committing.{Commits}
 use Rattle.commit_pair.specs.Remembering.{IsPlaced}
@@ -54,6 +55,16 @@ SaveCause old m new n PowerCut = new.powered ≡ false
 SaveCause old m new n NoMemory = Unit {0}
 SaveCause old m new n _ = ⊥
 
+-- no sequence is left for a commit that is not refused for read-only mode
+abbrev pub LacksSequence : Device → System → Type 0
+LacksSequence d m = (is_read_only m.state.storage.bad ≡ false) × (greatest_on d.geometry d.pages ≡ 2 ^ 64 - 1)
+
+-- what a commit is refused for before anything is asked for: read-only mode, or else that no sequence is left after the newest record's
+abbrev pub CommitRefuses : System → Fault → Type 0
+CommitRefuses m ReadOnly = is_read_only m.state.storage.bad ≡ true
+CommitRefuses m Overflow = (is_read_only m.state.storage.bad ≡ false) × (sequence_of (remembered m.anchors) ≡ 2 ^ 64 - 1)
+CommitRefuses m _ = ⊥
+
 -- no page changes of a block that the newest record reaches
 abbrev pub KeepsRecord : Device → Device → Type 0
 KeepsRecord old new = (r : Record) → saved_on old ≡ Some r → (p : ℕ) → Reached (node_of old) (roots_of (history_of r)) (block_of old p) → new.pages p ≡ old.pages p
@@ -79,6 +90,8 @@ pub record TriesOnce (old : Device) (m : System) (call : Call) (result : Result 
   pub told : tells_space call ≡ true → IfOk result (λ reply. (space : Space) × IsSpace new n.state space × (answer space (machine_on old m.state) call ≡ Ok reply))
   pub refused : OnErr result (n.state.history ≡ m.state.history)
   pub stopped : m.state.is_off ≡ true → (new ≡ old) × (n ≡ m)
+  -- where no sequence is left, a call that commits tells it before memory is asked for, and nothing changes
+  pub last : is_sync call ≡ true → m.state.is_off ≡ false → is_accepted (machine_on old m.state) call ≡ true → LacksSequence old m → (result ≡ Err Overflow) × (new ≡ old) × (n ≡ m)
   -- the marking that goes on is as it was
   pub pass : n.pass ≡ m.pass
   -- no page changes of a block that a version or a checkpoint reaches

@@ -1,14 +1,16 @@
 //! A mounted system: its working state beside what is known of the newest record.
-ghost use Rattle.std.specs.Prelude.{◌≡◌, ◌⊎◌, true, false, IfOk, OnOk, OnErr, IfErr};
+ghost use Rattle.std.specs.Prelude.{◌≡◌, ◌≢◌, ◌-◌, ◌^◌, true, false, Err, IfOk, OnOk, OnErr, IfErr};
 ghost use Rattle.fs_types.specs.declared.calls.Call.{Call};
 ghost use Rattle.fs_types.specs.declared.faults.Fault.{Fault};
 ghost use Rattle.allocator.specs.Ring.{AreDataBlocks};
 ghost use Rattle.read_only.specs.Modes.{is_read_only};
 ghost use Rattle.record_format.specs.Payloads.{is_record};
+ghost use Rattle.commit_pair.specs.Newest.{remembered};
+ghost use Rattle.commit_pair.specs.Parts.{sequence_of};
 ghost use Rattle.working_state.specs.Steps.{replied, empty};
 ghost use Rattle.upkeep.specs.Contents.{record_of};
 ghost use Rattle.upkeep.specs.Systems.{IsSystem};
-ghost use Rattle.upkeep.specs.Commits.{Saves, SaveCause, TriesOnce};
+ghost use Rattle.upkeep.specs.Commits.{Saves, SaveCause, LacksSequence, CommitRefuses, TriesOnce};
 ghost use Rattle.upkeep.specs.Steps.{SystemStep};
 
 use crate::contents::record_of;
@@ -134,7 +136,9 @@ impl System {
         ensures saves { Saves (F.device flash.old) self.old result (F.device flash.new) self.new }
         ensures why { IfErr result (SaveCause (F.device flash.old) self.old (F.device flash.new) self.new) }
         ensures pass { self.new.pass ≡ self.old.pass }
+        ensures last { LacksSequence (F.device flash.old) self.old → (result ≡ Err Fault.Overflow) × (F.device flash.new ≡ F.device flash.old) × (self.new ≡ self.old) }
     {
+        self.check_commit()?;
         let saved = self.record(alloc, flash.geometry())?;
         let roots = list_roots(alloc, &self.state.history)?;
         let answer = self
@@ -155,23 +159,35 @@ impl System {
         }
     }
 
-    /// The record of the working state; [`Fault::ReadOnly`] in read-only mode.
+    /// Whether a commit may come: [`Fault::ReadOnly`] in read-only mode, else [`Fault::Overflow`] where
+    /// no sequence is left. No memory is asked for.
+    fn check_commit(&self) -> Result<(), Fault>
+        ensures writable { OnOk result (is_read_only self.now.state.storage.bad ≡ false) }
+        ensures next { OnOk result (sequence_of (remembered self.now.anchors) ≢ 2 ^ 64 - 1) }
+        ensures why { IfErr result (CommitRefuses self.now) }
+    {
+        if is_read_only(&self.state.storage.bad) {
+            return Err(Fault::ReadOnly);
+        }
+        if !self.anchors.has_next_sequence() {
+            return Err(Fault::Overflow);
+        }
+        Ok(())
+    }
+
+    /// The record of the working state.
     fn record(&self, alloc: Global, geometry: Geometry) -> Result<Record, Fault>
         requires { geometry.blocks ≡ self.now.state.storage.ring.blocks }
         ensures says { IfOk result (λ saved. saved ≡ record_of geometry self.now.state.history self.now.state.storage.ring.last) }
         ensures lawful { OnOk result (is_record (record_of geometry self.now.state.history self.now.state.storage.ring.last) ≡ true) }
-        ensures writable { OnOk result (is_read_only self.now.state.storage.bad ≡ false) }
         ensures used { OnOk result (AreDataBlocks self.now.state.storage.ring.blocks self.now.state.storage.ring.used) }
-        ensures err { IfErr result (λ fault. ((fault ≡ Fault.ReadOnly) × (is_read_only self.now.state.storage.bad ≡ true)) ⊎ (fault ≡ Fault.NoMemory)) }
+        ensures memory { IfErr result (λ fault. fault ≡ Fault.NoMemory) }
     {
         let State {
             history,
             storage,
             ..
         } = &self.state;
-        if is_read_only(&storage.bad) {
-            return Err(Fault::ReadOnly);
-        }
         // The used blocks are data blocks, as their contract tells.
         let _blocks = storage.ring.blocks();
         Ok(record_of(alloc, geometry, history, storage.ring.last())?)

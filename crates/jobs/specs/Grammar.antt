@@ -21,7 +21,7 @@ format_app = with_rule (with_rule (with_rule (with_rule (image_app (codes "forma
 
 -- the program before its subcommands: one of them has to be named, by the first word
 abbrev pub bare_top : Shape
-bare_top = record (new_app (codes "uffs")).top { no_binary_name = true; disable_help_subcommand = true; subcommand_required = true }
+bare_top = record (new_app (codes "uffs")).top { no_binary_name = true; disable_help_subcommand = true; subcommand_required = true; has_version = true }
 
 abbrev pub bare_app : App
 bare_app = record (new_app (codes "uffs")) { top = bare_top }

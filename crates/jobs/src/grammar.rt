@@ -10,10 +10,13 @@ use std::alloc::{AllocError, Global};
 /// The name of the argument that names the file of an image.
 pub(crate) const IMAGE: &str = "IMAGE";
 
+/// What `uffs --version` says after the name.
+const VERSION: &str = "0.1.0";
+
 const PROGRAM_HELP: &str = "Status:
   0  it ran to its end, whatever the replies
   1  IMAGE, the input or the output failed, or memory
-  2  the words were refused, or help was asked for
+  2  the words were refused, or help or the version was asked for
   3  IMAGE holds no image, or a format or a mount was refused
 
 Example:
@@ -74,7 +77,7 @@ Example: echo 'df' | uffs memory";
 pub(crate) fn program<'a>(alloc: Global) -> Result<Command<'a>, AllocError>
     ensures { IfOk result (λ command. app_of command ≡ uffs) }
 {
-    let program = bare_program(alloc).subcommand(format_command(alloc)?)?;
+    let program = bare_program(alloc)?.subcommand(format_command(alloc)?)?;
     with_image_commands(alloc, program)?.subcommand(memory_command(alloc))
 }
 
@@ -126,15 +129,19 @@ fn with_image_command<'a>(
 }
 
 /// The program before its subcommands.
-fn bare_program<'a>(alloc: Global) -> Command<'a>
-    ensures { app_of result ≡ bare_app }
+fn bare_program<'a>(alloc: Global) -> Result<Command<'a>, AllocError>
+    ensures { IfOk result (λ command. app_of command ≡ bare_app) }
 {
-    Command::new(alloc, "uffs")
-        .no_binary_name(true)
-        .disable_help_subcommand(true)
-        .subcommand_required(true)
-        .about("A file system with undo and rollback, on an image of raw flash")
-        .after_help(PROGRAM_HELP)
+    let program = Command::new(alloc, "uffs").bin_name("uffs")?;
+    Ok(
+        program
+            .no_binary_name(true)
+            .disable_help_subcommand(true)
+            .subcommand_required(true)
+            .version(VERSION)
+            .about("A file system with undo and rollback, on an image of raw flash")
+            .after_help(PROGRAM_HELP),
+    )
 }
 
 fn format_command<'a>(alloc: Global) -> Result<Command<'a>, AllocError>

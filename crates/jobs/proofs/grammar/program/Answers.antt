@@ -7,6 +7,6 @@ use Rattle.jobs.proofs.grammar.program.Goals as goal
 pub returns : goal.returns
 returns c =
     let first : app_of c.in_ok-program.program ≡ with_subcommand bare_app format_app.top = c.in_ok-program.ensures.shape c.in_ok-format_command.ensures.local
-    ∙ ap₂ with_subcommand c.bare_program.ensures (ap (λ (a : App). a.top) c.in_ok-format_command.ensures.app) in
+    ∙ ap₂ with_subcommand c.in_ok-bare_program.ensures (ap (λ (a : App). a.top) c.in_ok-format_command.ensures.app) in
     let others = c.in_ok-with_image_commands.ensures ∙ ap with_image_apps first in
     IfOk-weaker c.subcommand-2.result _ _ (λ command is. is.shape c.memory_command.ensures.local ∙ ap₂ with_subcommand others (ap (λ (a : App). a.top) c.memory_command.ensures.app)) c.subcommand-2.ensures

@@ -33,7 +33,7 @@ use Rattle.upkeep.specs.declared.systems.System.{System}
 use Rattle.upkeep.proofs.SameRecords.{still_saved, same_trees, still_whole}
 use Rattle.upkeep.proofs.Syncs.{sync_syncs, fsync_syncs}
 use Rattle.undofs.specs.Runs.{Shows, IsSaved, found_after, ReclaimsOn, put_on, MayRefuseMount, Mounts, Happens, Run}
-use Rattle.undofs.specs.Sessions.{IsSound, Stands, world, Moves, IsStart, Starts, Serves, AreServed, IsServed, ServeLaw, IsSession}
+use Rattle.undofs.specs.Sessions.{IsSound, Stands, world, Starts, Serves, AreServed, IsServed, ServeLaw, IsSession}
 use Rattle.undofs.proofs.RunLaws.{shown, refused_keeps}
 
 -- ---- where no page changes

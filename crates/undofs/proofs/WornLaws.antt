@@ -23,7 +23,7 @@ use Rattle.upkeep.specs.Commits.{record_on, Saves, TriesOnce}
 use Rattle.upkeep.specs.Reclaiming.{Reclaims}
 use Rattle.upkeep.specs.Rooms.{MarksAnew, LacksCommit}
 use Rattle.upkeep.specs.Saved.{record_in, saved_on}
-use Rattle.upkeep.specs.Steps.{SystemStep, TriesAgain, LacksRoom, TriesTwice}
+use Rattle.upkeep.specs.Steps.{SystemStep, TriesTwice}
 use Rattle.upkeep.specs.declared.systems.System.{System}
 use Rattle.upkeep.proofs.Committed.{same_saved}
 use Rattle.undofs.specs.Runs.{World, put_on, Calls, ReclaimsOn, Mounts, Happens, Run}

@@ -1,0 +1,73 @@
+//! Fails each device operation of scripts once. Where a read fails, the line is answered as in the
+//! script or `err EIO 23`, and then the same line once more as in the script; a mount that failed is
+//! asked again. Where a program or an erase fails, all is answered as if none had, but for the
+//! numbers of `df`; the faults of a script itself are left out there. For each script it prints how
+//! many operations failed. A run that is answered otherwise is told, and the status is 1.
+#![tactic(auto)]
+
+mod reads;
+mod runs;
+mod writes;
+
+use anyhow::{Context, Result};
+use reads::{ReadTally, fail_reads};
+use session_oracle::Script;
+use std::fs;
+use std::process::ExitCode;
+use std::rt::Files;
+use writes::{WriteTally, fail_writes};
+
+fn main(rt: HostRuntime) -> Result<ExitCode> {
+    let mut wrong = 0u64;
+    for name in std::env::args(&rt)?.skip(1) {
+        wrong = wrong.saturating_add(run(&rt, name.as_str())?);
+    }
+    Ok(ExitCode::from(if wrong == 0 { 0 } else { 1 }))
+}
+
+/// Tries a script, and answers how many runs went wrong.
+fn run<R: Files + AllocGlobal + Print>(rt: &R, name: &str) -> Result<u64> {
+    let text = fs::read_to_string(rt, name).context(format_args!("reading {name}"))?;
+    let script = Script::read(rt.alloc(), text.as_str())?;
+    let reads = fail_reads(rt.alloc(), &script)?;
+    tell_reads(rt, name, reads)?;
+    if is_only_read(name) {
+        return Ok(reads.wrong);
+    }
+    let writes = fail_writes(rt.alloc(), &script)?;
+    tell_writes(rt, name, writes)?;
+    Ok(reads.wrong.saturating_add(writes.wrong))
+}
+
+/// Whether only reads of a script fail: what it is answered tells how many blocks are free.
+fn is_only_read(name: &str) -> bool {
+    name == "full_flash.row" || name == "undo_redo.row"
+}
+
+fn tell_reads<R: Print>(rt: &R, name: &str, tally: ReadTally) -> Result<()> {
+    println!(rt;
+        "{name}: {} reads failed, {} mounts and {} lines asked again",
+        tally.runs, tally.mounts, tally.lines
+    )?;
+    if tally.wrong != 0 {
+        println!(rt;
+            "  {} runs wrong, the first of read {}",
+            tally.wrong, tally.first_wrong
+        )?;
+    }
+    Ok(())
+}
+
+fn tell_writes<R: Print>(rt: &R, name: &str, tally: WriteTally) -> Result<()> {
+    println!(rt;
+        "{name}: {} programs and {} erases failed",
+        tally.programs, tally.erases
+    )?;
+    if tally.wrong != 0 {
+        println!(rt;
+            "  {} runs wrong, the first of operation {}",
+            tally.wrong, tally.first_wrong
+        )?;
+    }
+    Ok(())
+}

@@ -5,6 +5,7 @@ ghost use Rattle.flash_model.specs.Geometry.{IsGeometry};
 ghost use Rattle.flash_model.specs.Reading.{OnlyReads};
 ghost use Rattle.node_cache.specs.declared.caches.TheConstants.{MAX_CACHED_NODES};
 ghost use Rattle.record_format.specs.Payloads.{is_record};
+ghost use Rattle.upkeep.specs.Costs.{AsksToVerify, AsksToMount};
 ghost use Rattle.upkeep.specs.Mounts.{history_of, roots_of, IsLoaded, IsMountOf, RootsCause, MountCause};
 ghost use Rattle.upkeep.specs.Systems.{IsSystem};
 
@@ -38,6 +39,7 @@ fn load<F: Flash>(
     ensures loaded { IfOk result (IsLoaded (F.device flash.new) saved.now) }
     ensures room { IfOk result (λ state. state.storage.cache.room ≡ cache.room) }
     ensures only_reads { OnlyReads (F.device flash.old) (F.device flash.new) }
+    ensures asks { AsksToVerify (F.device flash.old) (roots_of (history_of saved.now)) (F.device flash.new) }
     ensures why { IfErr result (RootsCause (F.device flash.old) (roots_of (history_of saved.now)) (F.device flash.new)) }
 {
     let history = restore_history(alloc, saved)?;
@@ -60,6 +62,7 @@ fn mount_cached<F: Flash>(alloc: Global, flash: &mut F, cache: NodeCache) -> Res
     ensures system { IfOk result (IsSystem (F.device flash.new)) }
     ensures room { IfOk result (λ system. system.state.storage.cache.room ≡ cache.room) }
     ensures only_reads { OnlyReads (F.device flash.old) (F.device flash.new) }
+    ensures asks { IfOk result (λ _. AsksToMount (F.device flash.old) (F.device flash.new)) }
     ensures why { IfErr result (MountCause (F.device flash.old) (F.device flash.new)) }
 {
     if !flash.geometry().is_lawful() {
@@ -93,6 +96,7 @@ pub fn mount_with<F: Flash>(alloc: Global, flash: &mut F, nodes: usize) -> Resul
     ensures system { IfOk result (IsSystem (F.device flash.new)) }
     ensures room { IfOk result (λ system. system.state.storage.cache.room ≡ nodes) }
     ensures only_reads { OnlyReads (F.device flash.old) (F.device flash.new) }
+    ensures asks { IfOk result (λ _. AsksToMount (F.device flash.old) (F.device flash.new)) }
     ensures invalid { (result ≡ Err Fault.Invalid) ↔ ((nodes < 1) ⊎ (MAX_CACHED_NODES < nodes)) }
     ensures unread { result ≡ Err Fault.Invalid → F.device flash.new ≡ F.device flash.old }
     ensures why { IfErr result (λ fault. fault ≢ Fault.Invalid → MountCause (F.device flash.old) (F.device flash.new) fault) }
@@ -107,6 +111,7 @@ pub fn mount<F: Flash>(alloc: Global, flash: &mut F) -> Result<System, Fault>
     ensures system { IfOk result (IsSystem (F.device flash.new)) }
     ensures room { IfOk result (λ system. system.state.storage.cache.room ≡ MOUNTED_NODES) }
     ensures only_reads { OnlyReads (F.device flash.old) (F.device flash.new) }
+    ensures asks { IfOk result (λ _. AsksToMount (F.device flash.old) (F.device flash.new)) }
     ensures why { IfErr result (MountCause (F.device flash.old) (F.device flash.new)) }
 {
     mount_with(alloc, flash, MOUNTED_NODES)

@@ -12,6 +12,8 @@ ghost use Rattle.working_state.specs.Mounted.{IsMounted, StateStep};
 ghost use Rattle.working_state.specs.Roots.{IsSpace};
 ghost use Rattle.working_state.specs.Seen.{seen_on, machine_on};
 ghost use Rattle.working_state.specs.Worked.{IsLooked, ReadCause};
+ghost use Rattle.upkeep.specs.Costs.{AsksEach};
+ghost use Rattle.upkeep.specs.Mounts.{roots_of};
 
 use crate::reaching::marked_on;
 use crate::restoring::list_roots;
@@ -31,6 +33,7 @@ pub(crate) fn df<F: Flash>(state: &mut State, alloc: Global, flash: &mut F) -> R
     requires { IsMounted (F.device flash.old) state.old }
     ensures mounted { IsMounted (F.device flash.new) state.new }
     ensures step { StateStep (F.device flash.old) state.old Call.Df result (F.device flash.new) state.new }
+    ensures asks { AsksEach (F.device flash.old) (roots_of state.old.history) (F.device flash.new) }
 {
     state.check_power()?;
     let space = measure(state, alloc, flash);
@@ -41,6 +44,7 @@ pub(crate) fn df<F: Flash>(state: &mut State, alloc: Global, flash: &mut F) -> R
 fn measure<F: Flash>(state: &mut State, alloc: Global, flash: &mut F) -> Result<Reply, Fault>
     requires { IsMounted (F.device flash.old) state.old }
     ensures looked { IsLooked (moment (F.device flash.old) state.old) (moment (F.device flash.new) state.new) }
+    ensures asks { AsksEach (F.device flash.old) (roots_of state.old.history) (F.device flash.new) }
     ensures told { IfOk result (λ reply. (space : Space) × IsSpace (F.device flash.new) state.new space × (reply_of space (machine_on (F.device flash.old) state.old) Call.Df ≡ reply)) }
     ensures why { IfErr result (λ fault. ReadCause (seen_on (F.device flash.old) state.old) fault (seen_on (F.device flash.new) state.new)) }
 {

@@ -9,6 +9,8 @@ ghost use Rattle.commit_pair.specs.Newest.{remembered};
 ghost use Rattle.commit_pair.specs.Parts.{sequence_of};
 ghost use Rattle.working_state.specs.Steps.{replied, empty};
 ghost use Rattle.upkeep.specs.Contents.{record_of};
+ghost use Rattle.upkeep.specs.Costs.{AsksEach};
+ghost use Rattle.upkeep.specs.Mounts.{roots_of};
 ghost use Rattle.upkeep.specs.Systems.{IsSystem};
 ghost use Rattle.upkeep.specs.Commits.{Saves, SaveCause, LacksSequence, CommitRefuses, TriesOnce};
 ghost use Rattle.upkeep.specs.Steps.{SystemStep};
@@ -84,6 +86,7 @@ impl System {
         requires { IsSystem (F.device flash.old) self.old }
         ensures system { IsSystem (F.device flash.new) self.new }
         ensures step { TriesOnce (F.device flash.old) self.old Call.Df result (F.device flash.new) self.new }
+        ensures asks { AsksEach (F.device flash.old) (roots_of self.old.state.history) (F.device flash.new) }
     {
         df(&mut self.state, alloc, flash)
     }

@@ -11,6 +11,8 @@ use Rattle.reclaim.specs.Verified.{AreRoots}
 use Rattle.working_state.specs.declared.state.State.{State}
 use Rattle.upkeep.specs.Mounts.{history_of, roots_of}
 use Rattle.upkeep.proofs.Mounting.{built_loaded, err_roots}
+use Rattle.upkeep.specs.Costs.{AsksToVerify}
+use Rattle.upkeep.proofs.Costing.{verifies_none}
 use Rattle.upkeep.proofs.mounts.load.Goals as goal
 
 pub returns-clause-loaded : goal.returns-clause-loaded
@@ -43,3 +45,22 @@ returns-in_err-use_reached-clause-why g c =
     let p = err_from_is_err_and c.from_residual-in_err-use_reached.result c.from_residual-in_err-use_reached.ensures.1 in
     err_roots State (g.F.Flash.device c.args.flash.now) (g.F.Flash.device c.use_reached.new.flash) c.deref.result.now (roots_of (history_of c.args.saved.now))
     c.from_residual-in_err-use_reached.result c.in_err-use_reached.field-0.0 roots (p.1 ∙ ap Err p.2) c.in_err-use_reached.ensures.why
+
+pub returns-in_err-history-clause-asks : goal.returns-in_err-history-clause-asks
+returns-in_err-history-clause-asks g c = verifies_none (g.F.Flash.device c.args.flash.now) (roots_of (history_of c.args.saved.now))
+
+pub returns-in_err-roots-clause-asks : goal.returns-in_err-roots-clause-asks
+returns-in_err-roots-clause-asks g c = verifies_none (g.F.Flash.device c.args.flash.now) (roots_of (history_of c.args.saved.now))
+
+pub returns-in_err-storage-clause-asks : goal.returns-in_err-storage-clause-asks
+returns-in_err-storage-clause-asks g c = verifies_none (g.F.Flash.device c.args.flash.now) (roots_of (history_of c.args.saved.now))
+
+pub returns-in_err-use_reached-clause-asks : goal.returns-in_err-use_reached-clause-asks
+returns-in_err-use_reached-clause-asks g c =
+    let roots : c.deref.result.now ≡ roots_of (history_of c.args.saved.now) = c.deref.ensures.value ∙ c.in_ok-roots.ensures ∙ ap roots_of c.in_ok-history.ensures.history in
+    subst (λ (l : List ℕ). AsksToVerify (g.F.Flash.device c.args.flash.now) l (g.F.Flash.device c.use_reached.new.flash)) roots c.use_reached.ensures.asks
+
+pub returns-clause-asks : goal.returns-clause-asks
+returns-clause-asks g c =
+    let roots : c.deref.result.now ≡ roots_of (history_of c.args.saved.now) = c.deref.ensures.value ∙ c.in_ok-roots.ensures ∙ ap roots_of c.in_ok-history.ensures.history in
+    subst (λ (l : List ℕ). AsksToVerify (g.F.Flash.device c.args.flash.now) l (g.F.Flash.device c.use_reached.new.flash)) roots c.use_reached.ensures.asks

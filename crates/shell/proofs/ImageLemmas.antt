@@ -6,11 +6,11 @@ use Rattle.flash_model.specs.Geometry.{IsGeometry}
 use Rattle.flash_model.specs.Simulation.{device_of}
 use Rattle.flash_model.specs.declared.simulation.SimFlash.{SimFlash}
 use Rattle.flash_model.specs.declared.sizes.Geometry.{Geometry}
-use Rattle.upkeep.specs.Formats.{IsFormatted, FormatCause}
+use Rattle.upkeep.specs.Formats.{FormatCause}
 use Rattle.upkeep.specs.Mounts.{IsMountOf}
 use Rattle.upkeep.specs.declared.systems.System.{System}
 use Rattle.shell.specs.Failures.{of_system}
-use Rattle.shell.specs.Memory.{IsNewFlash}
+use Rattle.shell.specs.Memory.{IsNewFlash, IsFormatOf}
 use Rattle.shell.specs.Tools.{AreLawful, FormatEnds, FormatFailure, IsLoaded, IsSaved, IsSaveFailure, Plays, RunEnds, CheckEnds}
 use Rattle.shell.specs.declared.failures.Failure.{Failure}
 
@@ -18,17 +18,17 @@ use Rattle.shell.specs.declared.failures.Failure.{Failure}
 pub lawful_limit : (sizes : Geometry) (limit : ℕ) → IsGeometry sizes → (limit < 2 → ⊥) → (64 < limit → ⊥) → AreLawful sizes limit
 lawful_limit sizes limit lawful low high = record { geometry = lawful; least = omega arith; most = omega arith }
 
-pub format_saved : (sizes : Geometry) (limit : ℕ) (flash : SimFlash) (held saved : Option (List ℕ)) (result : Result (Unit {0}) Failure)
-    → AreLawful sizes limit → IsFormatted limit (device_of flash) → OnOk result (IsSaved saved flash) → IfErr result IsSaveFailure → OnErr result (saved ≡ held)
+pub format_saved : (sizes : Geometry) (limit : ℕ) (start flash : SimFlash) (held saved : Option (List ℕ)) (result : Result (Unit {0}) Failure)
+    → AreLawful sizes limit → IsNewFlash sizes start → IsFormatOf limit start flash → OnOk result (IsSaved saved flash) → IfErr result IsSaveFailure → OnErr result (saved ≡ held)
     → FormatEnds sizes limit held saved result
-format_saved sizes limit flash held saved (Ok done) lawful formatted ok why same = (flash, lawful, formatted, ok)
-format_saved sizes limit flash held saved (Err Failure.CannotWrite) lawful formatted ok why same = (lawful, same)
-format_saved sizes limit flash held saved (Err Failure.Memory) lawful formatted ok why same = (tt, same)
-format_saved sizes limit flash held saved (Err Failure.CannotRead) lawful formatted ok why same = absurd why
-format_saved sizes limit flash held saved (Err Failure.Input) lawful formatted ok why same = absurd why
-format_saved sizes limit flash held saved (Err Failure.Output) lawful formatted ok why same = absurd why
-format_saved sizes limit flash held saved (Err (Failure.Image fault)) lawful formatted ok why same = absurd why
-format_saved sizes limit flash held saved (Err (Failure.System fault)) lawful formatted ok why same = absurd why
+format_saved sizes limit start flash held saved (Ok done) lawful made formatted ok why same = (start, flash, lawful, made, formatted, ok)
+format_saved sizes limit start flash held saved (Err Failure.CannotWrite) lawful made formatted ok why same = (lawful, same)
+format_saved sizes limit start flash held saved (Err Failure.Memory) lawful made formatted ok why same = (tt, same)
+format_saved sizes limit start flash held saved (Err Failure.CannotRead) lawful made formatted ok why same = absurd why
+format_saved sizes limit start flash held saved (Err Failure.Input) lawful made formatted ok why same = absurd why
+format_saved sizes limit start flash held saved (Err Failure.Output) lawful made formatted ok why same = absurd why
+format_saved sizes limit start flash held saved (Err (Failure.Image fault)) lawful made formatted ok why same = absurd why
+format_saved sizes limit start flash held saved (Err (Failure.System fault)) lawful made formatted ok why same = absurd why
 
 pub format_refused : (sizes : Geometry) (limit : ℕ) (start end : SimFlash) (fault : Fault) → IsNewFlash sizes start → FormatCause (device_of start) limit fault (device_of end)
     → FormatFailure sizes limit (of_system fault)

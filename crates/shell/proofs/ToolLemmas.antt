@@ -12,7 +12,8 @@ use Rattle.jobs.specs.declared.tasks.Job.{Job}
 use Rattle.jobs.specs.declared.tasks.Task.{Task}
 use Rattle.shell.specs.Failures.{of_script, failure_status, job_status}
 use Rattle.shell.specs.Memory.{fault_status}
-use Rattle.shell.specs.Tools.{Held, EndsFor, MemoryEnds, MemoryBy, ToolEnds, refused_status, is_memory}
+use Rattle.shell.specs.Files.{Held}
+use Rattle.shell.specs.Tools.{EndsFor, MemoryEnds, MemoryBy, ToolEnds, refused_status, is_memory}
 use Rattle.shell.specs.declared.failures.Failure.{Failure}
 use Rattle.shell.specs.declared.scripts.ScriptFault.{ScriptFault}
 use Rattle.shell.proofs.MemoryWords.{memory_fault, memory_given}

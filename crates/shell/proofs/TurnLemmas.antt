@@ -12,12 +12,12 @@ use Rattle.flash_model.specs.declared.simulation.SimFlash.{SimFlash}
 use Rattle.script.specs.Lines.{line_of}
 use Rattle.script.specs.declared.lines.Line.{Line}
 use Rattle.script.specs.declared.answers.LineAnswer.{LineAnswer}
-use Rattle.upkeep.specs.Mounts.{IsMountOf, MountCause}
+use Rattle.upkeep.specs.Mounts.{IsMountOf}
 use Rattle.upkeep.specs.Systems.{IsSystem}
 use Rattle.upkeep.specs.declared.systems.System.{System}
 use Rattle.undofs.specs.Sessions.{Stands, world}
 use Rattle.undofs.proofs.SessionSteps.{mount_begins, serve_law}
-use Rattle.shell.specs.Scripts.{Scene, event_of, RepliesBy, Replies, CarriesOut, LineSession, answer_text, answer_texts, HasTaken, EndsBy, Ends}
+use Rattle.shell.specs.Scripts.{Scene, event_of, RepliesBy, Replies, CarriesOut, IsUnmounted, LineSession, answer_text, answer_texts, HasTaken, EndsBy, Ends}
 use Rattle.shell.specs.Turns.{Gets, Seat, seat, world_at, scene_at, DoesBy, Does, Writes, Carried, LinesEnd}
 use Rattle.shell.specs.declared.scripts.ScriptFault.{ScriptFault}
 use Rattle.shell.proofs.TakenLines.{taken_all, taken_more}
@@ -147,7 +147,7 @@ pub script_ends : (start mid end : SimFlash) (m : System) (s : Option System) (i
     → OnlyReads (device_of start) (device_of mid) → IsMountOf (device_of start) (device_of mid) m → IsSystem (device_of mid) m
     → LinesEnd (seat mid (Some m)) input left result old new (seat end s) → Ends start end input left result old new
 script_ends start mid end m s input left result old new reads begins system h =
-    ends_map (Carried (seat mid (Some m)) (seat end s)) (LineSession start end) (λ fault. ⊥) (MountCause (device_of start) (device_of end)) session (λ fault none. absurd none) input left result old new h
+    ends_map (Carried (seat mid (Some m)) (seat end s)) (LineSession start end) (λ fault. ⊥) (IsUnmounted start end) session (λ fault none. absurd none) input left result old new h
   where
     session : (lines : List (List ℕ)) (answers : List LineAnswer) → Carried (seat mid (Some m)) (seat end s) lines answers → LineSession start end lines answers
     session lines answers carried =

@@ -1,4 +1,5 @@
 pub mod Failures
+pub mod Files
 pub mod Memory
 pub mod Scripts
 pub mod Tools

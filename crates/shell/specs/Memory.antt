@@ -5,9 +5,8 @@ use Rattle.flash_model.specs.Simulation.{device_of, plan_of, IsNew}
 use Rattle.flash_model.specs.Plan.{plan_of_entries}
 use Rattle.flash_model.specs.declared.simulation.SimFlash.{SimFlash}
 use Rattle.flash_model.specs.declared.sizes.Geometry.{Geometry}
-use Rattle.upkeep.specs.Formats.{IsFormatted, FormatCause}
-use Rattle.upkeep.specs.Mounts.{MountCause}
-use Rattle.shell.specs.Scripts.{EndsBy, LineSession}
+use Rattle.upkeep.specs.Formats.{IsFormatted, ListsFailed, IsNumbered, FormatCause}
+use Rattle.shell.specs.Scripts.{EndsBy, IsUnmounted, LineSession}
 use Rattle.script.specs.declared.answers.LineAnswer.{LineAnswer}
 use Rattle.shell.specs.declared.scripts.ScriptFault.{ScriptFault}
 
@@ -34,16 +33,24 @@ pub record IsNewFlash (sizes : Geometry) (flash : SimFlash) : Type 0 where
 abbrev pub kept_versions : ℕ
 kept_versions = 8
 
+-- a flash is formatted: it keeps its sizes, and holds an empty file system that keeps so many versions. The newest record lists
+-- the blocks in which an operation failed, and is numbered after those that were left
+pub record IsFormatOf (limit : ℕ) (start end : SimFlash) : Type 0 where
+  pub formatted : IsFormatted limit (device_of end)
+  pub sizes : (device_of end).geometry ≡ (device_of start).geometry
+  pub listed : ListsFailed (device_of start) (device_of end)
+  pub numbered : IsNumbered (device_of start) (device_of end)
+
 -- lines that were carried out on a new flash, once it was formatted
 abbrev pub NewSession : Geometry → List (List ℕ) → List LineAnswer → Type 0
 NewSession sizes lines answers =
-    (start : SimFlash) × (formatted : SimFlash) × (end : SimFlash) × IsNewFlash sizes start × IsFormatted kept_versions (device_of formatted) × LineSession formatted end lines answers
+    (start : SimFlash) × (formatted : SimFlash) × (end : SimFlash) × IsNewFlash sizes start × IsFormatOf kept_versions start formatted × LineSession formatted end lines answers
 
 -- why no system was made: for want of memory for the flash; or since it was not formatted, or not mounted then
 abbrev pub NewCause : Geometry → Fault → Type 0
 NewCause sizes fault = (fault ≡ Fault.NoMemory)
     ⊎ (((start : SimFlash) × (end : SimFlash) × IsNewFlash sizes start × FormatCause (device_of start) kept_versions fault (device_of end))
-    ⊎ ((formatted : SimFlash) × (end : SimFlash) × IsFormatted kept_versions (device_of formatted) × MountCause (device_of formatted) (device_of end) fault))
+    ⊎ ((start : SimFlash) × (formatted : SimFlash) × (end : SimFlash) × IsNewFlash sizes start × IsFormatOf kept_versions start formatted × IsUnmounted formatted end fault))
 
 -- how a script ends on a new flash of its own
 abbrev pub EndsInMemory : Geometry → Option (List ℕ) → Option (List ℕ) → Result (Unit {0}) ScriptFault → Option (List ℕ) → Option (List ℕ) → Type 0

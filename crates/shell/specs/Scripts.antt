@@ -9,6 +9,7 @@ use Rattle.fs_types.specs.declared.events.Event.{Event}
 use Rattle.fs_types.specs.declared.events.Answer.{Answer}
 use Rattle.fs_types.specs.declared.faults.Fault.{Fault}
 use Rattle.flash_model.specs.Plan.{Schedule, planned, IsFull}
+use Rattle.flash_model.specs.Reading.{OnlyReads}
 use Rattle.flash_model.specs.Simulation.{device_of, plan_of}
 use Rattle.flash_model.specs.declared.plans.FaultKind.{FaultKind}
 use Rattle.flash_model.specs.declared.simulation.SimFlash.{SimFlash}
@@ -114,9 +115,14 @@ pub record LineSession (start end : SimFlash) (lines : List (List ℕ)) (answers
   pub ends : last.world.device ≡ device_of end
   pub plan : last.plan ≡ plan_of end
 
+-- a mount was refused for a cause, and the flash was only read
+pub record IsUnmounted (start end : SimFlash) (fault : Fault) : Type 0 where
+  pub cause : MountCause (device_of start) (device_of end) fault
+  pub reads : OnlyReads (device_of start) (device_of end)
+
 -- how a script ends that found and leaves these flashes
 abbrev pub Ends : SimFlash → SimFlash → Option (List ℕ) → Option (List ℕ) → Result (Unit {0}) ScriptFault → Option (List ℕ) → Option (List ℕ) → Type 0
-Ends start end input left result old new = EndsBy (LineSession start end) (MountCause (device_of start) (device_of end)) input left result old new
+Ends start end input left result old new = EndsBy (LineSession start end) (IsUnmounted start end) input left result old new
 
 -- the events that lines ask for
 abbrev pub with_first : {A : Type 0} → Option A → List A → List A

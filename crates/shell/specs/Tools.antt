@@ -16,19 +16,16 @@ use Rattle.jobs.specs.Grammar.{uffs}
 use Rattle.jobs.specs.Jobs.{AsksFor}
 use Rattle.jobs.specs.declared.tasks.Job.{Job}
 use Rattle.jobs.specs.declared.tasks.Task.{Task}
-use Rattle.upkeep.specs.Formats.{IsFormatted, FormatCause}
-use Rattle.upkeep.specs.Mounts.{IsMountOf, MountCause}
+use Rattle.upkeep.specs.Formats.{FormatCause}
+use Rattle.upkeep.specs.Mounts.{IsMountOf}
 use Rattle.upkeep.specs.declared.systems.System.{System}
 use Rattle.shell.specs.Failures.{of_script, of_system, job_status}
-use Rattle.shell.specs.Memory.{memory_sizes, status_of, IsNewFlash, EndsInMemory}
-use Rattle.shell.specs.Scripts.{Ends}
+use Rattle.shell.specs.Files.{Held, KeepsOthers}
+use Rattle.shell.specs.Memory.{memory_sizes, status_of, IsNewFlash, IsFormatOf, EndsInMemory}
+use Rattle.shell.specs.Scripts.{IsUnmounted, Ends}
 use Rattle.shell.specs.declared.files.TheConstants.{MOST_BYTES}
 use Rattle.shell.specs.declared.failures.Failure.{Failure}
 use Rattle.shell.specs.declared.scripts.ScriptFault.{ScriptFault}
-
--- the bytes of each file by its name, where they are known
-abbrev pub Held : Type 0
-Held = List ℕ → Option (List ℕ)
 
 -- the flash that a file spells, with its power on and no fault planned
 pub record IsLoaded (held : Option (List ℕ)) (flash : SimFlash) : Type 0 where
@@ -36,9 +33,10 @@ pub record IsLoaded (held : Option (List ℕ)) (flash : SimFlash) : Type 0 where
   pub ready : IsReady (device_of flash)
   pub plan : plan_of flash ≡ plan_of_entries []
 
--- why a file gives no flash: it is not read, or for want of memory, or by the fault of its bytes
+-- why a file gives no flash: it is not read, and then its bytes are not known; or for want of memory, or by the fault of its
+-- bytes
 abbrev pub LoadCause : Option (List ℕ) → Failure → Type 0
-LoadCause held Failure.CannotRead = Unit {0}
+LoadCause held Failure.CannotRead = held ≡ None
 LoadCause held Failure.Memory = Unit {0}
 LoadCause held (Failure.Image fault) = IfSome held (λ bytes. IsFault fault (take MOST_BYTES bytes))
 LoadCause held _ = ⊥
@@ -67,9 +65,9 @@ FormatFailure sizes limit (Failure.System fault) = ((fault ≡ Fault.BadGeometry
     ⊎ ((start : SimFlash) × (end : SimFlash) × IsNewFlash sizes start × FormatCause (device_of start) limit fault (device_of end))
 FormatFailure sizes limit _ = ⊥
 
--- a file is the image of a flash that was formatted, else it is as it was
+-- a file is the image of a new flash of these sizes that was formatted, else it is as it was
 abbrev pub FormatEnds : Geometry → ℕ → Option (List ℕ) → Option (List ℕ) → Result (Unit {0}) Failure → Type 0
-FormatEnds sizes limit held left (Ok done) = (flash : SimFlash) × AreLawful sizes limit × IsFormatted limit (device_of flash) × IsSaved left flash
+FormatEnds sizes limit held left (Ok done) = (start : SimFlash) × (flash : SimFlash) × AreLawful sizes limit × IsNewFlash sizes start × IsFormatOf limit start flash × IsSaved left flash
 FormatEnds sizes limit held left (Err failure) = FormatFailure sizes limit failure × (left ≡ held)
 
 -- a script is run on the flash of a file, which gives the flash as it is left; or the file gives no flash, and nothing is read
@@ -95,7 +93,7 @@ abbrev pub CheckEnds : Option (List ℕ) → Result (Unit {0}) Failure → Optio
 CheckEnds held (Ok done) old new = (start : SimFlash) × (end : SimFlash) × (system : System) × IsLoaded held start × IsMountOf (device_of start) (device_of end) system
     × Appends old new (codes "ok\n")
 CheckEnds held (Err failure) old new = (LoadCause held failure × (new ≡ old))
-    ⊎ (((start : SimFlash) × (end : SimFlash) × (fault : Fault) × IsLoaded held start × MountCause (device_of start) (device_of end) fault × (failure ≡ of_system fault) × (new ≡ old))
+    ⊎ (((start : SimFlash) × (end : SimFlash) × (fault : Fault) × IsLoaded held start × IsUnmounted start end fault × (failure ≡ of_system fault) × (new ≡ old))
     ⊎ ((n : ℕ) × (failure ≡ Failure.Output) × Appends old new (take n (codes "ok\n"))))
 
 -- a script is run on a flash in memory
@@ -114,8 +112,8 @@ pub record OnlyLooks (held saved : Held) (input left : Option (List ℕ)) : Type
 
 -- how a task ends that is done on a file of this name
 abbrev pub EndsOn : Task → Job → List ℕ → Held → Held → Option (List ℕ) → Option (List ℕ) → Result (Unit {0}) Failure → Option (List ℕ) → Option (List ℕ) → Type 0
-EndsOn Task.Format job name held saved input left result old new = FormatEnds (sizes_of job) job.history (held name) (saved name) result × (left ≡ input) × (new ≡ old)
-EndsOn Task.Run job name held saved input left result old new = RunEnds (held name) (saved name) input left result old new
+EndsOn Task.Format job name held saved input left result old new = FormatEnds (sizes_of job) job.history (held name) (saved name) result × KeepsOthers name held saved × (left ≡ input) × (new ≡ old)
+EndsOn Task.Run job name held saved input left result old new = RunEnds (held name) (saved name) input left result old new × KeepsOthers name held saved
 EndsOn Task.Check job name held saved input left result old new = CheckEnds (held name) result old new × OnlyLooks held saved input left
 EndsOn Task.Log job name held saved input left result old new = LookEnds (codes "log\n") (held name) result old new × OnlyLooks held saved input left
 EndsOn Task.Df job name held saved input left result old new = LookEnds (codes "df\n") (held name) result old new × OnlyLooks held saved input left

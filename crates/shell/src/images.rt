@@ -1,6 +1,7 @@
 //! What is done with the file of an image.
 ghost use Rattle.std.specs.Prelude.{◌≡◌, ℕ, IfOk, OnOk, IfErr, OnErr, take, codes};
 ghost use Rattle.std.specs.Io.KnownBytes.{Appends};
+ghost use Rattle.shell.specs.Files.{KeepsOthers};
 ghost use Rattle.shell.specs.Tools.{IsLoaded, LoadCause, IsSaved, IsSaveFailure, FormatEnds, Plays, RunEnds, CheckEnds, LookEnds};
 
 use crate::failures::Failure;
@@ -22,7 +23,8 @@ pub(crate) fn format_image<F: ImageFiles>(
     sizes: Geometry,
     history: u32,
 ) -> Result<(), Failure>
-    ensures { FormatEnds sizes history (F.held files.old name.now) (F.held files.new name.now) result }
+    ensures ends { FormatEnds sizes history (F.held files.old name.now) (F.held files.new name.now) result }
+    ensures others { KeepsOthers name.now (F.held files.old) (F.held files.new) }
 {
     let mut flash = match SimFlash::new(alloc, sizes, &[]) {
         Ok(flash) => flash,
@@ -42,7 +44,8 @@ pub(crate) fn run_image<F: ImageFiles, R: Read, W: Write>(
     reader: &mut R,
     out: &mut W,
 ) -> Result<(), Failure>
-    ensures { RunEnds (F.held files.old name.now) (F.held files.new name.now) (R.remaining reader.old) (R.remaining reader.new) result (W.contents out.old) (W.contents out.new) }
+    ensures others { KeepsOthers name.now (F.held files.old) (F.held files.new) }
+    ensures ends { RunEnds (F.held files.old name.now) (F.held files.new name.now) (R.remaining reader.old) (R.remaining reader.new) result (W.contents out.old) (W.contents out.new) }
 {
     match play(files, alloc, name, reader, out) {
         Ok(flash) => save(files, alloc, name, &flash),
@@ -134,6 +137,7 @@ fn save<F: ImageFiles>(
     ensures ok { OnOk result (IsSaved (F.held files.new name.now) flash.now) }
     ensures why { IfErr result IsSaveFailure }
     ensures err { OnErr result (F.held files.new name.now ≡ F.held files.old name.now) }
+    ensures others { KeepsOthers name.now (F.held files.old) (F.held files.new) }
 {
     let bytes = match encode(alloc, flash) {
         Ok(bytes) => bytes,

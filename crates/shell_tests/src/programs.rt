@@ -1,5 +1,8 @@
 //! The program, called as its `main` calls it: the statuses, what is written, and the files that it
 //! leaves.
+ghost use Rattle.std.specs.Prelude.{◌≡◌, codes};
+ghost use Rattle.std.specs.Str.{bytes_eq};
+
 use crate::images::{erased_image, fresh_image};
 use crate::scripts::{Broken, Full};
 use shell::{FileFault, HostFiles, ImageFiles, MOST_BYTES, tool};
@@ -10,7 +13,7 @@ use std::rt::Files;
 use std::test::Fail;
 use std::{env, fs, process};
 
-/// One file in memory, whatever its name.
+/// A file in memory, whose name is `x`: there is no other.
 #[derive(Drop)]
 struct OneFile {
     bytes: Vec<u8>,
@@ -26,12 +29,23 @@ impl OneFile {
     }
 }
 
+/// Whether a name is that of the one file.
+fn is_x(name: &str) -> bool
+    ensures { result ≡ bytes_eq name.now (codes "x") }
+{
+    name == "x"
+}
+
 impl ImageFiles for OneFile {
-    ghost use Rattle.std.specs.Prelude.{Some};
+    ghost use Rattle.std.specs.Prelude.{Some, None, codes, if◌then◌else◌};
+    ghost use Rattle.std.specs.Str.{bytes_eq};
 
-    ghost held = { λ file _. Some file.bytes.items };
+    ghost held = { λ file name. if bytes_eq name (codes "x") then Some file.bytes.items else None };
 
-    fn read(&self, alloc: Global, _name: &str) -> Result<Vec<u8>, FileFault> {
+    fn read(&self, alloc: Global, name: &str) -> Result<Vec<u8>, FileFault> {
+        if !is_x(name) {
+            return Err(FileFault::Failed);
+        }
         let len = (MOST_BYTES as usize).min(self.bytes.len());
         match Vec::from_slice(alloc, &self.bytes[..len]) {
             Ok(bytes) => Ok(bytes),
@@ -39,7 +53,10 @@ impl ImageFiles for OneFile {
         }
     }
 
-    fn replace(&mut self, alloc: Global, _name: &str, bytes: &[u8]) -> Result<(), FileFault> {
+    fn replace(&mut self, alloc: Global, name: &str, bytes: &[u8]) -> Result<(), FileFault> {
+        if !is_x(name) {
+            return Err(FileFault::Failed);
+        }
         if self.is_full {
             return Err(FileFault::Failed);
         }

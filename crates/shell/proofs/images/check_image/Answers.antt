@@ -9,4 +9,4 @@ returns-in-Ok-mount g c =
     c.in-Ok.ensures.ok c.in-Ok-mount.ensures.ok c.write_ok.ensures.ok c.write_ok.ensures.err
 
 pub returns : goal.returns
-returns g c = inr (inl (c.in-Ok.flash, c.mount.new.flash, c.in-Err-mount.fault, c.in-Ok.ensures.ok, c.in-Err-mount.ensures.why, c.of_system.ensures, refl))
+returns g c = inr (inl (c.in-Ok.flash, c.mount.new.flash, c.in-Err-mount.fault, c.in-Ok.ensures.ok, record { cause = c.in-Err-mount.ensures.why; reads = c.mount.ensures.only_reads }, c.of_system.ensures, refl))

@@ -1,9 +1,6 @@
 use Rattle.std.proofs.Common.{inl, inr, refl}
-use Rattle.flash_model.specs.Simulation.{device_of}
-use Rattle.upkeep.specs.Formats.{IsFormatted}
-use Rattle.upkeep.specs.Mounts.{MountCause}
-use Rattle.shell.specs.Scripts.{LineSession}
-use Rattle.shell.specs.Memory.{memory_sizes, kept_versions, IsNewFlash, NewSession, NewCause}
+use Rattle.shell.specs.Scripts.{IsUnmounted, LineSession}
+use Rattle.shell.specs.Memory.{memory_sizes, kept_versions, IsNewFlash, IsFormatOf, NewSession, NewCause}
 use Rattle.shell.proofs.TurnLemmas.{ends_map}
 use Rattle.shell.proofs.memory.run_in_memory.Goals as goal
 
@@ -12,13 +9,14 @@ returns-in-Ok-format g c =
     let start = c.in-Ok.flash in
     let formatted = c.format.new.flash in
     let end = c.run_script.new.flash in
-    let new : IsNewFlash memory_sizes start = record { new = c.in-Ok.ensures.new; plan = c.in-Ok.ensures.plan } in
-    let done : IsFormatted kept_versions (device_of formatted) = c.in-Ok-format.ensures.ok in
-    ends_map (LineSession formatted end) (NewSession memory_sizes) (MountCause (device_of formatted) (device_of end)) (NewCause memory_sizes)
-    (λ lines answers carried. (start, formatted, end, new, done, carried)) (λ fault cause. inr (inr (formatted, end, done, cause)))
+    let made : IsNewFlash memory_sizes start = record { new = c.in-Ok.ensures.new; plan = c.in-Ok.ensures.plan } in
+    let holds = c.in-Ok-format.ensures in
+    let done : IsFormatOf kept_versions start formatted = record { formatted = holds.ok; sizes = holds.stay; listed = holds.listed; numbered = holds.numbered } in
+    ends_map (LineSession formatted end) (NewSession memory_sizes) (IsUnmounted formatted end) (NewCause memory_sizes)
+    (λ lines answers carried. (start, formatted, end, made, done, carried)) (λ fault cause. inr (inr (start, formatted, end, made, done, cause)))
     (g.R.Read.remaining c.args.reader.now) (g.R.Read.remaining c.run_script.new.reader) c.run_script.result (g.W.Write.contents c.args.out.now) (g.W.Write.contents c.run_script.new.writer) c.run_script.ensures.ends
 
 pub returns : goal.returns
 returns g c =
-    let new : IsNewFlash memory_sizes c.in-Ok.flash = record { new = c.in-Ok.ensures.new; plan = c.in-Ok.ensures.plan } in
-    (inr (inl (c.in-Ok.flash, c.format.new.flash, new, c.in-Err-format.ensures.why)), refl, refl)
+    let made : IsNewFlash memory_sizes c.in-Ok.flash = record { new = c.in-Ok.ensures.new; plan = c.in-Ok.ensures.plan } in
+    (inr (inl (c.in-Ok.flash, c.format.new.flash, made, c.in-Err-format.ensures.why)), refl, refl)

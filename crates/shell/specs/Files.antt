@@ -1,0 +1,14 @@
+-- Files by their names.
+use Rattle.std.specs.Prelude.{◌≡◌, ◌≢◌, ℕ, Option, List, ◌++◌, codes}
+
+-- the bytes of each file by its name, where they are known
+abbrev pub Held : Type 0
+Held = List ℕ → Option (List ℕ)
+
+-- the name of the new file that is written beside one
+abbrev pub new_name : List ℕ → List ℕ
+new_name name = name ++ codes ".new"
+
+-- every file but the one of a name, and the new one beside it, holds what it held
+abbrev pub KeepsOthers : List ℕ → Held → Held → Type 0
+KeepsOthers name held saved = (other : List ℕ) → other ≢ name → other ≢ new_name name → saved other ≡ held other

@@ -1,0 +1,7 @@
+//! Tests of mounts, calls and steps of reclaiming with less memory than they want.
+#![tactic(auto)]
+
+#[cfg(test)]
+mod budget;
+#[cfg(test)]
+mod growths;

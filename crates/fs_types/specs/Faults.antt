@@ -1,7 +1,7 @@
 -- The number and the word of each refusal, as one table.
 use Rattle.std.specs.Prelude.{ℕ, List, codes}
 use Rattle.fs_types.specs.declared.faults.Fault.{Fault}
-use Rattle.fs_types.specs.declared.faults.Fault.TheVariants.{NoEntry, NotDirectory, IsDirectory, Exists, NotEmpty, NotPermitted, Invalid, NameTooLong, TooBig, BadDescriptor, TooManyOpen, Busy, DirectoryFull, CheckpointsFull, FlashFull, ReadOnly, NothingToUndo, TooOld, NothingToRedo, NoSuchVersion, Discarded, Overflow, ReadFailed, PowerCut, NoMemory, Damaged, NoRecord, BadGeometry, NoAnchors}
+use Rattle.fs_types.specs.declared.faults.Fault.TheVariants.{NoEntry, NotDirectory, IsDirectory, Exists, NotEmpty, NotPermitted, Invalid, NameTooLong, TooBig, BadDescriptor, TooManyOpen, Busy, DirectoryFull, CheckpointsFull, FlashFull, ReadOnly, NothingToUndo, TooOld, NothingToRedo, NoSuchVersion, Discarded, Overflow, ReadFailed, PowerCut, NoMemory, Damaged, NoRecord, BadGeometry, NoAnchors, NoGroup, InGroup}
 
 -- a refusal's number and word
 abbrev pub row_of : Fault → ℕ × List ℕ
@@ -34,6 +34,8 @@ row_of Damaged = (26, codes "DAMAGED")
 row_of NoRecord = (27, codes "NORECORD")
 row_of BadGeometry = (28, codes "BADGEOMETRY")
 row_of NoAnchors = (29, codes "NOANCHORS")
+row_of NoGroup = (30, codes "NOGROUP")
+row_of InGroup = (31, codes "INGROUP")
 
 abbrev pub number_of : Fault → ℕ
 number_of fault = (row_of fault).0

@@ -32,6 +32,14 @@ pub struct Version<R> {
     pub root: R,
 }
 
+/// A change group: the root of the tree that its calls work on, and whether one of them changed that,
+/// so that a version is due at the group's end.
+#[derive(Clone, Copy, Debug, Drop)]
+pub struct Group<R> {
+    pub root: R,
+    pub is_due: bool,
+}
+
 /// A call. Descriptors are numbers as a caller gives them; those that are open are 0 to 15.
 #[derive(Debug, Drop)]
 pub enum Call {
@@ -129,6 +137,12 @@ pub enum Call {
     RemoveCheckpoint {
         name: CpName,
     },
+    /// A group of changes begins with the present tree.
+    Begin,
+    /// The group ends: its tree becomes one version, where a call in it would have made one.
+    End,
+    /// The group ends, and its tree is given up.
+    Abandon,
 }
 
 /// What an accepted call answers.

@@ -98,10 +98,16 @@ pub enum Fault {
     /// Fewer than two anchors work.
     #[error("no anchors")]
     NoAnchors,
+    /// No change group is open.
+    #[error("no group")]
+    NoGroup,
+    /// A change group is open.
+    #[error("in a group")]
+    InGroup,
 }
 
 impl Fault {
-    /// The number, from 1 to 29.
+    /// The number, from 1 to 31.
     pub fn number(self) -> u8
         ensures { result ≡ number_of self }
     {
@@ -135,6 +141,8 @@ impl Fault {
             Fault::NoRecord => 27,
             Fault::BadGeometry => 28,
             Fault::NoAnchors => 29,
+            Fault::NoGroup => 30,
+            Fault::InGroup => 31,
         }
     }
 
@@ -170,6 +178,8 @@ impl Fault {
             Fault::NoRecord => "NORECORD",
             Fault::BadGeometry => "BADGEOMETRY",
             Fault::NoAnchors => "NOANCHORS",
+            Fault::NoGroup => "NOGROUP",
+            Fault::InGroup => "INGROUP",
         }
     }
 }

@@ -11,7 +11,7 @@ mod names;
 mod paths;
 mod sequences;
 
-pub use calls::{Call, Reply, Stat, Version, View};
+pub use calls::{Call, Group, Reply, Stat, Version, View};
 pub use checkpoint_names::CpName;
 pub use events::{Answer, Event};
 pub use faults::Fault;

@@ -70,7 +70,14 @@ impl PlainMachine {
                 return Err(Fault::Overflow);
             }
         }
-        carry_out(alloc, &mut self.history, &mut self.group, &mut self.files, space, call)
+        carry_out(
+            alloc,
+            &mut self.history,
+            &mut self.group,
+            &mut self.files,
+            space,
+            call,
+        )
     }
 }
 

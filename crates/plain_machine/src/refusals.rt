@@ -135,11 +135,7 @@ fn descriptor_refusal(files: &OpenFiles, descriptor: u64) -> Option<Fault>
     }
 }
 
-fn fsync_refusal(
-    group: &Option<Group<Tree>>,
-    files: &OpenFiles,
-    descriptor: u64,
-) -> Option<Fault>
+fn fsync_refusal(group: &Option<Group<Tree>>, files: &OpenFiles, descriptor: u64) -> Option<Fault>
     ensures { result ≡ machine.refusal (machine_in group.now files.now) (Call.Fsync descriptor) }
 {
     match files.get(descriptor) {

@@ -68,7 +68,14 @@ pub fn reply(
             descriptor,
             offset,
             count,
-        } => pread(alloc, working_tree(history, group), files, *descriptor, *offset, *count),
+        } => pread(
+            alloc,
+            working_tree(history, group),
+            files,
+            *descriptor,
+            *offset,
+            *count,
+        ),
         Call::Pwrite { bytes, .. } => Ok(Reply::Count(bytes.as_slice().len() as u64)),
         Call::Stat { view, path } => Ok(stat(history, group, view, path)),
         Call::List { view, path } => list(alloc, history, group, view, path),
@@ -108,12 +115,7 @@ fn pread(
     }
 }
 
-fn stat(
-    history: &History<Tree>,
-    group: &Option<Group<Tree>>,
-    view: &View,
-    path: &Path,
-) -> Reply
+fn stat(history: &History<Tree>, group: &Option<Group<Tree>>, view: &View, path: &Path) -> Reply
     requires { machine.refusal (machine_with history.now group.now none_open) (Call.Stat view.now path.now) ≡ None }
     ensures { result ≡ machine.reply_of no_space (machine_with history.now group.now none_open) (Call.Stat view.now path.now) }
 {

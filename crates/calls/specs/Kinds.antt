@@ -27,7 +27,7 @@ is_reading (Call.ReadAt view path offset count) = true
 is_reading Call.Log = true
 is_reading _ = false
 
--- calls on the history
+-- calls on the history, and those that begin or end a change group
 abbrev pub is_on_history : Call → Bool
 is_on_history Call.Undo = true
 is_on_history Call.Redo = true
@@ -36,4 +36,7 @@ is_on_history (Call.Rollback name) = true
 is_on_history (Call.Forget count) = true
 is_on_history (Call.Checkpoint name) = true
 is_on_history (Call.RemoveCheckpoint name) = true
+is_on_history Call.Begin = true
+is_on_history Call.End = true
+is_on_history Call.Abandon = true
 is_on_history _ = false

@@ -11,8 +11,8 @@ use working_state::State;
 
 /// Carries out a call on a working state and its flash, and answers its reply. It is none of
 /// [`Call::Sync`], [`Call::Fsync`] and [`Call::Df`]. The step says what each call does and leaves: one
-/// that makes no version changes no page, and those on the history, `close` and `log` do no device
-/// operation.
+/// that changes no tree changes no page, and those on the history, those that begin or end a change
+/// group, `close` and `log` do no device operation.
 pub fn carry_out<F: Flash>(
     state: &mut State,
     alloc: Global,
@@ -43,7 +43,10 @@ pub fn carry_out<F: Flash>(
         | Call::Rollback { .. }
         | Call::Forget { .. }
         | Call::Checkpoint { .. }
-        | Call::RemoveCheckpoint { .. } => { call_on_history(state, alloc, flash, call) }
+        | Call::RemoveCheckpoint { .. }
+        | Call::Begin
+        | Call::End
+        | Call::Abandon => call_on_history(state, alloc, flash, call),
         _ => unreachable!(),
     }
 }
@@ -136,7 +139,7 @@ fn reading_call<F: Flash>(
     }
 }
 
-/// Carries out a call on the history.
+/// Carries out a call on the history, or one that begins or ends a change group.
 fn call_on_history<F: Flash>(
     state: &mut State,
     alloc: Global,
@@ -157,6 +160,9 @@ fn call_on_history<F: Flash>(
         Call::Forget { count } => empty_reply(state.forget(*count)),
         Call::Checkpoint { name } => empty_reply(state.checkpoint(name)),
         Call::RemoveCheckpoint { name } => empty_reply(state.remove_checkpoint(name)),
+        Call::Begin => empty_reply(state.begin()),
+        Call::End => empty_reply(state.end()),
+        Call::Abandon => empty_reply(state.abandon()),
         _ => unreachable!(),
     }
 }

@@ -1,6 +1,7 @@
--- How a change ends: it is refused before the work, in it, or after it, or its root is the present one.
-use Rattle.std.proofs.Common.{◌≡◌, ◌⊎◌, ℕ, ◌<◌, true, false, Some, Result, Ok, Err, refl, inl, inr}
-use Rattle.history_machine.specs.History.{Past, present_root, changed}
+-- How a change ends: it is refused before the work, in it, or after it, or calls work on its root.
+use Rattle.std.proofs.Common.{◌≡◌, ◌⊎◌, ℕ, ◌<◌, true, false, Option, Some, None, Result, Ok, Err, refl, inl, inr}
+use Rattle.history_machine.specs.History.{Past, working_root, history_with, group_with}
+use Rattle.fs_types.specs.declared.calls.Group.{Group}
 use Rattle.fs_types.specs.declared.faults.Fault.{Fault}
 use Rattle.fs_types.specs.declared.faults.Fault.TheVariants.{ReadOnly, Overflow}
 use Rattle.flash_model.specs.Device.{Device}
@@ -12,36 +13,37 @@ use Rattle.working_state.specs.Steps.{last_serial}
 use Rattle.working_state.proofs.Standing.{none_written}
 use Rattle.working_state.proofs.StoreReads.{on_flash}
 
-module _ (d : Device) (h : Past ℕ) (s : Storage) (edit : Edit) where
+module _ (d : Device) (h : Past ℕ) (g : Option (Group ℕ)) (s : Storage) (edit : Edit) where
   -- before the work
-  pub ends_before : (fault : Fault) → ((fault ≡ ReadOnly) × IsReadOnly h s s) ⊎ ((fault ≡ Overflow) × IsOverflow h s) → IsChanged d h s edit (Err fault) d h s
-  ends_before fault why = record { written = none_written d s _; ends = (refl, inl why); still = λ _. (refl, refl) }
+  pub ends_before : (fault : Fault) → ((fault ≡ ReadOnly) × IsReadOnly h g s s) ⊎ ((fault ≡ Overflow) × IsOverflow h g s) → IsChanged d h g s edit (Err fault) d h g s
+  ends_before fault why = record { written = none_written d s _; ends = (refl, refl, inl why); still = λ _. (refl, refl) }
 
-  module _ (writable : is_read_only s.bad ≡ false) (serial_left : h.next < last_serial) (root : ℕ) (e : Device) (t : Storage) where
+  module _ (writable : is_read_only s.bad ≡ false) (serial_left : g ≡ None → h.next < last_serial) (root : ℕ) (e : Device) (t : Storage) where
     -- in the work
-    pub ends_in : (fault : Fault) → IsTried d s edit root (Err fault) e t → IsChanged d h s edit (Err fault) e h t
+    pub ends_in : (fault : Fault) → IsTried d s edit root (Err fault) e t → IsChanged d h g s edit (Err fault) e h g t
     ends_in fault tried = record {
       written = tried.written;
-      ends = (refl, inr (record { writable = writable; serial_left = serial_left; why = tried.refused }));
+      ends = (refl, refl, inr (record { writable = writable; serial_left = serial_left; why = tried.refused }));
       still = tried.still;
     }
 
     -- read-only mode came on in the work
-    pub ends_after : (to : ℕ) (fault : Fault) → IsTried d s edit root (Ok to) e t → (fault ≡ ReadOnly) × (is_read_only t.bad ≡ true) → IsChanged d h s edit (Err fault) e h t
+    pub ends_after : (to : ℕ) (fault : Fault) → IsTried d s edit root (Ok to) e t → (fault ≡ ReadOnly) × (is_read_only t.bad ≡ true) → IsChanged d h g s edit (Err fault) e h g t
     ends_after to fault tried why = record {
       written = tried.written;
-      ends = (refl, inl (inl (why.0, record { on = why.1; serial_left = λ _. serial_left })));
+      ends = (refl, refl, inl (inl (why.0, record { on = why.1; serial_left = λ _. serial_left })));
       still = tried.still;
     }
 
-    pub ends_well : (to : ℕ) (i : Past ℕ) → IsTried d s edit root (Ok to) e t → present_root h ≡ Some root → is_read_only t.bad ≡ false → i ≡ changed h to → IsChanged d h s edit (Ok tt) e i t
-    ends_well to i tried present stays is = record {
+    pub ends_well : (to : ℕ) (i : Past ℕ) (j : Option (Group ℕ)) → IsTried d s edit root (Ok to) e t → working_root h g ≡ Some root → is_read_only t.bad ≡ false → i ≡ history_with h g to → j ≡ group_with g to → IsChanged d h g s edit (Ok tt) e i j t
+    ends_well to i j tried working stays is regroups = record {
       written = tried.written;
       ends = record {
         root = root;
         to = to;
-        present = present;
+        working = working;
         pushed = is;
+        regrouped = regroups;
         stands = tried.stands;
         shows = tried.shows;
         reached = tried.reached;

@@ -1,12 +1,13 @@
 -- What a change leaves: each answer of a call that is a change by an edit.
-use Rattle.std.proofs.Common.{◌≡◌, ℕ, zero, suc, ◌+◌, ◌<◌, ◌≤◌, true, false, Some, None, [], ◌∷◌, Result, Ok, Err, refl, sym, ap, subst, ◌∙◌, inl, inr, arith}
+use Rattle.std.proofs.Common.{◌≡◌, ℕ, Option, zero, suc, ◌+◌, ◌<◌, ◌≤◌, true, false, Some, None, [], ◌∷◌, Result, Ok, Err, refl, sym, ap, subst, ◌∙◌, inl, inr, arith}
 use Rattle.std.specs.Prelude.{is_some, nat_le, ◌||◌, IfOk, IfErr}
 use Rattle.std.specs.FinSet as set
-use Rattle.history_machine.specs.History.{Past, present_root}
+use Rattle.history_machine.specs.History.{Past, working_root, map_group}
 use Rattle.plain_trees.specs.Trees.{Tree}
 use Rattle.history_machine.specs.Descriptors.{Descriptors}
-use Rattle.history_machine.specs.Machine.{Space, refusal, change_need, makes_version, reply_of, tree_after, descriptors_after, has_paths}
+use Rattle.history_machine.specs.Machine.{Space, refusal, change_need, changes_tree, makes_version, reply_of, tree_after, descriptors_after, has_paths}
 use Rattle.fs_types.specs.declared.calls.Call.{Call}
+use Rattle.fs_types.specs.declared.calls.Group.{Group}
 use Rattle.fs_types.specs.declared.calls.Reply.{Reply}
 use Rattle.fs_types.specs.declared.faults.Fault.{Fault}
 use Rattle.fs_types.specs.declared.faults.Fault.TheVariants.{FlashFull, ReadOnly, ReadFailed, PowerCut, NoMemory}
@@ -23,7 +24,7 @@ use Rattle.tree_edits.specs.declared.edits.Edit.{Edit}
 use Rattle.tree_edits.specs.Edits.{need, source}
 use Rattle.tree_edits.specs.Roots.{IsNewRoot}
 use Rattle.directory.specs.Trails.{IsChangeFault}
-use Rattle.working_state.specs.Moments.{Moment, machine_at, seen_at, IsMountedAt, capacity_at, moment}
+use Rattle.working_state.specs.Moments.{Moment, machine_at, seen_at, IsMountedAt, capacity_at, tree_at, moment}
 use Rattle.working_state.specs.Changes.{IsReady, edited_tree, ReachesFrom, WorkRefuses, IsPushed, ChangeCause, IsChanged}
 use Rattle.working_state.specs.Leaves.{HasWritten, is_still, Leaves}
 use Rattle.working_state.specs.Looking.{only_looks}
@@ -33,38 +34,40 @@ use Rattle.working_state.specs.Roots.{HasRoot}
 use Rattle.working_state.specs.Seen.{capacity_of, tree_on, seen_of}
 use Rattle.read_only.specs.Modes.{bad_anchors}
 use Rattle.working_state.specs.Steps.{empty, replied, is_light, is_cut, is_cut_answer, MayRefuse, Refuses}
-use Rattle.working_state.specs.Worked.{IsWorked, IsLooked, WorkCause}
-use Rattle.working_state.proofs.ChangeSteps.{makes, needs_all, later_stands, later_writable, later_serial, writing_refuses, HasNewTree, changed_step, changed_mounted, changed_reaches}
+use Rattle.working_state.specs.Worked.{IsSameBut, IsWorked, IsLooked, WorkCause}
+use Rattle.working_state.specs.declared.state.State.{State}
+use Rattle.history_machine.proofs.Groups.{outside_makes}
+use Rattle.working_state.proofs.ChangeSteps.{makes, needs_all, later_stands, later_writable, later_serial, later_outside, writing_refuses, HasNewTree, changed_step, changed_mounted, changed_reaches}
 use Rattle.working_state.proofs.OpenCalls.{refused_work}
-use Rattle.working_state.proofs.Roots.{ReachesBefore, of_present}
-use Rattle.working_state.proofs.Standing.{same_capacity, looked_worked, written_leaves, worked_on, worked_mounted, worked_pages, worked_reach}
-use Rattle.working_state.proofs.Steps.{writes-version}
+use Rattle.working_state.proofs.Roots.{ReachesBefore, of_working}
+use Rattle.working_state.proofs.Standing.{same_capacity, looked_worked, written_leaves, worked_on, worked_mounted, worked_pages, worked_reach, same_working}
+use Rattle.working_state.proofs.Steps.{writes-tree}
 
 -- ---- the state as it was
 
 pub mounted_ready : (a : Moment) → IsMountedAt a → IsReady a.device a.state.storage
 mounted_ready a m = record { lawful = m.lawful; ring_blocks = m.ring_blocks; fits = m.fits }
 
--- after a look, the system is ready and its present root stands
+-- after a look, the system is ready and the root that calls work on stands
 
 pub looked_ready : (a b : Moment) → IsMountedAt a → IsLooked a b → IsReady b.device b.state.storage
 looked_ready a b m l = mounted_ready b (worked_mounted a b m (looked_worked a b l))
 
-pub same_root : (a b : ℕ) (h i : Past ℕ) → i ≡ h → present_root h ≡ Some a → present_root i ≡ Some b → a ≡ b
-same_root a b h i same first second = some_same a b (sym first ∙ ap (λ (x : Past ℕ). present_root x) (sym same) ∙ second)
+pub same_root : (a b : ℕ) (s t : State) → IsSameBut s t → working_root s.history s.group ≡ Some a → working_root t.history t.group ≡ Some b → a ≡ b
+same_root a b s t same first second = some_same a b (sym first ∙ sym (same_working s t same) ∙ second)
   where
     some_same : (a b : ℕ) → Some a ≡ Some b → a ≡ b
     some_same a b e = cc
 
-pub looked_stands : (a b : Moment) (root : ℕ) → IsMountedAt a → present_root a.state.history ≡ Some root → IsLooked a b
-    → (other : ℕ) → present_root b.state.history ≡ Some other → IsStanding b.device b.state.storage.ring other
+pub looked_stands : (a b : Moment) (root : ℕ) → IsMountedAt a → working_root a.state.history a.state.group ≡ Some root → IsLooked a b
+    → (other : ℕ) → working_root b.state.history b.state.group ≡ Some other → IsStanding b.device b.state.storage.ring other
 looked_stands a b root m is l other there =
-    subst (λ (r : ℕ). IsStanding b.device b.state.storage.ring r) (same_root root other a.state.history b.state.history l.rest.history is there) (later_stands a b root m is l)
+    subst (λ (r : ℕ). IsStanding b.device b.state.storage.ring r) (same_root root other a.state b.state l.rest is there) (later_stands a b root m is l)
 
--- what is known of one root is known of the present one
-pub at_present : (P : ℕ → Type 0) (a b : Moment) (root : ℕ) → present_root a.state.history ≡ Some root → IsLooked a b → P root
-    → (other : ℕ) → present_root b.state.history ≡ Some other → P other
-at_present P a b root is l here other there = subst P (same_root root other a.state.history b.state.history l.rest.history is there) here
+-- what is known of one root is known of that which calls work on
+pub at_working : (P : ℕ → Type 0) (a b : Moment) (root : ℕ) → working_root a.state.history a.state.group ≡ Some root → IsLooked a b → P root
+    → (other : ℕ) → working_root b.state.history b.state.group ≡ Some other → P other
+at_working P a b root is l here other there = subst P (same_root root other a.state b.state l.rest is there) here
 
 -- ---- a change
 
@@ -144,10 +147,10 @@ module _ {F : Type 0} (device : F → Device) where
 
 -- ---- a call that is a change
 
--- the call is accepted, and makes this tree of the one of the present root
+-- the call is accepted, and makes this tree of the one of the root that calls work on
 pub record IsChangeBy (a : Moment) (call : Call) (made : ℕ → Tree) (reply : Reply) : Type 0 where
   pub fine : refusal (machine_at a) call ≡ None
-  pub after : (root : ℕ) → present_root a.state.history ≡ Some root → tree_after (machine_at a) call ≡ Some (made root)
+  pub after : (root : ℕ) → working_root a.state.history a.state.group ≡ Some root → tree_after (machine_at a) call ≡ Some (made root)
   pub heavy : is_light call ≡ false
   pub moves : is_still call || only_looks call ≡ false
   pub paths : has_paths call ≡ true
@@ -156,14 +159,14 @@ pub record IsChangeBy (a : Moment) (call : Call) (made : ℕ → Tree) (reply : 
 
 -- nodes were written
 written_worked : (b : Moment) (f : Device) (st : Storage) (most : ℕ) → HasWritten b.device b.state.storage most f st → IsWorked b (moment f (record b.state { storage = st }))
-written_worked b f st most w = record { evolved = w.evolved; fits = w.fits; rest = record { history = refl; files = refl; is_off = refl } }
+written_worked b f st most w = record { evolved = w.evolved; fits = w.fits; rest = record { history = refl; group = refl; files = refl; is_off = refl } }
 
 -- the nodes of the edit are no more than those of the call
 abbrev NeedsFew : Moment → Edit → Moment → Call → Type 0
 NeedsFew b edit a call = need (capacity_at b) edit ≤ change_need (capacity_at a) (machine_at a) call
 
 change_leaves : (a b : Moment) (f : Device) (st : Storage) (call : Call) (edit : Edit) → IsLooked a b → HasWritten b.device b.state.storage (need (capacity_at b) edit) f st
-    → is_still call || only_looks call ≡ false → makes_version (machine_at a) call ≡ true → NeedsFew b edit a call → Leaves (machine_at a) call a.device a.state.storage f st
+    → is_still call || only_looks call ≡ false → changes_tree (machine_at a) call ≡ true → NeedsFew b edit a call → Leaves (machine_at a) call a.device a.state.storage f st
 change_leaves a b f st call edit l w moves version few =
     let all = needs_all (capacity_at a) (machine_at a) call version in
     written_leaves a b f st call (need (capacity_at b) edit) l w moves version (omega arith)
@@ -172,7 +175,7 @@ change_leaves a b f st call edit l w moves version few =
 abbrev IsOfTree : Edit → Type 0
 IsOfTree edit = (root : ℕ) → source root edit ≡ root
 
--- what the new root reaches was reached by the present one, or not used
+-- what the new root reaches was reached by that which calls worked on, or not used
 pushed_reach : (a b : Moment) (f : Device) (from root to : ℕ) → IsMountedAt a → IsLooked a b → HasRoot a.state root → from ≡ root → ReachesFrom b.device b.state.storage from f to
     → ReachesBefore a.device a.state f to
 pushed_reach a b f from root to m l has same reaches block reached = elim (reaches block reached) [
@@ -180,66 +183,71 @@ pushed_reach a b f from root to m l has same reaches block reached = elim (reach
   | inr fresh ↦ inr (subst (λ (r : Ring). set.contains r.used block ≡ false) l.untouched.ring fresh)
 ]
 
-pub pushed_answer : (a b : Moment) (f : Device) (st : Storage) (h : Past ℕ) (files : Descriptors) (call : Call) (edit : Edit) (reply : Reply) → IsMountedAt a → IsLooked a b
-    → IsChangeBy a call (edited_tree b.device edit) reply → NeedsFew b edit a call → HasWritten b.device b.state.storage (need (capacity_at b) edit) f st → IsPushed b.device b.state.history b.state.storage edit f h st → files ≡ descriptors_after (machine_at a) call → IsOfTree edit
-    → IsAnswered a call (Ok reply) (moment f (record b.state { storage = st; history = h; files = files })) false
-pushed_answer a b f st h files call edit reply m l by few written pushed opens own =
+pub pushed_answer : (a b : Moment) (f : Device) (st : Storage) (h : Past ℕ) (k : Option (Group ℕ)) (files : Descriptors) (call : Call) (edit : Edit) (reply : Reply) → IsMountedAt a → IsLooked a b
+    → IsChangeBy a call (edited_tree b.device edit) reply → NeedsFew b edit a call → HasWritten b.device b.state.storage (need (capacity_at b) edit) f st → IsPushed b.device b.state.history b.state.group b.state.storage edit f h k st → files ≡ descriptors_after (machine_at a) call → IsOfTree edit
+    → IsAnswered a call (Ok reply) (moment f (record b.state { storage = st; history = h; group = k; files = files })) false
+pushed_answer a b f st h k files call edit reply m l by few written pushed opens own =
     let c : Moment = moment f (record b.state { storage = st }) in
     let w = written_worked b f st (need (capacity_at b) edit) written in
     let all = worked_on a b c (looked_worked a b l) w in
-    let present : present_root a.state.history ≡ Some pushed.root = ap (λ (x : Past ℕ). present_root x) (sym l.rest.history) ∙ pushed.present in
+    let working : working_root a.state.history a.state.group ≡ Some pushed.root = sym (same_working a.state b.state l.rest) ∙ pushed.working in
     let tree = edited_tree b.device edit pushed.root in
     let new : HasNewTree c pushed.to tree = record { stands = pushed.stands; is = pushed.shows } in
-    let step = changed_step a b c pushed.to call tree reply h files pushed.pushed opens m l by.fine (by.after pushed.root present) by.replies pushed.writable pushed.stays_writable pushed.serial_left w new in
+    let step = changed_step a b c pushed.to call tree reply h k files pushed.pushed pushed.regrouped opens m l by.fine (by.after pushed.root working) by.replies pushed.writable pushed.stays_writable by.heavy pushed.serial_left w new in
     record {
-      mounted = changed_mounted a c pushed.to call tree (Ok reply) h files pushed.pushed m all new by.paths step;
+      mounted = changed_mounted a c pushed.to call tree (Ok reply) h k files pushed.pushed pushed.regrouped m all new by.paths step;
       step = step;
-      leaves = change_leaves a b f st call edit l written by.moves (makes (machine_at a) call by.fine (ap is_some (by.after pushed.root present))) few;
+      leaves = change_leaves a b f st call edit l written by.moves (makes (machine_at a) call by.fine (ap is_some (by.after pushed.root working))) few;
       is_off = all.rest.is_off;
       pages = worked_pages a c m all;
-      reached = changed_reaches a c pushed.to h files pushed.pushed m all
-          (pushed_reach a b f (source pushed.root edit) pushed.root pushed.to m l (of_present (HasRoot a.state) a.state pushed.root (λ root has. has) present) (own pushed.root) pushed.reached);
+      reached = changed_reaches a c pushed.to h k files pushed.pushed pushed.regrouped m all
+          (pushed_reach a b f (source pushed.root edit) pushed.root pushed.to m l (of_working (HasRoot a.state) a.state pushed.root (λ root has. has) working) (own pushed.root) pushed.reached);
       refused = tt;
+      regrouped = tt;
     }
 
-cause_refuses : (a b : Moment) (f : Device) (st : Storage) (root : ℕ) (call : Call) {edit : Edit} (made : ℕ → Tree) (reply : Reply) (fault : Fault) → present_root a.state.history ≡ Some root → IsLooked a b
-    → IsChangeBy a call made reply → NeedsFew b edit a call → ChangeCause b.device b.state.history b.state.storage edit fault f st → Refuses (seen_at a) (machine_at a) call fault (seen_at (moment f (record b.state { storage = st })))
+-- outside a group an accepted change of the tree makes a version
+makes_outside : (a : Moment) (call : Call) → a.state.group ≡ None → changes_tree (machine_at a) call ≡ true → makes_version (machine_at a) call ≡ true
+makes_outside a call outside changes = outside_makes (machine_at a) call (ap (λ (g : Option (Group ℕ)). map_group (tree_at a) g) outside) changes
+
+cause_refuses : (a b : Moment) (f : Device) (st : Storage) (root : ℕ) (call : Call) {edit : Edit} (made : ℕ → Tree) (reply : Reply) (fault : Fault) → working_root a.state.history a.state.group ≡ Some root → IsLooked a b
+    → IsChangeBy a call made reply → NeedsFew b edit a call → ChangeCause b.device b.state.history b.state.group b.state.storage edit fault f st → Refuses (seen_at a) (machine_at a) call fault (seen_at (moment f (record b.state { storage = st })))
 cause_refuses a b f st root call made reply fault is l by few (inl (inl only)) =
     inr (subst (λ x. MayRefuse (seen_at a) (machine_at a) call x (seen_at (moment f (record b.state { storage = st })))) (sym only.0)
-    (writes-version (machine_at a) call (makes (machine_at a) call by.fine (ap is_some (by.after root is))), only.1.on, λ off _. later_serial a b l (only.1.serial_left (later_writable a b l ∙ off))))
+    (writes-tree (machine_at a) call (makes (machine_at a) call by.fine (ap is_some (by.after root is))), only.1.on, λ off made. later_serial a b l (only.1.serial_left (later_writable a b l ∙ off) (later_outside a b l call by.heavy made))))
 cause_refuses a b f st root call made reply fault is l by few (inl (inr over)) =
     inr (subst (λ x. MayRefuse (seen_at a) (machine_at a) call x (seen_at (moment f (record b.state { storage = st })))) (sym over.0)
-    (sym (later_writable a b l) ∙ over.1.writable, inl (makes (machine_at a) call by.fine (ap is_some (by.after root is)), ap (λ (h : Past ℕ). h.next) (sym l.rest.history) ∙ over.1.last)))
+    (sym (later_writable a b l) ∙ over.1.writable, inl (makes_outside a call (sym l.rest.group ∙ over.1.outside) (makes (machine_at a) call by.fine (ap is_some (by.after root is))), ap (λ (h : Past ℕ). h.next) (sym l.rest.history) ∙ over.1.last)))
 cause_refuses a b f st root call {edit} made reply fault is l by few (inr work) =
     writing_refuses a b f st edit call fault l by.heavy (makes (machine_at a) call by.fine (ap is_some (by.after root is))) (by.more (capacity_at a)) few work
 
-pub refused_change : (a b : Moment) (f : Device) (st : Storage) (h : Past ℕ) (root : ℕ) (call : Call) {edit : Edit} (made : ℕ → Tree) (reply : Reply) (fault : Fault) → IsMountedAt a → present_root a.state.history ≡ Some root
-    → IsLooked a b → IsChangeBy a call made reply → NeedsFew b edit a call → HasWritten b.device b.state.storage (need (capacity_at b) edit) f st → (h ≡ b.state.history) × ChangeCause b.device b.state.history b.state.storage edit fault f st
-    → IsAnswered a call (Err fault) (moment f (record b.state { storage = st; history = h })) (is_cut fault)
-refused_change a b f st h root call {edit} made reply fault m is l by few written ends =
+pub refused_change : (a b : Moment) (f : Device) (st : Storage) (h : Past ℕ) (k : Option (Group ℕ)) (root : ℕ) (call : Call) {edit : Edit} (made : ℕ → Tree) (reply : Reply) (fault : Fault) → IsMountedAt a → working_root a.state.history a.state.group ≡ Some root
+    → IsLooked a b → IsChangeBy a call made reply → NeedsFew b edit a call → HasWritten b.device b.state.storage (need (capacity_at b) edit) f st → (h ≡ b.state.history) × (k ≡ b.state.group) × ChangeCause b.device b.state.history b.state.group b.state.storage edit fault f st
+    → IsAnswered a call (Err fault) (moment f (record b.state { storage = st; history = h; group = k })) (is_cut fault)
+refused_change a b f st h k root call {edit} made reply fault m is l by few written ends =
     let c : Moment = moment f (record b.state { storage = st }) in
     let all = worked_on a b c (looked_worked a b l) (written_worked b f st (need (capacity_at b) edit) written) in
-    subst (λ (i : Past ℕ). IsAnswered a call (Err fault) (moment f (record b.state { storage = st; history = i })) (is_cut fault)) (sym ends.0)
+    subst (λ (x : Past ℕ × Option (Group ℕ)). IsAnswered a call (Err fault) (moment f (record b.state { storage = st; history = x.0; group = x.1 })) (is_cut fault)) (λ i. (sym ends.0 i, sym ends.1 i))
     (refused_work a c call fault m all (change_leaves a b f st call edit l written by.moves (makes (machine_at a) call by.fine (ap is_some (by.after root is))) few)
-    (cause_refuses a b f st root call {edit = edit} made reply fault is l by few ends.1))
+    (cause_refuses a b f st root call {edit = edit} made reply fault is l by few ends.2))
 
 -- a change that answers nothing, and leaves the open files
-pub change_answer : (a b : Moment) (f : Device) (st : Storage) (h : Past ℕ) (root : ℕ) (call : Call) (edit : Edit) (result : Result (Unit {0}) Fault) → IsMountedAt a → present_root a.state.history ≡ Some root
-    → IsLooked a b → IsChangeBy a call (edited_tree b.device edit) Reply.Empty → NeedsFew b edit a call → descriptors_after (machine_at a) call ≡ a.state.files → IsOfTree edit → IsChanged b.device b.state.history b.state.storage edit result f h st
-    → IsAnswered a call (replied empty result) (moment f (record b.state { storage = st; history = h })) (is_cut_answer result)
-change_answer a b f st h root call edit (Ok x) m is l by few files own changes =
-    pushed_answer a b f st h b.state.files call edit Reply.Empty m l by few changes.written changes.ends (l.rest.files ∙ sym files) own
-change_answer a b f st h root call edit (Err fault) m is l by few files own changes =
-    refused_change a b f st h root call (edited_tree b.device edit) Reply.Empty fault m is l by few changes.written changes.ends
+pub change_answer : (a b : Moment) (f : Device) (st : Storage) (h : Past ℕ) (k : Option (Group ℕ)) (root : ℕ) (call : Call) (edit : Edit) (result : Result (Unit {0}) Fault) → IsMountedAt a → working_root a.state.history a.state.group ≡ Some root
+    → IsLooked a b → IsChangeBy a call (edited_tree b.device edit) Reply.Empty → NeedsFew b edit a call → descriptors_after (machine_at a) call ≡ a.state.files → IsOfTree edit → IsChanged b.device b.state.history b.state.group b.state.storage edit result f h k st
+    → IsAnswered a call (replied empty result) (moment f (record b.state { storage = st; history = h; group = k })) (is_cut_answer result)
+change_answer a b f st h k root call edit (Ok x) m is l by few files own changes =
+    pushed_answer a b f st h k b.state.files call edit Reply.Empty m l by few changes.written changes.ends (l.rest.files ∙ sym files) own
+change_answer a b f st h k root call edit (Err fault) m is l by few files own changes =
+    refused_change a b f st h k root call (edited_tree b.device edit) Reply.Empty fault m is l by few changes.written changes.ends
 
 -- the same, where the edit is that of the change
 
-pub pushed_by : (a b : Moment) (f : Device) (st : Storage) (h : Past ℕ) (files : Descriptors) (call : Call) {edit : Edit} (reply : Reply) → IsPushed b.device b.state.history b.state.storage edit f h st
+pub pushed_by : (a b : Moment) (f : Device) (st : Storage) (h : Past ℕ) (k : Option (Group ℕ)) (files : Descriptors) (call : Call) {edit : Edit} (reply : Reply) → IsPushed b.device b.state.history b.state.group b.state.storage edit f h k st
     → IsChangeBy a call (edited_tree b.device edit) reply → NeedsFew b edit a call → HasWritten b.device b.state.storage (need (capacity_at b) edit) f st → IsMountedAt a → IsLooked a b → files ≡ descriptors_after (machine_at a) call → IsOfTree edit
-    → IsAnswered a call (Ok reply) (moment f (record b.state { storage = st; history = h; files = files })) false
-pushed_by a b f st h files call {edit} reply pushed by few written m l opens own = pushed_answer a b f st h files call edit reply m l by few written pushed opens own
+    → IsAnswered a call (Ok reply) (moment f (record b.state { storage = st; history = h; group = k; files = files })) false
+pushed_by a b f st h k files call {edit} reply pushed by few written m l opens own = pushed_answer a b f st h k files call edit reply m l by few written pushed opens own
 
-pub change_by : (a b : Moment) (f : Device) (st : Storage) (h : Past ℕ) (root : ℕ) (call : Call) {edit : Edit} (result : Result (Unit {0}) Fault) → IsChanged b.device b.state.history b.state.storage edit result f h st
-    → IsChangeBy a call (edited_tree b.device edit) Reply.Empty → NeedsFew b edit a call → IsMountedAt a → present_root a.state.history ≡ Some root → IsLooked a b → descriptors_after (machine_at a) call ≡ a.state.files → IsOfTree edit
-    → IsAnswered a call (replied empty result) (moment f (record b.state { storage = st; history = h })) (is_cut_answer result)
-change_by a b f st h root call {edit} result changes by few m is l files own = change_answer a b f st h root call edit result m is l by few files own changes
+pub change_by : (a b : Moment) (f : Device) (st : Storage) (h : Past ℕ) (k : Option (Group ℕ)) (root : ℕ) (call : Call) {edit : Edit} (result : Result (Unit {0}) Fault) → IsChanged b.device b.state.history b.state.group b.state.storage edit result f h k st
+    → IsChangeBy a call (edited_tree b.device edit) Reply.Empty → NeedsFew b edit a call → IsMountedAt a → working_root a.state.history a.state.group ≡ Some root → IsLooked a b → descriptors_after (machine_at a) call ≡ a.state.files → IsOfTree edit
+    → IsAnswered a call (replied empty result) (moment f (record b.state { storage = st; history = h; group = k })) (is_cut_answer result)
+change_by a b f st h k root call {edit} result changes by few m is l files own = change_answer a b f st h k root call edit result m is l by few files own changes

@@ -9,14 +9,14 @@ use Rattle.std.specs.FinSet as set
 use Rattle.fs_types.specs.Names.{Path, is_path}
 use Rattle.plain_trees.specs.Contents.{Contents, Entry, overwritten, resized, pwrite_need, ftruncate_need}
 use Rattle.plain_trees.specs.Trees.{Tree, put, IsFile, bytes_of, bytes_at}
-use Rattle.history_machine.specs.History.{Past, present_root, changed}
+use Rattle.history_machine.specs.History.{working_root, changed, group_with}
 use Rattle.history_machine.specs.Descriptors.{Descriptor, descriptor_at}
-use Rattle.history_machine.specs.Machine.{Machine, Space, has_paths, present_tree, file_put, refusal, change_need, reply_of, tree_after, descriptors_after, makes_version, machine_of, machine_with}
+use Rattle.history_machine.specs.Machine.{Machine, Space, has_paths, working_tree, file_put, refusal, change_need, reply_of, tree_after, descriptors_after, changes_tree, machine_of, machine_with}
 use Rattle.fs_types.specs.declared.calls.Call.{Call}
 use Rattle.fs_types.specs.declared.calls.Reply.{Reply}
 use Rattle.fs_types.specs.declared.faults.Fault.{Fault}
 use Rattle.history_machine.proofs.Accepted.{not-root}
-use Rattle.history_machine.proofs.Kept.{present-file_tree}
+use Rattle.history_machine.proofs.Kept.{working-file_tree}
 use Rattle.node_format.specs.Items.{Item, named}
 use Rattle.node_format.specs.declared.places.Place.{Place}
 use Rattle.node_format.specs.declared.places.Place.TheVariants as place
@@ -43,9 +43,9 @@ use Rattle.working_state.specs.Worked.{IsWorked, IsLooked, WorkCause, ReadCause}
 use Rattle.working_state.proofs.ChangedCalls.{IsChangeBy}
 use Rattle.working_state.proofs.ChangeSteps.{makes, later_tree}
 use Rattle.working_state.proofs.MovedEntries.{read_cause}
-use Rattle.working_state.proofs.OpenCalls.{present_is}
-use Rattle.working_state.proofs.PathCalls.{OnlyReads, present_stands, read_done}
-use Rattle.working_state.proofs.Standing.{same_capacity, worked_machine, worked_mounted, worked_pages, worked_reaches, looked_worked, looked_leaves}
+use Rattle.working_state.proofs.OpenCalls.{working_is}
+use Rattle.working_state.proofs.PathCalls.{OnlyReads, working_stands, read_done}
+use Rattle.working_state.proofs.Standing.{same_working, same_capacity, worked_machine, worked_mounted, worked_pages, worked_reaches, looked_worked, looked_leaves}
 
 -- What a path leads to, looked up.
 
@@ -73,11 +73,11 @@ leads_looked f root (n ∷ m ∷ path) head size e = way (λ below. leads_looked
     way again None e = absurd cc
     way again (Some items) e = on again (named items n) e
 
--- a file of the present tree is looked up as one
-pub present_file : (a : Moment) (root : ℕ) (path : Path) → IsMountedAt a → present_root a.state.history ≡ Some root → IsFile (present_tree (machine_at a)) path
+-- a file of the tree that calls work on is looked up as one
+pub working_file : (a : Moment) (root : ℕ) (path : Path) → IsMountedAt a → working_root a.state.history a.state.group ≡ Some root → IsFile (working_tree (machine_at a)) path
     → (head : ℕ) × (size : ℕ) × (look_up (nodes_at a) root path ≡ Ok (found.File head size))
-present_file a root path m is file =
-    go (leads (nodes_at a) (place.Dir root) path) refl (ap (λ (t : Contents). t path) (sym (present_is a root m is)) ∙ file.1)
+working_file a root path m is file =
+    go (leads (nodes_at a) (place.Dir root) path) refl (ap (λ (t : Contents). t path) (sym (working_is a root m is)) ∙ file.1)
   where
     go : (o : Option Place) → leads (nodes_at a) (place.Dir root) path ≡ o → option_map (entry_at (capacity_at a) (nodes_at a)) o ≡ Some (Entry.File file.0)
         → (head : ℕ) × (size : ℕ) × (look_up (nodes_at a) root path ≡ Ok (found.File head size))
@@ -92,21 +92,21 @@ long_body capacity f head (suc n) is =
     let enough : suc n ≤ length (data_to f (head_index capacity (suc n)) head) = is.1 in
     omega (arith, length-take (suc n) (data_to f (head_index capacity (suc n)) head))
 
--- the body of a file of the present tree
-pub record IsPresentBody (a : Moment) (path : Path) (head size : ℕ) : Type 0 where
+-- the body of a file of the tree that calls work on
+pub record IsWorkingBody (a : Moment) (path : Path) (head size : ℕ) : Type 0 where
   pub whole : IsBody (capacity_at a) (nodes_at a) head size
   pub held : IsHeld (nodes_at a) (set.contains a.state.storage.ring.used) (place.File head size)
-  pub shown : bytes_at (present_tree (machine_at a)) path ≡ body (capacity_at a) (nodes_at a) head size
+  pub shown : bytes_at (working_tree (machine_at a)) path ≡ body (capacity_at a) (nodes_at a) head size
   pub short : size ≤ 16777216
 
-pub present_body : (a : Moment) (root : ℕ) (path : Path) (head size : ℕ) → IsMountedAt a → present_root a.state.history ≡ Some root → look_up (nodes_at a) root path ≡ Ok (found.File head size) → IsPresentBody a path head size
-present_body a root path head size m is led =
-    let stands = present_stands a root m is in
+pub working_body : (a : Moment) (root : ℕ) (path : Path) (head size : ℕ) → IsMountedAt a → working_root a.state.history a.state.group ≡ Some root → look_up (nodes_at a) root path ≡ Ok (found.File head size) → IsWorkingBody a path head size
+working_body a root path head size m is led =
+    let stands = working_stands a root m is in
     let leads = found_leads_file (nodes_at a) root path head size led in
     let whole = (stands.rooted path (place.File head size) leads).0 in
-    let there : get (present_tree (machine_at a)) path ≡ Some (Entry.File (body (capacity_at a) (nodes_at a) head size)) =
-    ap (λ (t : Contents). t path) (present_is a root m is) ∙ (found_is (capacity_at a) (nodes_at a) root path (found.File head size) led).1 in
-    let most = (present-file_tree (machine_at a) m.machine).lengths path (body (capacity_at a) (nodes_at a) head size) there in
+    let there : get (working_tree (machine_at a)) path ≡ Some (Entry.File (body (capacity_at a) (nodes_at a) head size)) =
+    ap (λ (t : Contents). t path) (working_is a root m is) ∙ (found_is (capacity_at a) (nodes_at a) root path (found.File head size) led).1 in
+    let most = (working-file_tree (machine_at a) m.machine).lengths path (body (capacity_at a) (nodes_at a) head size) there in
     record {
       whole = whole;
       held = held_leads (nodes_at a) (set.contains a.state.storage.ring.used) path (place.Dir root) (place.File head size) leads stands.held;
@@ -139,23 +139,23 @@ file_cause f root path old new fault there refused why lookup = by (is_path_faul
 -- a call that changes the bytes of the file at a path
 pub record IsFileChange (m : Machine) (call : Call) (path : Path) (bytes : List ℕ) : Type 0 where
   pub fine : refusal m call ≡ None
-  pub after : tree_after m call ≡ Some (file_put (present_tree m) path bytes)
+  pub after : tree_after m call ≡ Some (file_put (working_tree m) path bytes)
   pub files : descriptors_after m call ≡ m.descriptors
   pub heavy : is_light call ≡ false
   pub moves : is_still call || only_looks call ≡ false
   pub paths : has_paths call ≡ true
   pub more : (capacity : ℕ) → 0 < change_need capacity m call
 
-pub file_makes : (m : Machine) (call : Call) (path : Path) (bytes : List ℕ) → IsFileChange m call path bytes → makes_version m call ≡ true
+pub file_makes : (m : Machine) (call : Call) (path : Path) (bytes : List ℕ) → IsFileChange m call path bytes → changes_tree m call ≡ true
 file_makes m call path bytes change = makes m call change.fine (ap is_some change.after)
 
--- the present root after work, and the file in it
-later_root : (a c : Moment) (root : ℕ) → present_root a.state.history ≡ Some root → IsWorked a c → present_root c.state.history ≡ Some root
-later_root a c root is w = ap (λ (h : Past ℕ). present_root h) w.rest.history ∙ is
+-- the root that calls work on, after work, and the file in it
+later_root : (a c : Moment) (root : ℕ) → working_root a.state.history a.state.group ≡ Some root → IsWorked a c → working_root c.state.history c.state.group ≡ Some root
+later_root a c root is w = same_working a.state c.state w.rest ∙ is
 
-pub later_body : (a c : Moment) (root : ℕ) (path : Path) (head size : ℕ) → IsMountedAt a → present_root a.state.history ≡ Some root → IsWorked a c → look_up (nodes_at c) root path ≡ Ok (found.File head size)
-    → IsPresentBody c path head size
-later_body a c root path head size m is w led = present_body c root path head size (worked_mounted a c m w) (later_root a c root is w) led
+pub later_body : (a c : Moment) (root : ℕ) (path : Path) (head size : ℕ) → IsMountedAt a → working_root a.state.history a.state.group ≡ Some root → IsWorked a c → look_up (nodes_at c) root path ≡ Ok (found.File head size)
+    → IsWorkingBody c path head size
+later_body a c root path head size m is w led = working_body c root path head size (worked_mounted a c m w) (later_root a c root is w) led
 
 -- a call that changes nothing
 pub same_answer : (a b : Moment) (call : Call) (reply : Reply) → IsMountedAt a → IsLooked a b → OnlyReads (machine_at a) call → refusal (machine_at a) call ≡ None
@@ -170,18 +170,19 @@ same_answer a b call reply m l reads fine replies moves =
       pages = worked_pages a b m w;
       reached = worked_reaches a b m w;
       refused = tt;
+      regrouped = tt;
     }
 
 pub looked_itself : (a : Moment) → IsLooked a a
-looked_itself a = record { untouched = Untouched_itself (storage_at a); fits = still_itself a.device a.state.storage; rest = record { history = refl; files = refl; is_off = refl } }
+looked_itself a = record { untouched = Untouched_itself (storage_at a); fits = still_itself a.device a.state.storage; rest = record { history = refl; group = refl; files = refl; is_off = refl } }
 
 -- the path of an open file
 
-pub open_file : (a : Moment) (descriptor : ℕ) (path : Path) → IsMountedAt a → IsPathOf a.state.files descriptor path → IsFile (present_tree (machine_at a)) path
+pub open_file : (a : Moment) (descriptor : ℕ) (path : Path) → IsMountedAt a → IsPathOf a.state.files descriptor path → IsFile (working_tree (machine_at a)) path
 open_file a descriptor path m has = m.machine.files descriptor (record { path = path; flags = has.0 }) has.1
 
-pub below_root : (a : Moment) (path : Path) → IsMountedAt a → IsFile (present_tree (machine_at a)) path → 0 < length path
-below_root a path m file = not-root (present_tree (machine_at a)) path (present-file_tree (machine_at a) m.machine) (λ dir. let both = sym dir ∙ file.1 in cc)
+pub below_root : (a : Moment) (path : Path) → IsMountedAt a → IsFile (working_tree (machine_at a)) path → 0 < length path
+below_root a path m file = not-root (working_tree (machine_at a)) path (working-file_tree (machine_at a) m.machine) (λ dir. let both = sym dir ∙ file.1 in cc)
 
 -- Writing.
 
@@ -193,18 +194,18 @@ some_heavy descriptor offset [] some = absurd (true≢false some)
 some_heavy descriptor offset (b ∷ bytes) some = refl
 
 pub pwrite_change : (m : Machine) (descriptor offset : ℕ) (bytes : List ℕ) (path : Path) → IsPathOf m.descriptors descriptor path → refusal m (Call.Pwrite descriptor offset bytes) ≡ None → (length bytes == 0) ≡ false → 0 < length path
-    → IsFileChange m (Call.Pwrite descriptor offset bytes) path (overwritten (bytes_at (present_tree m) path) offset bytes)
+    → IsFileChange m (Call.Pwrite descriptor offset bytes) path (overwritten (bytes_at (working_tree m) path) offset bytes)
 pwrite_change m descriptor offset bytes path has fine some below = record {
   fine = fine;
-  after = ap (option_and_then (λ (d : Descriptor). if length bytes == 0 then None else Some (file_put (present_tree m) d.path (overwritten (bytes_at (present_tree m) d.path) offset bytes)))) has.1
-      ∙ ap (λ b. if b then None else Some (file_put (present_tree m) path (overwritten (bytes_at (present_tree m) path) offset bytes))) some;
+  after = ap (option_and_then (λ (d : Descriptor). if length bytes == 0 then None else Some (file_put (working_tree m) d.path (overwritten (bytes_at (working_tree m) d.path) offset bytes)))) has.1
+      ∙ ap (λ b. if b then None else Some (file_put (working_tree m) path (overwritten (bytes_at (working_tree m) path) offset bytes))) some;
   files = refl;
   heavy = some_heavy descriptor offset bytes some;
   moves = refl;
   paths = refl;
   more = λ capacity.
-      subst (λ (o : Option Descriptor). 0 < option_map_or (λ d. pwrite_need capacity (length (bytes_at (present_tree m) d.path)) offset (length bytes) + length d.path) o 0) (sym has.1)
-      (some_more (pwrite_need capacity (length (bytes_at (present_tree m) path)) offset (length bytes)) (length path) below);
+      subst (λ (o : Option Descriptor). 0 < option_map_or (λ d. pwrite_need capacity (length (bytes_at (working_tree m) d.path)) offset (length bytes) + length d.path) o 0) (sym has.1)
+      (some_more (pwrite_need capacity (length (bytes_at (working_tree m) path)) offset (length bytes)) (length path) below);
 }
 
 pub some_length : (n : ℕ) → (n == 0) ≡ false → 0 < n
@@ -214,7 +215,7 @@ some_length (suc n) some = omega arith
 -- no bytes make no version
 pub pwrite_nothing : (m : Machine) (descriptor offset : ℕ) (bytes : List ℕ) → length bytes ≡ 0 → OnlyReads m (Call.Pwrite descriptor offset bytes)
 pwrite_nothing m descriptor offset (b ∷ bytes) none = absurd (omega arith)
-pwrite_nothing m descriptor offset [] none = record { stays = stays; no_version = no_tree; no_record = refl }
+pwrite_nothing m descriptor offset [] none = record { stays = stays; no_version = no_tree; no_end = ap (option_and_then (λ t. if is_some m.group then None else Some t)) no_tree; no_record = refl }
   where
     go : (o : Option Descriptor) → option_and_then (λ (d : Descriptor). let r : Option Tree = None in r) o ≡ None
     go None = refl
@@ -224,54 +225,54 @@ pwrite_nothing m descriptor offset [] none = record { stays = stays; no_version 
     no_tree = go (descriptor_at m.descriptors descriptor)
 
     stays : machine_of m (Call.Pwrite descriptor offset []) None ≡ m
-    stays i = machine_with (option_map_or (changed m.history) (no_tree i) m.history) m.descriptors
+    stays i = machine_with (option_map_or (changed m.history) (option_and_then (λ t. if is_some m.group then None else Some t) (no_tree i)) m.history) (option_map_or (group_with m.group) (no_tree i) m.group) m.descriptors
 
 -- Resizing.
 
-pub ftruncate_change : (m : Machine) (descriptor n : ℕ) (path : Path) → IsPathOf m.descriptors descriptor path → refusal m (Call.Ftruncate descriptor n) ≡ None → (length (bytes_at (present_tree m) path) == n) ≡ false → 0 < length path
-    → IsFileChange m (Call.Ftruncate descriptor n) path (resized (bytes_at (present_tree m) path) n)
+pub ftruncate_change : (m : Machine) (descriptor n : ℕ) (path : Path) → IsPathOf m.descriptors descriptor path → refusal m (Call.Ftruncate descriptor n) ≡ None → (length (bytes_at (working_tree m) path) == n) ≡ false → 0 < length path
+    → IsFileChange m (Call.Ftruncate descriptor n) path (resized (bytes_at (working_tree m) path) n)
 ftruncate_change m descriptor n path has fine other below = record {
   fine = fine;
-  after = ap (option_and_then (λ (d : Descriptor). if length (bytes_at (present_tree m) d.path) == n then None else Some (file_put (present_tree m) d.path (resized (bytes_at (present_tree m) d.path) n)))) has.1
-      ∙ ap (λ b. if b then None else Some (file_put (present_tree m) path (resized (bytes_at (present_tree m) path) n))) other;
+  after = ap (option_and_then (λ (d : Descriptor). if length (bytes_at (working_tree m) d.path) == n then None else Some (file_put (working_tree m) d.path (resized (bytes_at (working_tree m) d.path) n)))) has.1
+      ∙ ap (λ b. if b then None else Some (file_put (working_tree m) path (resized (bytes_at (working_tree m) path) n))) other;
   files = refl;
   heavy = refl;
   moves = refl;
   paths = refl;
   more = λ capacity.
-      subst (λ (o : Option Descriptor). 0 < option_map_or (λ d. ftruncate_need capacity (length (bytes_at (present_tree m) d.path)) n + length d.path) o 0) (sym has.1)
-      (some_more (ftruncate_need capacity (length (bytes_at (present_tree m) path)) n) (length path) below);
+      subst (λ (o : Option Descriptor). 0 < option_map_or (λ d. ftruncate_need capacity (length (bytes_at (working_tree m) d.path)) n + length d.path) o 0) (sym has.1)
+      (some_more (ftruncate_need capacity (length (bytes_at (working_tree m) path)) n) (length path) below);
 }
 
 -- the same length makes no version
-pub ftruncate_nothing : (m : Machine) (descriptor n : ℕ) (path : Path) → IsPathOf m.descriptors descriptor path → (length (bytes_at (present_tree m) path) == n) ≡ true → OnlyReads m (Call.Ftruncate descriptor n)
-ftruncate_nothing m descriptor n path has same = record { stays = stays; no_version = no_tree; no_record = refl }
+pub ftruncate_nothing : (m : Machine) (descriptor n : ℕ) (path : Path) → IsPathOf m.descriptors descriptor path → (length (bytes_at (working_tree m) path) == n) ≡ true → OnlyReads m (Call.Ftruncate descriptor n)
+ftruncate_nothing m descriptor n path has same = record { stays = stays; no_version = no_tree; no_end = ap (option_and_then (λ t. if is_some m.group then None else Some t)) no_tree; no_record = refl }
   where
     no_tree : tree_after m (Call.Ftruncate descriptor n) ≡ None
     no_tree =
-        ap (option_and_then (λ (d : Descriptor). if length (bytes_at (present_tree m) d.path) == n then None else Some (file_put (present_tree m) d.path (resized (bytes_at (present_tree m) d.path) n)))) has.1
-        ∙ ap (λ b. if b then None else Some (file_put (present_tree m) path (resized (bytes_at (present_tree m) path) n))) same
+        ap (option_and_then (λ (d : Descriptor). if length (bytes_at (working_tree m) d.path) == n then None else Some (file_put (working_tree m) d.path (resized (bytes_at (working_tree m) d.path) n)))) has.1
+        ∙ ap (λ b. if b then None else Some (file_put (working_tree m) path (resized (bytes_at (working_tree m) path) n))) same
 
     stays : machine_of m (Call.Ftruncate descriptor n) None ≡ m
-    stays i = machine_with (option_map_or (changed m.history) (no_tree i) m.history) m.descriptors
+    stays i = machine_with (option_map_or (changed m.history) (option_and_then (λ t. if is_some m.group then None else Some t) (no_tree i)) m.history) (option_map_or (group_with m.group) (no_tree i) m.group) m.descriptors
 
 -- the length of the file whose body was found
-pub present_length : (a b : Moment) (path : Path) (head size : ℕ) → IsMountedAt a → IsWorked a b → IsPresentBody b path head size → length (bytes_at (present_tree (machine_at a)) path) ≡ size
-present_length a b path head size m w there =
-    ap (λ (x : Machine). length (bytes_at (present_tree x) path)) (sym (worked_machine a b m w)) ∙ ap length there.shown ∙ long_body (capacity_at b) (nodes_at b) head size there.whole
+pub working_length : (a b : Moment) (path : Path) (head size : ℕ) → IsMountedAt a → IsWorked a b → IsWorkingBody b path head size → length (bytes_at (working_tree (machine_at a)) path) ≡ size
+working_length a b path head size m w there =
+    ap (λ (x : Machine). length (bytes_at (working_tree x) path)) (sym (worked_machine a b m w)) ∙ ap length there.shown ∙ long_body (capacity_at b) (nodes_at b) head size there.whole
 
-pub same_length : (a b : Moment) (path : Path) (head size wide n : ℕ) → IsMountedAt a → IsWorked a b → IsPresentBody b path head size → wide ≡ size → wide ≡ n
-    → (length (bytes_at (present_tree (machine_at a)) path) == n) ≡ true
-same_length a b path head size wide n m w there is same = eq-eqb (length (bytes_at (present_tree (machine_at a)) path)) n (present_length a b path head size m w there ∙ sym is ∙ same)
+pub same_length : (a b : Moment) (path : Path) (head size wide n : ℕ) → IsMountedAt a → IsWorked a b → IsWorkingBody b path head size → wide ≡ size → wide ≡ n
+    → (length (bytes_at (working_tree (machine_at a)) path) == n) ≡ true
+same_length a b path head size wide n m w there is same = eq-eqb (length (bytes_at (working_tree (machine_at a)) path)) n (working_length a b path head size m w there ∙ sym is ∙ same)
 
-pub other_length : (a b : Moment) (path : Path) (head size wide n : ℕ) → IsMountedAt a → IsWorked a b → IsPresentBody b path head size → wide ≡ size → (wide ≡ n → ⊥)
-    → (length (bytes_at (present_tree (machine_at a)) path) == n) ≡ false
+pub other_length : (a b : Moment) (path : Path) (head size wide n : ℕ) → IsMountedAt a → IsWorked a b → IsWorkingBody b path head size → wide ≡ size → (wide ≡ n → ⊥)
+    → (length (bytes_at (working_tree (machine_at a)) path) == n) ≡ false
 other_length a b path head size wide n m w there is other =
-    ne_eqb (length (bytes_at (present_tree (machine_at a)) path)) n (λ same. other (is ∙ sym (present_length a b path head size m w there) ∙ same))
+    ne_eqb (length (bytes_at (working_tree (machine_at a)) path)) n (λ same. other (is ∙ sym (working_length a b path head size m w there) ∙ same))
 
 -- the change of a file's bytes, as the flash shows it after a look
 pub file_change : (a b : Moment) (call : Call) (path : Path) (f : List ℕ → List ℕ) (reply : Reply) → IsMountedAt a → IsLooked a b
-    → IsFileChange (machine_at a) call path (f (bytes_at (present_tree (machine_at a)) path)) → ((space : Space) → reply_of space (machine_at a) call ≡ reply)
+    → IsFileChange (machine_at a) call path (f (bytes_at (working_tree (machine_at a)) path)) → ((space : Space) → reply_of space (machine_at a) call ≡ reply)
     → IsChangeBy a call (λ root. put (tree_at b root) path (Entry.File (f (bytes_at (tree_at b root) path)))) reply
 file_change a b call path f reply m l change replies = record {
   fine = change.fine;
@@ -283,32 +284,32 @@ file_change a b call path f reply m l change replies = record {
   replies = replies;
 }
 
-pub file_lawful : (a : Moment) (path : Path) → IsMountedAt a → IsFile (present_tree (machine_at a)) path → is_path path ≡ true
-file_lawful a path m file = (present-file_tree (machine_at a) m.machine).paths path (ap is_some file.1)
+pub file_lawful : (a : Moment) (path : Path) → IsMountedAt a → IsFile (working_tree (machine_at a)) path → is_path path ≡ true
+file_lawful a path m file = (working-file_tree (machine_at a) m.machine).paths path (ap is_some file.1)
 
 -- How many nodes a change of a file's bytes needs, by the body that was found.
 
 same_capacity_at : (a b : Moment) → IsWorked a b → capacity_at a ≡ capacity_at b
 same_capacity_at a b w = sym (same_capacity (storage_at a) (storage_at b) w.evolved)
 
-pub pwrite_few : (a b : Moment) (descriptor offset : ℕ) (bytes : List ℕ) (path : Path) (head size : ℕ) → IsMountedAt a → IsLooked a b → IsPathOf a.state.files descriptor path → IsPresentBody b path head size
+pub pwrite_few : (a b : Moment) (descriptor offset : ℕ) (bytes : List ℕ) (path : Path) (head size : ℕ) → IsMountedAt a → IsLooked a b → IsPathOf a.state.files descriptor path → IsWorkingBody b path head size
     → pwrite_need (capacity_at b) size offset (length bytes) + length path ≤ change_need (capacity_at a) (machine_at a) (Call.Pwrite descriptor offset bytes)
 pwrite_few a b descriptor offset bytes path head size m l has there =
     let w = looked_worked a b l in
-    let long = present_length a b path head size m w there in
+    let long = working_length a b path head size m w there in
     let same = same_capacity_at a b w in
     let all : change_need (capacity_at a) (machine_at a) (Call.Pwrite descriptor offset bytes) ≡ pwrite_need (capacity_at b) size offset (length bytes) + length path =
-    ap (λ (o : Option Descriptor). option_map_or (λ x. pwrite_need (capacity_at a) (length (bytes_at (present_tree (machine_at a)) x.path)) offset (length bytes) + length x.path) o 0) has.1
+    ap (λ (o : Option Descriptor). option_map_or (λ x. pwrite_need (capacity_at a) (length (bytes_at (working_tree (machine_at a)) x.path)) offset (length bytes) + length x.path) o 0) has.1
     ∙ (λ i. pwrite_need (same i) (long i) offset (length bytes) + length path) in
     omega arith
 
-pub ftruncate_few : (a b : Moment) (descriptor n : ℕ) (path : Path) (head size : ℕ) → IsMountedAt a → IsLooked a b → IsPathOf a.state.files descriptor path → IsPresentBody b path head size
+pub ftruncate_few : (a b : Moment) (descriptor n : ℕ) (path : Path) (head size : ℕ) → IsMountedAt a → IsLooked a b → IsPathOf a.state.files descriptor path → IsWorkingBody b path head size
     → ftruncate_need (capacity_at b) size n + length path ≤ change_need (capacity_at a) (machine_at a) (Call.Ftruncate descriptor n)
 ftruncate_few a b descriptor n path head size m l has there =
     let w = looked_worked a b l in
-    let long = present_length a b path head size m w there in
+    let long = working_length a b path head size m w there in
     let same = same_capacity_at a b w in
     let all : change_need (capacity_at a) (machine_at a) (Call.Ftruncate descriptor n) ≡ ftruncate_need (capacity_at b) size n + length path =
-    ap (λ (o : Option Descriptor). option_map_or (λ x. ftruncate_need (capacity_at a) (length (bytes_at (present_tree (machine_at a)) x.path)) n + length x.path) o 0) has.1
+    ap (λ (o : Option Descriptor). option_map_or (λ x. ftruncate_need (capacity_at a) (length (bytes_at (working_tree (machine_at a)) x.path)) n + length x.path) o 0) has.1
     ∙ (λ i. ftruncate_need (same i) (long i) n + length path) in
     omega arith

@@ -7,15 +7,15 @@ use Rattle.std.specs.Option.{option_or, option_map_or}
 use Rattle.fs_types.specs.Names.{Path}
 use Rattle.plain_trees.specs.Contents.{Contents, Entry, IsTree, under, way_refusal, lookup_refusal, read_from}
 use Rattle.plain_trees.specs.Trees.{Tree, IsFileTree, IsFile, bytes_of, bytes_at}
-use Rattle.history_machine.specs.History.{present_root}
+use Rattle.history_machine.specs.History.{working_root}
 use Rattle.history_machine.specs.Descriptors.{Descriptor, Descriptors, descriptor_at, can_read}
-use Rattle.history_machine.specs.Machine.{Machine, Space, present_tree, refusal, reply_of}
+use Rattle.history_machine.specs.Machine.{Machine, Space, working_tree, refusal, reply_of}
 use Rattle.fs_types.specs.declared.calls.Call.{Call}
 use Rattle.fs_types.specs.declared.calls.Reply.{Reply}
 use Rattle.fs_types.specs.declared.calls.View.{View}
 use Rattle.fs_types.specs.declared.faults.Fault.{Fault}
 use Rattle.fs_types.specs.declared.faults.Fault.TheVariants.{NoEntry, NotDirectory, BadDescriptor, Damaged, ReadFailed, PowerCut, NoMemory}
-use Rattle.history_machine.proofs.Kept.{present-file_tree}
+use Rattle.history_machine.proofs.Kept.{working-file_tree}
 use Rattle.plain_trees.proofs.Lookups.{some-is, above, under-tree}
 use Rattle.node_format.specs.declared.places.Place.TheVariants.{File}
 use Rattle.block_trees.specs.Bodies.{Blocks, body, IsBody}
@@ -31,7 +31,7 @@ use Rattle.working_state.specs.Reading.{refuse_directory, file_refusal, IsRead}
 use Rattle.working_state.specs.Seen.{Seen}
 use Rattle.working_state.specs.Steps.{replied, begins_work, is_cut_answer, MayRefuse}
 use Rattle.working_state.specs.Worked.{IsLooked, WorkCause}
-use Rattle.working_state.proofs.PathCalls.{LooksUp, found_tells, refused_tells, present_tree_is, OnlyReads, read_done}
+use Rattle.working_state.proofs.PathCalls.{LooksUp, found_tells, refused_tells, working_tree_is, OnlyReads, read_done}
 use Rattle.working_state.proofs.Refusals.{refused_step}
 use Rattle.working_state.proofs.Standing.{looked_worked}
 use Rattle.working_state.proofs.Views.{Shows, view_tree_is, view_looks}
@@ -119,11 +119,11 @@ read_step a b call root path offset count (Err fault) m l reads read refused why
 
 -- A file of the tree that a view shows.
 
-pub view_reads : (a : Moment) (view : View) (path : Path) (offset count root : ℕ) → IsMountedAt a → Shows a.state.history view root → ReadsFile a (Call.ReadAt view path offset count) root path offset count
+pub view_reads : (a : Moment) (view : View) (path : Path) (offset count root : ℕ) → IsMountedAt a → Shows a.state.history a.state.group view root → ReadsFile a (Call.ReadAt view path offset count) root path offset count
 view_reads a view path offset count root m shows = record {
   begins = looks.begins;
   by_path = looks.by_path;
-  only = record { stays = refl; no_version = refl; no_record = refl };
+  only = record { stays = refl; no_version = refl; no_end = refl; no_record = refl };
   replies = λ space. ap (λ (t : Tree). Reply.Bytes (read_from (bytes_at t path) offset count)) (view_tree_is a view root shows);
 }
   where
@@ -152,15 +152,15 @@ pub record IsOpen (files : Descriptors) (descriptor : ℕ) (path : Path) : Type 
   pub reads : can_read file.flags ≡ true
   pub named : path ≡ file.path
 
-pub open_reads : (a : Moment) (descriptor : ℕ) (path : Path) (offset count root : ℕ) → IsMountedAt a → present_root a.state.history ≡ Some root → IsOpen a.state.files descriptor path → ReadsFile a (Call.Pread descriptor offset count) root path offset count
+pub open_reads : (a : Moment) (descriptor : ℕ) (path : Path) (offset count root : ℕ) → IsMountedAt a → working_root a.state.history a.state.group ≡ Some root → IsOpen a.state.files descriptor path → ReadsFile a (Call.Pread descriptor offset count) root path offset count
 open_reads a descriptor path offset count root m is opened = record {
   begins = ap is_none accepted;
-  by_path = accepted ∙ sym (ap (λ t. file_refusal t path) (sym (present_tree_is a root is)) ∙ file_is_read (present_tree (machine_at a)) path (present-file_tree (machine_at a) m.machine) file);
-  only = record { stays = refl; no_version = refl; no_record = refl };
+  by_path = accepted ∙ sym (ap (λ t. file_refusal t path) (sym (working_tree_is a root is)) ∙ file_is_read (working_tree (machine_at a)) path (working-file_tree (machine_at a) m.machine) file);
+  only = record { stays = refl; no_version = refl; no_end = refl; no_record = refl };
   replies = λ space.
-      ap (λ o. Reply.Bytes (option_map_or (λ x. read_from (bytes_at (present_tree (machine_at a)) x.path) offset count) o [])) opened.there
-      ∙ ap (λ p. Reply.Bytes (read_from (bytes_at (present_tree (machine_at a)) p) offset count)) (sym opened.named)
-      ∙ ap (λ (t : Tree). Reply.Bytes (read_from (bytes_at t path) offset count)) (present_tree_is a root is);
+      ap (λ o. Reply.Bytes (option_map_or (λ x. read_from (bytes_at (working_tree (machine_at a)) x.path) offset count) o [])) opened.there
+      ∙ ap (λ p. Reply.Bytes (read_from (bytes_at (working_tree (machine_at a)) p) offset count)) (sym opened.named)
+      ∙ ap (λ (t : Tree). Reply.Bytes (read_from (bytes_at t path) offset count)) (working_tree_is a root is);
 }
   where
     accepted : refusal (machine_at a) (Call.Pread descriptor offset count) ≡ None
@@ -168,5 +168,5 @@ open_reads a descriptor path offset count root m is opened = record {
         ap (λ o. option_map_or (λ (x : Descriptor). if can_read x.flags then None else Some BadDescriptor) o (Some BadDescriptor)) opened.there
         ∙ ap (λ b. if b then None else Some BadDescriptor) opened.reads
 
-    file : IsFile (present_tree (machine_at a)) path
-    file = subst (IsFile (present_tree (machine_at a))) (sym opened.named) (m.machine.files descriptor opened.file opened.there)
+    file : IsFile (working_tree (machine_at a)) path
+    file = subst (IsFile (working_tree (machine_at a))) (sym opened.named) (m.machine.files descriptor opened.file opened.there)

@@ -1,17 +1,18 @@
 -- A fresh system: its one version is the empty root.
-use Rattle.std.proofs.Common.{◌≡◌, ℕ, zero, suc, ◌+◌, ◌-◌, ◌<◌, ◌≤◌, ◌≢◌, ◌⊎◌, inl, inr, Bool, true, false, cond, List, Some, [], Result, Ok, Err, refl, sym, ap, subst, ◌∙◌, arith}
+use Rattle.std.proofs.Common.{◌≡◌, ℕ, zero, suc, ◌+◌, ◌-◌, ◌<◌, ◌≤◌, ◌≢◌, ◌⊎◌, inl, inr, Bool, true, false, cond, List, Option, Some, None, [], Result, Ok, Err, refl, sym, ap, subst, ◌∙◌, arith}
 use Rattle.std.proofs.lemmas.Bool.{true≢false, cases_Bool}
 use Rattle.std.proofs.lemmas.List.Elements.{All-push}
 use Rattle.std.proofs.lemmas.List.Sums.{sum_by-cons}
-use Rattle.std.specs.Prelude.{not, ◌||◌, count_by, IfOk, IfErr}
+use Rattle.std.specs.Prelude.{not, ◌||◌, count_by, IfOk, IfErr, IfSome}
 use Rattle.std.specs.FinSet as set
 use Rattle.std.specs.List.{range_with_len}
 use Rattle.std.specs.Ordering.{nat_cmp}
-use Rattle.history_machine.specs.History.{Past, fresh, map_roots}
+use Rattle.history_machine.specs.History.{Past, fresh, map_roots, map_group}
 use Rattle.history_machine.specs.Descriptors.{Descriptors, none_open}
 use Rattle.history_machine.specs.Machine.{IsMachine, mounted, machine_with}
 use Rattle.plain_trees.specs.Trees.{Tree, bare}
 use Rattle.fs_types.specs.declared.calls.Version.{Version}
+use Rattle.fs_types.specs.declared.calls.Group.{Group}
 use Rattle.fs_types.specs.declared.faults.Fault.{Fault}
 use Rattle.fs_types.specs.declared.faults.Fault.TheVariants.{FlashFull, ReadOnly, PowerCut, NoMemory, Invalid}
 use Rattle.history_machine.proofs.Kept.{machine_law}
@@ -46,30 +47,31 @@ empty_stands a root empty kept = record {
   rooted = (empty_root (capacity_at a) (nodes_at a) root empty).0;
 }
 
-fresh_stand : (a : Moment) (limit root : ℕ) → IsStanding a.device a.state.storage.ring root → AllStand (at_history a (fresh limit root))
-fresh_stand a limit root stands =
+fresh_stand : (a : Moment) (limit root : ℕ) → a.state.group ≡ None → IsStanding a.device a.state.storage.ring root → AllStand (at_history a (fresh limit root))
+fresh_stand a limit root none stands =
     all_roots (IsStanding a.device a.state.storage.ring) (with_history a.state (fresh limit root))
     (All-push (λ (v : Version ℕ). IsStanding a.device a.state.storage.ring v.root) [] (record { serial = 1; root = root }) (λ k v below. absurd (omega arith)) stands)
     (λ k e below. absurd (omega arith))
+    (subst (λ (g : Option (Group ℕ)). IfSome g (λ g. IsStanding a.device a.state.storage.ring g.root)) (sym none) tt)
 
-pub fresh_machine : (d : Device) (h : Past ℕ) (files : Descriptors) (limit root : ℕ) → h ≡ fresh limit root → files ≡ none_open → entries_in (node_of d) root ≡ Some []
-    → machine_with (map_roots (tree_on d) h) files ≡ mounted (fresh limit bare)
-fresh_machine d h files limit root is none empty =
+pub fresh_machine : (d : Device) (h : Past ℕ) (group : Option (Group ℕ)) (files : Descriptors) (limit root : ℕ) → h ≡ fresh limit root → group ≡ None → files ≡ none_open → entries_in (node_of d) root ≡ Some []
+    → machine_with (map_roots (tree_on d) h) (map_group (tree_on d) group) files ≡ mounted (fresh limit bare)
+fresh_machine d h group files limit root is outside none empty =
     let history =
     ap (λ (p : Past ℕ). map_roots (tree_on d) p) is
     ∙ ap (λ (t : Tree). fresh limit t) (empty_root (capacity_of d) (node_of d) root empty).1 in
-    (λ i. machine_with (history i) (none i))
+    (λ i. machine_with (history i) (map_group (tree_on d) (outside i)) (none i))
 
 pub fresh_mounted : (a : Moment) (limit root : ℕ) → a.state.is_off ≡ false → IsGeometry a.device.geometry → a.state.storage.ring.blocks ≡ a.device.geometry.blocks → Fits a.device a.state.storage
-    → 2 ≤ limit → a.state.history ≡ fresh limit root → a.state.files ≡ none_open → entries_in (nodes_at a) root ≡ Some [] → set.contains a.state.storage.ring.used root ≡ true → IsMountedAt a
-fresh_mounted a limit root on lawful blocks fits some is none empty kept =
-    let all = subst (λ h. AllStand (at_history a h)) (sym is) (fresh_stand a limit root (empty_stands a root empty kept)) in
+    → 2 ≤ limit → a.state.history ≡ fresh limit root → a.state.group ≡ None → a.state.files ≡ none_open → entries_in (nodes_at a) root ≡ Some [] → set.contains a.state.storage.ring.used root ≡ true → IsMountedAt a
+fresh_mounted a limit root on lawful blocks fits some is outside none empty kept =
+    let all = subst (λ h. AllStand (at_history a h)) (sym is) (fresh_stand a limit root outside (empty_stands a root empty kept)) in
     record {
       lawful = lawful;
       ring_blocks = blocks;
       fits = fits;
       roots = all;
-      machine = subst IsMachine (sym (fresh_machine a.device a.state.history a.state.files limit root is none empty)) (machine_law.first limit some);
+      machine = subst IsMachine (sym (fresh_machine a.device a.state.history a.state.group a.state.files limit root is outside none empty)) (machine_law.first limit some);
       off = λ off. absurd (true≢false (sym off ∙ on));
     }
 
@@ -184,18 +186,18 @@ first_root d s e t root ring next =
 pub written_begun : (d : Device) (was : set.FinSet nat_cmp) (limit : ℕ) (s : Storage) (e : Device) (t : Storage) (h : Past ℕ) (files : Descriptors) (root : ℕ) → IsGeometry d.geometry → s.bad ≡ was
     → s.ring ≡ unused_ring d.geometry.blocks → Fits d s → HasWritten d s 1 e t → set.contains t.ring.used root ≡ true
     → entries_in (node_of e) root ≡ Some [] → parts.IsNextBlock (parts.storage d s.bad s.ring) (parts.storage e t.bad t.ring) root → 2 ≤ limit → h ≡ fresh limit root → files ≡ none_open
-    → IsBegun d was limit (moment e (record { history = h; storage = t; files = files; is_off = false }))
+    → IsBegun d was limit (moment e (record { history = h; group = None; storage = t; files = files; is_off = false }))
 written_begun d was limit s e t h files root lawful bad ring fits written kept empty next some is none =
-    let state : State = record { history = h; storage = t; files = files; is_off = false } in
+    let state : State = record { history = h; group = None; storage = t; files = files; is_off = false } in
     let same = sym written.evolved.geometry in
-    let stands = fresh_mounted (moment e state) limit root refl (subst IsGeometry same lawful) (written.evolved.blocks ∙ ap (λ (r : Ring). r.blocks) ring ∙ ap (λ (g : Geometry). g.blocks) same) (written.fits.fits fits) some is none empty kept in
+    let stands = fresh_mounted (moment e state) limit root refl (subst IsGeometry same lawful) (written.evolved.blocks ∙ ap (λ (r : Ring). r.blocks) ring ∙ ap (λ (g : Geometry). g.blocks) same) (written.fits.fits fits) some is refl none empty kept in
     let before : set.len s.bad ≡ set.len was = ap set.len bad in
     let no_takes : s.ring.takes ≡ 0 = ap (λ (r : Ring). r.takes) ring in
     let paid = written.paid in
     record {
       root = root;
       history = is;
-      machine = fresh_machine e h files limit root is none empty;
+      machine = fresh_machine e h None files limit root is refl none empty;
       mounted = stands;
       is_on = refl;
       evolved = begins d was s (parts.storage e t.bad t.ring) bad ring written.evolved;

@@ -1,9 +1,9 @@
 -- How often look-ups ask the device.
-use Rattle.std.proofs.Common.{◌≡◌, ℕ, ◌+◌, ◌*◌, ◌≤◌, Bool, true, false, ◌||◌, Option, Some, None, List, length, refl, sym, ap, subst, ◌∙◌, arith}
+use Rattle.std.proofs.Common.{◌≡◌, ℕ, ◌+◌, ◌*◌, ◌≤◌, Bool, true, false, ◌||◌, Option, Some, None, List, length, refl, sym, subst, arith}
 use Rattle.std.proofs.lemmas.Bool.{true≢false}
 use Rattle.std.proofs.lemmas.Nat.{mul-le}
 use Rattle.history_machine.specs.Descriptors.{Descriptor, descriptor_at}
-use Rattle.history_machine.specs.Machine.{Machine, present_tree}
+use Rattle.history_machine.specs.Machine.{Machine, working_tree}
 use Rattle.plain_trees.specs.Trees.{Tree, bytes_at}
 use Rattle.fs_types.specs.Names.{Path}
 use Rattle.fs_types.specs.declared.calls.Call.{Call}
@@ -72,7 +72,7 @@ pub looks_still : (m : Machine) (call : Call) (d : Device) → LooksOnce m call 
 looks_still m (Call.Stat view path) d = asks_none d (length path + 1)
 looks_still m (Call.List view path) d = asks_none d (length path + 1)
 looks_still m (Call.ReadAt view path offset count) d = λ nodes is. asks_none d nodes
-looks_still m (Call.Pread descriptor offset count) d = still_open d (descriptor_at m.descriptors descriptor) (present_tree m) offset count
+looks_still m (Call.Pread descriptor offset count) d = still_open d (descriptor_at m.descriptors descriptor) (working_tree m) offset count
 looks_still m _ d = tt
 
 -- a call that does more, of which nothing is said here

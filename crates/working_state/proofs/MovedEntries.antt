@@ -7,14 +7,14 @@ use Rattle.std.specs.FinMap.{get}
 use Rattle.fs_types.specs.Names.{Path, same_path}
 use Rattle.plain_trees.specs.Contents.{Contents, Entry, is_dir, begins, parent_of, lookup_refusal}
 use Rattle.plain_trees.specs.Trees.{Tree, entry_count, is_full, is_too_deep}
-use Rattle.history_machine.specs.History.{present_root}
+use Rattle.history_machine.specs.History.{working_root}
 use Rattle.history_machine.specs.Descriptors.{is_open, is_open_within}
-use Rattle.history_machine.specs.Machine.{Machine, present_tree, found_refusal, replace_refusal, rename_refusal, move_refusal}
+use Rattle.history_machine.specs.Machine.{Machine, working_tree, found_refusal, replace_refusal, rename_refusal, move_refusal}
 use Rattle.fs_types.specs.declared.calls.Call.{Call}
 use Rattle.fs_types.specs.declared.faults.Fault.{Fault}
 use Rattle.fs_types.specs.declared.faults.Fault.TheVariants.{NoEntry, NotDirectory, IsDirectory, NotEmpty, Invalid, NameTooLong, Busy, DirectoryFull, ReadFailed, PowerCut, NoMemory, Damaged}
 use Rattle.plain_trees.proofs.Beneath.{None≢Some}
-use Rattle.history_machine.proofs.Kept.{present-file_tree}
+use Rattle.history_machine.proofs.Kept.{working-file_tree}
 use Rattle.flash_model.specs.Device.{Device}
 use Rattle.node_format.specs.Items.{Item}
 use Rattle.node_format.specs.declared.places.Place.{Place}
@@ -38,7 +38,7 @@ use Rattle.directory.specs.Depths.{IsDeeper, IsDepthFault}
 use Rattle.working_state.specs.Renames.{target_refusal, lacks_room}
 use Rattle.working_state.specs.Worked.{IsLooked, WorkCause, ReadCause}
 use Rattle.working_state.specs.declared.state.State.{State}
-use Rattle.working_state.proofs.PathCalls.{present_tree_is, present_stands}
+use Rattle.working_state.proofs.PathCalls.{working_tree_is, working_stands}
 use Rattle.working_state.proofs.Standing.{looked_worked, worked_later}
 use Rattle.working_state.proofs.Stats.{body_length}
 use Rattle.working_state.proofs.TakenOut.{rmdir_count}
@@ -94,15 +94,15 @@ of_fault P fault result is holds = subst (λ r. IfErr r P) (sym is) holds
 -- What stands at the old path.
 
 abbrev pub PlaceRefused : Moment → Moment → Path → Fault → Type 0
-PlaceRefused a b path fault = ((refuse : Entry → Option Fault) → found_refusal (present_tree (machine_at a)) path refuse ≡ Some fault) ⊎ ReadCause (seen_at a) fault (seen_at b)
+PlaceRefused a b path fault = ((refuse : Entry → Option Fault) → found_refusal (working_tree (machine_at a)) path refuse ≡ Some fault) ⊎ ReadCause (seen_at a) fault (seen_at b)
 
 abbrev pub PlaceFound : Moment → Path → Place → Type 0
-PlaceFound a path place = (entry : Entry) × (is_dir entry ≡ is_dir_place place) × ((refuse : Entry → Option Fault) → found_refusal (present_tree (machine_at a)) path refuse ≡ refuse entry)
+PlaceFound a path place = (entry : Entry) × (is_dir entry ≡ is_dir_place place) × ((refuse : Entry → Option Fault) → found_refusal (working_tree (machine_at a)) path refuse ≡ refuse entry)
 
 -- What stands at the new path.
 
 abbrev pub TargetRefused : Moment → Moment → Path → Bool → Fault → Type 0
-TargetRefused a b path moves fault = ((entry : Entry) → is_dir entry ≡ moves → target_refusal (present_tree (machine_at a)) path entry ≡ Some fault) ⊎ ReadCause (seen_at a) fault (seen_at b)
+TargetRefused a b path moves fault = ((entry : Entry) → is_dir entry ≡ moves → target_refusal (working_tree (machine_at a)) path entry ≡ Some fault) ⊎ ReadCause (seen_at a) fault (seen_at b)
 
 missing_fits : (t : Tree) (path : Path) (entry : Entry) → replace_refusal t path entry None ≡ None
 missing_fits t path Entry.Dir = refl
@@ -128,23 +128,23 @@ dir_counted t path (Entry.File own) dir = absurd (true≢false (sym dir))
 pub room_by : (f : Blocks) (root : ℕ) (path : Path) (x y : Found) → look_up f root path ≡ Ok x → x ≡ y → has_room (Ok y) ≡ true → has_room (look_up f root path) ≡ true
 room_by f root path x y led called capacity = ap has_room (led ∙ ap (λ (z : Found). let r : Result Found Fault = Ok z in r) called) ∙ capacity
 
--- Look ups in the present tree.
+-- Look ups in the tree that calls work on.
 
-module _ (a : Moment) (root : ℕ) (path : Path) (m : IsMountedAt a) (is : present_root a.state.history ≡ Some root) where
+module _ (a : Moment) (root : ℕ) (path : Path) (m : IsMountedAt a) (is : working_root a.state.history a.state.group ≡ Some root) where
   rooted : IsRoot (capacity_at a) (nodes_at a) root
-  rooted = (present_stands a root m is).rooted
+  rooted = (working_stands a root m is).rooted
 
   same : get (tree_at a root) ≡ tree (capacity_at a) (nodes_at a) root
   same = (map_law (capacity_at a) (nodes_at a) root rooted).same
 
   place_at : (refuse : Entry → Option Fault)
-      → found_refusal (present_tree (machine_at a)) path refuse ≡ option_or (lookup_refusal (tree (capacity_at a) (nodes_at a) root) path) (option_map_or refuse (tree (capacity_at a) (nodes_at a) root path) (Some NoEntry))
+      → found_refusal (working_tree (machine_at a)) path refuse ≡ option_or (lookup_refusal (tree (capacity_at a) (nodes_at a) root) path) (option_map_or refuse (tree (capacity_at a) (nodes_at a) root path) (Some NoEntry))
   place_at refuse =
-      ap (λ t. found_refusal t path refuse) (present_tree_is a root is)
+      ap (λ t. found_refusal t path refuse) (working_tree_is a root is)
       ∙ ap (λ (t : Contents). option_or (lookup_refusal t path) (option_map_or refuse (t path) (Some NoEntry))) same
 
   pub place_by : (x y : Found) → look_up (nodes_at a) root path ≡ Ok x → x ≡ y → (refuse : Entry → Option Fault)
-      → found_refusal (present_tree (machine_at a)) path refuse ≡ option_map_or refuse (entry_of (capacity_at a) (nodes_at a) y) (Some NoEntry)
+      → found_refusal (working_tree (machine_at a)) path refuse ≡ option_map_or refuse (entry_of (capacity_at a) (nodes_at a) y) (Some NoEntry)
   place_by x y led called refuse =
       let there = found_is (capacity_at a) (nodes_at a) root path x led in
       place_at refuse
@@ -169,19 +169,19 @@ module _ (a : Moment) (root : ℕ) (path : Path) (m : IsMountedAt a) (is : prese
   pub file_short : (x : Found) (head size : ℕ) → look_up (nodes_at a) root path ≡ Ok x → x ≡ found.File head size → size ≤ 16777216
   file_short x head size led called =
       let file : look_up (nodes_at a) root path ≡ Ok (found.File head size) = subst (λ z. look_up (nodes_at a) root path ≡ Ok z) called led in
-      let there : get (present_tree (machine_at a)) path ≡ Some (Entry.File (body (capacity_at a) (nodes_at a) head size)) =
-      ap (λ t. get t path) (present_tree_is a root is) ∙ ap (λ (t : Contents). t path) same ∙ (found_is (capacity_at a) (nodes_at a) root path (found.File head size) file).1 in
+      let there : get (working_tree (machine_at a)) path ≡ Some (Entry.File (body (capacity_at a) (nodes_at a) head size)) =
+      ap (λ t. get t path) (working_tree_is a root is) ∙ ap (λ (t : Contents). t path) same ∙ (found_is (capacity_at a) (nodes_at a) root path (found.File head size) file).1 in
       subst (λ n. n ≤ 16777216) (body_length (capacity_at a) (nodes_at a) head size (rooted path (File head size) (found_leads_file (nodes_at a) root path head size file)).0)
-      ((present-file_tree (machine_at a) m.machine).lengths path (body (capacity_at a) (nodes_at a) head size) there)
+      ((working-file_tree (machine_at a) m.machine).lengths path (body (capacity_at a) (nodes_at a) head size) there)
 
   target_at : (entry : Entry)
-      → target_refusal (present_tree (machine_at a)) path entry ≡ option_or (lookup_refusal (tree (capacity_at a) (nodes_at a) root) path) (replace_refusal (tree_at a root) path entry (tree (capacity_at a) (nodes_at a) root path))
+      → target_refusal (working_tree (machine_at a)) path entry ≡ option_or (lookup_refusal (tree (capacity_at a) (nodes_at a) root) path) (replace_refusal (tree_at a root) path entry (tree (capacity_at a) (nodes_at a) root path))
   target_at entry =
-      ap (λ t. target_refusal t path entry) (present_tree_is a root is)
+      ap (λ t. target_refusal t path entry) (working_tree_is a root is)
       ∙ ap (λ (t : Contents). option_or (lookup_refusal t path) (replace_refusal (tree_at a root) path entry (t path))) same
 
   target_by : (x y : Found) → look_up (nodes_at a) root path ≡ Ok x → x ≡ y → (entry : Entry)
-      → target_refusal (present_tree (machine_at a)) path entry ≡ replace_refusal (tree_at a root) path entry (entry_of (capacity_at a) (nodes_at a) y)
+      → target_refusal (working_tree (machine_at a)) path entry ≡ replace_refusal (tree_at a root) path entry (entry_of (capacity_at a) (nodes_at a) y)
   target_by x y led called entry =
       let there = found_is (capacity_at a) (nodes_at a) root path x led in
       target_at entry
@@ -204,20 +204,20 @@ module _ (a : Moment) (root : ℕ) (path : Path) (m : IsMountedAt a) (is : prese
       let other = not_path fault reads (λ is. None≢Some (sym (damaged is) ∙ ap (λ (g : Blocks). entries_in g block) nodes ∙ whole.1)) in
       inr (read_later (seen_at a) (seen_at b) (seen_at c) fault (worked_later a b (looked_worked a b l)) (read_cause (seen_at b) (seen_at c) fault other (read_lookup fault reads) (why other)))
 
-  pub target_missing : (x : Found) (full : Bool) → look_up (nodes_at a) root path ≡ Ok x → x ≡ found.Missing full → (entry : Entry) → target_refusal (present_tree (machine_at a)) path entry ≡ None
+  pub target_missing : (x : Found) (full : Bool) → look_up (nodes_at a) root path ≡ Ok x → x ≡ found.Missing full → (entry : Entry) → target_refusal (working_tree (machine_at a)) path entry ≡ None
   target_missing x full led called entry = target_by x (found.Missing full) led called entry ∙ missing_fits (tree_at a root) path entry
 
-  pub target_file : (x : Found) (head size : ℕ) → look_up (nodes_at a) root path ≡ Ok x → x ≡ found.File head size → (entry : Entry) → is_dir entry ≡ false → target_refusal (present_tree (machine_at a)) path entry ≡ None
+  pub target_file : (x : Found) (head size : ℕ) → look_up (nodes_at a) root path ≡ Ok x → x ≡ found.File head size → (entry : Entry) → is_dir entry ≡ false → target_refusal (working_tree (machine_at a)) path entry ≡ None
   target_file x head size led called entry kind = target_by x (found.File head size) led called entry ∙ file_fits (tree_at a root) path entry (body (capacity_at a) (nodes_at a) head size) kind
 
-  pub target_no_directory : (x : Found) (head size : ℕ) → look_up (nodes_at a) root path ≡ Ok x → x ≡ found.File head size → (entry : Entry) → is_dir entry ≡ true → target_refusal (present_tree (machine_at a)) path entry ≡ Some NotDirectory
+  pub target_no_directory : (x : Found) (head size : ℕ) → look_up (nodes_at a) root path ≡ Ok x → x ≡ found.File head size → (entry : Entry) → is_dir entry ≡ true → target_refusal (working_tree (machine_at a)) path entry ≡ Some NotDirectory
   target_no_directory x head size led called entry kind = target_by x (found.File head size) led called entry ∙ file_refuses (tree_at a root) path entry (body (capacity_at a) (nodes_at a) head size) kind
 
-  pub target_directory : (x : Found) (block : ℕ) → look_up (nodes_at a) root path ≡ Ok x → x ≡ found.Dir block → (entry : Entry) → is_dir entry ≡ false → target_refusal (present_tree (machine_at a)) path entry ≡ Some IsDirectory
+  pub target_directory : (x : Found) (block : ℕ) → look_up (nodes_at a) root path ≡ Ok x → x ≡ found.Dir block → (entry : Entry) → is_dir entry ≡ false → target_refusal (working_tree (machine_at a)) path entry ≡ Some IsDirectory
   target_directory x block led called entry kind = target_by x (found.Dir block) led called entry ∙ dir_refuses (tree_at a root) path entry kind
 
   pub target_counted : (e : Device) (x : Found) (block : ℕ) (items : List Item) → node_of e ≡ nodes_at a → look_up (nodes_at a) root path ≡ Ok x → x ≡ found.Dir block → entries_in (node_of e) block ≡ Some items → (entry : Entry) → is_dir entry ≡ true
-      → target_refusal (present_tree (machine_at a)) path entry ≡ (if nat_lt 0 (length items) then Some NotEmpty else None)
+      → target_refusal (working_tree (machine_at a)) path entry ≡ (if nat_lt 0 (length items) then Some NotEmpty else None)
   target_counted e x block items nodes led called spelled entry kind =
       let dir : look_up (nodes_at a) root path ≡ Ok (found.Dir block) = subst (λ z. look_up (nodes_at a) root path ≡ Ok z) called led in
       let here : entries_in (nodes_at a) block ≡ Some items = ap (λ (g : Blocks). entries_in g block) (sym nodes) ∙ spelled in
@@ -225,23 +225,23 @@ module _ (a : Moment) (root : ℕ) (path : Path) (m : IsMountedAt a) (is : prese
       ∙ dir_counted (tree_at a root) path entry kind
       ∙ ap (λ n. if nat_lt 0 n then Some NotEmpty else None) (rmdir_count a path root block items m is dir here)
 
-  lacks_by : (x y : Found) → look_up (nodes_at a) root path ≡ Ok x → x ≡ y → lacks_room (present_tree (machine_at a)) path ≡ (is_none (entry_of (capacity_at a) (nodes_at a) y) && is_full (tree_at a root) (parent_of path))
+  lacks_by : (x y : Found) → look_up (nodes_at a) root path ≡ Ok x → x ≡ y → lacks_room (working_tree (machine_at a)) path ≡ (is_none (entry_of (capacity_at a) (nodes_at a) y) && is_full (tree_at a root) (parent_of path))
   lacks_by x y led called =
-      ap (λ t. lacks_room t path) (present_tree_is a root is)
+      ap (λ t. lacks_room t path) (working_tree_is a root is)
       ∙ ap (λ (t : Contents). is_none (t path) && is_full (tree_at a root) (parent_of path)) same
       ∙ ap (λ o. is_none o && is_full (tree_at a root) (parent_of path)) (found_is (capacity_at a) (nodes_at a) root path x led).1
       ∙ ap (λ z. is_none (entry_of (capacity_at a) (nodes_at a) z) && is_full (tree_at a root) (parent_of path)) called
 
-  pub lacks_missing : (x : Found) (full : Bool) → look_up (nodes_at a) root path ≡ Ok x → x ≡ found.Missing full → full ≡ lacks_room (present_tree (machine_at a)) path
+  pub lacks_missing : (x : Found) (full : Bool) → look_up (nodes_at a) root path ≡ Ok x → x ≡ found.Missing full → full ≡ lacks_room (working_tree (machine_at a)) path
   lacks_missing x full led called =
       let missing : look_up (nodes_at a) root path ≡ Ok (found.Missing full) = subst (λ z. look_up (nodes_at a) root path ≡ Ok z) called led in
       let parent = missing_parent (nodes_at a) root path full missing in
       sym (lacks_by x (found.Missing full) led called ∙ full_directory (capacity_at a) (nodes_at a) root (parent_of path) parent.0 rooted parent.1 ∙ sym parent.2)
 
-  pub lacks_file : (x : Found) (head size : ℕ) → look_up (nodes_at a) root path ≡ Ok x → x ≡ found.File head size → false ≡ lacks_room (present_tree (machine_at a)) path
+  pub lacks_file : (x : Found) (head size : ℕ) → look_up (nodes_at a) root path ≡ Ok x → x ≡ found.File head size → false ≡ lacks_room (working_tree (machine_at a)) path
   lacks_file x head size led called = sym (lacks_by x (found.File head size) led called)
 
-  pub lacks_dir : (x : Found) (block : ℕ) → look_up (nodes_at a) root path ≡ Ok x → x ≡ found.Dir block → false ≡ lacks_room (present_tree (machine_at a)) path
+  pub lacks_dir : (x : Found) (block : ℕ) → look_up (nodes_at a) root path ≡ Ok x → x ≡ found.Dir block → false ≡ lacks_room (working_tree (machine_at a)) path
   lacks_dir x block led called = sym (lacks_by x (found.Dir block) led called)
 
 -- so many entries, and some or none
@@ -270,10 +270,10 @@ pub below_refuses : (m : Machine) (old new : Path) (entry : Entry) → same_path
 below_refuses m old new entry differ below = rw (differ, below) refl
 
 after_below : (m : Machine) (old new : Path) (entry : Entry) → same_path old new ≡ false → (is_dir entry && begins old new) ≡ false
-    → rename_refusal m old new entry ≡ option_or (lookup_refusal (get (present_tree m)) new) (option_or (replace_refusal (present_tree m) new entry (get (present_tree m) new)) (move_refusal m old new))
+    → rename_refusal m old new entry ≡ option_or (lookup_refusal (get (working_tree m)) new) (option_or (replace_refusal (working_tree m) new entry (get (working_tree m) new)) (move_refusal m old new))
 after_below m old new entry differ beyond =
-    ap (λ b. if b then None else if is_dir entry && begins old new then Some Invalid else option_or (lookup_refusal (get (present_tree m)) new) (option_or (replace_refusal (present_tree m) new entry (get (present_tree m) new)) (move_refusal m old new))) differ
-    ∙ ap (λ b. if b then Some Invalid else option_or (lookup_refusal (get (present_tree m)) new) (option_or (replace_refusal (present_tree m) new entry (get (present_tree m) new)) (move_refusal m old new))) beyond
+    ap (λ b. if b then None else if is_dir entry && begins old new then Some Invalid else option_or (lookup_refusal (get (working_tree m)) new) (option_or (replace_refusal (working_tree m) new entry (get (working_tree m) new)) (move_refusal m old new))) differ
+    ∙ ap (λ b. if b then Some Invalid else option_or (lookup_refusal (get (working_tree m)) new) (option_or (replace_refusal (working_tree m) new entry (get (working_tree m) new)) (move_refusal m old new))) beyond
 
 first_of : (a b c : Option Fault) (fault : Fault) → option_or a b ≡ Some fault → option_or a (option_or b c) ≡ Some fault
 first_of None None c fault is = absurd (None≢Some is)
@@ -285,15 +285,15 @@ last_of None None c none = refl
 last_of None (Some x) c none = absurd (None≢Some (sym none))
 last_of (Some x) b c none = absurd (None≢Some (sym none))
 
-pub target_refuses : (m : Machine) (old new : Path) (entry : Entry) (fault : Fault) → same_path old new ≡ false → (is_dir entry && begins old new) ≡ false → target_refusal (present_tree m) new entry ≡ Some fault → rename_refusal m old new entry ≡ Some fault
+pub target_refuses : (m : Machine) (old new : Path) (entry : Entry) (fault : Fault) → same_path old new ≡ false → (is_dir entry && begins old new) ≡ false → target_refusal (working_tree m) new entry ≡ Some fault → rename_refusal m old new entry ≡ Some fault
 target_refuses m old new entry fault differ beyond refused =
     after_below m old new entry differ beyond
-    ∙ first_of (lookup_refusal (get (present_tree m)) new) (replace_refusal (present_tree m) new entry (get (present_tree m) new)) (move_refusal m old new) fault refused
+    ∙ first_of (lookup_refusal (get (working_tree m)) new) (replace_refusal (working_tree m) new entry (get (working_tree m) new)) (move_refusal m old new) fault refused
 
-pub then_moves : (m : Machine) (old new : Path) (entry : Entry) → same_path old new ≡ false → (is_dir entry && begins old new) ≡ false → target_refusal (present_tree m) new entry ≡ None → rename_refusal m old new entry ≡ move_refusal m old new
+pub then_moves : (m : Machine) (old new : Path) (entry : Entry) → same_path old new ≡ false → (is_dir entry && begins old new) ≡ false → target_refusal (working_tree m) new entry ≡ None → rename_refusal m old new entry ≡ move_refusal m old new
 then_moves m old new entry differ beyond allowed =
     after_below m old new entry differ beyond
-    ∙ last_of (lookup_refusal (get (present_tree m)) new) (replace_refusal (present_tree m) new entry (get (present_tree m) new)) (move_refusal m old new) allowed
+    ∙ last_of (lookup_refusal (get (working_tree m)) new) (replace_refusal (working_tree m) new entry (get (working_tree m) new)) (move_refusal m old new) allowed
 
 -- the checks of a move, in order
 abbrev by_checks : Bool → Bool → Bool → Option Fault
@@ -306,17 +306,17 @@ last_and true false true = refl
 last_and true false false = refl
 last_and false b c = refl
 
-pub moves_by : (m : Machine) (old new : Path) (deep busy full : Bool) → is_too_deep (present_tree m) old new ≡ deep → (is_open_within m.descriptors old || is_open m.descriptors new) ≡ busy
-    → (lacks_room (present_tree m) new && not (same_path (parent_of old) (parent_of new))) ≡ full → move_refusal m old new ≡ by_checks deep busy full
+pub moves_by : (m : Machine) (old new : Path) (deep busy full : Bool) → is_too_deep (working_tree m) old new ≡ deep → (is_open_within m.descriptors old || is_open m.descriptors new) ≡ busy
+    → (lacks_room (working_tree m) new && not (same_path (parent_of old) (parent_of new))) ≡ full → move_refusal m old new ≡ by_checks deep busy full
 moves_by m old new deep busy full is_deep is_busy is_full_now =
-    ap (λ b. by_checks b (is_open_within m.descriptors old || is_open m.descriptors new) (is_none (get (present_tree m) new) && not (same_path (parent_of old) (parent_of new)) && is_full (present_tree m) (parent_of new))) is_deep
-    ∙ ap (λ b. by_checks deep b (is_none (get (present_tree m) new) && not (same_path (parent_of old) (parent_of new)) && is_full (present_tree m) (parent_of new))) is_busy
-    ∙ ap (λ b. by_checks deep busy b) (last_and (is_none (get (present_tree m) new)) (not (same_path (parent_of old) (parent_of new))) (is_full (present_tree m) (parent_of new)) ∙ is_full_now)
+    ap (λ b. by_checks b (is_open_within m.descriptors old || is_open m.descriptors new) (is_none (get (working_tree m) new) && not (same_path (parent_of old) (parent_of new)) && is_full (working_tree m) (parent_of new))) is_deep
+    ∙ ap (λ b. by_checks deep b (is_none (get (working_tree m) new) && not (same_path (parent_of old) (parent_of new)) && is_full (working_tree m) (parent_of new))) is_busy
+    ∙ ap (λ b. by_checks deep busy b) (last_and (is_none (get (working_tree m) new)) (not (same_path (parent_of old) (parent_of new))) (is_full (working_tree m) (parent_of new)) ∙ is_full_now)
 
-pub deep_refuses : (m : Machine) (old new : Path) → is_too_deep (present_tree m) old new ≡ true → move_refusal m old new ≡ Some NameTooLong
+pub deep_refuses : (m : Machine) (old new : Path) → is_too_deep (working_tree m) old new ≡ true → move_refusal m old new ≡ Some NameTooLong
 deep_refuses m old new deep = moves_by m old new true _ _ deep refl refl
 
-pub busy_refuses : (m : Machine) (old new : Path) → is_too_deep (present_tree m) old new ≡ false → (is_open_within m.descriptors old || is_open m.descriptors new) ≡ true → move_refusal m old new ≡ Some Busy
+pub busy_refuses : (m : Machine) (old new : Path) → is_too_deep (working_tree m) old new ≡ false → (is_open_within m.descriptors old || is_open m.descriptors new) ≡ true → move_refusal m old new ≡ Some Busy
 busy_refuses m old new shallow busy = moves_by m old new false true _ shallow busy refl
 
 -- the moved place's kind is the entry's
@@ -343,21 +343,21 @@ module _ (a : Moment) (old new : Path) (place : Place) (dir : Bool) (differ : sa
   move_target b fault beyond (inr why) = inr why
 
   -- what is refused or not after what stands at the new path
-  pub move_then : (o : Option Fault) → (dir && begins old new) ≡ false → ((entry : Entry) → is_dir entry ≡ dir → target_refusal (present_tree (machine_at a)) new entry ≡ None) → move_refusal (machine_at a) old new ≡ o
+  pub move_then : (o : Option Fault) → (dir && begins old new) ≡ false → ((entry : Entry) → is_dir entry ≡ dir → target_refusal (working_tree (machine_at a)) new entry ≡ None) → move_refusal (machine_at a) old new ≡ o
       → (entry : Entry) → is_dir entry ≡ is_dir_place place → rename_refusal (machine_at a) old new entry ≡ o
   move_then o beyond allowed is entry kind =
       then_moves (machine_at a) old new entry differ (kind_below entry dir old new false (kind ∙ sym dirs) beyond) (allowed entry (kind ∙ sym dirs)) ∙ is
 
--- the depth of what a path leads to, in the present tree
-module _ (a : Moment) (root : ℕ) (old new : Path) (place : Place) (m : IsMountedAt a) (is : present_root a.state.history ≡ Some root) (led : leads (nodes_at a) (Dir root) old ≡ Some place) (short : length new ≤ 16) where
-  depth_is : (deep : Bool) → is_too_deep (tree_at a root) old new ≡ deep → is_too_deep (present_tree (machine_at a)) old new ≡ deep
-  depth_is deep told = ap (λ t. is_too_deep t old new) (present_tree_is a root is) ∙ told
+-- the depth of what a path leads to, in the tree that calls work on
+module _ (a : Moment) (root : ℕ) (old new : Path) (place : Place) (m : IsMountedAt a) (is : working_root a.state.history a.state.group ≡ Some root) (led : leads (nodes_at a) (Dir root) old ≡ Some place) (short : length new ≤ 16) where
+  depth_is : (deep : Bool) → is_too_deep (tree_at a root) old new ≡ deep → is_too_deep (working_tree (machine_at a)) old new ≡ deep
+  depth_is deep told = ap (λ t. is_too_deep t old new) (working_tree_is a root is) ∙ told
 
-  pub is_deep : IsDeeper (nodes_at a) place (16 - length new) → is_too_deep (present_tree (machine_at a)) old new ≡ true
-  is_deep deeper = depth_is true (too_deep (capacity_at a) (nodes_at a) root old new place (present_stands a root m is).rooted led short deeper)
+  pub is_deep : IsDeeper (nodes_at a) place (16 - length new) → is_too_deep (working_tree (machine_at a)) old new ≡ true
+  is_deep deeper = depth_is true (too_deep (capacity_at a) (nodes_at a) root old new place (working_stands a root m is).rooted led short deeper)
 
-  pub is_shallow : IsShallow (nodes_at a) place (16 - length new) → is_too_deep (present_tree (machine_at a)) old new ≡ false
-  is_shallow shallow = depth_is false ((depth_law (capacity_at a) (nodes_at a) root old new place (present_stands a root m is).rooted led short).1 shallow)
+  pub is_shallow : IsShallow (nodes_at a) place (16 - length new) → is_too_deep (working_tree (machine_at a)) old new ≡ false
+  is_shallow shallow = depth_is false ((depth_law (capacity_at a) (nodes_at a) root old new place (working_stands a root m is).rooted led short).1 shallow)
 
 -- a depth of the nodes before
 pub deeper_before : (f g : Blocks) (place : Place) (most : ℕ) → g ≡ f → IsDeeper g place most → IsDeeper f place most

@@ -7,7 +7,7 @@ use Rattle.std.specs.FinMap.{get}
 use Rattle.fs_types.specs.Names.{Name, Path, is_path}
 use Rattle.plain_trees.specs.Contents.{Contents, Entry, parent_of, lookup_refusal}
 use Rattle.plain_trees.specs.Trees.{Tree, put, is_full}
-use Rattle.history_machine.specs.History.{present_root}
+use Rattle.history_machine.specs.History.{working_root}
 use Rattle.history_machine.specs.Machine.{refusal}
 use Rattle.fs_types.specs.declared.calls.Call.{Call}
 use Rattle.fs_types.specs.declared.calls.Reply.{Reply}
@@ -24,7 +24,7 @@ use Rattle.working_state.specs.Moments.{Moment, machine_at, seen_at, IsMountedAt
 use Rattle.working_state.specs.Worked.{IsLooked, WorkCause}
 use Rattle.working_state.proofs.ChangeSteps.{later_tree}
 use Rattle.working_state.proofs.ChangedCalls.{IsChangeBy}
-use Rattle.working_state.proofs.PathCalls.{present_tree_is, present_stands}
+use Rattle.working_state.proofs.PathCalls.{working_tree_is, working_stands}
 use Rattle.working_state.proofs.Refusals.{read_refuses}
 
 -- Refusals.
@@ -36,13 +36,13 @@ below_refusal refused there full = option_or refused (if is_some there then Some
 abbrev path_refusal : Path → Option Fault → Option Entry → Bool → Option Fault
 path_refusal path refused there full = if length path == 0 then Some Exists else below_refusal refused there full
 
-mkdir_at : (a : Moment) (path : Path) (root : ℕ) → IsMountedAt a → present_root a.state.history ≡ Some root
+mkdir_at : (a : Moment) (path : Path) (root : ℕ) → IsMountedAt a → working_root a.state.history a.state.group ≡ Some root
     → refusal (machine_at a) (Call.Mkdir path)
     ≡ path_refusal path (lookup_refusal (tree (capacity_at a) (nodes_at a) root) path) (tree (capacity_at a) (nodes_at a) root path) (is_full (tree_at a root) (parent_of path))
 mkdir_at a path root m is =
-    ap (λ t. path_refusal path (lookup_refusal (get t) path) (get t path) (is_full t (parent_of path))) (present_tree_is a root is)
+    ap (λ t. path_refusal path (lookup_refusal (get t) path) (get t path) (is_full t (parent_of path))) (working_tree_is a root is)
     ∙ ap (λ (t : Contents). path_refusal path (lookup_refusal t path) (t path) (is_full (tree_at a root) (parent_of path)))
-    (map_law (capacity_at a) (nodes_at a) root (present_stands a root m is).rooted).same
+    (map_law (capacity_at a) (nodes_at a) root (working_stands a root m is).rooted).same
 
 -- why no directory is made where a look up found this
 abbrev pub found_refuses : Found → Option Fault
@@ -68,7 +68,7 @@ missing_refuses capacity f root (n ∷ path) full is e =
     ap (λ b. if b then Some Exists else below_refusal None None (is_full (root_tree capacity f root) (parent_of (n ∷ path)))) (some_names n path)
     ∙ ap (λ b. if b then Some DirectoryFull else None) (full_directory capacity f root (parent_of (n ∷ path)) parent.0 is parent.1 ∙ sym parent.2)
 
-mkdir_found : (a : Moment) (path : Path) (root : ℕ) (x : Found) → IsMountedAt a → present_root a.state.history ≡ Some root → look_up (nodes_at a) root path ≡ Ok x
+mkdir_found : (a : Moment) (path : Path) (root : ℕ) (x : Found) → IsMountedAt a → working_root a.state.history a.state.group ≡ Some root → look_up (nodes_at a) root path ≡ Ok x
     → refusal (machine_at a) (Call.Mkdir path) ≡ found_refuses x
 mkdir_found a path root x m is e =
     let law = found_is (capacity_at a) (nodes_at a) root path x e in
@@ -78,7 +78,7 @@ mkdir_found a path root x m is e =
     ∙ go x e
   where
     go : (x : Found) → look_up (nodes_at a) root path ≡ Ok x → path_refusal path None (entry_of (capacity_at a) (nodes_at a) x) (is_full (tree_at a root) (parent_of path)) ≡ found_refuses x
-    go (found.Missing full) e = missing_refuses (capacity_at a) (nodes_at a) root path full (present_stands a root m is).rooted e
+    go (found.Missing full) e = missing_refuses (capacity_at a) (nodes_at a) root path full (working_stands a root m is).rooted e
     go (found.File head size) e = same_when_there path (Entry.File (body (capacity_at a) (nodes_at a) head size)) (is_full (tree_at a root) (parent_of path))
     go (found.Dir block) e = same_when_there path Entry.Dir (is_full (tree_at a root) (parent_of path))
 
@@ -86,17 +86,17 @@ told_refuses : (f : Blocks) (root : ℕ) (path : Path) (fault : Fault) (there : 
 told_refuses f root [] fault there full e = absurd cc
 told_refuses f root (n ∷ path) fault there full e = ap (λ b. if b then Some Exists else Some fault) (some_names n path)
 
-mkdir_told : (a : Moment) (path : Path) (root : ℕ) (fault : Fault) → IsMountedAt a → present_root a.state.history ≡ Some root → look_up (nodes_at a) root path ≡ Err fault
+mkdir_told : (a : Moment) (path : Path) (root : ℕ) (fault : Fault) → IsMountedAt a → working_root a.state.history a.state.group ≡ Some root → look_up (nodes_at a) root path ≡ Err fault
     → refusal (machine_at a) (Call.Mkdir path) ≡ Some fault
 mkdir_told a path root fault m is e =
     let there = tree (capacity_at a) (nodes_at a) root path in
     let full = is_full (tree_at a root) (parent_of path) in
     mkdir_at a path root m is
-    ∙ ap (λ o. path_refusal path o there full) (refused_is (capacity_at a) (nodes_at a) root path fault (present_stands a root m is).rooted e)
+    ∙ ap (λ o. path_refusal path o there full) (refused_is (capacity_at a) (nodes_at a) root path fault (working_stands a root m is).rooted e)
     ∙ told_refuses (nodes_at a) root path fault there full e
 
 -- a look up that was refused, by whether the nodes tell of it
-pub mkdir_fault : (a b : Moment) (path : Path) (root : ℕ) (fault : Fault) → IsMountedAt a → present_root a.state.history ≡ Some root → (length path == 0) ≡ false
+pub mkdir_fault : (a b : Moment) (path : Path) (root : ℕ) (fault : Fault) → IsMountedAt a → working_root a.state.history a.state.group ≡ Some root → (length path == 0) ≡ false
     → (is_path_fault fault ≡ true → look_up (nodes_at a) root path ≡ Err fault)
     → (is_path_fault fault ≡ false → WorkCause (seen_at a) fault (seen_at b)) → IsLookupFault fault
     → IsRefused a (Call.Mkdir path) fault b
@@ -106,11 +106,11 @@ mkdir_fault a b path root fault m is below refused why lookup = elim (cases_Bool
 ]
 
 -- what is refused or not for what was found, which is also called `y`
-pub mkdir_by : (a : Moment) (path : Path) (root : ℕ) (x y : Found) → IsMountedAt a → present_root a.state.history ≡ Some root → look_up (nodes_at a) root path ≡ Ok x → x ≡ y
+pub mkdir_by : (a : Moment) (path : Path) (root : ℕ) (x y : Found) → IsMountedAt a → working_root a.state.history a.state.group ≡ Some root → look_up (nodes_at a) root path ≡ Ok x → x ≡ y
     → refusal (machine_at a) (Call.Mkdir path) ≡ found_refuses y
 mkdir_by a path root x y m is e same = mkdir_found a path root x m is e ∙ ap found_refuses same
 
-pub mkdir_refuses : (a b : Moment) (path : Path) (root : ℕ) (x y : Found) (fault : Fault) → IsMountedAt a → present_root a.state.history ≡ Some root
+pub mkdir_refuses : (a b : Moment) (path : Path) (root : ℕ) (x y : Found) (fault : Fault) → IsMountedAt a → working_root a.state.history a.state.group ≡ Some root
     → look_up (nodes_at a) root path ≡ Ok x → x ≡ y → found_refuses y ≡ Some fault
     → IsRefused a (Call.Mkdir path) fault b
 mkdir_refuses a b path root x y fault m is led same refused = inl (mkdir_by a path root x y m is led same ∙ refused)

@@ -2,15 +2,15 @@
 use Rattle.std.proofs.Common.{◌≡◌, ℕ, zero, suc, ◌<◌, ◌≤◌, Bool, true, false, cond, not, ◌&&◌, ◌||◌, Option, Some, None, Result, Ok, Err, [], ◌∷◌, length, take, refl, sym, ap, subst, ◌∙◌, inl, inr, arith}
 use Rattle.std.proofs.lemmas.Bool.{cases_Bool}
 use Rattle.std.proofs.lemmas.List.{length-take}
-use Rattle.std.specs.Prelude.{nat_lt, unwrap_or}
-use Rattle.std.specs.Option.{option_or, option_map_or, is_none, is_some}
+use Rattle.std.specs.Prelude.{nat_lt, unwrap_or, if◌then◌else◌}
+use Rattle.std.specs.Option.{option_or, option_map_or, option_and_then, is_none, is_some}
 use Rattle.std.specs.FinMap.{get}
 use Rattle.fs_types.specs.Names.{Path, is_path}
 use Rattle.plain_trees.specs.Contents.{Contents, Entry, parent_of, lookup_refusal}
 use Rattle.plain_trees.specs.Trees.{Tree, is_full, bytes_of}
 use Rattle.history_machine.specs.Descriptors.{Descriptors, least_free, opened, creates, is_exclusive, truncates, are_lawful}
-use Rattle.history_machine.specs.History.{Past, present_root, changed}
-use Rattle.history_machine.specs.Machine.{Machine, IsMachine, Space, present_tree, full_table_refusal, open_refusal, open_changes, file_put, refusal, tree_after, answer_of, machine_of, machine_with}
+use Rattle.history_machine.specs.History.{Past, working_root, changed, group_with}
+use Rattle.history_machine.specs.Machine.{Machine, IsMachine, Space, working_tree, full_table_refusal, open_refusal, open_changes, file_put, refusal, tree_after, answer_of, machine_of, machine_with}
 use Rattle.fs_types.specs.declared.calls.Call.{Call}
 use Rattle.fs_types.specs.declared.calls.Reply.{Reply}
 use Rattle.fs_types.specs.declared.faults.Fault.{Fault}
@@ -31,29 +31,29 @@ use Rattle.working_state.specs.Looking.{only_looks}
 use Rattle.working_state.specs.Steps.{replied, is_cut, is_cut_answer, CallStep}
 use Rattle.working_state.specs.Opening.{found_refusal, changes_found, IsAnswered}
 use Rattle.working_state.specs.Worked.{IsWorked, IsLooked, WorkCause}
-use Rattle.working_state.proofs.PathCalls.{present_tree_is, present_stands}
+use Rattle.working_state.proofs.PathCalls.{working_tree_is, working_stands}
 use Rattle.working_state.proofs.Refusals.{read_refuses, refused_step, never}
 use Rattle.working_state.proofs.Standing.{AllStand, worked_machine, worked_later, worked_mounted, worked_pages, worked_reaches, looked_worked, looked_leaves}
 use Rattle.working_state.proofs.Steps.{still_machine}
 
 -- ---- refusals
 
--- what stands at each path of the present tree
-pub present_is : (a : Moment) (root : ℕ) → IsMountedAt a → present_root a.state.history ≡ Some root → get (present_tree (machine_at a)) ≡ tree (capacity_at a) (nodes_at a) root
-present_is a root m is = ap (λ (t : Tree). get t) (present_tree_is a root is) ∙ (map_law (capacity_at a) (nodes_at a) root (present_stands a root m is).rooted).same
+-- what stands at each path of the tree that calls work on
+pub working_is : (a : Moment) (root : ℕ) → IsMountedAt a → working_root a.state.history a.state.group ≡ Some root → get (working_tree (machine_at a)) ≡ tree (capacity_at a) (nodes_at a) root
+working_is a root m is = ap (λ (t : Tree). get t) (working_tree_is a root is) ∙ (map_law (capacity_at a) (nodes_at a) root (working_stands a root m is).rooted).same
 
 -- the refusal of lawful flags, by what stands at each path
 abbrev refusal_by : Machine → Path → OpenFlags → Contents → Option Fault
 refusal_by m path flags t = option_or (lookup_refusal t path) (open_refusal m path flags (t path))
 
-open_at : (a : Moment) (path : Path) (flags : OpenFlags) (root : ℕ) → IsMountedAt a → present_root a.state.history ≡ Some root → are_lawful flags ≡ true
+open_at : (a : Moment) (path : Path) (flags : OpenFlags) (root : ℕ) → IsMountedAt a → working_root a.state.history a.state.group ≡ Some root → are_lawful flags ≡ true
     → refusal (machine_at a) (Call.Open path flags) ≡ refusal_by (machine_at a) path flags (tree (capacity_at a) (nodes_at a) root)
 open_at a path flags root m is lawful =
-    ap (λ b. cond (not b) (Some Invalid) (refusal_by (machine_at a) path flags (get (present_tree (machine_at a))))) lawful
-    ∙ ap (refusal_by (machine_at a) path flags) (present_is a root m is)
+    ap (λ b. cond (not b) (Some Invalid) (refusal_by (machine_at a) path flags (get (working_tree (machine_at a))))) lawful
+    ∙ ap (refusal_by (machine_at a) path flags) (working_is a root m is)
 
 pub open_unlawful : (m : Machine) (path : Path) (flags : OpenFlags) → are_lawful flags ≡ false → refusal m (Call.Open path flags) ≡ Some Invalid
-open_unlawful m path flags wrong = ap (λ b. cond (not b) (Some Invalid) (refusal_by m path flags (get (present_tree m)))) wrong
+open_unlawful m path flags wrong = ap (λ b. cond (not b) (Some Invalid) (refusal_by m path flags (get (working_tree m)))) wrong
 
 creation : (b full : Bool) (table : Option Fault) → cond (not b) (Some NoEntry) (cond full (Some DirectoryFull) table) ≡ option_or (cond (not b) (Some NoEntry) (cond full (Some DirectoryFull) None)) table
 creation false full table = refl
@@ -69,7 +69,7 @@ directory true table = refl
 directory false table = refl
 
 -- the refusal of what was found, and then that of the table
-open_found : (a : Moment) (path : Path) (flags : OpenFlags) (root : ℕ) (x : Found) → IsMountedAt a → present_root a.state.history ≡ Some root → are_lawful flags ≡ true → look_up (nodes_at a) root path ≡ Ok x
+open_found : (a : Moment) (path : Path) (flags : OpenFlags) (root : ℕ) (x : Found) → IsMountedAt a → working_root a.state.history a.state.group ≡ Some root → are_lawful flags ≡ true → look_up (nodes_at a) root path ≡ Ok x
     → refusal (machine_at a) (Call.Open path flags) ≡ option_or (found_refusal flags x) (full_table_refusal (machine_at a))
 open_found a path flags root x m is lawful e =
     let n = machine_at a in
@@ -85,21 +85,21 @@ open_found a path flags root x m is lawful e =
     go : (x : Found) → look_up (nodes_at a) root path ≡ Ok x → open_refusal (machine_at a) path flags (entry_of (capacity_at a) (nodes_at a) x) ≡ option_or (found_refusal flags x) table
     go (found.Missing full) e =
         let parent = missing_parent (nodes_at a) root path full e in
-        let same : is_full (present_tree (machine_at a)) (parent_of path) ≡ full =
-        ap (λ (t : Tree). is_full t (parent_of path)) (present_tree_is a root is)
-        ∙ full_directory (capacity_at a) (nodes_at a) root (parent_of path) parent.0 (present_stands a root m is).rooted parent.1 ∙ sym parent.2 in
+        let same : is_full (working_tree (machine_at a)) (parent_of path) ≡ full =
+        ap (λ (t : Tree). is_full t (parent_of path)) (working_tree_is a root is)
+        ∙ full_directory (capacity_at a) (nodes_at a) root (parent_of path) parent.0 (working_stands a root m is).rooted parent.1 ∙ sym parent.2 in
         ap (λ b. cond (not (creates flags)) (Some NoEntry) (cond b (Some DirectoryFull) table)) same ∙ creation (creates flags) full table
     go (found.File head size) e = reopening (creates flags && is_exclusive flags) table
     go (found.Dir block) e = directory (creates flags && is_exclusive flags) table
 
-open_told : (a : Moment) (path : Path) (flags : OpenFlags) (root : ℕ) (fault : Fault) → IsMountedAt a → present_root a.state.history ≡ Some root → are_lawful flags ≡ true → look_up (nodes_at a) root path ≡ Err fault
+open_told : (a : Moment) (path : Path) (flags : OpenFlags) (root : ℕ) (fault : Fault) → IsMountedAt a → working_root a.state.history a.state.group ≡ Some root → are_lawful flags ≡ true → look_up (nodes_at a) root path ≡ Err fault
     → refusal (machine_at a) (Call.Open path flags) ≡ Some fault
 open_told a path flags root fault m is lawful e =
     open_at a path flags root m is lawful
-    ∙ ap (λ o. option_or o (open_refusal (machine_at a) path flags (tree (capacity_at a) (nodes_at a) root path))) (refused_is (capacity_at a) (nodes_at a) root path fault (present_stands a root m is).rooted e)
+    ∙ ap (λ o. option_or o (open_refusal (machine_at a) path flags (tree (capacity_at a) (nodes_at a) root path))) (refused_is (capacity_at a) (nodes_at a) root path fault (working_stands a root m is).rooted e)
 
 -- a look up that was refused, by whether the nodes tell of it
-pub open_fault : (a b : Moment) (path : Path) (flags : OpenFlags) (root : ℕ) (fault : Fault) → IsMountedAt a → present_root a.state.history ≡ Some root → are_lawful flags ≡ true
+pub open_fault : (a b : Moment) (path : Path) (flags : OpenFlags) (root : ℕ) (fault : Fault) → IsMountedAt a → working_root a.state.history a.state.group ≡ Some root → are_lawful flags ≡ true
     → (is_path_fault fault ≡ true → look_up (nodes_at a) root path ≡ Err fault)
     → (is_path_fault fault ≡ false → WorkCause (seen_at a) fault (seen_at b)) → IsLookupFault fault
     → IsRefused a (Call.Open path flags) fault b
@@ -109,19 +109,19 @@ open_fault a b path flags root fault m is lawful refused why lookup = elim (case
 ]
 
 -- what was found is refused
-pub found_refuses : (a b : Moment) (path : Path) (flags : OpenFlags) (root : ℕ) (x : Found) (fault : Fault) → IsMountedAt a → present_root a.state.history ≡ Some root → are_lawful flags ≡ true
+pub found_refuses : (a b : Moment) (path : Path) (flags : OpenFlags) (root : ℕ) (x : Found) (fault : Fault) → IsMountedAt a → working_root a.state.history a.state.group ≡ Some root → are_lawful flags ≡ true
     → look_up (nodes_at a) root path ≡ Ok x → found_refusal flags x ≡ Some fault → IsRefused a (Call.Open path flags) fault b
 found_refuses a b path flags root x fault m is lawful led refused =
     inl (open_found a path flags root x m is lawful led ∙ ap (λ o. option_or o (full_table_refusal (machine_at a))) refused)
 
 -- no descriptor is free
-pub number_refuses : (a b : Moment) (path : Path) (flags : OpenFlags) (root : ℕ) (x : Found) → IsMountedAt a → present_root a.state.history ≡ Some root → are_lawful flags ≡ true
+pub number_refuses : (a b : Moment) (path : Path) (flags : OpenFlags) (root : ℕ) (x : Found) → IsMountedAt a → working_root a.state.history a.state.group ≡ Some root → are_lawful flags ≡ true
     → look_up (nodes_at a) root path ≡ Ok x → found_refusal flags x ≡ None → least_free a.state.files ≡ None → IsRefused a (Call.Open path flags) TooManyOpen b
 number_refuses a b path flags root x m is lawful led fits none =
     inl (open_found a path flags root x m is lawful led
     ∙ ap (λ o. option_or o (full_table_refusal (machine_at a))) fits ∙ ap (λ o. cond (is_none o) (Some TooManyOpen) None) none)
 
-pub open_accepted : (a : Moment) (path : Path) (flags : OpenFlags) (root descriptor : ℕ) (x : Found) → IsMountedAt a → present_root a.state.history ≡ Some root → are_lawful flags ≡ true
+pub open_accepted : (a : Moment) (path : Path) (flags : OpenFlags) (root descriptor : ℕ) (x : Found) → IsMountedAt a → working_root a.state.history a.state.group ≡ Some root → are_lawful flags ≡ true
     → look_up (nodes_at a) root path ≡ Ok x → found_refusal flags x ≡ None → least_free a.state.files ≡ Some descriptor → refusal (machine_at a) (Call.Open path flags) ≡ None
 open_accepted a path flags root descriptor x m is lawful led fits free =
     open_found a path flags root x m is lawful led
@@ -141,17 +141,17 @@ long_body capacity f head (suc n) is =
 abbrev changes_at : OpenFlags → Option Entry → Bool
 changes_at flags o = is_none o || (truncates flags && nat_lt 0 (length (bytes_of o)))
 
-pub changes_is : (a : Moment) (path : Path) (flags : OpenFlags) (root : ℕ) (x : Found) → IsMountedAt a → present_root a.state.history ≡ Some root → look_up (nodes_at a) root path ≡ Ok x → found_refusal flags x ≡ None
-    → open_changes (present_tree (machine_at a)) path flags ≡ changes_found flags x
+pub changes_is : (a : Moment) (path : Path) (flags : OpenFlags) (root : ℕ) (x : Found) → IsMountedAt a → working_root a.state.history a.state.group ≡ Some root → look_up (nodes_at a) root path ≡ Ok x → found_refusal flags x ≡ None
+    → open_changes (working_tree (machine_at a)) path flags ≡ changes_found flags x
 changes_is a path flags root x m is led fits =
-    ap (λ (t : Contents). changes_at flags (t path)) (present_is a root m is)
+    ap (λ (t : Contents). changes_at flags (t path)) (working_is a root m is)
     ∙ ap (changes_at flags) (found_is (capacity_at a) (nodes_at a) root path x led).1
     ∙ go x led fits
   where
     go : (x : Found) → look_up (nodes_at a) root path ≡ Ok x → found_refusal flags x ≡ None → changes_at flags (entry_of (capacity_at a) (nodes_at a) x) ≡ changes_found flags x
     go (found.Missing full) led fits = refl
     go (found.File head size) led fits =
-        let whole = ((present_stands a root m is).rooted path (place.File head size) (found_leads_file (nodes_at a) root path head size led)).0 in
+        let whole = ((working_stands a root m is).rooted path (place.File head size) (found_leads_file (nodes_at a) root path head size led)).0 in
         ap (λ b. truncates flags && b) (long_body (capacity_at a) (nodes_at a) head size whole)
     go (found.Dir block) led fits = absurd (no_directory (creates flags && is_exclusive flags) fits)
       where
@@ -172,6 +172,7 @@ refused_work a b call fault m w leaves refuses = record {
   pages = worked_pages a b m w;
   reached = worked_reaches a b m w;
   refused = w.rest.history;
+  regrouped = w.rest.group;
 }
 
 -- one that was refused before anything was written
@@ -200,16 +201,16 @@ pub files_after : (m : Machine) (path : Path) (flags : OpenFlags) (descriptor : 
     → option_map_or (λ n. opened m.descriptors n (record { path = path; flags = flags })) (least_free m.descriptors) m.descriptors ≡ opened m.descriptors descriptor (record { path = path; flags = flags })
 files_after m path flags descriptor free = ap (λ o. option_map_or (λ n. opened m.descriptors n (record { path = path; flags = flags })) o m.descriptors) free
 
--- what an open leaves, by the tree that it makes
-next_is : (m : Machine) (path : Path) (flags : OpenFlags) (descriptor : ℕ) (made : Option Tree) → refusal m (Call.Open path flags) ≡ None → tree_after m (Call.Open path flags) ≡ made → least_free m.descriptors ≡ Some descriptor
+-- what an open leaves that makes no tree
+next_is : (m : Machine) (path : Path) (flags : OpenFlags) (descriptor : ℕ) → refusal m (Call.Open path flags) ≡ None → tree_after m (Call.Open path flags) ≡ None → least_free m.descriptors ≡ Some descriptor
     → machine_of m (Call.Open path flags) (refusal m (Call.Open path flags))
-    ≡ machine_with (option_map_or (changed m.history) made m.history) (opened m.descriptors descriptor (record { path = path; flags = flags }))
-next_is m path flags descriptor made fine makes free =
+    ≡ machine_with m.history m.group (opened m.descriptors descriptor (record { path = path; flags = flags }))
+next_is m path flags descriptor fine makes free =
     ap (machine_of m (Call.Open path flags)) fine
-    ∙ (λ i. machine_with (option_map_or (changed m.history) (makes i) m.history) (files_after m path flags descriptor free i))
+    ∙ (λ i. machine_with (option_map_or (changed m.history) (option_and_then (λ t. if is_some m.group then None else Some t) (makes i)) m.history) (option_map_or (group_with m.group) (makes i) m.group) (files_after m path flags descriptor free i))
 
-pub made_by : (m : Machine) (path : Path) (flags : OpenFlags) (b : Bool) → open_changes (present_tree m) path flags ≡ b → tree_after m (Call.Open path flags) ≡ cond b (Some (file_put (present_tree m) path [])) None
-made_by m path flags b is = ap (λ c. cond c (Some (file_put (present_tree m) path [])) None) is
+pub made_by : (m : Machine) (path : Path) (flags : OpenFlags) (b : Bool) → open_changes (working_tree m) path flags ≡ b → tree_after m (Call.Open path flags) ≡ cond b (Some (file_put (working_tree m) path [])) None
+made_by m path flags b is = ap (λ c. cond c (Some (file_put (working_tree m) path [])) None) is
 
 answers_descriptor : (space : Space) (m : Machine) (path : Path) (flags : OpenFlags) (descriptor : ℕ) → refusal m (Call.Open path flags) ≡ None → least_free m.descriptors ≡ Some descriptor
     → answer_of space m (Call.Open path flags) (refusal m (Call.Open path flags)) ≡ Ok (Reply.Fd descriptor)
@@ -217,11 +218,11 @@ answers_descriptor space m path flags descriptor fine free = ap (answer_of space
 
 -- a file that is there, and stays as it is
 pub opened_answer : (a b : Moment) (path : Path) (flags : OpenFlags) (descriptor : ℕ) (files : Descriptors) → IsMountedAt a → IsLooked a b → is_path path ≡ true
-    → refusal (machine_at a) (Call.Open path flags) ≡ None → open_changes (present_tree (machine_at a)) path flags ≡ false → least_free a.state.files ≡ Some descriptor
+    → refusal (machine_at a) (Call.Open path flags) ≡ None → open_changes (working_tree (machine_at a)) path flags ≡ false → least_free a.state.files ≡ Some descriptor
     → files ≡ opened b.state.files descriptor (record { path = path; flags = flags })
     → IsAnswered a (Call.Open path flags) (Ok (Reply.Fd descriptor)) (moment b.device (record b.state { files = files })) false
 opened_answer a b path flags descriptor files m l lawful fine same free is =
-    record { mounted = mounted_at b b.state.history files mid mid.roots machine; step = step; leaves = looked_leaves a b call l refl; is_off = l.rest.is_off; pages = worked_pages a b m w; reached = worked_reaches a b m w; refused = tt }
+    record { mounted = mounted_at b b.state.history files mid mid.roots machine; step = step; leaves = looked_leaves a b call l refl; is_off = l.rest.is_off; pages = worked_pages a b m w; reached = worked_reaches a b m w; refused = tt; regrouped = tt }
   where
     call : Call
     call = Call.Open path flags
@@ -242,7 +243,8 @@ opened_answer a b path flags descriptor files m l lawful fine same free is =
     leaves =
         let history = ap (λ (x : Machine). x.history) (worked_machine a b m w) in
         let descriptors = is ∙ ap (λ (fs : Descriptors). opened fs descriptor (record { path = path; flags = flags })) l.rest.files in
-        (λ i. machine_with (history i) (descriptors i)) ∙ sym (next_is n path flags descriptor None fine none free)
+        let group = ap (λ (x : Machine). x.group) (worked_machine a b m w) in
+        (λ i. machine_with (history i) (group i) (descriptors i)) ∙ sym (next_is n path flags descriptor fine none free)
 
     step : CallStep (seen_at a) n false call (Ok (Reply.Fd descriptor)) (seen_at b) (machine_at (moment b.device (record b.state { files = files }))) false
     step = record {
@@ -253,8 +255,8 @@ opened_answer a b path flags descriptor files m l lawful fine same free is =
           accepted = fine;
           answered = λ space _. answers_descriptor space n path flags descriptor fine free;
           leaves = leaves;
-          writable = λ writes. never (is_none (refusal n call)) (sym (ap (λ o. is_none (refusal n call) && (is_some o || false)) none) ∙ writes);
-          serial_left = λ makes. never (is_none (refusal n call)) (sym (ap (λ o. is_none (refusal n call) && is_some o) none) ∙ makes);
+          writable = λ writes. never (is_none (refusal n call)) (sym (ap (λ o. is_none (refusal n call) && ((is_some o || is_some (option_and_then (λ t. if is_some n.group then None else Some t) o)) || false)) none) ∙ writes);
+          serial_left = λ makes. never (is_none (refusal n call)) (sym (ap (λ o. is_none (refusal n call) && is_some (option_and_then (λ t. if is_some n.group then None else Some t) o)) none) ∙ makes);
         },
         refl,
       );

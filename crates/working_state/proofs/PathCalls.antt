@@ -7,15 +7,15 @@ use Rattle.std.specs.FinMap.{get}
 use Rattle.fs_types.specs.Names.{Path, is_path}
 use Rattle.plain_trees.specs.Contents.{Contents, Entry, lookup_refusal}
 use Rattle.plain_trees.specs.Trees.{bare}
-use Rattle.history_machine.specs.History.{present_root}
-use Rattle.history_machine.specs.HistoryMaps.{present_root-map}
-use Rattle.history_machine.specs.Machine.{Machine, Space, present_tree, refusal, found_refusal, answer_of, machine_of, reply_of, tree_after, is_accepted}
+use Rattle.history_machine.specs.History.{working_root}
+use Rattle.history_machine.specs.HistoryMaps.{working_root-map}
+use Rattle.history_machine.specs.Machine.{Machine, Space, working_tree, refusal, found_refusal, answer_of, machine_of, reply_of, tree_after, version_after, is_accepted}
 use Rattle.fs_types.specs.declared.calls.Call.{Call}
 use Rattle.fs_types.specs.declared.calls.Reply.{Reply}
 use Rattle.fs_types.specs.declared.faults.Fault.{Fault}
 use Rattle.fs_types.specs.declared.faults.Fault.TheVariants.{NoEntry, NotDirectory, Damaged}
 use Rattle.plain_trees.proofs.Beneath.{None≢Some}
-use Rattle.history_machine.proofs.Kept.{present-file_tree}
+use Rattle.history_machine.proofs.Kept.{working-file_tree}
 use Rattle.node_format.specs.declared.places.Place.TheVariants.{Dir}
 use Rattle.node_store.specs.Faults.{IsReadFault}
 use Rattle.block_trees.specs.Bodies.{Blocks}
@@ -29,29 +29,29 @@ use Rattle.working_state.specs.Moments.{Moment, machine_at, seen_at, IsMountedAt
 use Rattle.working_state.specs.Steps.{begins_work, is_for_record}
 use Rattle.working_state.specs.Mounted.{IsStanding}
 use Rattle.working_state.specs.Worked.{IsLooked, WorkCause}
-use Rattle.working_state.proofs.Roots.{of_present}
+use Rattle.working_state.proofs.Roots.{of_working}
 use Rattle.working_state.proofs.Standing.{looked_worked, worked_machine, worked_later}
 use Rattle.working_state.proofs.Refusals.{read_refuses, cause_later}
 
--- The present tree.
+-- The tree that calls work on.
 
-pub present_tree_is : (a : Moment) (root : ℕ) → present_root a.state.history ≡ Some root → present_tree (machine_at a) ≡ tree_at a root
-present_tree_is a root is = ap (λ o. unwrap_or o bare) (present_root-map (tree_at a) a.state.history ∙ ap (option_map (tree_at a)) is)
+pub working_tree_is : (a : Moment) (root : ℕ) → working_root a.state.history a.state.group ≡ Some root → working_tree (machine_at a) ≡ tree_at a root
+working_tree_is a root is = ap (λ o. unwrap_or o bare) (working_root-map (tree_at a) a.state.history a.state.group ∙ ap (option_map (tree_at a)) is)
 
-pub present_stands : (a : Moment) (root : ℕ) → IsMountedAt a → present_root a.state.history ≡ Some root → IsStanding a.device a.state.storage.ring root
-present_stands a root m is = of_present (IsStanding a.device a.state.storage.ring) a.state root m.roots is
+pub working_stands : (a : Moment) (root : ℕ) → IsMountedAt a → working_root a.state.history a.state.group ≡ Some root → IsStanding a.device a.state.storage.ring root
+working_stands a root m is = of_working (IsStanding a.device a.state.storage.ring) a.state root m.roots is
 
--- what stands in the present tree stands at a lawful path
-pub found_lawful : (a : Moment) (root : ℕ) (path : Path) (x : Found) (entry : Entry) → IsMountedAt a → present_root a.state.history ≡ Some root → look_up (nodes_at a) root path ≡ Ok x → entry_of (capacity_at a) (nodes_at a) x ≡ Some entry
+-- what stands in the tree that calls work on stands at a lawful path
+pub found_lawful : (a : Moment) (root : ℕ) (path : Path) (x : Found) (entry : Entry) → IsMountedAt a → working_root a.state.history a.state.group ≡ Some root → look_up (nodes_at a) root path ≡ Ok x → entry_of (capacity_at a) (nodes_at a) x ≡ Some entry
     → is_path path ≡ true
 found_lawful a root path x entry m is led there =
-    let law = map_law (capacity_at a) (nodes_at a) root (present_stands a root m is).rooted in
-    let stands : get (present_tree (machine_at a)) path ≡ Some entry =
-    ap (λ t. get t path) (present_tree_is a root is)
+    let law = map_law (capacity_at a) (nodes_at a) root (working_stands a root m is).rooted in
+    let stands : get (working_tree (machine_at a)) path ≡ Some entry =
+    ap (λ t. get t path) (working_tree_is a root is)
     ∙ ap (λ (t : Contents). t path) law.same
     ∙ (found_is (capacity_at a) (nodes_at a) root path x led).1
     ∙ there in
-    (present-file_tree (machine_at a) m.machine).paths path (subst IsSome (sym stands) refl)
+    (working-file_tree (machine_at a) m.machine).paths path (subst IsSome (sym stands) refl)
 
 -- The refusal of what stands at a path, or of nothing.
 
@@ -145,6 +145,7 @@ damaged_says {T} fault says is = says (ap (λ (x : Fault). (let r : Result T Fau
 pub record OnlyReads (m : Machine) (call : Call) : Type 0 where
   pub stays : machine_of m call None ≡ m
   pub no_version : tree_after m call ≡ None
+  pub no_end : version_after m call ≡ None
   pub no_record : is_for_record call ≡ false
 
 pub read_done : (a b : Moment) (call : Call) (reply : Reply) → IsMountedAt a → IsLooked a b → OnlyReads (machine_at a) call
@@ -161,15 +162,15 @@ read_done a b call reply m l reads fine replies =
           accepted = fine;
           answered = λ space _. ap (answer_of space before call) fine ∙ ap Ok (replies space);
           leaves = worked_machine a b m w ∙ sym reads.stays ∙ sym (ap (machine_of before call) fine);
-          writable = λ writes. absurd (nothing ((and_parts (is_accepted before call) (is_some (tree_after before call) || is_for_record call) writes).1));
-          serial_left = λ makes. absurd (no_tree ((and_parts (is_accepted before call) (is_some (tree_after before call)) makes).1));
+          writable = λ writes. absurd (nothing ((and_parts (is_accepted before call) ((is_some (tree_after before call) || is_some (version_after before call)) || is_for_record call) writes).1));
+          serial_left = λ makes. absurd (no_tree ((and_parts (is_accepted before call) (is_some (version_after before call)) makes).1));
         },
         refl,
       );
     }
   where
-    no_tree : is_some (tree_after (machine_at a) call) ≡ true → ⊥
-    no_tree makes = true≢false (sym makes ∙ ap is_some reads.no_version)
+    no_tree : is_some (version_after (machine_at a) call) ≡ true → ⊥
+    no_tree makes = true≢false (sym makes ∙ ap is_some reads.no_end)
 
-    nothing : is_some (tree_after (machine_at a) call) || is_for_record call ≡ true → ⊥
-    nothing writes = true≢false (sym writes ∙ ap (λ o. is_some o || is_for_record call) reads.no_version ∙ reads.no_record)
+    nothing : (is_some (tree_after (machine_at a) call) || is_some (version_after (machine_at a) call)) || is_for_record call ≡ true → ⊥
+    nothing writes = true≢false (sym writes ∙ (λ i. (is_some (reads.no_version i) || is_some (reads.no_end i)) || is_for_record call) ∙ reads.no_record)

@@ -5,7 +5,7 @@ use Rattle.std.specs.Option.{option_or, is_none}
 use Rattle.std.specs.Prelude.{IsTrue, IfErr, OnErr, not, ◌==◌}
 use Rattle.history_machine.specs.Descriptors.{are_lawful}
 use Rattle.history_machine.specs.History.{view_refusal}
-use Rattle.history_machine.specs.Machine.{Machine, need, refusal}
+use Rattle.history_machine.specs.Machine.{Machine, makes_version, need, refusal}
 use Rattle.fs_types.specs.declared.calls.Call.{Call}
 use Rattle.fs_types.specs.declared.calls.Reply.{Reply}
 use Rattle.fs_types.specs.declared.faults.Fault.{Fault}
@@ -64,10 +64,10 @@ read_refuses old new m call Damaged begins other is why = absurd (true≢false o
 read_refuses old new m call _ begins other is why = absurd (not_so is)
 
 -- a refusal of the nodes of a version, where read-only mode was off and a serial was left
-pub write_refuses : (old new : Seen) (m : Machine) (call : Call) (fault : Fault) → begins_work m call ≡ true → 0 < need old.capacity m call → is_writing m call ≡ true → old.read_only ≡ false → m.history.next < last_serial → IsChangeFault fault
+pub write_refuses : (old new : Seen) (m : Machine) (call : Call) (fault : Fault) → begins_work m call ≡ true → 0 < need old.capacity m call → is_writing m call ≡ true → old.read_only ≡ false → (makes_version m call ≡ true → m.history.next < last_serial) → IsChangeFault fault
     → (fault ≡ FlashFull → old.free + old.listed < new.listed + need old.capacity m call) → WorkCause old fault new → MayRefuse old m call fault new
 write_refuses old new m call FlashFull begins needs writes off left is few why = (needs, off, left, record { none_free = why; few_free = few refl })
-write_refuses old new m call ReadOnly begins needs writes off left is few why = (writes, why, λ _ _. left)
+write_refuses old new m call ReadOnly begins needs writes off left is few why = (writes, why, λ _ made. left made)
 write_refuses old new m call ReadFailed begins needs writes off left is few why = (begins, why)
 write_refuses old new m call PowerCut begins needs writes off left is few why = (begins, why)
 write_refuses old new m call NoMemory begins needs writes off left is few why = begins
@@ -110,8 +110,8 @@ remembering t result = record t { is_off = t.is_off || is_cut_answer result }
 pub remembered_step : {T : Type 0} (f : T → Reply) (a b : Moment) (u : State) (call : Call) (result again : Result T Fault)
     → again ≡ result → a.state.is_off ≡ false → b.state.is_off ≡ a.state.is_off → u ≡ remembering b.state result
     → IsStep a call (replied f result) b (is_cut_answer result)
-    → Leaves (machine_at a) call a.device a.state.storage b.device b.state.storage → ReachesNew a.device a.state b.device b.state → OnErr (replied f result) (b.state.history ≡ a.state.history) → tells_space call ≡ false → Steps a call (replied f again) (moment b.device u)
-remembered_step f a b u call result again told on same is step leaves reached refused plain =
+    → Leaves (machine_at a) call a.device a.state.storage b.device b.state.storage → ReachesNew a.device a.state b.device b.state → OnErr (replied f result) (b.state.history ≡ a.state.history) → OnErr (replied f result) (b.state.group ≡ a.state.group) → tells_space call ≡ false → Steps a call (replied f again) (moment b.device u)
+remembered_step f a b u call result again told on same is step leaves reached refused regrouped plain =
     subst (λ r. Steps a call (replied f r) (moment b.device u)) (sym told)
     (subst (λ v. Steps a call (replied f result) (moment b.device v)) (sym is) (record {
       step = subst (λ o. StepFrom o (b.state.is_off || is_cut_answer result)) (sym on)
@@ -120,6 +120,7 @@ remembered_step f a b u call result again told on same is step leaves reached re
       told = λ space. absurd (both_ways (tells_space call) plain space);
       reached = reached;
       refused = refused;
+      regrouped = regrouped;
       stopped = λ off. absurd (both_ways a.state.is_off on off);
     }))
   where

@@ -1,11 +1,12 @@
 -- What stands still stands after reads and writes of nodes, and the machine is the same.
-use Rattle.std.proofs.Common.{◌≡◌, ℕ, ◌-◌, ◌≤◌, true, false, ◌||◌, refl, sym, ap, subst, ◌∙◌, inl, arith}
+use Rattle.std.proofs.Common.{◌≡◌, ℕ, Option, ◌-◌, ◌≤◌, true, false, ◌||◌, refl, sym, ap, subst, ◌∙◌, inl, arith}
 use Rattle.std.proofs.lemmas.Bool.{both_ways}
 use Rattle.std.specs.FinSet as set
-use Rattle.history_machine.specs.History.{Past, map_roots}
-use Rattle.history_machine.specs.HistoryMaps.{same-map_roots}
-use Rattle.history_machine.specs.Machine.{Machine, IsMachine, makes_version, need, machine_with}
+use Rattle.history_machine.specs.History.{Past, map_roots, map_group, working_root}
+use Rattle.history_machine.specs.HistoryMaps.{same-map_roots, same-map_group}
+use Rattle.history_machine.specs.Machine.{Machine, IsMachine, changes_tree, need, machine_with}
 use Rattle.fs_types.specs.declared.calls.Call.{Call}
+use Rattle.fs_types.specs.declared.calls.Group.{Group}
 use Rattle.flash_model.specs.declared.sizes.Geometry.{Geometry}
 use Rattle.flash_model.specs.Device.{Device, block_of}
 use Rattle.flash_model.specs.Geometry.{IsGeometry, block_bytes}
@@ -32,7 +33,7 @@ use Rattle.working_state.specs.Steps.{IsLater}
 use Rattle.working_state.specs.Mounted.{IsStanding, KeepsPages}
 use Rattle.working_state.specs.Worked.{IsSameBut, IsWorked, IsLooked}
 use Rattle.working_state.specs.declared.state.State.{State}
-use Rattle.working_state.proofs.Roots.{AllRoots, ReachesBefore, of_versions, of_checkpoints, at_history, with_history, all_reach}
+use Rattle.working_state.proofs.Roots.{AllRoots, ReachesBefore, of_versions, of_checkpoints, of_group, at_history, at_work, with_work, all_reach}
 use Rattle.working_state.proofs.BadCounts.{len-within, stays_read_only}
 
 -- Blocks and roots.
@@ -77,26 +78,34 @@ same_trees s t u lawful e all =
     let each : AllRoots (HasSameTree s.device t.device) u = λ root has. same_tree s t root lawful e (all root has) in
     same-map_roots (tree_on t.device) (tree_on s.device) u.history (of_versions (HasSameTree s.device t.device) u each) (of_checkpoints (HasSameTree s.device t.device) u each)
 
+pub same_group : (s t : Storage) (u : State) → IsGeometry s.device.geometry → Evolved s t → AllRoots (IsStanding s.device s.ring) u → map_group (tree_on t.device) u.group ≡ map_group (tree_on s.device) u.group
+same_group s t u lawful e all =
+    same-map_group (tree_on t.device) (tree_on s.device) u.group (of_group (HasSameTree s.device t.device) u (λ root has. same_tree s t root lawful e (all root has)))
+
 -- States.
 
 -- a look at nodes leaves the rest of the state
 pub looked_at : (a : Moment) (e : Device) (st : parts.Storage) → HasLooked a.device a.state.storage e st → IsLooked a (moment e (record a.state { storage = st }))
-looked_at a e st l = record { untouched = l.untouched; fits = l.fits; rest = record { history = refl; files = refl; is_off = refl } }
+looked_at a e st l = record { untouched = l.untouched; fits = l.fits; rest = record { history = refl; group = refl; files = refl; is_off = refl } }
 
 pub looked_worked : (a b : Moment) → IsLooked a b → IsWorked a b
 looked_worked a b l = record { evolved = Untouched_evolved (storage_at a) (storage_at b) l.untouched; fits = l.fits; rest = l.rest }
 
 pub worked_itself : (a : Moment) → IsWorked a a
-worked_itself a = record { evolved = Evolved_itself (storage_at a); fits = still_itself a.device a.state.storage; rest = record { history = refl; files = refl; is_off = refl } }
+worked_itself a = record { evolved = Evolved_itself (storage_at a); fits = still_itself a.device a.state.storage; rest = record { history = refl; group = refl; files = refl; is_off = refl } }
 
 same_but_on : (s t u : State) → IsSameBut s t → IsSameBut t u → IsSameBut s u
-same_but_on s t u a b = record { history = b.history ∙ a.history; files = b.files ∙ a.files; is_off = b.is_off ∙ a.is_off }
+same_but_on s t u a b = record { history = b.history ∙ a.history; group = b.group ∙ a.group; files = b.files ∙ a.files; is_off = b.is_off ∙ a.is_off }
 
 pub worked_on : (a b c : Moment) → IsWorked a b → IsWorked b c → IsWorked a c
 worked_on a b c v w = record { evolved = Evolved_on (storage_at a) (storage_at b) (storage_at c) v.evolved w.evolved; fits = still_on a.device a.state.storage b.device b.state.storage c.device c.state.storage v.fits w.fits; rest = same_but_on a.state b.state c.state v.rest w.rest }
 
 pub looked_on : (a b c : Moment) → IsLooked a b → IsLooked b c → IsLooked a c
 looked_on a b c l k = record { untouched = Untouched_on (storage_at a) (storage_at b) (storage_at c) l.untouched k.untouched; fits = still_on a.device a.state.storage b.device b.state.storage c.device c.state.storage l.fits k.fits; rest = same_but_on a.state b.state c.state l.rest k.rest }
+
+-- calls work on the same root
+pub same_working : (s t : State) → IsSameBut s t → working_root t.history t.group ≡ working_root s.history s.group
+same_working s t same = λ i. working_root (same.history i) (same.group i)
 
 -- What is left of what nodes are kept with.
 
@@ -142,25 +151,29 @@ still_leaves m d s call = record { written = none_written d s (need (capacity_of
 
 -- a call that wrote as many nodes as it may
 pub written_leaves : (a b : Moment) (f : Device) (u : parts.Storage) (call : Call) (nodes : ℕ) → IsLooked a b → HasWritten b.device b.state.storage nodes f u
-    → is_still call || only_looks call ≡ false → makes_version (machine_at a) call ≡ true → nodes ≤ need (capacity_at a) (machine_at a) call → Leaves (machine_at a) call a.device a.state.storage f u
+    → is_still call || only_looks call ≡ false → changes_tree (machine_at a) call ≡ true → nodes ≤ need (capacity_at a) (machine_at a) call → Leaves (machine_at a) call a.device a.state.storage f u
 written_leaves a b f u call nodes l w moves makes few = record {
   written = looked_written a.device a.state.storage b.device b.state.storage f u nodes (need (capacity_at a) (machine_at a) call) (looks a b l) w few;
-  looked = λ none. absurd (both_ways (makes_version (machine_at a) call) none makes);
+  looked = λ none. absurd (both_ways (changes_tree (machine_at a) call) none makes);
   still = λ still. absurd (both_ways (is_still call) (neither (is_still call) (only_looks call) moves).0 still);
   asks = looks_other (machine_at a) call a.device f (neither (is_still call) (only_looks call) moves).1;
 }
 
 -- all roots stand on
-pub worked_stand : (a b : Moment) → IsMountedAt a → IsWorked a b → AllStand (at_history b a.state.history)
+pub worked_stand : (a b : Moment) → IsMountedAt a → IsWorked a b → AllStand (at_work b a.state.history a.state.group)
 worked_stand a b m w = all_still_stand (storage_at a) (storage_at b) a.state m.lawful w.evolved m.roots
 
 pub worked_trees : (a b : Moment) → IsMountedAt a → IsWorked a b → map_roots (tree_at b) a.state.history ≡ map_roots (tree_at a) a.state.history
 worked_trees a b m w = same_trees (storage_at a) (storage_at b) a.state m.lawful w.evolved m.roots
 
+pub worked_group : (a b : Moment) → IsMountedAt a → IsWorked a b → map_group (tree_at b) a.state.group ≡ map_group (tree_at a) a.state.group
+worked_group a b m w = same_group (storage_at a) (storage_at b) a.state m.lawful w.evolved m.roots
+
 pub worked_machine : (a b : Moment) → IsMountedAt a → IsWorked a b → machine_at b ≡ machine_at a
 worked_machine a b m w =
     let history = ap (λ (h : Past ℕ). map_roots (tree_at b) h) w.rest.history ∙ worked_trees a b m w in
-    (λ i. machine_with (history i) (w.rest.files i))
+    let group = ap (λ (g : Option (Group ℕ)). map_group (tree_at b) g) w.rest.group ∙ worked_group a b m w in
+    (λ i. machine_with (history i) (group i) (w.rest.files i))
 
 -- a mounted system, with any history of roots that stand
 pub mounted_with : (a b : Moment) (h : Past ℕ) → IsMountedAt a → IsWorked a b → AllStand (at_history b h) → IsMachine (machine_at (at_history b h))
@@ -177,7 +190,7 @@ mounted_with a b h m w all machine =
     }
 
 pub worked_mounted : (a b : Moment) → IsMountedAt a → IsWorked a b → IsMountedAt b
-worked_mounted a b m w = mounted_with a b b.state.history m w (subst (λ h. AllStand (at_history b h)) (sym w.rest.history) (worked_stand a b m w))
+worked_mounted a b m w = mounted_with a b b.state.history m w (subst (λ (x : Past ℕ × Option (Group ℕ)). AllStand (at_work b x.0 x.1)) (λ i. (sym w.rest.history i, sym w.rest.group i)) (worked_stand a b m w))
     (subst IsMachine (sym (worked_machine a b m w)) m.machine)
 
 pub worked_later : (a b : Moment) → IsWorked a b → IsLater (seen_at a) (seen_at b)
@@ -200,7 +213,7 @@ pub worked_reach : (a b : Moment) (root : ℕ) → IsMountedAt a → IsWorked a 
 worked_reach a b root m w has block reached = inl (root, has, (frame (storage_at a) (storage_at b) m.lawful w.evolved).reached root block (m.roots root has).held reached)
 
 pub worked_before : (a b : Moment) → IsMountedAt a → IsWorked a b → AllRoots (ReachesBefore a.device a.state b.device) b.state
-worked_before a b m w root has = worked_reach a b root m w (subst (λ (h : Past ℕ). HasRoot (with_history b.state h) root) w.rest.history has)
+worked_before a b m w root has = worked_reach a b root m w (subst (λ (x : Past ℕ × Option (Group ℕ)). HasRoot (with_work b.state x.0 x.1) root) (λ i. (w.rest.history i, w.rest.group i)) has)
 
 pub worked_reaches : (a b : Moment) → IsMountedAt a → IsWorked a b → ReachesNew a.device a.state b.device b.state
 worked_reaches a b m w = all_reach a.device a.state b.device b.state (worked_before a b m w)

@@ -2,15 +2,16 @@
 use Rattle.std.proofs.Common.{◌≡◌, ◌⊎◌, inl, inr, ℕ, ◌+◌, ◌<◌, ◌≤◌, Bool, true, false, cond, ◌&&◌, Option, Some, None, List, [], ◌∷◌, map, Result, Ok, Err, OnOk, OnErr, IfOk, IfErr, length, sym, ap, refl, ◌∙◌, subst, arith}
 use Rattle.std.proofs.lemmas.Bool.{true≢false, both_ways, and_parts, and_from, le-leb, lt-leb}
 use Rattle.std.specs.Prelude.{◌==◌, ◌||◌, nat_lt, nat_le, unwrap_or}
-use Rattle.std.specs.Option.{option_map, option_map_or, is_some, is_none}
+use Rattle.std.specs.Option.{option_map, option_map_or, option_and_then, is_some, is_none}
 use Rattle.fs_types.specs.Names.{Name}
 use Rattle.plain_trees.specs.Trees.{Tree}
-use Rattle.history_machine.specs.History.{Past, map_roots, changed, checkpoint_root, first_serial, place_of, undo_refusal, redo_refusal, serial_refusal, forget_refusal, name_refusal, checkpoint_refusal, with_checkpoint}
+use Rattle.history_machine.specs.History.{Past, map_roots, map_group, changed, checkpoint_root, first_serial, place_of, undo_refusal, redo_refusal, serial_refusal, forget_refusal, name_refusal, checkpoint_refusal, with_checkpoint, group_with}
 use Rattle.history_machine.specs.HistoryMaps.{checkpoint_root-map, changed-map, checkpoint_refusal-map, with_checkpoint-map}
 use Rattle.history_machine.specs.Descriptors.{any_open}
-use Rattle.history_machine.specs.Machine.{Machine, IsMachine, Space, has_paths, travel_refusal, log_of, refusal, answer_of, machine_of, reply_of, is_accepted, makes_version, tree_after, machine_with}
+use Rattle.history_machine.specs.Machine.{Machine, IsMachine, Space, has_paths, travel_refusal, log_of, refusal, answer_of, machine_of, reply_of, is_accepted, changes_tree, makes_version, tree_after, version_after, outside_refusal, machine_with}
 use Rattle.history_machine.proofs.Kept.{machine_law}
 use Rattle.fs_types.specs.declared.calls.Call.{Call}
+use Rattle.fs_types.specs.declared.calls.Group.{Group}
 use Rattle.fs_types.specs.declared.calls.Reply.{Reply}
 use Rattle.fs_types.specs.declared.calls.Version.{Version}
 use Rattle.fs_types.specs.declared.faults.Fault.{Fault}
@@ -25,7 +26,7 @@ use Rattle.working_state.specs.Seen.{Seen}
 use Rattle.read_only.specs.Modes.{is_read_only}
 use Rattle.working_state.specs.Steps.{last_serial, replied, empty, is_cut, is_writing, is_for_record, tells_space, MayRefuse, Answers, IsLater, CallStep}
 use Rattle.working_state.specs.declared.state.State.{State}
-use Rattle.working_state.proofs.Roots.{with_history, at_history, same_reach, after_checkpoint}
+use Rattle.working_state.proofs.Roots.{with_history, at_history, at_work, with_work, same_reach, after_checkpoint}
 use Rattle.working_state.proofs.Standing.{AllStand, still_leaves}
 
 same-later : (old : Seen) → IsLater old old
@@ -43,20 +44,21 @@ module _ (a : Moment) (call : Call) where
   stays = same_reach a.device a.state a.state (λ root has. has)
 
   -- a call that does no device operation, and is answered so
-  pub still_step : (t : State) (result : Result Reply Fault) → t.storage ≡ a.state.storage → (a.state.is_off ≡ true → t ≡ a.state) → (tells_space call ≡ true → TellsSpace result t) → ReachesNew a.device a.state a.device t → OnErr result (t.history ≡ a.state.history) → CallStep (seen_at a) before a.state.is_off call result (seen_at (moment a.device t)) (machine_at (moment a.device t)) t.is_off → Steps a call result (moment a.device t)
-  still_step t result same stopped told reached refused step = record {
+  pub still_step : (t : State) (result : Result Reply Fault) → t.storage ≡ a.state.storage → (a.state.is_off ≡ true → t ≡ a.state) → (tells_space call ≡ true → TellsSpace result t) → ReachesNew a.device a.state a.device t → OnErr result (t.history ≡ a.state.history) → OnErr result (t.group ≡ a.state.group) → CallStep (seen_at a) before a.state.is_off call result (seen_at (moment a.device t)) (machine_at (moment a.device t)) t.is_off → Steps a call result (moment a.device t)
+  still_step t result same stopped told reached refused regrouped step = record {
     step = step;
     told = told;
     leaves = subst (λ (x : Storage). Leaves before call a.device a.state.storage a.device x) (sym same) (still_leaves before a.device a.state.storage call);
     reached = reached;
     refused = refused;
+    regrouped = regrouped;
     stopped = λ off. (refl, stopped off);
   }
 
-  -- a call that was carried out
-  pub done : (p : Past ℕ) (reply : Reply) → a.state.is_off ≡ false → tells_space call ≡ false → refusal before call ≡ None → ((space : Space) → reply_of space before call ≡ reply) → machine_of before call None ≡ machine_at (at_history a p) → ReachesNew a.device a.state a.device (with_history a.state p)
-      → (is_writing before call ≡ true → is_read_only a.state.storage.bad ≡ false) → (makes_version before call ≡ true → a.state.history.next < last_serial) → Steps a call (Ok reply) (at_history a p)
-  done p reply on plain ok tells leaves reached writable serial = still_step (with_history a.state p) (Ok reply) refl (λ off. absurd (both_ways a.state.is_off on off)) (λ space. absurd (both_ways (tells_space call) plain space)) reached tt (record {
+  -- a call that was carried out, and left this history and this group
+  pub done_at : (p : Past ℕ) (g : Option (Group ℕ)) (reply : Reply) → a.state.is_off ≡ false → tells_space call ≡ false → refusal before call ≡ None → ((space : Space) → reply_of space before call ≡ reply) → machine_of before call None ≡ machine_at (at_work a p g) → ReachesNew a.device a.state a.device (with_work a.state p g)
+      → (is_writing before call ≡ true → is_read_only a.state.storage.bad ≡ false) → (makes_version before call ≡ true → a.state.history.next < last_serial) → Steps a call (Ok reply) (at_work a p g)
+  done_at p g reply on plain ok tells leaves reached writable serial = still_step (with_work a.state p g) (Ok reply) refl (λ off. absurd (both_ways a.state.is_off on off)) (λ space. absurd (both_ways (tells_space call) plain space)) reached tt tt (record {
     later = same-later (seen_at a);
     answers = (
       on,
@@ -71,16 +73,21 @@ module _ (a : Moment) (call : Call) where
     );
   })
 
+  -- the same, where the group stays
+  pub done : (p : Past ℕ) (reply : Reply) → a.state.is_off ≡ false → tells_space call ≡ false → refusal before call ≡ None → ((space : Space) → reply_of space before call ≡ reply) → machine_of before call None ≡ machine_at (at_history a p) → ReachesNew a.device a.state a.device (with_history a.state p)
+      → (is_writing before call ≡ true → is_read_only a.state.storage.bad ≡ false) → (makes_version before call ≡ true → a.state.history.next < last_serial) → Steps a call (Ok reply) (at_history a p)
+  done p reply = done_at p a.state.group reply
+
   -- a call that was refused
   pub refused : (fault : Fault) → a.state.is_off ≡ false → is_cut fault ≡ false → (refusal before call ≡ Some fault) ⊎ MayRefuse (seen_at a) before call fault (seen_at a) → Steps a call (Err fault) a
-  refused fault on no_cut why = still_step a.state (Err fault) refl (λ _. refl) (λ _. tt) stays refl (record {
+  refused fault on no_cut why = still_step a.state (Err fault) refl (λ _. refl) (λ _. tt) stays refl refl (record {
     later = same-later (seen_at a);
     answers = subst (λ off. Answers (seen_at a) before off call (Err fault) (seen_at a) before off) (sym on) (why, refl, sym no_cut);
   })
 
   -- a call where an earlier one answered that the power is off
   pub off_step : (fault : Fault) → (fault ≡ PowerCut) × (a.state.is_off ≡ true) → Steps a call (Err fault) a
-  off_step fault why = still_step a.state (Err fault) refl (λ _. refl) (λ _. tt) stays refl (record {
+  off_step fault why = still_step a.state (Err fault) refl (λ _. refl) (λ _. tt) stays refl refl (record {
     later = same-later (seen_at a);
     answers = subst (λ off. Answers (seen_at a) before off call (Err fault) (seen_at a) before off) (sym why.1) (why.0, refl, refl, refl);
   })
@@ -108,28 +115,47 @@ never b e = true≢false (sym (and_parts b false e).1)
 
 -- Calls that read-only mode refuses.
 
+or-true : (b : Bool) → b || true ≡ true
+or-true true = refl
+or-true false = refl
+
 pub writes-version : (m : Machine) (call : Call) → makes_version m call ≡ true → is_writing m call ≡ true
 writes-version m call e =
+    let parts = and_parts (is_accepted m call) (is_some (version_after m call)) e in
+    and_from (is_accepted m call) _ parts.0 (ap (λ b. (is_some (tree_after m call) || b) || is_for_record call) parts.1 ∙ ap (λ b. b || is_for_record call) (or-true (is_some (tree_after m call))))
+
+pub writes-tree : (m : Machine) (call : Call) → changes_tree m call ≡ true → is_writing m call ≡ true
+writes-tree m call e =
     let parts = and_parts (is_accepted m call) (is_some (tree_after m call)) e in
-    and_from (is_accepted m call) _ parts.0 (ap (λ b. b || is_for_record call) parts.1)
+    and_from (is_accepted m call) _ parts.0 (ap (λ b. (b || is_some (version_after m call)) || is_for_record call) parts.1)
 
 pub writes-record : (m : Machine) (call : Call) → refusal m call ≡ None → is_for_record call ≡ true → is_writing m call ≡ true
-writes-record m call ok e = and_from (is_accepted m call) _ (ap is_none ok) (ap (λ b. is_some (tree_after m call) || b) e ∙ go (is_some (tree_after m call)))
-  where
-    go : (b : Bool) → b || true ≡ true
-    go true = refl
-    go false = refl
+writes-record m call ok e = and_from (is_accepted m call) _ (ap is_none ok) (ap (λ b. (is_some (tree_after m call) || is_some (version_after m call)) || b) e ∙ or-true (is_some (tree_after m call) || is_some (version_after m call)))
 
 -- what refuses a change that the machine accepts, and that needs no node
-pub refused_change : (a : Moment) (call : Call) (fault : Fault) → a.state.is_off ≡ false → makes_version (machine_at a) call ≡ true
-    → ((fault ≡ Fault.ReadOnly) × IsReadOnly a.state.history a.state.storage a.state.storage) ⊎ ((fault ≡ Fault.Overflow) × IsOverflow a.state.history a.state.storage) → Steps a call (Err fault) a
-refused_change a call fault on makes (inl why) = subst (λ f. Steps a call (Err f) a) (sym why.0) (refused a call Fault.ReadOnly on refl (inr (writes-version (machine_at a) call makes, why.1.on, λ off made. why.1.serial_left off)))
-refused_change a call fault on makes (inr why) = subst (λ f. Steps a call (Err f) a) (sym why.0) (refused a call Fault.Overflow on refl (inr (why.1.writable, inl (makes, why.1.last))))
+pub refused_change : (a : Moment) (call : Call) (fault : Fault) → a.state.is_off ≡ false → a.state.group ≡ None → makes_version (machine_at a) call ≡ true
+    → ((fault ≡ Fault.ReadOnly) × IsReadOnly a.state.history a.state.group a.state.storage a.state.storage) ⊎ ((fault ≡ Fault.Overflow) × IsOverflow a.state.history a.state.group a.state.storage) → Steps a call (Err fault) a
+refused_change a call fault on outside makes (inl why) = subst (λ f. Steps a call (Err f) a) (sym why.0) (refused a call Fault.ReadOnly on refl (inr (writes-version (machine_at a) call makes, why.1.on, λ off made. why.1.serial_left off outside)))
+refused_change a call fault on outside makes (inr why) = subst (λ f. Steps a call (Err f) a) (sym why.0) (refused a call Fault.Overflow on refl (inr (why.1.writable, inl (makes, why.1.last))))
 
 -- what refuses another call that the record has to take
 pub refused_record : (a : Moment) (call : Call) (fault : Fault) → a.state.is_off ≡ false → refusal (machine_at a) call ≡ None → is_for_record call ≡ true
     → (fault ≡ Fault.ReadOnly) × (is_read_only a.state.storage.bad ≡ true) → Steps a call (Err fault) a
 refused_record a call fault on ok record_call why = subst (λ f. Steps a call (Err f) a) (sym why.0) (refused a call Fault.ReadOnly on refl (inr (writes-record (machine_at a) call ok record_call, why.1, λ off. absurd (both_ways (is_read_only a.state.storage.bad) off why.1))))
+
+-- no group is open, so that a call may work on the history
+pub may_change : (a : Moment) (refused : Option Fault) → a.state.group ≡ None → outside_refusal (machine_at a) refused ≡ refused
+may_change a refused none = ap (λ (g : Option (Group ℕ)). cond (is_some (map_group (tree_at a) g)) (Some Fault.InGroup) refused) none
+
+map_grouped : (f : ℕ → Tree) (g : Option (Group ℕ)) → is_some g ≡ true → is_some (map_group f g) ≡ true
+map_grouped f None some = some
+map_grouped f (Some g) some = refl
+
+-- a call on the history, in a group
+pub refused_grouped : (a : Moment) (call : Call) (fault : Fault) (other : Option Fault) → a.state.is_off ≡ false → refusal (machine_at a) call ≡ outside_refusal (machine_at a) other
+    → (fault ≡ Fault.InGroup) × (is_some a.state.group ≡ true) → Steps a call (Err fault) a
+refused_grouped a call fault other on works why =
+    subst (λ f. Steps a call (Err f) a) (sym why.0) (refused a call Fault.InGroup on refl (inl (works ∙ ap (λ b. cond b (Some Fault.InGroup) other) (map_grouped (tree_at a) a.state.group why.1))))
 
 -- no file is open, so that the present version may move
 pub may_travel : (m : Machine) (refused : Option Fault) → any_open m.descriptors ≡ false → travel_refusal m refused ≡ refused
@@ -146,20 +172,25 @@ refused_open a call fault other on travels why =
 
 -- Rollback to a checkpoint that is there.
 
-module _ (a : Moment) (name : Name) (root : ℕ) (none : any_open a.state.files ≡ false) (there : checkpoint_root a.state.history name ≡ Some root) where
+module _ (a : Moment) (name : Name) (root : ℕ) (outside : a.state.group ≡ None) (none : any_open a.state.files ≡ false) (there : checkpoint_root a.state.history name ≡ Some root) where
   seen_there : checkpoint_root (map_roots (tree_at a) a.state.history) name ≡ Some (tree_at a root)
   seen_there = checkpoint_root-map (tree_at a) a.state.history name ∙ ap (option_map (tree_at a)) there
 
   pub rollback-accepted : refusal (machine_at a) (Call.Rollback name) ≡ None
-  rollback-accepted = may_travel (machine_at a) _ none ∙ ap (λ o. cond (is_none o) (Some Fault.NoSuchVersion) None) seen_there
+  rollback-accepted = may_change a _ outside ∙ may_travel (machine_at a) _ none ∙ ap (λ o. cond (is_none o) (Some Fault.NoSuchVersion) None) seen_there
 
   pub rollback-makes : makes_version (machine_at a) (Call.Rollback name) ≡ true
-  rollback-makes = and_from (is_accepted (machine_at a) (Call.Rollback name)) _ (ap is_none rollback-accepted) (ap is_some seen_there)
+  rollback-makes = and_from (is_accepted (machine_at a) (Call.Rollback name)) _ (ap is_none rollback-accepted)
+      (ap (λ o. is_some (option_and_then (λ t. cond (is_some (map_group (tree_at a) a.state.group)) None (Some t)) o)) seen_there ∙ ap (λ (g : Option (Group ℕ)). is_some (cond (is_some (map_group (tree_at a) g)) None (Some (tree_at a root)))) outside)
 
   pub rollback-leaves : machine_of (machine_at a) (Call.Rollback name) None ≡ machine_at (at_history a (changed a.state.history root))
   rollback-leaves =
       let h = map_roots (tree_at a) a.state.history in
-      ap (λ (x : Past Tree). machine_with x a.state.files) (ap (λ o. option_map_or (changed h) o h) seen_there ∙ changed-map (tree_at a) a.state.history root)
+      (λ i. machine_with
+      (option_map_or (changed h) (option_and_then (λ t. cond (is_some (map_group (tree_at a) (outside i))) None (Some t)) (seen_there i)) h)
+      (option_map_or (group_with (map_group (tree_at a) (outside i))) (seen_there i) (map_group (tree_at a) (outside i)))
+      a.state.files)
+      ∙ (λ i. machine_with (changed-map (tree_at a) a.state.history root i) (map_group (tree_at a) (sym outside i)) a.state.files)
 
 -- A checkpoint.
 
@@ -174,17 +205,17 @@ module _ {R : Type 0} (p : Past R) (name : Name) where
   checkpoint-free new few = (λ i. cond (new i) (Some Fault.Exists) (cond (lt-leb 16 (length p.checkpoints) few i) (Some Fault.CheckpointsFull) None))
 
 -- a checkpoint that the machine accepts, which may want memory
-pub checkpointed : (a : Moment) (name : Name) (result : Result (Unit {0}) Fault) (p : Past ℕ) → a.state.is_off ≡ false → is_read_only a.state.storage.bad ≡ false → checkpoint_refusal a.state.history name ≡ None
+pub checkpointed : (a : Moment) (name : Name) (result : Result (Unit {0}) Fault) (p : Past ℕ) → a.state.is_off ≡ false → a.state.group ≡ None → is_read_only a.state.storage.bad ≡ false → checkpoint_refusal a.state.history name ≡ None
     → OnOk result (p ≡ with_checkpoint a.state.history name) → IfErr result (λ fault. fault ≡ unwrap_or (checkpoint_refusal a.state.history name) Fault.NoMemory) → OnErr result (p ≡ a.state.history)
     → Steps a (Call.Checkpoint name) (replied empty result) (at_history a p)
-checkpointed a name (Ok x) p on writable free ok why err =
+checkpointed a name (Ok x) p on outside writable free ok why err =
     subst (λ q. Steps a (Call.Checkpoint name) (Ok Reply.Empty) (at_history a q)) (sym ok)
-    (done a (Call.Checkpoint name) (with_checkpoint a.state.history name) Reply.Empty on refl (checkpoint_refusal-map (tree_at a) a.state.history name ∙ free) (λ _. refl) (ap (λ (h : Past Tree). machine_with h a.state.files) (with_checkpoint-map (tree_at a) a.state.history name))
+    (done a (Call.Checkpoint name) (with_checkpoint a.state.history name) Reply.Empty on refl (may_change a _ outside ∙ checkpoint_refusal-map (tree_at a) a.state.history name ∙ free) (λ _. refl) (ap (λ (h : Past Tree). machine_with h (map_group (tree_at a) a.state.group) a.state.files) (with_checkpoint-map (tree_at a) a.state.history name))
     (same_reach a.device a.state (with_history a.state (with_checkpoint a.state.history name)) (after_checkpoint (HasRoot a.state) a.state name (λ root has. has))) (λ _. writable) (λ e. absurd (never _ e)))
-checkpointed a name (Err fault) p on writable free ok why err =
+checkpointed a name (Err fault) p on outside writable free ok why err =
     let want : fault ≡ Fault.NoMemory = why ∙ ap (λ o. unwrap_or o Fault.NoMemory) free in
     subst (λ q. Steps a (Call.Checkpoint name) (Err fault) (at_history a q)) (sym err)
-    (subst (λ f. Steps a (Call.Checkpoint name) (Err f) a) (sym want) (refused a (Call.Checkpoint name) Fault.NoMemory on refl (inr (ap is_none (checkpoint_refusal-map (tree_at a) a.state.history name ∙ free)))))
+    (subst (λ f. Steps a (Call.Checkpoint name) (Err f) a) (sym want) (refused a (Call.Checkpoint name) Fault.NoMemory on refl (inr (ap is_none (may_change a _ outside ∙ checkpoint_refusal-map (tree_at a) a.state.history name ∙ free)))))
 
 -- Log tells nothing of roots.
 
@@ -210,16 +241,20 @@ still_machine s t m n off off' call (Ok reply) is paths step = subst IsMachine (
 still_machine s t m n true off' call (Err fault) is paths step = subst IsMachine (sym step.answers.2) is
 still_machine s t m n false off' call (Err fault) is paths step = subst IsMachine (sym step.answers.1) is
 
--- a call that leaves another history, on roots that stand
-pub mounted_by : (a : Moment) (call : Call) (result : Result Reply Fault) (p : Past ℕ) → IsMountedAt a → has_paths call ≡ true → Steps a call result (at_history a p) → AllStand (at_history a p) → IsMountedAt (at_history a p)
-mounted_by a call result p is paths step all = record {
+-- a call that leaves another history and another group, on roots that stand
+pub mounted_work : (a : Moment) (call : Call) (result : Result Reply Fault) (p : Past ℕ) (g : Option (Group ℕ)) → IsMountedAt a → has_paths call ≡ true → Steps a call result (at_work a p g) → AllStand (at_work a p g) → IsMountedAt (at_work a p g)
+mounted_work a call result p g is paths step all = record {
   lawful = is.lawful;
   ring_blocks = is.ring_blocks;
   fits = is.fits;
   roots = all;
-  machine = still_machine (seen_at a) (seen_at a) (machine_at a) (machine_at (at_history a p)) a.state.is_off a.state.is_off call result is.machine paths step.step;
+  machine = still_machine (seen_at a) (seen_at a) (machine_at a) (machine_at (at_work a p g)) a.state.is_off a.state.is_off call result is.machine paths step.step;
   off = is.off;
 }
+
+-- the same, where the group stays
+pub mounted_by : (a : Moment) (call : Call) (result : Result Reply Fault) (p : Past ℕ) → IsMountedAt a → has_paths call ≡ true → Steps a call result (at_history a p) → AllStand (at_history a p) → IsMountedAt (at_history a p)
+mounted_by a call result p is paths step all = mounted_work a call result p a.state.group is paths step all
 
 -- a call that the history answers
 pub mounted_after : (a : Moment) (call : Call) (result : Result (Unit {0}) Fault) (after p : Past ℕ) → OnOk result (p ≡ after) → OnErr result (p ≡ a.state.history)

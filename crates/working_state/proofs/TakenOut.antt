@@ -1,11 +1,11 @@
--- The steps of an entry taken out of the present tree: an empty directory, and a file.
+-- The steps of an entry taken out of the tree that calls work on: an empty directory, and a file.
 use Rattle.std.proofs.Common.{◌≡◌, ℕ, ◌<◌, ◌≤◌, Bool, true, false, Option, Some, None, Ok, List, [], ◌∷◌, length, refl, sym, ap, subst, ◌∙◌, inl, arith}
 use Rattle.std.proofs.lemmas.Bool.{lt-ltb}
 use Rattle.std.proofs.lemmas.List.{length-map}
 use Rattle.std.specs.Prelude.{is_none, nat_lt, unwrap_or, if◌then◌else◌, ◌==◌}
 use Rattle.fs_types.specs.Names.{Path, is_path}
 use Rattle.plain_trees.specs.Trees.{Tree, remove, entry_count}
-use Rattle.history_machine.specs.History.{present_root}
+use Rattle.history_machine.specs.History.{working_root}
 use Rattle.history_machine.specs.Machine.{refusal, found_refusal, unlink_refusal, rmdir_refusal}
 use Rattle.history_machine.specs.Descriptors.{Descriptors, is_open}
 use Rattle.fs_types.specs.declared.calls.Call.{Call}
@@ -25,28 +25,28 @@ use Rattle.working_state.specs.Moments.{Moment, machine_at, IsMountedAt, IsRefus
 use Rattle.working_state.specs.Worked.{IsLooked}
 use Rattle.working_state.proofs.ChangeSteps.{later_tree}
 use Rattle.working_state.proofs.ChangedCalls.{IsChangeBy}
-use Rattle.working_state.proofs.PathCalls.{present_tree_is, present_stands, LooksUp, found_by}
+use Rattle.working_state.proofs.PathCalls.{working_tree_is, working_stands, LooksUp, found_by}
 
 -- An empty directory.
 
-pub rmdir_looks : (a : Moment) (path : Path) (root : ℕ) → IsMountedAt a → present_root a.state.history ≡ Some root → (length path == 0) ≡ false → LooksUp a (Call.Rmdir path) root path (rmdir_refusal (tree_at a root) path)
+pub rmdir_looks : (a : Moment) (path : Path) (root : ℕ) → IsMountedAt a → working_root a.state.history a.state.group ≡ Some root → (length path == 0) ≡ false → LooksUp a (Call.Rmdir path) root path (rmdir_refusal (tree_at a root) path)
 rmdir_looks a path root m is below = record {
-  rooted = (present_stands a root m is).rooted;
+  rooted = (working_stands a root m is).rooted;
   begins = ap (λ b. is_none (if b then Some Busy else None)) below;
-  by_path = ap (λ (t : Tree). if length path == 0 then Some Busy else found_refusal t path (rmdir_refusal t path)) (present_tree_is a root is)
+  by_path = ap (λ (t : Tree). if length path == 0 then Some Busy else found_refusal t path (rmdir_refusal t path)) (working_tree_is a root is)
       ∙ ap (λ b. if b then Some Busy else found_refusal (tree_at a root) path (rmdir_refusal (tree_at a root) path)) below;
 }
 
 -- the number of entries that was read
-pub rmdir_count : (a : Moment) (path : Path) (root block : ℕ) (items : List Item) → IsMountedAt a → present_root a.state.history ≡ Some root → look_up (nodes_at a) root path ≡ Ok (found.Dir block) → entries_in (nodes_at a) block ≡ Some items
+pub rmdir_count : (a : Moment) (path : Path) (root block : ℕ) (items : List Item) → IsMountedAt a → working_root a.state.history a.state.group ≡ Some root → look_up (nodes_at a) root path ≡ Ok (found.Dir block) → entries_in (nodes_at a) block ≡ Some items
     → entry_count (tree_at a root) path ≡ length items
 rmdir_count a path root block items m is led spelled =
-    ap length ((map_law (capacity_at a) (nodes_at a) root (present_stands a root m is).rooted).lists path block (found_leads (nodes_at a) root path block led))
+    ap length ((map_law (capacity_at a) (nodes_at a) root (working_stands a root m is).rooted).lists path block (found_leads (nodes_at a) root path block led))
     ∙ length-map (unwrap_or (entries_in (nodes_at a) block) []) (λ (item : Item). (item.name, is_dir_place item.place))
     ∙ ap (λ (o : Option (List Item)). length (unwrap_or o [])) spelled
 
 -- what is refused for a directory of so many entries
-pub rmdir_counted : (a : Moment) (e : Device) (path : Path) (root block : ℕ) (items : List Item) (x : Found) → IsMountedAt a → present_root a.state.history ≡ Some root → (length path == 0) ≡ false → node_of e ≡ nodes_at a
+pub rmdir_counted : (a : Moment) (e : Device) (path : Path) (root block : ℕ) (items : List Item) (x : Found) → IsMountedAt a → working_root a.state.history a.state.group ≡ Some root → (length path == 0) ≡ false → node_of e ≡ nodes_at a
     → look_up (nodes_at a) root path ≡ Ok x → x ≡ found.Dir block → entries_in (node_of e) block ≡ Some items
     → refusal (machine_at a) (Call.Rmdir path) ≡ (if nat_lt 0 (length items) then Some NotEmpty else None)
 rmdir_counted a e path root block items x m is below same led called spelled =
@@ -56,7 +56,7 @@ rmdir_counted a e path root block items x m is below same led called spelled =
     ∙ ap (λ n. if nat_lt 0 n then Some NotEmpty else None) (rmdir_count a path root block items m is dir here)
 
 -- a directory with entries
-pub rmdir_refuses : (a : Moment) (e : Device) (c : Moment) (path : Path) (root block count : ℕ) (items : List Item) (x : Found) → IsMountedAt a → present_root a.state.history ≡ Some root → (length path == 0) ≡ false → node_of e ≡ nodes_at a
+pub rmdir_refuses : (a : Moment) (e : Device) (c : Moment) (path : Path) (root block count : ℕ) (items : List Item) (x : Found) → IsMountedAt a → working_root a.state.history a.state.group ≡ Some root → (length path == 0) ≡ false → node_of e ≡ nodes_at a
     → look_up (nodes_at a) root path ≡ Ok x → x ≡ found.Dir block → entries_in (node_of e) block ≡ Some items → count ≡ length items → 0 < count
     → IsRefused a (Call.Rmdir path) NotEmpty c
 rmdir_refuses a e c path root block count items x m is below same led called spelled counts some =
@@ -77,7 +77,7 @@ emptied f g h path root block count items x same again led called spelled counts
   ap (λ (k : Blocks). entries_in k block) again ∙ spelled ∙ ap Some (none_counted count items counts few),
 )
 
-pub rmdir_accepts : (a : Moment) (e : Device) (path : Path) (root block count : ℕ) (items : List Item) (x : Found) → IsMountedAt a → present_root a.state.history ≡ Some root → (length path == 0) ≡ false → node_of e ≡ nodes_at a
+pub rmdir_accepts : (a : Moment) (e : Device) (path : Path) (root block count : ℕ) (items : List Item) (x : Found) → IsMountedAt a → working_root a.state.history a.state.group ≡ Some root → (length path == 0) ≡ false → node_of e ≡ nodes_at a
     → look_up (nodes_at a) root path ≡ Ok x → x ≡ found.Dir block → entries_in (node_of e) block ≡ Some items → count ≡ length items → count ≤ 0
     → refusal (machine_at a) (Call.Rmdir path) ≡ None
 rmdir_accepts a e path root block count items x m is below same led called spelled counts few =
@@ -102,15 +102,15 @@ pub file_below : (f : Blocks) (root : ℕ) (path : Path) (head size : ℕ) → l
 file_below f root [] head size e = absurd cc
 file_below f root (n ∷ path) head size e = omega arith
 
-pub unlink_looks : (a : Moment) (path : Path) (root : ℕ) → IsMountedAt a → present_root a.state.history ≡ Some root → LooksUp a (Call.Unlink path) root path (unlink_refusal (machine_at a) path)
+pub unlink_looks : (a : Moment) (path : Path) (root : ℕ) → IsMountedAt a → working_root a.state.history a.state.group ≡ Some root → LooksUp a (Call.Unlink path) root path (unlink_refusal (machine_at a) path)
 unlink_looks a path root m is = record {
-  rooted = (present_stands a root m is).rooted;
+  rooted = (working_stands a root m is).rooted;
   begins = refl;
-  by_path = ap (λ (t : Tree). found_refusal t path (unlink_refusal (machine_at a) path)) (present_tree_is a root is);
+  by_path = ap (λ (t : Tree). found_refusal t path (unlink_refusal (machine_at a) path)) (working_tree_is a root is);
 }
 
 -- a file that is open or not
-pub unlink_found : (a : Moment) (files : Descriptors) (path : Path) (root head size : ℕ) (x : Found) (busy : Bool) → IsMountedAt a → present_root a.state.history ≡ Some root → files ≡ a.state.files → look_up (nodes_at a) root path ≡ Ok x → x ≡ found.File head size
+pub unlink_found : (a : Moment) (files : Descriptors) (path : Path) (root head size : ℕ) (x : Found) (busy : Bool) → IsMountedAt a → working_root a.state.history a.state.group ≡ Some root → files ≡ a.state.files → look_up (nodes_at a) root path ≡ Ok x → x ≡ found.File head size
     → is_open files path ≡ busy → refusal (machine_at a) (Call.Unlink path) ≡ (if busy then Some Busy else None)
 unlink_found a files path root head size x busy m is same led called told =
     found_by a (Call.Unlink path) root path (unlink_refusal (machine_at a) path) (unlink_looks a path root m is) x (found.File head size) led called

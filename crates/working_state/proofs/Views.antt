@@ -1,15 +1,16 @@
 -- Calls with a path in the tree that a view shows.
-use Rattle.std.proofs.Common.{◌≡◌, ℕ, false, Option, Some, None, List, refl, ap, subst, ◌∙◌, inl}
+use Rattle.std.proofs.Common.{◌≡◌, ℕ, Option, Some, None, List, refl, ap, subst, ◌∙◌, inl}
 use Rattle.std.proofs.lemmas.Option.{get_or_from_slice_get, slice_get_within}
 use Rattle.std.specs.Prelude.{slice_get, unwrap_or}
 use Rattle.std.specs.Option.{is_none, option_or, option_map, option_and_then}
 use Rattle.fs_types.specs.Names.{Path}
 use Rattle.plain_trees.specs.Contents.{Entry}
 use Rattle.plain_trees.specs.Trees.{bare}
-use Rattle.history_machine.specs.History.{Past, place_of, view_refusal, view_root}
-use Rattle.history_machine.specs.HistoryMaps.{view_refusal-map, view_root-map}
+use Rattle.history_machine.specs.History.{Past, place_of, view_refusal, seen_root}
+use Rattle.history_machine.specs.HistoryMaps.{view_refusal-map, seen_root-map}
 use Rattle.history_machine.specs.Machine.{refusal, found_refusal, view_path_refusal, view_tree}
 use Rattle.fs_types.specs.declared.calls.Call.{Call}
+use Rattle.fs_types.specs.declared.calls.Group.{Group}
 use Rattle.fs_types.specs.declared.calls.Version.{Version}
 use Rattle.fs_types.specs.declared.calls.View.{View}
 use Rattle.fs_types.specs.declared.calls.View.TheVariants.{Present, Serial, Checkpoint}
@@ -19,12 +20,12 @@ use Rattle.working_state.specs.Moments.{Moment, machine_at, IsMountedAt, IsRefus
 use Rattle.working_state.specs.Steps.{begins_work}
 use Rattle.working_state.specs.Mounted.{IsStanding}
 use Rattle.working_state.specs.declared.state.State.{State}
-use Rattle.working_state.proofs.Roots.{AllRoots, of_versions, of_present, of_checkpoint}
+use Rattle.working_state.proofs.Roots.{AllRoots, of_versions, of_working, of_checkpoint}
 use Rattle.working_state.proofs.PathCalls.{LooksUp}
 
 -- the root that a view shows
-of_view : (P : ℕ → Type 0) (s : State) (view : View) (root : ℕ) → AllRoots P s → view_root s.history view ≡ Some root → P root
-of_view P s Present root all e = of_present P s root all e
+of_view : (P : ℕ → Type 0) (s : State) (view : View) (root : ℕ) → AllRoots P s → seen_root s.history s.group view ≡ Some root → P root
+of_view P s Present root all e = of_working P s root all e
 of_view P s (Checkpoint name) root all e = of_checkpoint P s name root all e
 of_view P s (Serial serial) root all e = at (place_of s.history serial) e
   where
@@ -40,22 +41,22 @@ of_view P s (Serial serial) root all e = at (place_of s.history serial) e
     at (Some i) e = go i (slice_get versions i) refl e
 
 -- a view that shows a root
-pub record Shows (h : Past ℕ) (view : View) (root : ℕ) : Type 0 where
+pub record Shows (h : Past ℕ) (group : Option (Group ℕ)) (view : View) (root : ℕ) : Type 0 where
   pub fine : view_refusal h view ≡ None
-  pub shown : view_root h view ≡ Some root
+  pub shown : seen_root h group view ≡ Some root
 
-pub view_stands : (a : Moment) (view : View) (root : ℕ) → IsMountedAt a → Shows a.state.history view root → IsStanding a.device a.state.storage.ring root
+pub view_stands : (a : Moment) (view : View) (root : ℕ) → IsMountedAt a → Shows a.state.history a.state.group view root → IsStanding a.device a.state.storage.ring root
 view_stands a view root m shows = of_view (IsStanding a.device a.state.storage.ring) a.state view root m.roots shows.shown
 
-pub view_tree_is : (a : Moment) (view : View) (root : ℕ) → Shows a.state.history view root → view_tree (machine_at a) view ≡ tree_at a root
-view_tree_is a view root shows = ap (λ o. unwrap_or o bare) (view_root-map (tree_at a) a.state.history view ∙ ap (option_map (tree_at a)) shows.shown)
+pub view_tree_is : (a : Moment) (view : View) (root : ℕ) → Shows a.state.history a.state.group view root → view_tree (machine_at a) view ≡ tree_at a root
+view_tree_is a view root shows = ap (λ o. unwrap_or o bare) (seen_root-map (tree_at a) a.state.history a.state.group view ∙ ap (option_map (tree_at a)) shows.shown)
 
 view_fine : (a : Moment) (view : View) → view_refusal (machine_at a).history view ≡ view_refusal a.state.history view
 view_fine a view = view_refusal-map (tree_at a) a.state.history view
 
 module _ (a : Moment) (view : View) (path : Path) (call : Call) (refuse : Entry → Option Fault) (by_view : refusal (machine_at a) call ≡ view_path_refusal (machine_at a) view path refuse) where
   -- a view that shows a root leaves the path to refuse
-  pub view_looks : (root : ℕ) → IsMountedAt a → Shows a.state.history view root → begins_work (machine_at a) call ≡ is_none (view_refusal (machine_at a).history view) → LooksUp a call root path refuse
+  pub view_looks : (root : ℕ) → IsMountedAt a → Shows a.state.history a.state.group view root → begins_work (machine_at a) call ≡ is_none (view_refusal (machine_at a).history view) → LooksUp a call root path refuse
   view_looks root m shows by_fine = record {
     rooted = (view_stands a view root m shows).rooted;
     begins = by_fine ∙ ap is_none (view_fine a view ∙ shows.fine);

@@ -1,8 +1,9 @@
--- Changes: an edit of the present tree is written, and its root becomes the present version.
-use Rattle.std.specs.Prelude.{◌≡◌, ◌⊎◌, ℕ, ◌+◌, ◌<◌, true, false, Some, [], ◌∷◌, Result, Ok, Err, IfOk, IfErr}
+-- Changes: an edit of the tree that calls work on is written, and they work on its root then.
+use Rattle.std.specs.Prelude.{◌≡◌, ◌⊎◌, ℕ, ◌+◌, ◌<◌, true, false, Option, Some, None, [], ◌∷◌, Result, Ok, Err, IfOk, IfErr}
 use Rattle.std.specs.FinSet as set
-use Rattle.history_machine.specs.History.{Past, present_root, changed}
+use Rattle.history_machine.specs.History.{Past, working_root, history_with, group_with}
 use Rattle.plain_trees.specs.Trees.{Tree}
+use Rattle.fs_types.specs.declared.calls.Group.{Group}
 use Rattle.fs_types.specs.declared.faults.Fault.{Fault}
 use Rattle.fs_types.specs.declared.faults.Fault.TheVariants.{FlashFull, ReadOnly, Overflow}
 use Rattle.flash_model.specs.Device.{Device}
@@ -59,48 +60,51 @@ pub record IsTried (old : Device) (s : Storage) (edit : Edit) (root : ℕ) (resu
   pub refused : IfErr result (λ fault. WorkRefuses old s edit fault new t)
   pub still : need (capacity_of old) edit ≡ 0 → (new ≡ old) × (t ≡ s)
 
--- a root stands that has the edited tree of the present root and reaches what the source of the edit did, or blocks that
--- were not used, and is the present root now; read-only mode was off and is, and a serial was left
-pub record IsPushed (old : Device) (h : Past ℕ) (s : Storage) (edit : Edit) (new : Device) (i : Past ℕ) (t : Storage) : Type 0 where
+-- a root stands that has the edited tree of the root that calls work on and reaches what the source of the edit did, or blocks
+-- that were not used, and calls work on it now: it is the group's, or a new version's; read-only mode was off and is, and for a
+-- version a serial was left
+pub record IsPushed (old : Device) (h : Past ℕ) (g : Option (Group ℕ)) (s : Storage) (edit : Edit) (new : Device) (i : Past ℕ) (j : Option (Group ℕ)) (t : Storage) : Type 0 where
   pub root : ℕ
   pub to : ℕ
-  pub present : present_root h ≡ Some root
-  pub pushed : i ≡ changed h to
+  pub working : working_root h g ≡ Some root
+  pub pushed : i ≡ history_with h g to
+  pub regrouped : j ≡ group_with g to
   pub stands : IsStanding new t.ring to
   pub shows : tree_on new to ≡ edited_tree old edit root
   pub reached : ReachesFrom old s (source root edit) new to
   pub writable : is_read_only s.bad ≡ false
   pub stays_writable : is_read_only t.bad ≡ false
-  pub serial_left : h.next < last_serial
+  pub serial_left : g ≡ None → h.next < last_serial
 
 -- read-only mode is on: it was, or it came on in the work, for which a serial was left
-pub record IsReadOnly (h : Past ℕ) (s : Storage) (t : Storage) : Type 0 where
+pub record IsReadOnly (h : Past ℕ) (g : Option (Group ℕ)) (s : Storage) (t : Storage) : Type 0 where
   pub on : is_read_only t.bad ≡ true
-  pub serial_left : is_read_only s.bad ≡ false → h.next < last_serial
+  pub serial_left : is_read_only s.bad ≡ false → g ≡ None → h.next < last_serial
 
--- no serial is left, and read-only mode was off
-pub record IsOverflow (h : Past ℕ) (s : Storage) : Type 0 where
+-- no serial is left for a version, and read-only mode was off
+pub record IsOverflow (h : Past ℕ) (g : Option (Group ℕ)) (s : Storage) : Type 0 where
+  pub outside : g ≡ None
   pub writable : is_read_only s.bad ≡ false
   pub last : h.next ≡ last_serial
 
 -- the nodes are not written, though read-only mode was off and a serial was left
-pub record IsUnwritten (old : Device) (h : Past ℕ) (s : Storage) (edit : Edit) (fault : Fault) (new : Device) (t : Storage) : Type 0 where
+pub record IsUnwritten (old : Device) (h : Past ℕ) (g : Option (Group ℕ)) (s : Storage) (edit : Edit) (fault : Fault) (new : Device) (t : Storage) : Type 0 where
   pub writable : is_read_only s.bad ≡ false
-  pub serial_left : h.next < last_serial
+  pub serial_left : g ≡ None → h.next < last_serial
   pub why : WorkRefuses old s edit fault new t
 
 -- why a change is refused, in the order in which it is checked
-abbrev pub ChangeCause : Device → Past ℕ → Storage → Edit → Fault → Device → Storage → Type 0
-ChangeCause old h s edit fault new t =
-    (((fault ≡ ReadOnly) × IsReadOnly h s t) ⊎ ((fault ≡ Overflow) × IsOverflow h s)) ⊎ IsUnwritten old h s edit fault new t
+abbrev pub ChangeCause : Device → Past ℕ → Option (Group ℕ) → Storage → Edit → Fault → Device → Storage → Type 0
+ChangeCause old h g s edit fault new t =
+    (((fault ≡ ReadOnly) × IsReadOnly h g s t) ⊎ ((fault ≡ Overflow) × IsOverflow h g s)) ⊎ IsUnwritten old h g s edit fault new t
 
--- how a change ends: one version more, or the same history
-abbrev pub ChangeEnds : Device → Past ℕ → Storage → Edit → Result (Unit {0}) Fault → Device → Past ℕ → Storage → Type 0
-ChangeEnds old h s edit (Ok x) new i t = IsPushed old h s edit new i t
-ChangeEnds old h s edit (Err fault) new i t = (i ≡ h) × ChangeCause old h s edit fault new t
+-- how a change ends: one version more, or another tree of the group; or the same history and group
+abbrev pub ChangeEnds : Device → Past ℕ → Option (Group ℕ) → Storage → Edit → Result (Unit {0}) Fault → Device → Past ℕ → Option (Group ℕ) → Storage → Type 0
+ChangeEnds old h g s edit (Ok x) new i j t = IsPushed old h g s edit new i j t
+ChangeEnds old h g s edit (Err fault) new i j t = (i ≡ h) × (j ≡ g) × ChangeCause old h g s edit fault new t
 
 -- what a change leaves, whatever it answers; one that needs no node leaves flash and storage as they were
-pub record IsChanged (old : Device) (h : Past ℕ) (s : Storage) (edit : Edit) (result : Result (Unit {0}) Fault) (new : Device) (i : Past ℕ) (t : Storage) : Type 0 where
+pub record IsChanged (old : Device) (h : Past ℕ) (g : Option (Group ℕ)) (s : Storage) (edit : Edit) (result : Result (Unit {0}) Fault) (new : Device) (i : Past ℕ) (j : Option (Group ℕ)) (t : Storage) : Type 0 where
   pub written : HasWritten old s (need (capacity_of old) edit) new t
-  pub ends : ChangeEnds old h s edit result new i t
+  pub ends : ChangeEnds old h g s edit result new i j t
   pub still : need (capacity_of old) edit ≡ 0 → (new ≡ old) × (t ≡ s)

@@ -1,7 +1,7 @@
 -- What calls leave of a flash, and of what nodes are kept with on it.
 use Rattle.std.specs.Prelude.{◌≡◌, ℕ, ◌+◌, ◌≤◌, Bool, true, false}
 use Rattle.std.specs.FinSet as set
-use Rattle.history_machine.specs.Machine.{Machine, makes_version, need}
+use Rattle.history_machine.specs.Machine.{Machine, changes_tree, need}
 use Rattle.fs_types.specs.declared.calls.Call.{Call}
 use Rattle.flash_model.specs.Device.{Device}
 use Rattle.node_store.specs.declared.storage.Storage.{Storage}
@@ -33,13 +33,16 @@ is_still (Call.Rollback name) = true
 is_still (Call.Forget count) = true
 is_still (Call.Checkpoint name) = true
 is_still (Call.RemoveCheckpoint name) = true
+is_still Call.Begin = true
+is_still Call.End = true
+is_still Call.Abandon = true
 is_still _ = false
 
 -- what a call leaves, whatever it answers: what one try of its change does, in which it writes as many nodes at most as it
--- needs; a call that makes no version only reads; one that does no device operation leaves all as it was; and one that only
+-- needs; a call that changes no tree only reads; one that does no device operation leaves all as it was; and one that only
 -- looks, looks once
 pub record Leaves (m : Machine) (call : Call) (old : Device) (s : Storage) (new : Device) (t : Storage) : Type 0 where
   pub written : HasWritten old s (need (capacity_of old) m call) new t
-  pub looked : makes_version m call ≡ false → HasLooked old s new t
+  pub looked : changes_tree m call ≡ false → HasLooked old s new t
   pub still : is_still call ≡ true → (new ≡ old) × (t ≡ s)
   pub asks : LooksOnce m call old new

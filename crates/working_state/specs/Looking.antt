@@ -3,7 +3,7 @@ use Rattle.std.specs.Prelude.{◌≡◌, ℕ, ◌+◌, ◌*◌, ◌≤◌, Bool,
 use Rattle.fs_types.specs.declared.calls.Call.{Call}
 use Rattle.plain_trees.specs.Trees.{Tree, bytes_at}
 use Rattle.history_machine.specs.Descriptors.{Descriptor, descriptor_at}
-use Rattle.history_machine.specs.Machine.{Machine, present_tree, view_tree}
+use Rattle.history_machine.specs.Machine.{Machine, working_tree, view_tree}
 use Rattle.flash_model.specs.Device.{Device}
 use Rattle.block_trees.specs.Bodies.{head_index}
 use Rattle.skip_list_file.specs.Reading.{HasDigits, nodes_of_range}
@@ -42,5 +42,5 @@ abbrev pub LooksOnce : Machine → Call → Device → Device → Type 0
 LooksOnce m (Call.Stat view path) old new = Asks old (length path + 1) new
 LooksOnce m (Call.List view path) old new = Asks old (length path + 1) new
 LooksOnce m (Call.ReadAt view path offset count) old new = AsksForRange old (length path) (bytes_at (view_tree m view) path) offset count new
-LooksOnce m (Call.Pread descriptor offset count) old new = AsksForOpen old (descriptor_at m.descriptors descriptor) (present_tree m) offset count new
+LooksOnce m (Call.Pread descriptor offset count) old new = AsksForOpen old (descriptor_at m.descriptors descriptor) (working_tree m) offset count new
 LooksOnce m _ old new = Unit {0}

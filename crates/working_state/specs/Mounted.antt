@@ -24,9 +24,9 @@ pub record IsStanding (device : Device) (ring : Ring) (root : ℕ) : Type 0 wher
   pub held : IsHeld (node_of device) (set.contains ring.used) (Dir root)
   pub rooted : IsRoot (capacity_of device) (node_of device) root
 
--- the sizes are lawful, the ring is of this flash, what nodes are kept with fits it, the roots of all versions
--- and checkpoints stand, and what it shows is a machine: so each open file is a file of the present tree. Where a call
--- answered that the power is off, it is
+-- the sizes are lawful, the ring is of this flash, what nodes are kept with fits it, the roots of all versions and
+-- checkpoints and of the group stand, and what it shows is a machine: so each open file is a file of the tree that calls
+-- work on. Where a call answered that the power is off, it is
 pub record IsMounted (device : Device) (state : State) : Type 0 where
   pub lawful : IsGeometry device.geometry
   pub ring_blocks : state.storage.ring.blocks ≡ device.geometry.blocks
@@ -36,16 +36,17 @@ pub record IsMounted (device : Device) (state : State) : Type 0 where
   pub off : state.is_off ≡ true → device.powered ≡ false
 
 -- a call's step, as it is seen of the flash and the state before and after, and what it leaves of them, and which blocks
--- the versions and checkpoints reach then. A refused one leaves the history. What `df` tells is the space that is left. Once
--- a call has answered that the power is off, nothing changes
+-- the versions, the checkpoints and the group reach then. A refused one leaves the history and the group. What `df` tells
+-- is the space that is left. Once a call has answered that the power is off, nothing changes
 pub record StateStep (old : Device) (s : State) (call : Call) (result : Result Reply Fault) (new : Device) (t : State) : Type 0 where
   pub step : CallStep (seen_on old s) (machine_on old s) s.is_off call result (seen_on new t) (machine_on new t) t.is_off
   pub leaves : Leaves (machine_on old s) call old s.storage new t.storage
   pub told : tells_space call ≡ true → IfOk result (λ reply. (space : Space) × IsSpace new t space × (answer space (machine_on old s) call ≡ Ok reply))
   pub reached : ReachesNew old s new t
   pub refused : OnErr result (t.history ≡ s.history)
+  pub regrouped : OnErr result (t.group ≡ s.group)
   pub stopped : s.is_off ≡ true → (new ≡ old) × (t ≡ s)
 
--- no page changed of a block that a version or a checkpoint reaches
+-- no page changed of a block that a version, a checkpoint or the group reaches
 abbrev pub KeepsPages : Device → State → Device → Type 0
 KeepsPages old s new = (p : ℕ) → IsReached old s (block_of old p) → new.pages p ≡ old.pages p

@@ -26,7 +26,8 @@ changes_found flags (File head size) = truncates flags && nat_lt 0 size
 changes_found flags (Dir block) = false
 
 -- a call's step where no call answered before that the power is off, and what it leaves: the system stays mounted, no
--- page changed of a block that a version or a checkpoint reaches, and what they reach now was reached before, or not used
+-- page changed of a block that a version, a checkpoint or the group reaches, and what they reach now was reached before, or
+-- not used
 pub record IsAnswered (old : Moment) (call : Call) (result : Result Reply Fault) (new : Moment) (off : Bool) : Type 0 where
   pub mounted : IsMountedAt new
   pub step : IsStep old call result new off
@@ -35,3 +36,4 @@ pub record IsAnswered (old : Moment) (call : Call) (result : Result Reply Fault)
   pub pages : KeepsPages old.device old.state new.device
   pub reached : ReachesNew old.device old.state new.device new.state
   pub refused : OnErr result (new.state.history ≡ old.state.history)
+  pub regrouped : OnErr result (new.state.group ≡ old.state.group)

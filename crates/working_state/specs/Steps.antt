@@ -2,7 +2,7 @@
 use Rattle.std.specs.Prelude.{◌≡◌, ◌⊎◌, ℕ, ◌+◌, ◌-◌, ◌^◌, ◌<◌, ◌≤◌, Bool, true, false, not, ◌==◌, ◌&&◌, ◌||◌, is_some, is_none, Option, Some, None, [], length, Result, Ok, Err, if◌then◌else◌}
 use Rattle.history_machine.specs.Descriptors.{are_lawful}
 use Rattle.history_machine.specs.History.{view_refusal}
-use Rattle.history_machine.specs.Machine.{Machine, Space, refusal, answer, next, is_accepted, makes_version, need, tree_after}
+use Rattle.history_machine.specs.Machine.{Machine, Space, refusal, answer, next, is_accepted, makes_version, need, tree_after, version_after}
 use Rattle.fs_types.specs.declared.calls.Call.{Call}
 use Rattle.fs_types.specs.declared.calls.Reply.{Reply}
 use Rattle.fs_types.specs.declared.faults.Fault.{Fault}
@@ -28,6 +28,9 @@ is_light (Call.Pwrite descriptor offset []) = true
 is_light Call.Undo = true
 is_light Call.Redo = true
 is_light (Call.Goto serial) = true
+is_light Call.Begin = true
+is_light Call.End = true
+is_light Call.Abandon = true
 is_light _ = false
 
 -- the refusal of a call that comes before anything is looked up
@@ -66,9 +69,10 @@ abbrev pub tells_space : Call → Bool
 tells_space Call.Df = true
 tells_space _ = false
 
--- an accepted call that read-only mode refuses
+-- an accepted call that read-only mode refuses: one that changes a tree, in a group too, one that makes a version, or one that
+-- the record has to take
 abbrev pub is_writing : Machine → Call → Bool
-is_writing m call = is_accepted m call && (is_some (tree_after m call) || is_for_record call)
+is_writing m call = is_accepted m call && ((is_some (tree_after m call) || is_some (version_after m call)) || is_for_record call)
 
 -- no block is free, and those that were free were fewer than the nodes to be written and the blocks that went bad since
 pub record IsFull (old : Seen) (nodes : ℕ) (new : Seen) : Type 0 where
@@ -80,7 +84,7 @@ pub record IsFull (old : Seen) (nodes : ℕ) (new : Seen) : Type 0 where
 -- neither had refused it; and where read-only mode came on in the work, a serial was left. Where the call came to a look-up
 -- or to its work: a read failed; the device is off; memory was wanted
 abbrev pub MayRefuse : Seen → Machine → Call → Fault → Seen → Type 0
-MayRefuse old m call FlashFull new = (0 < need old.capacity m call) × (old.read_only ≡ false) × (m.history.next < last_serial) × IsFull old (need old.capacity m call) new
+MayRefuse old m call FlashFull new = (0 < need old.capacity m call) × (old.read_only ≡ false) × (makes_version m call ≡ true → m.history.next < last_serial) × IsFull old (need old.capacity m call) new
 MayRefuse old m call ReadOnly new = (is_writing m call ≡ true) × (new.read_only ≡ true) × (old.read_only ≡ false → makes_version m call ≡ true → m.history.next < last_serial)
 MayRefuse old m call Overflow new = (old.read_only ≡ false) × (((makes_version m call ≡ true) × (m.history.next ≡ last_serial)) ⊎ ((is_sync call ≡ true) × (is_accepted m call ≡ true)))
 MayRefuse old m call ReadFailed new = (begins_work m call ≡ true) × (old.failed_reads < new.failed_reads)

@@ -1,5 +1,5 @@
 //! What calls check before they work, and what they remember after it.
-ghost use Rattle.std.specs.Prelude.{◌≡◌, ◌<◌, ◌⊎◌, ◌||◌, true, false, IfErr, OnOk};
+ghost use Rattle.std.specs.Prelude.{◌≡◌, ◌<◌, ◌⊎◌, ◌||◌, true, false, is_some, Some, None, IfOk, IfErr, OnOk};
 ghost use Rattle.history_machine.specs.Descriptors.{any_open};
 ghost use Rattle.fs_types.specs.declared.faults.Fault.{Fault};
 ghost use Rattle.working_state.specs.Changes.{IsReadOnly, IsOverflow};
@@ -7,7 +7,7 @@ ghost use Rattle.read_only.specs.Modes.{is_read_only};
 ghost use Rattle.working_state.specs.Steps.{last_serial, is_cut_answer};
 
 use crate::state::State;
-use fs_types::Fault;
+use fs_types::{Fault, Group};
 use history::History;
 use node_store::Storage;
 use read_only::is_read_only;
@@ -22,6 +22,29 @@ impl State {
             Err(Fault::PowerCut)
         } else {
             Ok(())
+        }
+    }
+
+    /// Refuses a call on the history in a change group.
+    pub fn check_outside(&self) -> Result<(), Fault>
+        ensures ok { OnOk result (self.now.group ≡ None) }
+        ensures err { IfErr result (λ fault. (fault ≡ Fault.InGroup) × (is_some self.now.group ≡ true)) }
+    {
+        if self.group.is_some() {
+            Err(Fault::InGroup)
+        } else {
+            Ok(())
+        }
+    }
+
+    /// Refuses to end a change group where none is open; else answers it.
+    pub(crate) fn check_inside(&self) -> Result<Group<u32>, Fault>
+        ensures ok { IfOk result (λ group. self.now.group ≡ Some group) }
+        ensures err { IfErr result (λ fault. (fault ≡ Fault.NoGroup) × (self.now.group ≡ None)) }
+    {
+        match &self.group {
+            Some(group) => Ok(*group),
+            None => Err(Fault::NoGroup),
         }
     }
 
@@ -61,14 +84,18 @@ pub(crate) fn check_writable(storage: &Storage) -> Result<(), Fault>
     }
 }
 
-/// Refuses a change in read-only mode, and where no serial is left for it.
-pub(crate) fn check_change(history: &History<u32>, storage: &Storage) -> Result<(), Fault>
+/// Refuses a change in read-only mode, and outside a group where no serial is left for it.
+pub(crate) fn check_change(
+    history: &History<u32>,
+    group: &Option<Group<u32>>,
+    storage: &Storage,
+) -> Result<(), Fault>
     ensures writable { OnOk result (is_read_only storage.now.bad ≡ false) }
-    ensures serial { OnOk result (history.now.next < last_serial) }
-    ensures err { IfErr result (λ fault. ((fault ≡ Fault.ReadOnly) × IsReadOnly history.now storage.now storage.now) ⊎ ((fault ≡ Fault.Overflow) × IsOverflow history.now storage.now)) }
+    ensures serial { OnOk result (group.now ≡ None → history.now.next < last_serial) }
+    ensures err { IfErr result (λ fault. ((fault ≡ Fault.ReadOnly) × IsReadOnly history.now group.now storage.now storage.now) ⊎ ((fault ≡ Fault.Overflow) × IsOverflow history.now group.now storage.now)) }
 {
     check_writable(storage)?;
-    if history.is_exhausted() {
+    if group.is_none() && history.is_exhausted() {
         Err(Fault::Overflow)
     } else {
         Ok(())

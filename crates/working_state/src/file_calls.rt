@@ -1,8 +1,8 @@
 //! The calls on open files, on the working state and the flash. Each checks in order: whether an
-//! earlier call answered that the power is off; its own refusals; read-only mode; the greatest serial;
-//! and then it works.
+//! earlier call answered that the power is off; its own refusals; read-only mode; outside a change
+//! group the greatest serial; and then it works.
 ghost use Rattle.std.specs.Prelude.{◌≡◌, ◌<◌, ℕ, true, false, length, Some, None, Ok, IfOk, IfErr, OnOk, unwrap_or};
-ghost use Rattle.history_machine.specs.History.{present_root};
+ghost use Rattle.history_machine.specs.History.{working_root};
 ghost use Rattle.fs_types.specs.Names.{is_path};
 ghost use Rattle.history_machine.specs.Descriptors.{least_free};
 ghost use Rattle.history_machine.specs.Machine.{refusal};
@@ -84,7 +84,14 @@ impl State {
             path,
             trail: &trail,
         };
-        change(alloc, flash, &mut self.history, &mut self.storage, edit)?;
+        change(
+            alloc,
+            flash,
+            &mut self.history,
+            &mut self.group,
+            &mut self.storage,
+            edit,
+        )?;
         self.files.open(descriptor, file);
         Ok(descriptor)
     }
@@ -99,7 +106,7 @@ impl State {
         flags: OpenFlags,
     ) -> Result<(Found, Trail, u8), Fault>
         requires mounted { IsMounted (F.device flash.old) self.old }
-        requires present { present_root self.old.history ≡ Some root }
+        requires working { working_root self.old.history self.old.group ≡ Some root }
         ensures looked { IsLooked (moment (F.device flash.old) self.old) (moment (F.device flash.new) self.new) }
         ensures lawful { OnOk result (is_path path.now ≡ true) }
         ensures nodes { node_of (F.device flash.new) ≡ node_of (F.device flash.old) }

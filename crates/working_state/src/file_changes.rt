@@ -1,6 +1,6 @@
 //! Changes of the bytes of open files, on the working state and the flash. Each call checks in order:
-//! whether an earlier one answered that the power is off; its own refusals; read-only mode; the
-//! greatest serial; and then it works.
+//! whether an earlier one answered that the power is off; its own refusals; read-only mode; outside a
+//! change group the greatest serial; and then it works.
 ghost use Rattle.std.specs.Prelude.{◌≡◌, ℕ, ◌<◌, ◌≤◌, ◌+◌, false, length, Some, None, Ok, IfOk, IfErr, OnOk};
 ghost use Rattle.std.specs.Option.{option_map_or};
 ghost use Rattle.history_machine.specs.Descriptors.{descriptor_at};
@@ -84,7 +84,14 @@ impl State {
             offset: offset as u32,
             bytes,
         };
-        change(alloc, flash, &mut self.history, &mut self.storage, edit)?;
+        change(
+            alloc,
+            flash,
+            &mut self.history,
+            &mut self.group,
+            &mut self.storage,
+            edit,
+        )?;
         Ok(bytes.len() as u64)
     }
 
@@ -129,7 +136,14 @@ impl State {
             body,
             length: size as u32,
         };
-        change(alloc, flash, &mut self.history, &mut self.storage, edit)
+        change(
+            alloc,
+            flash,
+            &mut self.history,
+            &mut self.group,
+            &mut self.storage,
+            edit,
+        )
     }
 }
 

@@ -1,6 +1,7 @@
-//! The calls on the history, on the working state alone: no device operation is done. Each checks in
-//! order: whether an earlier call answered that the power is off; whether a file is open, where it
-//! would move the present version; its own refusals; read-only mode; and the greatest serial.
+//! The calls on the history, on the working state alone: no device operation is done. Each but `log`
+//! checks in order: whether an earlier call answered that the power is off; whether a change group is
+//! open; whether a file is, where it would move the present version; its own refusals; read-only mode;
+//! and the greatest serial.
 ghost use Rattle.std.specs.Prelude.{◌≡◌};
 ghost use Rattle.fs_types.specs.declared.calls.Call.{Call};
 ghost use Rattle.fs_types.specs.declared.calls.Reply.{Reply};
@@ -23,6 +24,7 @@ impl State {
         ensures step { (device : Device) → StateStep device self.old Call.Undo (replied empty result) device self.new }
     {
         self.check_power()?;
+        self.check_outside()?;
         self.check_none_open()?;
         self.history.undo()
     }
@@ -33,6 +35,7 @@ impl State {
         ensures step { (device : Device) → StateStep device self.old Call.Redo (replied empty result) device self.new }
     {
         self.check_power()?;
+        self.check_outside()?;
         self.check_none_open()?;
         self.history.redo()
     }
@@ -43,6 +46,7 @@ impl State {
         ensures step { (device : Device) → StateStep device self.old (Call.Goto serial) (replied empty result) device self.new }
     {
         self.check_power()?;
+        self.check_outside()?;
         self.check_none_open()?;
         self.history.goto(serial)
     }
@@ -61,10 +65,18 @@ impl State {
         ensures storage { self.new.storage ≡ self.old.storage }
     {
         self.check_power()?;
+        self.check_outside()?;
         self.check_none_open()?;
         let root = *self.history.checkpoint_root(name)?;
         let edit = Edit::Restore { root };
-        change(alloc, flash, &mut self.history, &mut self.storage, edit)
+        change(
+            alloc,
+            flash,
+            &mut self.history,
+            &mut self.group,
+            &mut self.storage,
+            edit,
+        )
     }
 
     /// The oldest versions before the present one are dropped.
@@ -73,6 +85,7 @@ impl State {
         ensures step { (device : Device) → StateStep device self.old (Call.Forget count) (replied empty result) device self.new }
     {
         self.check_power()?;
+        self.check_outside()?;
         if count > self.history.cursor() as u64 {
             return Err(Fault::Invalid);
         }
@@ -86,6 +99,7 @@ impl State {
         ensures step { (device : Device) → StateStep device self.old (Call.Checkpoint name.now) (replied empty result) device self.new }
     {
         self.check_power()?;
+        self.check_outside()?;
         if self.history.checkpoints().contains_key(name) {
             return Err(Fault::Exists);
         }
@@ -103,6 +117,7 @@ impl State {
         ensures step { (device : Device) → StateStep device self.old (Call.RemoveCheckpoint name.now) (replied empty result) device self.new }
     {
         self.check_power()?;
+        self.check_outside()?;
         self.history.checkpoint_root(name)?;
         check_writable(&self.storage)?;
         self.history.remove_checkpoint(name)

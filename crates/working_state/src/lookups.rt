@@ -1,5 +1,6 @@
 //! Paths looked up on the flash.
-ghost use Rattle.std.specs.Prelude.{◌≡◌, true, false, length, Ok, Err, IfOk, IfErr};
+ghost use Rattle.std.specs.Prelude.{◌≡◌, true, false, Some, None, length, Ok, Err, IfOk, IfErr, MatchResult};
+ghost use Rattle.history_machine.specs.History.{view_refusal, seen_root};
 ghost use Rattle.node_store.specs.NodePages.{node_of};
 ghost use Rattle.directory.specs.Lookups.{look_up, is_path_fault, IsLookupFault};
 ghost use Rattle.directory.specs.Trails.{IsTrail};
@@ -9,10 +10,24 @@ ghost use Rattle.working_state.specs.Looking.{Asks};
 ghost use Rattle.working_state.specs.Seen.{seen_of};
 ghost use Rattle.working_state.specs.Worked.{WorkCause};
 
+use crate::state::State;
 use directory::{Found, Trail, find};
 use flash_model::Flash;
-use fs_types::{Fault, Path};
+use fs_types::{Fault, Path, View};
 use node_store::{Storage, Store};
+
+impl State {
+    /// The root of the tree that a view shows.
+    pub(crate) fn seen(&self, view: &View) -> Result<u32, Fault>
+        ensures { MatchResult result (λ root. (view_refusal self.now.history view.now ≡ None) × (seen_root self.now.history self.now.group view.now ≡ Some root))
+            (λ fault. view_refusal self.now.history view.now ≡ Some fault) }
+    {
+        match view {
+            View::Present => Ok(self.root()),
+            _ => Ok(*self.history.find(view)?),
+        }
+    }
+}
 
 /// What a path below a root leads to, and the directories that it goes through.
 pub(crate) fn find_path<F: Flash>(

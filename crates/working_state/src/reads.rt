@@ -67,7 +67,7 @@ impl State {
         ensures asks { LooksOnce (machine_at (moment (F.device flash.old) self.old)) (Call.ReadAt view.now path.now offset count) (F.device flash.old) (F.device flash.new) }
         ensures step { IsStep (moment (F.device flash.old) self.old) (Call.ReadAt view.now path.now offset count) (replied Reply.Bytes result) (moment (F.device flash.new) self.new) (is_cut_answer result) }
     {
-        let root = *self.history.find(view)?;
+        let root = self.seen(view)?;
         read_below(alloc, flash, &mut self.storage, root, path, offset, count)
     }
 

@@ -1,8 +1,8 @@
-//! Entries taken out of the present tree, on the working state and the flash. Each call checks in
-//! order: whether an earlier one answered that the power is off; its own refusals; read-only mode;
-//! the greatest serial; and then it works.
+//! Entries taken out of the tree that calls work on, on the working state and the flash. Each call
+//! checks in order: whether an earlier one answered that the power is off; its own refusals; read-only
+//! mode; outside a change group the greatest serial; and then it works.
 ghost use Rattle.std.specs.Prelude.{◌≡◌, ◌<◌, ℕ, true, false, length, None, Some, [], Ok, Err, IfOk, IfErr, OnOk};
-ghost use Rattle.history_machine.specs.History.{present_root};
+ghost use Rattle.history_machine.specs.History.{working_root};
 ghost use Rattle.history_machine.specs.Machine.{refusal};
 ghost use Rattle.fs_types.specs.Names.{is_path};
 ghost use Rattle.fs_types.specs.declared.calls.Call.{Call};
@@ -60,7 +60,14 @@ impl State {
             path,
             trail: &trail,
         };
-        change(alloc, flash, &mut self.history, &mut self.storage, edit)
+        change(
+            alloc,
+            flash,
+            &mut self.history,
+            &mut self.group,
+            &mut self.storage,
+            edit,
+        )
     }
 
     /// Refuses the root, a path where no directory stands, and that of a directory with entries.
@@ -72,7 +79,7 @@ impl State {
         path: &Path,
     ) -> Result<Trail, Fault>
         requires mounted { IsMounted (F.device flash.old) self.old }
-        requires present { present_root self.old.history ≡ Some root }
+        requires working { working_root self.old.history self.old.group ≡ Some root }
         ensures looked { IsLooked (moment (F.device flash.old) self.old) (moment (F.device flash.new) self.new) }
         ensures lawful { OnOk result (is_path path.now ≡ true) }
         ensures below { OnOk result (0 < length path.now) }
@@ -130,7 +137,14 @@ impl State {
             path,
             trail: &trail,
         };
-        change(alloc, flash, &mut self.history, &mut self.storage, edit)
+        change(
+            alloc,
+            flash,
+            &mut self.history,
+            &mut self.group,
+            &mut self.storage,
+            edit,
+        )
     }
 
     /// Refuses a path where no file stands, and that of an open file. Answers the directories that the
@@ -142,7 +156,7 @@ impl State {
         path: &Path,
     ) -> Result<Trail, Fault>
         requires mounted { IsMounted (F.device flash.old) self.old }
-        requires present { present_root self.old.history ≡ Some root }
+        requires working { working_root self.old.history self.old.group ≡ Some root }
         ensures looked { IsLooked (moment (F.device flash.old) self.old) (moment (F.device flash.new) self.new) }
         ensures lawful { OnOk result (is_path path.now ≡ true) }
         ensures way { IfOk result (IsTrail (node_of (F.device flash.new)) root path.now) }

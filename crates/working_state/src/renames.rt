@@ -1,11 +1,11 @@
 //! What stands at a path moved to another, on the working state and the flash. Checked in order:
 //! whether an earlier call answered that the power is off; the call's own refusals; read-only mode;
-//! the greatest serial; and then the work.
+//! outside a change group the greatest serial; and then the work.
 ghost use Rattle.std.specs.Prelude.{◌≡◌, ◌⊎◌, ◌≤◌, ◌-◌, ◌&&◌, ◌||◌, ℕ, true, false, not, length, None, Some, Option, Ok, Err, IfOk, IfErr, OnOk, IfSome};
 ghost use Rattle.plain_trees.specs.Contents.{Entry, is_dir, begins, parent_of};
 ghost use Rattle.history_machine.specs.Descriptors.{is_open, is_open_within};
-ghost use Rattle.history_machine.specs.History.{present_root};
-ghost use Rattle.history_machine.specs.Machine.{refusal, found_refusal, rename_refusal, present_tree};
+ghost use Rattle.history_machine.specs.History.{working_root};
+ghost use Rattle.history_machine.specs.Machine.{refusal, found_refusal, rename_refusal, working_tree};
 ghost use Rattle.fs_types.specs.declared.limits.TheConstants.{MAX_NAMES};
 ghost use Rattle.fs_types.specs.Names.{is_path, same_path};
 ghost use Rattle.fs_types.specs.declared.calls.Call.{Call};
@@ -87,7 +87,14 @@ impl State {
             new_trail: &moves.new_trail,
             place: moves.place,
         };
-        change(alloc, flash, &mut self.history, &mut self.storage, edit)
+        change(
+            alloc,
+            flash,
+            &mut self.history,
+            &mut self.group,
+            &mut self.storage,
+            edit,
+        )
     }
 
     /// What is to be moved, or nothing where both paths are the same.
@@ -100,7 +107,7 @@ impl State {
         new: &Path,
     ) -> Result<Option<ToMove>, Fault>
         requires mounted { IsMounted (F.device flash.old) self.old }
-        requires present { present_root self.old.history ≡ Some root }
+        requires working { working_root self.old.history self.old.group ≡ Some root }
         ensures looked { IsLooked (moment (F.device flash.old) self.old) (moment (F.device flash.new) self.new) }
         ensures movable { IfOk result (IsToMove (node_of (F.device flash.new)) root old.now new.now) }
         ensures accepted { OnOk result (refusal (machine_at (moment (F.device flash.old) self.old)) (Call.Rename old.now new.now) ≡ None) }
@@ -127,14 +134,14 @@ impl State {
         path: &Path,
     ) -> Result<(Place, Trail), Fault>
         requires mounted { IsMounted (F.device flash.old) self.old }
-        requires present { present_root self.old.history ≡ Some root }
+        requires working { working_root self.old.history self.old.group ≡ Some root }
         ensures looked { IsLooked (moment (F.device flash.old) self.old) (moment (F.device flash.new) self.new) }
         ensures nodes { node_of (F.device flash.new) ≡ node_of (F.device flash.old) }
         ensures stands { IfOk result (λ r. leads (node_of (F.device flash.old)) (Dir root) path.now ≡ Some r.0) }
         ensures way { IfOk result (λ r. IsTrail (node_of (F.device flash.old)) root path.now r.1) }
         ensures place { IfOk result (λ r. is_place r.0 ≡ true) }
-        ensures found { IfOk result (λ r. (entry : Entry) × (is_dir entry ≡ is_dir_place r.0) × ((refuse : Entry → Option Fault) → found_refusal (present_tree (machine_at (moment (F.device flash.old) self.old))) path.now refuse ≡ refuse entry)) }
-        ensures refused { IfErr result (λ fault. ((refuse : Entry → Option Fault) → found_refusal (present_tree (machine_at (moment (F.device flash.old) self.old))) path.now refuse ≡ Some fault) ⊎ ReadCause (seen_at (moment (F.device flash.old) self.old)) fault (seen_at (moment (F.device flash.new) self.new))) }
+        ensures found { IfOk result (λ r. (entry : Entry) × (is_dir entry ≡ is_dir_place r.0) × ((refuse : Entry → Option Fault) → found_refusal (working_tree (machine_at (moment (F.device flash.old) self.old))) path.now refuse ≡ refuse entry)) }
+        ensures refused { IfErr result (λ fault. ((refuse : Entry → Option Fault) → found_refusal (working_tree (machine_at (moment (F.device flash.old) self.old))) path.now refuse ≡ Some fault) ⊎ ReadCause (seen_at (moment (F.device flash.old) self.old)) fault (seen_at (moment (F.device flash.new) self.new))) }
     {
         let (found, trail) = find_path(flash, &mut self.storage, root, path)?;
         match found {
@@ -156,7 +163,7 @@ impl State {
         place: Place,
     ) -> Result<Trail, Fault>
         requires mounted { IsMounted (F.device flash.old) self.old }
-        requires present { present_root self.old.history ≡ Some root }
+        requires working { working_root self.old.history self.old.group ≡ Some root }
         requires differ { same_path old.now new.now ≡ false }
         requires stands { leads (node_of (F.device flash.old)) (Dir root) old.now ≡ Some place }
         ensures looked { IsLooked (moment (F.device flash.old) self.old) (moment (F.device flash.new) self.new) }
@@ -187,14 +194,14 @@ impl State {
         moves_directory: bool,
     ) -> Result<(bool, Trail), Fault>
         requires mounted { IsMounted (F.device flash.old) self.old }
-        requires present { present_root self.old.history ≡ Some root }
+        requires working { working_root self.old.history self.old.group ≡ Some root }
         ensures looked { IsLooked (moment (F.device flash.old) self.old) (moment (F.device flash.new) self.new) }
         ensures nodes { node_of (F.device flash.new) ≡ node_of (F.device flash.old) }
-        ensures room { IfOk result (λ r. r.0 ≡ lacks_room (present_tree (machine_at (moment (F.device flash.old) self.old))) path.now) }
+        ensures room { IfOk result (λ r. r.0 ≡ lacks_room (working_tree (machine_at (moment (F.device flash.old) self.old))) path.now) }
         ensures fits { IfOk result (λ r. r.0 ≡ false → has_room (look_up (node_of (F.device flash.old)) root path.now) ≡ true) }
         ensures way { IfOk result (λ r. IsTrail (node_of (F.device flash.old)) root path.now r.1) }
-        ensures allowed { OnOk result ((entry : Entry) → is_dir entry ≡ moves_directory → target_refusal (present_tree (machine_at (moment (F.device flash.old) self.old))) path.now entry ≡ None) }
-        ensures refused { IfErr result (λ fault. ((entry : Entry) → is_dir entry ≡ moves_directory → target_refusal (present_tree (machine_at (moment (F.device flash.old) self.old))) path.now entry ≡ Some fault) ⊎ ReadCause (seen_at (moment (F.device flash.old) self.old)) fault (seen_at (moment (F.device flash.new) self.new))) }
+        ensures allowed { OnOk result ((entry : Entry) → is_dir entry ≡ moves_directory → target_refusal (working_tree (machine_at (moment (F.device flash.old) self.old))) path.now entry ≡ None) }
+        ensures refused { IfErr result (λ fault. ((entry : Entry) → is_dir entry ≡ moves_directory → target_refusal (working_tree (machine_at (moment (F.device flash.old) self.old))) path.now entry ≡ Some fault) ⊎ ReadCause (seen_at (moment (F.device flash.old) self.old)) fault (seen_at (moment (F.device flash.new) self.new))) }
     {
         let (found, trail) = find_path(flash, &mut self.storage, root, path)?;
         match found {
@@ -230,7 +237,7 @@ impl State {
         place: Place,
     ) -> Result<(), Fault>
         requires mounted { IsMounted (F.device flash.old) self.old }
-        requires present { present_root self.old.history ≡ Some root }
+        requires working { working_root self.old.history self.old.group ≡ Some root }
         requires stands { leads (node_of (F.device flash.old)) (Dir root) old.now ≡ Some place }
         ensures looked { IsLooked (moment (F.device flash.old) self.old) (moment (F.device flash.new) self.new) }
         ensures nodes { node_of (F.device flash.new) ≡ node_of (F.device flash.old) }

@@ -47,7 +47,7 @@ impl State {
         ensures asks { LooksOnce (machine_at (moment (F.device flash.old) self.old)) (Call.Stat view.now path.now) (F.device flash.old) (F.device flash.new) }
         ensures step { IsStep (moment (F.device flash.old) self.old) (Call.Stat view.now path.now) (replied Reply.Stat result) (moment (F.device flash.new) self.new) (is_cut_answer result) }
     {
-        let root = *self.history.find(view)?;
+        let root = self.seen(view)?;
         let (found, _trail) = find_path(flash, &mut self.storage, root, path)?;
         match found {
             Found::Missing { .. } => Err(Fault::NoEntry),

@@ -1,7 +1,7 @@
 //! The working state: all that a mounted system keeps in memory, apart from the flash.
 ghost use Rattle.std.specs.Prelude.{◌≡◌, ℕ, ◌<◌, ◌≤◌, ◌↔◌, ◌⊎◌, true, Some, Err, [], IfOk, IfErr};
 ghost use Rattle.std.specs.FinSet as set;
-ghost use Rattle.history_machine.specs.History.{present_root};
+ghost use Rattle.history_machine.specs.History.{working_root};
 ghost use Rattle.fs_types.specs.declared.limits.TheConstants.{MIN_VERSIONS, MAX_VERSIONS};
 ghost use Rattle.fs_types.specs.declared.faults.Fault.{Fault};
 ghost use Rattle.flash_model.specs.Device.{Device};
@@ -19,7 +19,7 @@ ghost use Rattle.working_state.specs.Seen.{IsLaterFlash};
 use allocator::Ring;
 use bad_blocks::BadBlocks;
 use flash_model::{Flash, Geometry};
-use fs_types::Fault;
+use fs_types::{Fault, Group};
 use history::History;
 use node_cache::NodeCache;
 use node_format::empty_directory;
@@ -32,20 +32,22 @@ use std::alloc::Global;
 pub struct State {
     /// The versions and checkpoints, by the blocks of their roots.
     pub history: History<u32>,
+    /// The change group that is open, by the block of its root.
+    pub group: Option<Group<u32>>,
     /// What nodes are kept with: the bad and the used blocks, and room for a page and for a node.
     pub storage: Storage,
-    /// The open files, each a file of the present tree.
+    /// The open files, each a file of the tree that calls work on.
     pub files: OpenFiles,
     /// Whether a call answered that the power is off; each later one does too.
     pub is_off: bool,
 }
 
 impl State {
-    /// The root of the present version.
+    /// The root of the tree that calls work on.
     pub(crate) fn root(&self) -> u32
-        ensures { present_root self.now.history ≡ Some result }
+        ensures { working_root self.now.history self.now.group ≡ Some result }
     {
-        *self.history.root()
+        root_of(&self.history, &self.group)
     }
 
     /// The working state of a fresh system on a flash of lawful sizes, of which these anchors are bad
@@ -75,10 +77,21 @@ impl State {
         let history = History::new(alloc, limit as usize, root)?;
         Ok(State {
             history,
+            group: None,
             storage,
             files: OpenFiles::new(),
             is_off: false,
         })
+    }
+}
+
+/// The root of the tree that calls work on: the group's, where one is open, else the present one.
+pub(crate) fn root_of(history: &History<u32>, group: &Option<Group<u32>>) -> u32
+    ensures { working_root history.now group.now ≡ Some result }
+{
+    match group {
+        Some(group) => group.root,
+        None => *history.root(),
     }
 }
 

@@ -1,8 +1,8 @@
 //! The calls on trees, on the working state and the flash. Each checks in order: whether an earlier
-//! call answered that the power is off; its own refusals; read-only mode; the greatest serial; and
-//! then it works.
+//! call answered that the power is off; its own refusals; read-only mode; outside a change group the
+//! greatest serial; and then it works.
 ghost use Rattle.std.specs.Prelude.{◌≡◌, ℕ, true, false, None, Some, List, Ok, Err, IfOk, IfErr, OnOk, IsErrOf};
-ghost use Rattle.history_machine.specs.History.{present_root};
+ghost use Rattle.history_machine.specs.History.{working_root};
 ghost use Rattle.fs_types.specs.Names.{is_path};
 ghost use Rattle.history_machine.specs.Machine.{refusal};
 ghost use Rattle.fs_types.specs.declared.calls.Call.{Call};
@@ -64,7 +64,7 @@ impl State {
         ensures asks { LooksOnce (machine_at (moment (F.device flash.old) self.old)) (Call.List view.now path.now) (F.device flash.old) (F.device flash.new) }
         ensures step { IsStep (moment (F.device flash.old) self.old) (Call.List view.now path.now) (replied Reply.Names result) (moment (F.device flash.new) self.new) (is_cut_answer result) }
     {
-        let root = *self.history.find(view)?;
+        let root = self.seen(view)?;
         let (found, _trail) = find_path(flash, &mut self.storage, root, path)?;
         match found {
             Found::Missing { .. } => Err(Fault::NoEntry),
@@ -106,7 +106,14 @@ impl State {
             path,
             trail: &trail,
         };
-        change(alloc, flash, &mut self.history, &mut self.storage, edit)
+        change(
+            alloc,
+            flash,
+            &mut self.history,
+            &mut self.group,
+            &mut self.storage,
+            edit,
+        )
     }
 
     /// Refuses the root, a path where something stands, and a new name in a full directory. Answers
@@ -118,7 +125,7 @@ impl State {
         path: &Path,
     ) -> Result<Trail, Fault>
         requires mounted { IsMounted (F.device flash.old) self.old }
-        requires present { present_root self.old.history ≡ Some root }
+        requires working { working_root self.old.history self.old.group ≡ Some root }
         ensures looked { IsLooked (moment (F.device flash.old) self.old) (moment (F.device flash.new) self.new) }
         ensures lawful { OnOk result (is_path path.now ≡ true) }
         ensures way { IfOk result (IsTrail (node_of (F.device flash.new)) root path.now) }

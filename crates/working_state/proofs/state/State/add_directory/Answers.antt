@@ -7,7 +7,7 @@ use Rattle.directory.specs.Lookups.{look_up}
 use Rattle.directory.specs.Trails.{IsTrail}
 use Rattle.working_state.specs.Moments.{Moment, moment, nodes_at}
 use Rattle.working_state.specs.Steps.{empty}
-use Rattle.working_state.proofs.ChangedCalls.{looked_ready, looked_stands, at_present, change_by}
+use Rattle.working_state.proofs.ChangedCalls.{looked_ready, looked_stands, at_working, change_by}
 use Rattle.working_state.proofs.NewDirectories.{mkdir_change}
 use Rattle.working_state.proofs.OpenCalls.{at_answer, refused_answer}
 use Rattle.working_state.proofs.state.State.add_directory.Goals as goal
@@ -31,7 +31,7 @@ pub change-requires-clause-editable : goal.change-requires-clause-editable
 change-requires-clause-editable g c =
     let b : Moment = moment (g.F.Flash.device c.check_missing.new.flash) c.check_missing.new.self in
     let path = c.args.path.now in
-    at_present (λ root. (is_path path ≡ true) × IsTrail (nodes_at b) root path c.in_ok-trail.trail × (look_up (nodes_at b) root path ≡ Ok (Missing false))) (moment (g.F.Flash.device c.args.flash.now) c.args.self.now) b c.root-root.result c.root-root.ensures c.check_missing.ensures.looked
+    at_working (λ root. (is_path path ≡ true) × IsTrail (nodes_at b) root path c.in_ok-trail.trail × (look_up (nodes_at b) root path ≡ Ok (Missing false))) (moment (g.F.Flash.device c.args.flash.now) c.args.self.now) b c.root-root.result c.root-root.ensures c.check_missing.ensures.looked
     (c.in_ok-trail.ensures.lawful, c.in_ok-trail.ensures.way, c.in_ok-trail.ensures.missing)
 
 pub returns : goal.returns
@@ -39,5 +39,5 @@ returns g c =
     let a : Moment = moment (g.F.Flash.device c.args.flash.now) c.args.self.now in
     let b : Moment = moment (g.F.Flash.device c.check_missing.new.flash) c.check_missing.new.self in
     let looked = c.check_missing.ensures.looked in
-    change_by a b (g.F.Flash.device c.change.new.flash) c.change.new.storage c.change.new.history c.root-root.result (Call.Mkdir c.args.path.now) c.change.result c.change.ensures
+    change_by a b (g.F.Flash.device c.change.new.flash) c.change.new.storage c.change.new.history c.change.new.group c.root-root.result (Call.Mkdir c.args.path.now) c.change.result c.change.ensures
     (mkdir_change a b c.args.path.now c.requires looked c.in_ok-trail.ensures.accepted c.in_ok-trail.ensures.lawful) (omega arith) c.requires c.root-root.ensures looked refl (λ _. refl)

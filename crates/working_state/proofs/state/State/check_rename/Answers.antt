@@ -1,6 +1,5 @@
-use Rattle.std.proofs.Common.{◌≡◌, ℕ, Some, Err, sym, ap, subst, ◌∙◌}
+use Rattle.std.proofs.Common.{◌≡◌, Some, Err, sym, ap, subst, ◌∙◌}
 use Rattle.std.proofs.lemmas.Result.{err_from_is_err_and}
-use Rattle.history_machine.specs.History.{Past, present_root}
 use Rattle.fs_types.specs.declared.calls.Call.{Call}
 use Rattle.node_format.specs.declared.places.Place.TheVariants.{Dir}
 use Rattle.block_trees.specs.Trees.{leads}
@@ -10,7 +9,7 @@ use Rattle.tree_edits.specs.Edits.{IsMovable}
 use Rattle.working_state.specs.Moments.{moment}
 use Rattle.working_state.proofs.Refusals.{at_refusal}
 use Rattle.working_state.proofs.RenameSteps.{place_refuses, same_accepts, move_accepts, move_refuses}
-use Rattle.working_state.proofs.Standing.{looked_worked, looked_on, worked_mounted}
+use Rattle.working_state.proofs.Standing.{same_working, looked_worked, looked_on, worked_mounted}
 use Rattle.working_state.proofs.state.State.check_rename.Goals as goal
 
 pub returns-in_err-place-clause-refused : goal.returns-in_err-place-clause-refused
@@ -28,8 +27,8 @@ returns-then-eq-clause-accepted g c = same_accepts (moment (g.F.Flash.device c.a
 pub check_move-requires-clause-mounted : goal.check_move-requires-clause-mounted
 check_move-requires-clause-mounted g c = worked_mounted _ _ c.requires.mounted (looked_worked _ _ c.find_place.ensures.looked)
 
-pub check_move-requires-clause-present : goal.check_move-requires-clause-present
-check_move-requires-clause-present g c = ap (λ (h : Past ℕ). present_root h) c.find_place.ensures.looked.rest.history ∙ c.requires.present
+pub check_move-requires-clause-working : goal.check_move-requires-clause-working
+check_move-requires-clause-working g c = same_working _ _ c.find_place.ensures.looked.rest ∙ c.requires.working
 
 pub check_move-requires-clause-differ : goal.check_move-requires-clause-differ
 check_move-requires-clause-differ g c = sym c.eq.ensures ∙ c.if-eq.false

@@ -22,4 +22,4 @@ returns-clause-mounted g c =
 pub returns-clause-step : goal.returns-clause-step
 returns-clause-step g c =
     remembered_step Reply.Names (moment (g.F.Flash.device c.args.flash.now) c.args.self.now) (moment (g.F.Flash.device c.list_view-names.new.flash) c.list_view-names.new.self) c.remember_cut.new.self (Call.List c.args.view.now c.args.path.now)
-    c.list_view-names.result c.remember_cut.result c.remember_cut.ensures.same c.in_ok-check_power.ensures.ok c.list_view-names.ensures.looked.rest.is_off c.remember_cut.ensures.off c.list_view-names.ensures.step (read_leaves _ _ (Call.List c.args.view.now c.args.path.now) c.list_view-names.ensures.looked refl c.list_view-names.ensures.asks) (worked_reaches _ _ c.requires (looked_worked _ _ c.list_view-names.ensures.looked)) (in_refusal (replied Reply.Names c.list_view-names.result) c.list_view-names.ensures.looked.rest.history) refl
+    c.list_view-names.result c.remember_cut.result c.remember_cut.ensures.same c.in_ok-check_power.ensures.ok c.list_view-names.ensures.looked.rest.is_off c.remember_cut.ensures.off c.list_view-names.ensures.step (read_leaves _ _ (Call.List c.args.view.now c.args.path.now) c.list_view-names.ensures.looked refl c.list_view-names.ensures.asks) (worked_reaches _ _ c.requires (looked_worked _ _ c.list_view-names.ensures.looked)) (in_refusal (replied Reply.Names c.list_view-names.result) c.list_view-names.ensures.looked.rest.history) (in_refusal (replied Reply.Names c.list_view-names.result) c.list_view-names.ensures.looked.rest.group) refl

@@ -22,4 +22,4 @@ returns-clause-mounted g c =
 pub returns-clause-step : goal.returns-clause-step
 returns-clause-step g c =
     remembered_step Reply.Bytes (moment (g.F.Flash.device c.args.flash.now) c.args.self.now) (moment (g.F.Flash.device c.read_open-bytes.new.flash) c.read_open-bytes.new.self) c.remember_cut.new.self (Call.Pread c.args.descriptor c.args.offset c.args.count)
-    c.read_open-bytes.result c.remember_cut.result c.remember_cut.ensures.same c.in_ok-check_power.ensures.ok c.read_open-bytes.ensures.looked.rest.is_off c.remember_cut.ensures.off c.read_open-bytes.ensures.step (read_leaves _ _ (Call.Pread c.args.descriptor c.args.offset c.args.count) c.read_open-bytes.ensures.looked refl c.read_open-bytes.ensures.asks) (worked_reaches _ _ c.requires (looked_worked _ _ c.read_open-bytes.ensures.looked)) (in_refusal (replied Reply.Bytes c.read_open-bytes.result) c.read_open-bytes.ensures.looked.rest.history) refl
+    c.read_open-bytes.result c.remember_cut.result c.remember_cut.ensures.same c.in_ok-check_power.ensures.ok c.read_open-bytes.ensures.looked.rest.is_off c.remember_cut.ensures.off c.read_open-bytes.ensures.step (read_leaves _ _ (Call.Pread c.args.descriptor c.args.offset c.args.count) c.read_open-bytes.ensures.looked refl c.read_open-bytes.ensures.asks) (worked_reaches _ _ c.requires (looked_worked _ _ c.read_open-bytes.ensures.looked)) (in_refusal (replied Reply.Bytes c.read_open-bytes.result) c.read_open-bytes.ensures.looked.rest.history) (in_refusal (replied Reply.Bytes c.read_open-bytes.result) c.read_open-bytes.ensures.looked.rest.group) refl

@@ -29,7 +29,7 @@ read_below-requires-clause-ready g c = mounted_ready (moment (g.F.Flash.device c
 pub read_below-requires-clause-rooted : goal.read_below-requires-clause-rooted
 read_below-requires-clause-rooted g c =
     let shown = c.in_ok-root.ensures in
-    (view_stands (moment (g.F.Flash.device c.args.flash.now) c.args.self.now) c.args.view.now c.in_ok-root.field-0.now c.requires (record { fine = shown.0; shown = shown.1 })).rooted
+    (view_stands (moment (g.F.Flash.device c.args.flash.now) c.args.self.now) c.args.view.now c.in_ok-root.root c.requires (record { fine = shown.0; shown = shown.1 })).rooted
 
 pub returns-clause-looked : goal.returns-clause-looked
 returns-clause-looked g c = looked_at (moment _ c.args.self.now) _ _ c.read_below.ensures.looked
@@ -39,7 +39,7 @@ returns-clause-step g c =
     let shown = c.in_ok-root.ensures in
     let read = c.read_below.ensures in
     read_step _ _ _ _ _ _ _ c.read_below.result c.requires (looked_at (moment _ c.args.self.now) _ _ read.looked)
-    (view_reads (moment (g.F.Flash.device c.args.flash.now) c.args.self.now) c.args.view.now c.args.path.now c.args.offset c.args.count c.in_ok-root.field-0.now c.requires (record { fine = shown.0; shown = shown.1 }))
+    (view_reads (moment (g.F.Flash.device c.args.flash.now) c.args.self.now) c.args.view.now c.args.path.now c.args.offset c.args.count c.in_ok-root.root c.requires (record { fine = shown.0; shown = shown.1 }))
     read.read read.refused read.why
 
 pub returns-in_err-root-clause-asks : goal.returns-in_err-root-clause-asks
@@ -50,4 +50,4 @@ returns-clause-asks g c =
     let shown = c.in_ok-root.ensures in
     let d = g.F.Flash.device c.args.flash.now in
     subst (λ (t : Tree). AsksForRange d (length c.args.path.now) (bytes_at t c.args.path.now) c.args.offset c.args.count (g.F.Flash.device c.read_below.new.flash))
-    (sym (view_tree_is (moment d c.args.self.now) c.args.view.now c.in_ok-root.field-0.now (record { fine = shown.0; shown = shown.1 }))) c.read_below.ensures.asks
+    (sym (view_tree_is (moment d c.args.self.now) c.args.view.now c.in_ok-root.root (record { fine = shown.0; shown = shown.1 }))) c.read_below.ensures.asks

@@ -8,7 +8,7 @@ use Rattle.directory.specs.Trails.{IsTrail}
 use Rattle.tree_edits.specs.Edits.{IsRemovable}
 use Rattle.working_state.specs.Moments.{Moment, moment, nodes_at}
 use Rattle.working_state.specs.Steps.{empty}
-use Rattle.working_state.proofs.ChangedCalls.{looked_ready, looked_stands, at_present, change_by}
+use Rattle.working_state.proofs.ChangedCalls.{looked_ready, looked_stands, at_working, change_by}
 use Rattle.working_state.proofs.OpenCalls.{at_answer, refused_answer}
 use Rattle.working_state.proofs.TakenOut.{rmdir_change}
 use Rattle.directory.specs.declared.lookups.Found.TheVariants as found
@@ -34,7 +34,7 @@ change-requires-clause-editable g c =
     let b : Moment = moment (g.F.Flash.device c.check_empty.new.flash) c.check_empty.new.self in
     let ok = c.in_ok-trail.ensures in
     let path = c.args.path.now in
-    at_present (λ root. (is_path path ≡ true) × IsTrail (nodes_at b) root path c.in_ok-trail.trail × (0 < length path) × (x : Found) × (look_up (nodes_at b) root path ≡ Ok x) × IsRemovable (nodes_at b) x) (moment (g.F.Flash.device c.args.flash.now) c.args.self.now) b c.root-root.result c.root-root.ensures c.check_empty.ensures.looked
+    at_working (λ root. (is_path path ≡ true) × IsTrail (nodes_at b) root path c.in_ok-trail.trail × (0 < length path) × (x : Found) × (look_up (nodes_at b) root path ≡ Ok x) × IsRemovable (nodes_at b) x) (moment (g.F.Flash.device c.args.flash.now) c.args.self.now) b c.root-root.result c.root-root.ensures c.check_empty.ensures.looked
     (ok.lawful, ok.way, ok.below, found.Dir ok.empty.0, ok.empty.1, ok.empty.2)
 
 pub returns : goal.returns
@@ -42,5 +42,5 @@ returns g c =
     let a : Moment = moment (g.F.Flash.device c.args.flash.now) c.args.self.now in
     let b : Moment = moment (g.F.Flash.device c.check_empty.new.flash) c.check_empty.new.self in
     let looked = c.check_empty.ensures.looked in
-    change_by a b (g.F.Flash.device c.change.new.flash) c.change.new.storage c.change.new.history c.root-root.result (Call.Rmdir c.args.path.now) c.change.result c.change.ensures
+    change_by a b (g.F.Flash.device c.change.new.flash) c.change.new.storage c.change.new.history c.change.new.group c.root-root.result (Call.Rmdir c.args.path.now) c.change.result c.change.ensures
     (rmdir_change a b c.args.path.now c.requires looked c.in_ok-trail.ensures.accepted c.in_ok-trail.ensures.lawful c.in_ok-trail.ensures.below) (omega arith) c.requires c.root-root.ensures looked refl (λ _. refl)

@@ -8,7 +8,7 @@ use Rattle.directory.specs.Trails.{IsTrail}
 use Rattle.tree_edits.specs.Edits.{IsRemovable}
 use Rattle.working_state.specs.Moments.{Moment, moment, nodes_at}
 use Rattle.working_state.specs.Steps.{empty}
-use Rattle.working_state.proofs.ChangedCalls.{looked_ready, looked_stands, at_present, change_by}
+use Rattle.working_state.proofs.ChangedCalls.{looked_ready, looked_stands, at_working, change_by}
 use Rattle.working_state.proofs.OpenCalls.{at_answer, refused_answer}
 use Rattle.working_state.proofs.TakenOut.{file_below, unlink_change}
 use Rattle.node_store.specs.NodePages.{node_of}
@@ -35,7 +35,7 @@ change-requires-clause-editable g c =
     let b : Moment = moment (g.F.Flash.device c.check_file.new.flash) c.check_file.new.self in
     let ok = c.in_ok-trail.ensures in
     let path = c.args.path.now in
-    at_present (λ root. (is_path path ≡ true) × IsTrail (nodes_at b) root path c.in_ok-trail.trail × (0 < length path) × (x : Found) × (look_up (nodes_at b) root path ≡ Ok x) × IsRemovable (nodes_at b) x) (moment (g.F.Flash.device c.args.flash.now) c.args.self.now) b c.root-root.result c.root-root.ensures c.check_file.ensures.looked
+    at_working (λ root. (is_path path ≡ true) × IsTrail (nodes_at b) root path c.in_ok-trail.trail × (0 < length path) × (x : Found) × (look_up (nodes_at b) root path ≡ Ok x) × IsRemovable (nodes_at b) x) (moment (g.F.Flash.device c.args.flash.now) c.args.self.now) b c.root-root.result c.root-root.ensures c.check_file.ensures.looked
     (ok.lawful, ok.way, file_below (node_of (g.F.Flash.device c.check_file.new.flash)) c.root-root.result c.args.path.now c.in_ok-trail.ensures.found.0 c.in_ok-trail.ensures.found.1 c.in_ok-trail.ensures.found.2, found.File ok.found.0 ok.found.1, ok.found.2, tt)
 
 pub returns : goal.returns
@@ -43,6 +43,6 @@ returns g c =
     let a : Moment = moment (g.F.Flash.device c.args.flash.now) c.args.self.now in
     let b : Moment = moment (g.F.Flash.device c.check_file.new.flash) c.check_file.new.self in
     let looked = c.check_file.ensures.looked in
-    change_by a b (g.F.Flash.device c.change.new.flash) c.change.new.storage c.change.new.history c.root-root.result (Call.Unlink c.args.path.now) c.change.result c.change.ensures
+    change_by a b (g.F.Flash.device c.change.new.flash) c.change.new.storage c.change.new.history c.change.new.group c.root-root.result (Call.Unlink c.args.path.now) c.change.result c.change.ensures
     (unlink_change a b c.args.path.now c.requires looked c.in_ok-trail.ensures.accepted c.in_ok-trail.ensures.lawful
     (file_below (node_of (g.F.Flash.device c.check_file.new.flash)) c.root-root.result c.args.path.now c.in_ok-trail.ensures.found.0 c.in_ok-trail.ensures.found.1 c.in_ok-trail.ensures.found.2)) (omega arith) c.requires c.root-root.ensures looked refl (λ _. refl)

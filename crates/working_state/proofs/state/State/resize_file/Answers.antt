@@ -51,7 +51,7 @@ pub find_body-requires-clause-file : goal.find_body-requires-clause-file
 find_body-requires-clause-file g c =
     let a : Moment = moment (g.F.Flash.device c.args.flash.now) c.args.self.now in
     let path = c.in_ok-path.path.now in
-    changes.present_file a c.root-root.result path c.requires c.root-root.ensures (changes.open_file a c.args.descriptor path c.requires c.in_ok-path.ensures.path)
+    changes.working_file a c.root-root.result path c.requires c.root-root.ensures (changes.open_file a c.args.descriptor path c.requires c.in_ok-path.ensures.path)
 
 pub change-requires-clause-ready : goal.change-requires-clause-ready
 change-requires-clause-ready g c =
@@ -66,7 +66,7 @@ change-requires-clause-stands g c =
     looked_stands a (moment e (record a.state { storage = c.find_body.new.storage })) c.root-root.result c.requires c.root-root.ensures (looked_at a e c.find_body.new.storage c.find_body.ensures.looked)
 
 pub change-requires-clause-editable : goal.change-requires-clause-editable
-change-requires-clause-editable g c = λ other present.
+change-requires-clause-editable g c = λ other working.
     let a : Moment = moment (g.F.Flash.device c.args.flash.now) c.args.self.now in
     let b : Moment = moment (g.F.Flash.device c.find_body.new.flash) (record a.state { storage = c.find_body.new.storage }) in
     let path = c.in_ok-path.path.now in
@@ -75,9 +75,9 @@ change-requires-clause-editable g c = λ other present.
     let body = c.in_ok-body.body in
     let there = changes.later_body a b c.root-root.result path body.head body.length c.requires c.root-root.ensures (looked_worked a b looked) c.in_ok-body.ensures.found in
     let led : look_up (nodes_at b) other path ≡ Ok (found.File body.head body.length) =
-    subst (λ (r : ℕ). look_up (nodes_at b) r path ≡ Ok (found.File body.head body.length)) (same_root c.root-root.result other a.state.history b.state.history looked.rest.history c.root-root.ensures present) c.in_ok-body.ensures.found in
+    subst (λ (r : ℕ). look_up (nodes_at b) r path ≡ Ok (found.File body.head body.length)) (same_root c.root-root.result other a.state b.state looked.rest c.root-root.ensures working) c.in_ok-body.ensures.found in
     let way : IsTrail (nodes_at b) other path c.in_ok-body.trail =
-    subst (λ (r : ℕ). IsTrail (nodes_at b) r path c.in_ok-body.trail) (same_root c.root-root.result other a.state.history b.state.history looked.rest.history c.root-root.ensures present) c.in_ok-body.ensures.way in
+    subst (λ (r : ℕ). IsTrail (nodes_at b) r path c.in_ok-body.trail) (same_root c.root-root.result other a.state b.state looked.rest c.root-root.ensures working) c.in_ok-body.ensures.way in
     (changes.file_lawful a path c.requires file, way, led, c.in_ok-path.ensures.fits)
 
 pub returns : goal.returns
@@ -93,5 +93,5 @@ returns g c =
     let call = Call.Ftruncate c.args.descriptor c.args.size in
     let f = g.F.Flash.device c.change.new.flash in
     let by = changes.file_change a b call path (λ old. resized old c.args.size) Reply.Empty c.requires looked change (λ space. refl) in
-    change_by a b f c.change.new.storage c.change.new.history c.root-root.result call c.change.result c.change.ensures by
+    change_by a b f c.change.new.storage c.change.new.history c.change.new.group c.root-root.result call c.change.result c.change.ensures by
     (changes.ftruncate_few a b c.args.descriptor c.args.size path c.in_ok-body.body.head c.in_ok-body.body.length c.requires looked c.in_ok-path.ensures.path there) c.requires c.root-root.ensures looked refl (λ _. refl)

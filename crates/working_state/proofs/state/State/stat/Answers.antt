@@ -22,4 +22,4 @@ returns-clause-mounted g c =
 pub returns-clause-step : goal.returns-clause-step
 returns-clause-step g c =
     remembered_step Reply.Stat (moment (g.F.Flash.device c.args.flash.now) c.args.self.now) (moment (g.F.Flash.device c.stat_view-stat.new.flash) c.stat_view-stat.new.self) c.remember_cut.new.self (Call.Stat c.args.view.now c.args.path.now)
-    c.stat_view-stat.result c.remember_cut.result c.remember_cut.ensures.same c.in_ok-check_power.ensures.ok c.stat_view-stat.ensures.looked.rest.is_off c.remember_cut.ensures.off c.stat_view-stat.ensures.step (read_leaves _ _ (Call.Stat c.args.view.now c.args.path.now) c.stat_view-stat.ensures.looked refl c.stat_view-stat.ensures.asks) (worked_reaches _ _ c.requires (looked_worked _ _ c.stat_view-stat.ensures.looked)) (in_refusal (replied Reply.Stat c.stat_view-stat.result) c.stat_view-stat.ensures.looked.rest.history) refl
+    c.stat_view-stat.result c.remember_cut.result c.remember_cut.ensures.same c.in_ok-check_power.ensures.ok c.stat_view-stat.ensures.looked.rest.is_off c.remember_cut.ensures.off c.stat_view-stat.ensures.step (read_leaves _ _ (Call.Stat c.args.view.now c.args.path.now) c.stat_view-stat.ensures.looked refl c.stat_view-stat.ensures.asks) (worked_reaches _ _ c.requires (looked_worked _ _ c.stat_view-stat.ensures.looked)) (in_refusal (replied Reply.Stat c.stat_view-stat.result) c.stat_view-stat.ensures.looked.rest.history) (in_refusal (replied Reply.Stat c.stat_view-stat.result) c.stat_view-stat.ensures.looked.rest.group) refl

@@ -46,7 +46,7 @@ pub find_body-requires-clause-file : goal.find_body-requires-clause-file
 find_body-requires-clause-file g c =
     let a : Moment = moment (g.F.Flash.device c.args.flash.now) c.args.self.now in
     let path = c.in_ok-path.path.now in
-    changes.present_file a c.root-root.result path c.requires c.root-root.ensures (changes.open_file a c.args.descriptor path c.requires c.in_ok-path.ensures.path)
+    changes.working_file a c.root-root.result path c.requires c.root-root.ensures (changes.open_file a c.args.descriptor path c.requires c.in_ok-path.ensures.path)
 
 pub change-requires-clause-ready : goal.change-requires-clause-ready
 change-requires-clause-ready g c =
@@ -61,7 +61,7 @@ change-requires-clause-stands g c =
     looked_stands a (moment e (record a.state { storage = c.find_body.new.storage })) c.root-root.result c.requires c.root-root.ensures (looked_at a e c.find_body.new.storage c.find_body.ensures.looked)
 
 pub change-requires-clause-editable : goal.change-requires-clause-editable
-change-requires-clause-editable g c = λ other present.
+change-requires-clause-editable g c = λ other working.
     let a : Moment = moment (g.F.Flash.device c.args.flash.now) c.args.self.now in
     let b : Moment = moment (g.F.Flash.device c.find_body.new.flash) (record a.state { storage = c.find_body.new.storage }) in
     let path = c.in_ok-path.path.now in
@@ -70,9 +70,9 @@ change-requires-clause-editable g c = λ other present.
     let body = c.in_ok-body.body in
     let there = changes.later_body a b c.root-root.result path body.head body.length c.requires c.root-root.ensures (looked_worked a b looked) c.in_ok-body.ensures.found in
     let led : look_up (nodes_at b) other path ≡ Ok (found.File body.head body.length) =
-    subst (λ (r : ℕ). look_up (nodes_at b) r path ≡ Ok (found.File body.head body.length)) (same_root c.root-root.result other a.state.history b.state.history looked.rest.history c.root-root.ensures present) c.in_ok-body.ensures.found in
+    subst (λ (r : ℕ). look_up (nodes_at b) r path ≡ Ok (found.File body.head body.length)) (same_root c.root-root.result other a.state b.state looked.rest c.root-root.ensures working) c.in_ok-body.ensures.found in
     let way : IsTrail (nodes_at b) other path c.in_ok-body.trail =
-    subst (λ (r : ℕ). IsTrail (nodes_at b) r path c.in_ok-body.trail) (same_root c.root-root.result other a.state.history b.state.history looked.rest.history c.root-root.ensures present) c.in_ok-body.ensures.way in
+    subst (λ (r : ℕ). IsTrail (nodes_at b) r path c.in_ok-body.trail) (same_root c.root-root.result other a.state b.state looked.rest c.root-root.ensures working) c.in_ok-body.ensures.way in
     (changes.file_lawful a path c.requires file, way, led, there.short, changes.some_length (length c.args.bytes.now) (sym c.is_empty.ensures ∙ c.if-is_empty.false), c.in_ok-path.ensures.fits (changes.some_length (length c.args.bytes.now) (sym c.is_empty.ensures ∙ c.if-is_empty.false)))
 
 pub returns-in_err-change : goal.returns-in_err-change
@@ -90,8 +90,8 @@ returns-in_err-change g c =
     let body = c.in_ok-body.body in
     let there = changes.later_body a b c.root-root.result path body.head body.length c.requires c.root-root.ensures (looked_worked a b looked) c.in_ok-body.ensures.found in
     let few = changes.pwrite_few a b c.args.descriptor c.args.offset c.args.bytes.now path body.head body.length c.requires looked c.in_ok-path.ensures.path there in
-    at_answer Reply.Count a (moment f (record b.state { storage = c.change.new.storage; history = c.change.new.history })) call c.in_err-change.field-0.0 c.from_residual-in_err-change.result (p.1 ∙ ap Err p.2)
-    (refused_change a b f c.change.new.storage c.change.new.history c.root-root.result call _ (Reply.Count (length c.args.bytes.now)) c.in_err-change.field-0.0 c.requires c.root-root.ensures looked by few c.in_err-change.ensures.written c.in_err-change.ensures.ends)
+    at_answer Reply.Count a (moment f (record b.state { storage = c.change.new.storage; history = c.change.new.history; group = c.change.new.group })) call c.in_err-change.field-0.0 c.from_residual-in_err-change.result (p.1 ∙ ap Err p.2)
+    (refused_change a b f c.change.new.storage c.change.new.history c.change.new.group c.root-root.result call _ (Reply.Count (length c.args.bytes.now)) c.in_err-change.field-0.0 c.requires c.root-root.ensures looked by few c.in_err-change.ensures.written c.in_err-change.ensures.ends)
 
 pub returns : goal.returns
 returns g c =
@@ -107,4 +107,4 @@ returns g c =
     let body = c.in_ok-body.body in
     let there = changes.later_body a b c.root-root.result path body.head body.length c.requires c.root-root.ensures (looked_worked a b looked) c.in_ok-body.ensures.found in
     let few = changes.pwrite_few a b c.args.descriptor c.args.offset c.args.bytes.now path body.head body.length c.requires looked c.in_ok-path.ensures.path there in
-    pushed_by a b f c.change.new.storage c.change.new.history b.state.files call (Reply.Count (length c.args.bytes.now)) c.in_ok-change.ensures.ends by few c.in_ok-change.ensures.written c.requires looked looked.rest.files (λ _. refl)
+    pushed_by a b f c.change.new.storage c.change.new.history c.change.new.group b.state.files call (Reply.Count (length c.args.bytes.now)) c.in_ok-change.ensures.ends by few c.in_ok-change.ensures.written c.requires looked looked.rest.files (λ _. refl)

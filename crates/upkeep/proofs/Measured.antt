@@ -1,13 +1,16 @@
 -- What `df` tells: the roots of a history, the blocks that they reach, and its step.
-use Rattle.std.proofs.Common.{◌≡◌, ◌≢◌, inl, inr, ℕ, zero, suc, ◌+◌, ◌-◌, ◌<◌, ◌≤◌, Bool, true, false, ◌||◌, not, None, Result, Ok, Err, List, [], ◌∷◌, count_by, length, map, refl, sym, ap, subst, ◌∙◌, arith}
+use Rattle.std.proofs.Common.{◌≡◌, ◌≢◌, inl, inr, ℕ, zero, suc, ◌+◌, ◌-◌, ◌<◌, ◌≤◌, Bool, true, false, ◌||◌, not, Option, Some, None, Result, Ok, Err, List, [], ◌∷◌, count_by, length, map, refl, sym, ap, subst, ◌∙◌, arith}
 use Rattle.std.proofs.lemmas.Bool.{cases_lt, both_ways, true≢false}
 use Rattle.std.proofs.lemmas.List.Elements.{Contains-append_left, Contains-append_right, Contains-append_cases}
 use Rattle.std.specs.Prelude.{◌↔◌, ◌⊎◌, Contains, IfOk, IfErr}
 use Rattle.std.specs.FinSet as set
+use Rattle.std.specs.Option.{option_map}
 use Rattle.std.specs.Ordering.{nat_cmp}
+use Rattle.plain_trees.proofs.Beneath.{None≢Some, same_Some}
 use Rattle.history_machine.specs.History.{Past}
 use Rattle.history_machine.specs.Machine.{Space, answer, reply_of}
 use Rattle.fs_types.specs.declared.calls.Call.{Call}
+use Rattle.fs_types.specs.declared.calls.Group.{Group}
 use Rattle.fs_types.specs.declared.calls.Reply.{Reply}
 use Rattle.fs_types.specs.declared.faults.Fault.{Fault}
 use Rattle.fs_types.specs.declared.faults.Fault.TheVariants.{ReadFailed, PowerCut, NoMemory, Damaged}
@@ -38,7 +41,7 @@ use Rattle.working_state.specs.declared.state.State.{State}
 use Rattle.working_state.proofs.Refusals.{in_refusal, refused_step, remembering, remembered_mounted}
 use Rattle.working_state.proofs.Standing.{looked_worked, worked_reaches, looked_leaves, worked_later, worked_machine, worked_mounted}
 use Rattle.upkeep.specs.Costs.{ReadsEach}
-use Rattle.upkeep.specs.Mounts.{roots_of}
+use Rattle.upkeep.specs.Mounts.{roots_of, group_roots, working_roots}
 use Rattle.upkeep.proofs.Syncs.{reached_from}
 
 -- a root with a tree is a data block
@@ -64,29 +67,55 @@ reached_to f roots root b has (IsFirst first) = IsFirst (subst (Contains roots) 
     only (suc k, below, is) = absurd (omega arith)
 reached_to f roots root b has (IsNamed {block = c} reached names) = IsNamed (reached_to f roots root c has reached) names
 
--- the roots of a state are those of its history
-pub listed_root : (s : State) (root : ℕ) → HasRoot s root ↔ Contains (roots_of s.history) root
-listed_root s root = (
-  λ has. elim has [
-    | inl version ↦ Contains-append_left (map (λ v. v.root) s.history.versions) (map (λ e. e.1) s.history.checkpoints) root version
-    | inr checkpoint ↦ Contains-append_right (map (λ v. v.root) s.history.versions) (map (λ e. e.1) s.history.checkpoints) root checkpoint
-  ],
-  Contains-append_cases (map (λ v. v.root) s.history.versions) (map (λ e. e.1) s.history.checkpoints) root,
-)
+-- the root of a group
+group_listed : (group : Option (Group ℕ)) (root : ℕ) → option_map (λ g. g.root) group ≡ Some root → Contains (group_roots group) root
+group_listed None root is = absurd (None≢Some is)
+group_listed (Some g) root is = (0, omega arith, same_Some is)
 
-pub listed_reached : (d : Device) (s : State) (b : ℕ) → Reached (node_of d) (roots_of s.history) b ↔ IsReached d s b
+listed_group : (group : Option (Group ℕ)) (root : ℕ) → Contains (group_roots group) root → option_map (λ g. g.root) group ≡ Some root
+listed_group None root (k, below, is) = absurd (omega arith)
+listed_group (Some g) root (zero, below, is) = ap Some is
+listed_group (Some g) root (suc k, below, is) = absurd (omega arith)
+
+-- a version or a checkpoint of a state has the root
+pub of_history : (s : State) (root : ℕ) → Contains (roots_of s.history) root → HasRoot s root
+of_history s root has = elim (Contains-append_cases (map (λ v. v.root) s.history.versions) (map (λ e. e.1) s.history.checkpoints) root has) [
+  | inl version ↦ inl version
+  | inr checkpoint ↦ inr (inl checkpoint)
+]
+
+-- the roots of a state are those of its history and of its group
+pub listed_root : (s : State) (root : ℕ) → HasRoot s root ↔ Contains (working_roots s) root
+listed_root s root = (there, back)
+  where
+    there : HasRoot s root → Contains (working_roots s) root
+    there (inl version) = Contains-append_left (roots_of s.history) (group_roots s.group) root (Contains-append_left (map (λ v. v.root) s.history.versions) (map (λ e. e.1) s.history.checkpoints) root version)
+    there (inr (inl checkpoint)) = Contains-append_left (roots_of s.history) (group_roots s.group) root (Contains-append_right (map (λ v. v.root) s.history.versions) (map (λ e. e.1) s.history.checkpoints) root checkpoint)
+    there (inr (inr group)) = Contains-append_right (roots_of s.history) (group_roots s.group) root (group_listed s.group root group)
+
+    back : Contains (working_roots s) root → HasRoot s root
+    back has = elim (Contains-append_cases (roots_of s.history) (group_roots s.group) root has) [
+      | inl own ↦ of_history s root own
+      | inr group ↦ inr (inr (listed_group s.group root group))
+    ]
+
+-- states with the same history and the same group have the same roots
+pub has_same : (s t : State) (root : ℕ) → t.history ≡ s.history → t.group ≡ s.group → HasRoot s root → HasRoot t root
+has_same s t root history group has = subst (λ (x : Past ℕ × Option (Group ℕ)). HasRoot (record s { history = x.0; group = x.1 }) root) (λ i. (sym history i, sym group i)) has
+
+pub listed_reached : (d : Device) (s : State) (b : ℕ) → Reached (node_of d) (working_roots s) b ↔ IsReached d s b
 listed_reached d s b = (
-  λ reached. let from = reached_from (node_of d) (roots_of s.history) b reached in (from.0, (listed_root s from.0).1 from.1, from.2),
-  λ (root, has, reached). reached_to (node_of d) (roots_of s.history) root b ((listed_root s root).0 has) reached,
+  λ reached. let from = reached_from (node_of d) (working_roots s) b reached in (from.0, (listed_root s from.0).1 from.1, from.2),
+  λ (root, has, reached). reached_to (node_of d) (working_roots s) root b ((listed_root s root).0 has) reached,
 )
 
 -- each root of a mounted state has a tree
-pub mounted_roots : (d : Device) (s : State) → IsMounted d s → AreRoots (block_bytes d.geometry) (node_of d) (roots_of s.history)
+pub mounted_roots : (d : Device) (s : State) → IsMounted d s → AreRoots (block_bytes d.geometry) (node_of d) (working_roots s)
 mounted_roots d s m root has = (m.roots root ((listed_root s root).1 has)).rooted
 
 -- the space of a flash, by the blocks that its roots reach
 pub space_told : (a b : Moment) (blocks : ℕ) (reached : set.FinSet nat_cmp) (reply : Reply) → IsMountedAt a → IsLooked a b → blocks ≡ a.device.geometry.blocks
-    → ((block : ℕ) → (set.contains reached block ≡ true) ↔ Reached (node_of a.device) (roots_of a.state.history) block)
+    → ((block : ℕ) → (set.contains reached block ≡ true) ↔ Reached (node_of a.device) (working_roots a.state) block)
     → reply ≡ Reply.Df (blocks - first_data) (count_by (set.contains b.state.storage.bad) (data_blocks blocks)) (count_by (λ block. not (set.contains b.state.storage.bad block || set.contains reached block)) (data_blocks blocks)) (first_data - bad_anchors b.state.storage.bad)
     → (space : Space) × IsSpace b.device b.state space × (reply_of space (machine_at a) Call.Df ≡ reply)
 space_told a b blocks reached reply m l many marked says =
@@ -102,7 +131,7 @@ space_told a b blocks reached reply m l many marked says =
         bad = ap (λ n. count_by (set.contains b.state.storage.bad) (data_blocks n)) same;
         reached = reached;
         are_reached = λ block. subst (λ (f : Blocks). (set.contains reached block ≡ true) ↔ ((root : ℕ) × HasRoot b.state root × Reached f (root ∷ []) block)) (sym (OnlyReads_nodes a.device b.device m.lawful l.untouched.device))
-            (subst (λ (h : Past ℕ). (set.contains reached block ≡ true) ↔ IsReached a.device (record b.state { history = h }) block) (sym l.rest.history)
+            (subst (λ (x : Past ℕ × Option (Group ℕ)). (set.contains reached block ≡ true) ↔ IsReached a.device (record b.state { history = x.0; group = x.1 }) block) (λ i. (sym l.rest.history i, sym l.rest.group i))
             (λ is. (listed_reached a.device a.state block).0 ((marked block).0 is), λ is. (marked block).1 ((listed_reached a.device a.state block).1 is)));
         free = ap (λ n. count_by (λ block. not (set.contains b.state.storage.bad block || set.contains reached block)) (data_blocks n)) same;
         anchors = refl;
@@ -196,5 +225,6 @@ module _ (a b : Moment) (m : IsMountedAt a) where
       told = λ tells. told_answer result is.told;
       reached = worked_reaches a b m (looked_worked a b is.looked);
       refused = in_refusal result is.looked.rest.history;
+      regrouped = in_refusal result is.looked.rest.group;
       stopped = λ off. absurd (both_ways a.state.is_off on off);
     }

@@ -1,19 +1,21 @@
 -- What a mount has found: the working state that it makes, and why it makes none.
+use Rattle.plain_trees.proofs.Beneath.{None≢Some}
 use Rattle.std.proofs.Common.{◌≡◌, ◌≢◌, replicate, inl, inr, ℕ, zero, suc, ◌-◌, ◌/◌, ◌<◌, Bool, true, false, ◌||◌, Option, Some, None, Result, Ok, Err, List, [], ◌∷◌, ◌++◌, length, map, refl, sym, ap, subst, ◌∙◌, arith}
 use Rattle.std.proofs.lemmas.Bool.{true≢false}
 use Rattle.std.proofs.lemmas.List.Elements.{All-map, Contains-append_left, Contains-append_right}
 use Rattle.std.proofs.lemmas.Cmp.{nat_cmp_total}
-use Rattle.std.specs.Prelude.{◌↔◌, Contains, IfErr, slice_index_or}
+use Rattle.std.specs.Prelude.{◌↔◌, Contains, IfErr, slice_index_or, IfSome}
 use Rattle.std.specs.FinSet as set
 use Rattle.std.specs.List.Sorted.{IsStrictlySortedBy}
 use Rattle.std.specs.Option.{option_map}
 use Rattle.std.specs.Ordering.{nat_cmp}
 use Rattle.fs_types.specs.Names.{Name, name_cmp}
+use Rattle.fs_types.specs.declared.calls.Group.{Group}
 use Rattle.fs_types.specs.declared.calls.Version.{Version}
 use Rattle.fs_types.specs.declared.faults.Fault.{Fault}
 use Rattle.fs_types.specs.declared.faults.Fault.TheVariants.{Damaged, BadGeometry, ReadFailed, PowerCut, NoMemory}
 use Rattle.history_machine.specs.Descriptors.{Descriptor, Descriptors, none_open, descriptor_at}
-use Rattle.history_machine.specs.History.{Past, IsLawful, map_roots}
+use Rattle.history_machine.specs.History.{Past, IsLawful, map_roots, map_group}
 use Rattle.history_machine.specs.HistoryMaps.{lawful-map}
 use Rattle.history_machine.specs.Machine.{IsMachine, machine_with}
 use Rattle.plain_trees.specs.Trees.{Tree, IsFileTree}
@@ -129,6 +131,7 @@ pub record IsBuilt (d e : Device) (r : Record) (s : State) : Type 0 where
   pub bad : s.storage.bad ≡ set.from_list r.bad
   pub last : s.storage.ring.last ≡ r.last
   pub fits : Fits e s.storage
+  pub ungrouped : s.group ≡ None
   pub files : s.files ≡ none_open
   pub is_on : s.is_off ≡ false
 
@@ -166,7 +169,8 @@ module _ (d e : Device) (r : Record) (s : State) (built : IsBuilt d e r s) where
 
   is_named : (root : ℕ) → HasRoot s root → Contains (roots_of s.history) root
   is_named root (inl has) = Contains-append_left _ (map (λ (x : Name × ℕ). x.1) s.history.checkpoints) root has
-  is_named root (inr has) = Contains-append_right (map (λ (v : Version ℕ). v.root) s.history.versions) _ root has
+  is_named root (inr (inr has)) = absurd (None≢Some (sym (ap (option_map (λ g. g.root)) built.ungrouped) ∙ has))
+  is_named root (inr (inl has)) = Contains-append_right (map (λ (v : Version ℕ). v.root) s.history.versions) _ root has
 
   is_machine : IsMachine (machine_on e s)
   is_machine = record {
@@ -174,6 +178,7 @@ module _ (d e : Device) (r : Record) (s : State) (built : IsBuilt d e r s) where
     trees = All-map (λ (v : Version Tree). IsFileTree v.root) (λ (v : Version ℕ). record { serial = v.serial; root = tree_on e v.root }) s.history.versions (λ k v below. is_tree _ (version_root k v below));
     kept = All-map (λ (x : Name × Tree). IsFileTree x.1) (λ (x : Name × ℕ). (x.0, tree_on e x.1)) s.history.checkpoints (λ k x below. is_tree _ (checkpoint_root k x below));
     named = subst (IsStrictlySortedBy name_cmp) (sym (map-names (tree_on e) s.history.checkpoints)) built.named;
+    grouped = subst (λ (o : Option (Group ℕ)). IfSome (map_group (tree_on e) o) (λ g. IsFileTree g.root)) (sym built.ungrouped) tt;
     places = ap length built.files;
     files = λ descriptor x is. absurd (none-at 16 descriptor x (ap (λ (places : Descriptors). descriptor_at places descriptor) (sym built.files) ∙ is));
   }
@@ -193,7 +198,7 @@ module _ (d e : Device) (r : Record) (s : State) (built : IsBuilt d e r s) where
     mounted = is_mounted;
     is_on = built.is_on;
     history = built.history;
-    machine = λ i. machine_with (map_roots (tree_on e) (built.history i)) (built.files i);
+    machine = λ i. machine_with (map_roots (tree_on e) (built.history i)) (map_group (tree_on e) (built.ungrouped i)) (built.files i);
     bad = built.bad;
     last = built.last;
     used = used_there;

@@ -7,9 +7,10 @@ use Rattle.std.specs.Prelude.{◌↔◌, Contains, IfSome, IsErrOf, is_some, Vec
 use Rattle.std.specs.declared.alloc.Global.{Global}
 use Rattle.std.specs.FinSet as set
 use Rattle.std.specs.Ordering.{nat_cmp}
+use Rattle.fs_types.specs.declared.calls.Group.{Group}
 use Rattle.fs_types.specs.declared.faults.Fault.{Fault}
 use Rattle.fs_types.specs.declared.faults.Fault.TheVariants.{ReadFailed, PowerCut, NoMemory, Damaged}
-use Rattle.history_machine.specs.History.{Past, map_roots}
+use Rattle.history_machine.specs.History.{Past, map_roots, map_group}
 use Rattle.history_machine.specs.Machine.{IsMachine, machine_with}
 use Rattle.flash_model.specs.declared.sizes.Geometry.{Geometry}
 use Rattle.flash_model.specs.Device.{Device}
@@ -40,14 +41,14 @@ use Rattle.working_state.specs.Seen.{capacity_of, seen_of, machine_on}
 use Rattle.working_state.specs.Steps.{is_cut_answer}
 use Rattle.working_state.specs.Worked.{ReadCause}
 use Rattle.working_state.specs.declared.state.State.{State}
-use Rattle.upkeep.specs.Mounts.{history_of, roots_of}
+use Rattle.upkeep.specs.Mounts.{history_of, roots_of, group_roots, working_roots}
 use Rattle.upkeep.specs.Reclaiming.{GoesOnFrom, Advances, EndsPass, StepEnds, Stays, Reclaims}
 use Rattle.upkeep.specs.Saved.{saved_on}
 use Rattle.upkeep.specs.Systems.{IsSystem, IsRunning, MustStay}
 use Rattle.upkeep.specs.declared.systems.System.{System}
 use Rattle.upkeep.proofs.AfterCommits.{knows, known, is_newest, not_none}
 use Rattle.upkeep.proofs.Installed.{marked_in, with_ring, with_marks}
-use Rattle.upkeep.proofs.Measured.{listed_root, listed_reached, mounted_roots, reached_to, roots_hold_data}
+use Rattle.upkeep.proofs.Measured.{has_same, listed_root, listed_reached, mounted_roots, reached_to, roots_hold_data}
 use Rattle.upkeep.proofs.Running.{running_on}
 use Rattle.upkeep.proofs.SameNodes.{HasSameData, node_is, same_nodes, same_tree, stands_too}
 use Rattle.upkeep.proofs.SameRecords.{still_saved}
@@ -60,6 +61,7 @@ use Rattle.upkeep.proofs.Syncs.{reached_from}
 pub record Keeps (d e : Device) (m n : System) : Type 0 where
   pub reads : OnlyReads d e
   pub history : n.state.history ≡ m.state.history
+  pub group : n.state.group ≡ m.state.group
   pub rest : machine_on d n.state ≡ machine_on d m.state
   pub is_on : n.state.is_off ≡ false
   pub bad : n.state.storage.bad ≡ m.state.storage.bad
@@ -87,7 +89,7 @@ module _ (d e : Device) (m n : System) (s : IsSystem d m) (on : m.state.is_off �
   saved = still_saved d e s.mounted.lawful k.reads.geometry k.reads.pages
 
   machine : machine_on e n.state ≡ machine_on d m.state
-  machine = (λ i. machine_with (map_roots (same_tree d e same i) n.state.history) n.state.files) ∙ k.rest
+  machine = (λ i. machine_with (map_roots (same_tree d e same i) n.state.history) (map_group (same_tree d e same i) n.state.group) n.state.files) ∙ k.rest
 
   -- what a root that must stay reaches is used
   standing : (root : ℕ) → ((b : ℕ) → Reached (node_of d) (root ∷ []) b → MustStay d m b) → IsStanding d m.state.storage.ring root → IsStanding e n.state.storage.ring root
@@ -99,8 +101,8 @@ module _ (d e : Device) (m n : System) (s : IsSystem d m) (on : m.state.is_off �
   pub still_must : (b : ℕ) → MustStay e n b → MustStay d m b
   still_must b (inl reached) =
       inl ((listed_reached d m.state b).0
-      (subst (λ (f : Blocks). Reached f (roots_of m.state.history) b) (same_nodes d e same)
-      (subst (λ (h : Past ℕ). Reached (node_of e) (roots_of h) b) k.history ((listed_reached e n.state b).1 reached))))
+      (subst (λ (f : Blocks). Reached f (working_roots m.state) b) (same_nodes d e same)
+      (subst (λ (x : Past ℕ × Option (Group ℕ)). Reached (node_of e) (roots_of x.0 ++ group_roots x.1) b) (λ i. (k.history i, k.group i)) ((listed_reached e n.state b).1 reached))))
   still_must b (inr (r, is, reached)) = inr (r, sym saved ∙ is, subst (λ (f : Blocks). Reached f (roots_of (history_of r)) b) (same_nodes d e same) reached)
 
   kept_mounted : IsMounted e n.state
@@ -114,7 +116,7 @@ module _ (d e : Device) (m n : System) (s : IsSystem d m) (on : m.state.is_off �
   }
     where
       had : (root : ℕ) → HasRoot n.state root → HasRoot m.state root
-      had root has = (listed_root m.state root).1 (subst (λ (h : Past ℕ). Contains (roots_of h) root) k.history ((listed_root n.state root).0 has))
+      had root has = has_same n.state m.state root (sym k.history) (sym k.group) has
 
   pub kept_system : IfSome n.pass (IsRunning e n) → IsSystem e n
   kept_system passing = record {
@@ -137,7 +139,7 @@ module _ (d e : Device) (m n : System) (s : IsSystem d m) (on : m.state.is_off �
   }
 
   pub kept_stays : Stays d m e n
-  kept_stays = record { reads = k.reads; history = k.history; machine = machine; bad = k.bad; last = k.last; takes = k.takes; anchors = k.anchors; room = k.fits.same_room }
+  kept_stays = record { reads = k.reads; history = k.history; group = k.group; machine = machine; bad = k.bad; last = k.last; takes = k.takes; anchors = k.anchors; room = k.fits.same_room }
 
   -- a marking goes on, as long as no block leaves the note and what its roots reach stays used
   pub kept_running : (p : Pass) → ((b : ℕ) → set.contains m.state.storage.ring.used b ≡ true → set.contains n.state.storage.ring.used b ≡ true)
@@ -162,6 +164,7 @@ pub stays_on : (d e f : Device) (l m n : System) → Stays d l e m → Stays e m
 stays_on d e f l m n a b = record {
   reads = OnlyReads_on d e f a.reads b.reads;
   history = b.history ∙ a.history;
+  group = b.group ∙ a.group;
   machine = b.machine ∙ a.machine;
   bad = b.bad ∙ a.bad;
   last = b.last ∙ a.last;
@@ -178,8 +181,8 @@ with_note m note = record m { state = record m.state { storage = record m.state.
 
 module _ (d : Device) (m : System) (s : IsSystem d m) (on : m.state.is_off ≡ false) where
   -- the roots of what must stay are data blocks with trees
-  must_have_trees : AreRoots (block_bytes d.geometry) (node_of d) (roots_of m.state.history ++ m.record_roots.items)
-  must_have_trees root has = elim (Contains-append_cases (roots_of m.state.history) m.record_roots.items root has) [
+  must_have_trees : AreRoots (block_bytes d.geometry) (node_of d) (working_roots m.state ++ m.record_roots.items)
+  must_have_trees root has = elim (Contains-append_cases (working_roots m.state) m.record_roots.items root has) [
     | inl working ↦ mounted_roots d m.state s.mounted root working
     | inr newest ↦ by (saved_on d) refl (s.saved on) newest
   ]
@@ -188,23 +191,23 @@ module _ (d : Device) (m : System) (s : IsSystem d m) (on : m.state.is_off ≡ f
       by None is some newest = absurd (true≢false (sym some))
       by (Some r) is some newest = (s.stands on r is root (subst (λ (l : List ℕ). Contains l root) (s.roots on r is) newest)).rooted
 
-  pub must_be_data : (b : ℕ) → Contains (roots_of m.state.history ++ m.record_roots.items) b → IsDataBlock m.state.storage.ring.blocks b
-  must_be_data b has = subst (λ blocks. IsDataBlock blocks b) (sym s.mounted.ring_blocks) (roots_hold_data d (roots_of m.state.history ++ m.record_roots.items) must_have_trees b has)
+  pub must_be_data : (b : ℕ) → Contains (working_roots m.state ++ m.record_roots.items) b → IsDataBlock m.state.storage.ring.blocks b
+  must_be_data b has = subst (λ blocks. IsDataBlock blocks b) (sym s.mounted.ring_blocks) (roots_hold_data d (working_roots m.state ++ m.record_roots.items) must_have_trees b has)
 
   -- they reach all that must stay, and no more
-  must_reach : (b : ℕ) → MustStay d m b → Reached (node_of d) (roots_of m.state.history ++ m.record_roots.items) b
+  must_reach : (b : ℕ) → MustStay d m b → Reached (node_of d) (working_roots m.state ++ m.record_roots.items) b
   must_reach b (inl reached) =
-      let from = reached_from (node_of d) (roots_of m.state.history) b ((listed_reached d m.state b).1 reached) in
-      reached_to (node_of d) (roots_of m.state.history ++ m.record_roots.items) from.0 b (Contains-append_left (roots_of m.state.history) m.record_roots.items from.0 from.1) from.2
+      let from = reached_from (node_of d) (working_roots m.state) b ((listed_reached d m.state b).1 reached) in
+      reached_to (node_of d) (working_roots m.state ++ m.record_roots.items) from.0 b (Contains-append_left (working_roots m.state) m.record_roots.items from.0 from.1) from.2
   must_reach b (inr (r, is, reached)) =
       let from = reached_from (node_of d) (roots_of (history_of r)) b reached in
-      reached_to (node_of d) (roots_of m.state.history ++ m.record_roots.items) from.0 b
-      (Contains-append_right (roots_of m.state.history) m.record_roots.items from.0 (subst (λ (l : List ℕ). Contains l from.0) (sym (s.roots on r is)) from.1)) from.2
+      reached_to (node_of d) (working_roots m.state ++ m.record_roots.items) from.0 b
+      (Contains-append_right (working_roots m.state) m.record_roots.items from.0 (subst (λ (l : List ℕ). Contains l from.0) (sym (s.roots on r is)) from.1)) from.2
 
-  reached_must : (b : ℕ) → Reached (node_of d) (roots_of m.state.history ++ m.record_roots.items) b → MustStay d m b
+  reached_must : (b : ℕ) → Reached (node_of d) (working_roots m.state ++ m.record_roots.items) b → MustStay d m b
   reached_must b reached =
-      let from = reached_from (node_of d) (roots_of m.state.history ++ m.record_roots.items) b reached in
-      elim (Contains-append_cases (roots_of m.state.history) m.record_roots.items from.0 from.1) [
+      let from = reached_from (node_of d) (working_roots m.state ++ m.record_roots.items) b reached in
+      elim (Contains-append_cases (working_roots m.state) m.record_roots.items from.0 from.1) [
         | inl working ↦ inl (from.0, (listed_root m.state from.0).1 working, from.2)
         | inr newest ↦ by (saved_on d) refl (s.saved on) from.0 newest from.2
       ]
@@ -218,6 +221,7 @@ module _ (d : Device) (m : System) (s : IsSystem d m) (on : m.state.is_off ≡ f
     noted_keeps = record {
       reads = OnlyReads_itself d;
       history = ap (λ (x : System). x.state.history) is;
+      group = ap (λ (x : System). x.state.group) is;
       rest = ap (λ (x : System). machine_on d x.state) is;
       is_on = ap (λ (x : System). x.state.is_off) is ∙ on;
       bad = ap (λ (x : System). x.state.storage.bad) is;
@@ -242,12 +246,12 @@ module _ (d : Device) (m : System) (s : IsSystem d m) (on : m.state.is_off ≡ f
     taken_up p (inl (was, note)) begun = kept_running d d m n s on noted_keeps p still_used note (subst (λ (o : Option Pass). IfSome o (IsRunning d m)) was (s.passing on))
     taken_up p (inr (none, roots, next, note)) begun =
         let own = begun none in
-        let as_all : (b : ℕ) → Reached (node_of d) p.roots b → Reached (node_of d) (roots_of m.state.history ++ m.record_roots.items) b = λ b reached. subst (λ (l : List ℕ). Reached (node_of d) l b) roots reached in
+        let as_all : (b : ℕ) → Reached (node_of d) p.roots b → Reached (node_of d) (working_roots m.state ++ m.record_roots.items) b = λ b reached. subst (λ (l : List ℕ). Reached (node_of d) l b) roots reached in
         record {
           blocks = own.0 ∙ s.mounted.ring_blocks;
           marking = λ none. none (own.1 (node_of d));
           held = λ b reached. still_used b (must_used d m s on b (reached_must b (as_all b reached)));
-          nodes = λ b reached. trees_hold_nodes (block_bytes d.geometry - body_header) (node_of d) (roots_of m.state.history ++ m.record_roots.items) must_have_trees b (as_all b reached);
+          nodes = λ b reached. trees_hold_nodes (block_bytes d.geometry - body_header) (node_of d) (working_roots m.state ++ m.record_roots.items) must_have_trees b (as_all b reached);
           taken = λ b must apart. absurd (apart (subst (λ (l : List ℕ). Reached (node_of d) l b) (sym roots) (must_reach b (still_must d d m n s on noted_keeps b must))));
         }
 
@@ -262,6 +266,7 @@ module _ (d e : Device) (m : System) (st : Storage) (s : IsSystem d m) (on : m.s
   looked_keeps pass = record {
     reads = l.untouched.device;
     history = refl;
+    group = refl;
     rest = refl;
     is_on = on;
     bad = l.untouched.bad;
@@ -348,6 +353,7 @@ module _ (d e : Device) (m : System) (st : Storage) (s : IsSystem d m) (on : m.s
         record {
           reads = k.reads;
           history = refl;
+          group = refl;
           rest = refl;
           is_on = on;
           bad = k.bad;
@@ -517,7 +523,7 @@ module _ (d e : Device) (m n : System) (budget : ℕ) (answer : Result Bool Faul
 
   is_reclaimed : Reclaims d m budget answer e left
   is_reclaimed = record {
-    stays = record { reads = stays.reads; history = stays.history; machine = stays.machine; bad = stays.bad; last = stays.last; takes = stays.takes; anchors = stays.anchors; room = stays.room };
+    stays = record { reads = stays.reads; history = stays.history; group = stays.group; machine = stays.machine; bad = stays.bad; last = stays.last; takes = stays.takes; anchors = stays.anchors; room = stays.room };
     ends = λ _. still_ends answer ends;
     off = ap (λ (b : Bool). b || is_cut_answer answer) (still_on ∙ sym on);
     stopped = λ off. absurd (both_ways m.state.is_off on off);

@@ -1,7 +1,7 @@
 -- The step of a call that is tried once, or twice.
-use Rattle.std.proofs.Common.{◌≡◌, ◌≢◌, ◌⊎◌, inl, inr, ℕ, ◌+◌, ◌*◌, ◌<◌, ◌≤◌, Bool, true, false, not, ◌||◌, Option, Some, None, Result, Ok, Err, List, [], ◌∷◌, count_by, refl, sym, ap, subst, ◌∙◌, arith}
+use Rattle.std.proofs.Common.{◌≡◌, ◌≢◌, ◌⊎◌, inl, inr, ℕ, ◌+◌, ◌*◌, ◌<◌, ◌≤◌, Bool, true, false, not, ◌||◌, Option, Some, None, Result, Ok, Err, List, [], ◌∷◌, ◌++◌, count_by, refl, sym, ap, subst, ◌∙◌, arith}
 use Rattle.std.proofs.lemmas.Bool.{true≢false, both_ways, and_parts}
-use Rattle.std.proofs.lemmas.List.Elements.{Contains-append_cases}
+use Rattle.std.proofs.lemmas.List.Elements.{Contains-append_cases, Contains-append_left}
 use Rattle.std.specs.Prelude.{◌/◌, is_some, if◌then◌else◌, Contains}
 use Rattle.std.specs.FinSet as set
 use Rattle.std.specs.Option.{option_and_then}
@@ -9,9 +9,10 @@ use Rattle.std.specs.Ordering.{nat_cmp}
 use Rattle.history_machine.specs.Descriptors.{Descriptor, descriptor_at}
 use Rattle.history_machine.specs.History.{Past}
 use Rattle.allocator.specs.Ring.{data_blocks, free_count, is_busy}
-use Rattle.history_machine.specs.Machine.{Machine, Space, makes_version, need, change_need, is_accepted, tree_after}
+use Rattle.history_machine.specs.Machine.{Machine, Space, makes_version, need, change_need, is_accepted, tree_after, changes_tree}
 use Rattle.plain_trees.specs.Trees.{Tree}
 use Rattle.fs_types.specs.declared.calls.Call.{Call}
+use Rattle.fs_types.specs.declared.calls.Group.{Group}
 use Rattle.fs_types.specs.declared.calls.Reply.{Reply}
 use Rattle.fs_types.specs.declared.faults.Fault.{Fault}
 use Rattle.fs_types.specs.declared.faults.Fault.TheVariants.{FlashFull, ReadOnly, Overflow, ReadFailed, PowerCut, NoMemory}
@@ -31,10 +32,10 @@ use Rattle.working_state.specs.Steps.{last_serial, is_sync, is_light, begins_wor
 use Rattle.working_state.specs.Steps as once_only
 use Rattle.working_state.specs.Worked.{ReadCause}
 use Rattle.working_state.specs.declared.state.State.{State}
-use Rattle.working_state.proofs.ChangeSteps.{version_accepted}
+use Rattle.working_state.proofs.ChangeSteps.{change_accepted}
 use Rattle.working_state.proofs.CutCalls.{own_says}
 use Rattle.working_state.proofs.Refusals.{accepted_begins}
-use Rattle.upkeep.specs.Mounts.{roots_of}
+use Rattle.upkeep.specs.Mounts.{roots_of, group_roots, working_roots}
 use Rattle.upkeep.specs.Saved.{saved_trees, IsWhole}
 use Rattle.upkeep.specs.Commits.{Saves, SaveCause, KeepsRecord, RecordAfter, TriesOnce}
 use Rattle.upkeep.specs.Reclaiming.{GoesOnFrom, Stays, EndsPass}
@@ -44,7 +45,7 @@ use Rattle.upkeep.specs.Systems.{IsSystem}
 use Rattle.upkeep.specs.declared.systems.System.{System}
 use Rattle.upkeep.proofs.AfterCommits.{same, same_machine, same_history, saved_after, stands_after, trees_after, newly_trees}
 use Rattle.upkeep.proofs.Committed.{IsNewly, newly_saved}
-use Rattle.upkeep.proofs.Measured.{listed_root}
+use Rattle.upkeep.proofs.Measured.{listed_root, has_same}
 use Rattle.upkeep.proofs.Passing.{must_used}
 use Rattle.upkeep.proofs.SameNodes.{HasSameData, same_nodes, same_room}
 use Rattle.upkeep.proofs.SameRecords.{same_trees, still_whole}
@@ -107,19 +108,19 @@ once_bad d e m n call result once = by (is_sync call) refl
 
 -- ---- the first of two
 
--- a call that needs a node makes a version
-versions : (capacity : ℕ) (m : Machine) (call : Call) → 0 < need capacity m call → makes_version m call ≡ true
-versions capacity m call some = by (makes_version m call) refl
+-- a call that needs a node changes the tree
+versions : (capacity : ℕ) (m : Machine) (call : Call) → 0 < need capacity m call → changes_tree m call ≡ true
+versions capacity m call some = by (changes_tree m call) refl
   where
-    by : (x : Bool) → makes_version m call ≡ x → makes_version m call ≡ true
+    by : (x : Bool) → changes_tree m call ≡ x → changes_tree m call ≡ true
     by true is = is
     by false is = absurd (let none : need capacity m call ≡ 0 = ap (λ (y : Bool). if y then change_need capacity m call else 0) is in omega (arith, some, none))
 
 -- so it changes the tree
-changes : (m : Machine) (call : Call) → makes_version m call ≡ true → (is_accepted m call ≡ true) × (is_some (tree_after m call) ≡ true)
+changes : (m : Machine) (call : Call) → changes_tree m call ≡ true → (is_accepted m call ≡ true) × (is_some (tree_after m call) ≡ true)
 changes m call makes = and_parts (is_accepted m call) (is_some (tree_after m call)) makes
 
-writes : (m : Machine) (call : Call) → makes_version m call ≡ true → is_writing m call ≡ true
+writes : (m : Machine) (call : Call) → changes_tree m call ≡ true → is_writing m call ≡ true
 writes m call makes = let parts = changes m call makes in rw (parts.0, parts.1) refl
 
 no_sync : (m : Machine) (call : Call) → is_some (tree_after m call) ≡ true → is_sync call ≡ false
@@ -136,6 +137,9 @@ heavy_call m (Call.Close descriptor) some = absurd (true≢false (sym some))
 heavy_call m Call.Undo some = absurd (true≢false (sym some))
 heavy_call m Call.Redo some = absurd (true≢false (sym some))
 heavy_call m (Call.Goto serial) some = absurd (true≢false (sym some))
+heavy_call m Call.Begin some = absurd (true≢false (sym some))
+heavy_call m Call.End some = absurd (true≢false (sym some))
+heavy_call m Call.Abandon some = absurd (true≢false (sym some))
 heavy_call m (Call.Pwrite descriptor offset []) some = absurd (by (descriptor_at m.descriptors descriptor) some)
   where
     by : (o : Option Descriptor) → is_some (option_and_then (λ (d : Descriptor). let none : Option Tree = None in none) o) ≡ true → ⊥
@@ -149,7 +153,7 @@ record IsFull (d : Device) (m : System) (call : Call) (b : Device) (k : System) 
   still_on : k.state.is_off ≡ false
   machine : machine_on b k.state ≡ machine_on d m.state
   writable : is_read_only m.state.storage.bad ≡ false
-  serial_left : (machine_on d m.state).history.next < last_serial
+  serial_left : makes_version (machine_on d m.state) call ≡ true → (machine_on d m.state).history.next < last_serial
   writing : is_writing (machine_on d m.state) call ≡ true
   begins : begins_work (machine_on d m.state) call ≡ true
   no_commit : is_sync call ≡ false
@@ -178,7 +182,7 @@ is_full d b m k call first = by m.state.is_off refl first.step.answers
           writable = why.1;
           serial_left = why.2;
           writing = writes (machine_on d m.state) call makes;
-          begins = accepted_begins (machine_on d m.state) call (version_accepted (machine_on d m.state) call makes) (heavy_call (machine_on d m.state) call some);
+          begins = accepted_begins (machine_on d m.state) call (change_accepted (machine_on d m.state) call makes) (heavy_call (machine_on d m.state) call some);
           no_commit = no_sync (machine_on d m.state) call some;
           no_space = tells_none (machine_on d m.state) call some;
         }
@@ -191,16 +195,17 @@ record IsBetween (d : Device) (m : System) (c : Device) (q : System) : Type 0 wh
   is_later : IsAfter (seen_on d m.state) (seen_on c q.state)
   machine : machine_on c q.state ≡ machine_on d m.state
   history : q.state.history ≡ m.state.history
+  group : q.state.group ≡ m.state.group
   bad : (b : ℕ) → set.contains m.state.storage.bad b ≡ true → set.contains q.state.storage.bad b ≡ true
   pages : KeepsPages d m.state c
   reaches : (b : ℕ) → IsReached d m.state b → IsReached c q.state b
   whole : IsWhole d → IsWhole c
 
 -- what a history reaches, where the nodes are the same
-moved : (x y : Device) (s t : State) → t.history ≡ s.history → node_of y ≡ node_of x → (b : ℕ) → IsReached x s b → IsReached y t b
-moved x y s t history nodes b (root, has, reached) = (
+moved : (x y : Device) (s t : State) → t.history ≡ s.history → t.group ≡ s.group → node_of y ≡ node_of x → (b : ℕ) → IsReached x s b → IsReached y t b
+moved x y s t history group nodes b (root, has, reached) = (
   root,
-  subst (λ (h : Past ℕ). HasRoot (record s { history = h }) root) (sym history) has,
+  has_same s t root history group has,
   subst (λ (f : Blocks). Reached f (root ∷ []) b) (sym nodes) reached,
 )
 
@@ -213,11 +218,12 @@ tried_between d b m k call s first =
       is_later = as_after (seen_on d m.state) (seen_on b k.state) first.step.later;
       machine = full.machine;
       history = first.refused;
+      group = first.regrouped;
       bad = once_bad d b m k call (Err FlashFull) first;
       pages = first.pages;
       reaches = λ block (root, has, reached). (
         root,
-        subst (λ (h : Past ℕ). HasRoot (record m.state { history = h }) root) (sym first.refused) has,
+        has_same m.state k.state root first.refused first.regrouped has,
         reached_same (node_of d) (node_of b) (root ∷ [])
             (λ c there. Evolved_node (storage d m.state.storage.bad m.state.storage.ring) (storage b k.state.storage.bad k.state.storage.ring) c s.mounted.lawful evolved ((s.mounted.roots root has).held root refl c there)) reached,
       );
@@ -233,11 +239,12 @@ module _ {T : Type 0} (d b p : Device) (m k l : System) (result : Result T Fault
         is_later = after_on (seen_on d m.state) (seen_on b k.state) (seen_on p l.state) between.is_later (as_after (seen_on b k.state) (seen_on p l.state) (later b p k l result s on saves));
         machine = same_machine b p k l result s saves ∙ between.machine;
         history = same_history b p k l result s saves ∙ between.history;
+        group = ap (λ (t : State). t.group) saves.state ∙ between.group;
         bad = λ x is. saves.only_anchors.stays_bad x (between.bad x is);
         pages = λ q reached.
             saves.used_pages q (must_used b k s on (block_of b q) (inl (subst (λ (g : Geometry). IsReached b k.state (q / g.pages)) (sym between.geometry) (between.reaches (block_of d q) reached))))
             ∙ between.pages q reached;
-        reaches = λ block reached. moved b p k.state l.state (same_history b p k l result s saves) (same_nodes b p alike) block (between.reaches block reached);
+        reaches = λ block reached. moved b p k.state l.state (same_history b p k l result s saves) (ap (λ (t : State). t.group) saves.state) (same_nodes b p alike) block (between.reaches block reached);
         whole = λ was r is root has. (stands_after b p k l result s saves (saved_after b p k l result s saves) on r is root has).rooted;
       }
 
@@ -263,9 +270,10 @@ marked_between d p c m l q s stays between =
       is_later = after_on (seen_on d m.state) (seen_on p l.state) (seen_on c q.state) between.is_later (marked_later p c l q s stays);
       machine = stays.machine ∙ between.machine;
       history = stays.history ∙ between.history;
+      group = stays.group ∙ between.group;
       bad = λ x is. ap (λ (l : set.FinSet nat_cmp). set.contains l x) stays.bad ∙ between.bad x is;
       pages = λ x reached. stays.reads.pages x ∙ between.pages x reached;
-      reaches = λ block reached. moved p c l.state q.state stays.history (same_nodes p c alike) block (between.reaches block reached);
+      reaches = λ block reached. moved p c l.state q.state stays.history stays.group (same_nodes p c alike) block (between.reaches block reached);
       whole = λ was. still_whole p c s.mounted.lawful stays.reads.geometry stays.reads.pages (between.whole was);
     }
 
@@ -275,7 +283,7 @@ pub unmarked_system : (d : Device) (m : System) → IsSystem d m → IsSystem d 
 unmarked_system d m s = record { mounted = s.mounted; saved = s.saved; stands = s.stands; roots = s.roots; passing = λ _. tt; known = s.known; listed = s.listed }
 
 as_unmarked : (d b : Device) (m k : System) → IsBetween d m b k → IsBetween d m b (unmarked k)
-as_unmarked d b m k x = record { geometry = x.geometry; is_later = x.is_later; machine = x.machine; history = x.history; bad = x.bad; pages = x.pages; reaches = x.reaches; whole = x.whole }
+as_unmarked d b m k x = record { geometry = x.geometry; is_later = x.is_later; machine = x.machine; history = x.history; group = x.group; bad = x.bad; pages = x.pages; reaches = x.reaches; whole = x.whole }
 
 module _ (d b c : Device) (m k q : System) (call : Call) (s : IsSystem d m) (first : TriesOnce d m call (Err FlashFull) b k) (full : IsSystem b k) where
   facts : IsFull d m call b k
@@ -328,7 +336,7 @@ module _ (d b c : Device) (m k q : System) (call : Call) (s : IsSystem d m) (fir
 
   module _ (twice : Type 0) (is_twice : twice) where
     commit_cause : (fault : Fault) → SaveCause b (unmarked k) c q fault → Refuses (seen_on d m.state) (machine_on d m.state) call fault (seen_on c q.state) ⊎ (twice × IsOfSecond fault)
-    commit_cause ReadOnly why = inl (inr (facts.writing, why, λ _ _. facts.serial_left))
+    commit_cause ReadOnly why = inl (inr (facts.writing, why, λ _ made. facts.serial_left made))
     commit_cause Overflow why = inr (is_twice, tt)
     commit_cause PowerCut why = inl (inr (facts.begins, why))
     commit_cause NoMemory why = inl (inr facts.begins)
@@ -395,7 +403,7 @@ module _ (d b c : Device) (m k q : System) (call : Call) (s : IsSystem d m) (fir
     again_cause : (fault : Fault) → Refuses (seen_on c q.state) (machine_on d m.state) call fault (seen_on e n.state) → Refuses (seen_on d m.state) (machine_on d m.state) call fault (seen_on e n.state) ⊎ (twice × IsOfSecond fault)
     again_cause fault (inl own) = inl (inl own)
     again_cause FlashFull (inr why) = inr (is_twice, tt)
-    again_cause ReadOnly (inr why) = inl (inr (why.0, why.1, λ _ _. facts.serial_left))
+    again_cause ReadOnly (inr why) = inl (inr (why.0, why.1, λ _ made. facts.serial_left made))
     again_cause Overflow (inr why) = inr (is_twice, tt)
     again_cause ReadFailed (inr why) = inl (inr (why.0, let more = at.is_later.failed_reads in let fails = why.1 in omega (arith, more, fails)))
     again_cause PowerCut (inr why) = inl (inr why)
@@ -522,8 +530,8 @@ module _ (d e : Device) (m n : System) (call : Call) (result : Result Reply Faul
     newly : IsNewly again.room.device k.state.history
     newly = newly_saved b again.room.device k.state _ again.room.system.state.storage.bad again.room.saves.only_anchors.geometry again.room.saves.commits
 
-    -- the roots of the marking are those of the history
-    root_held : (root : ℕ) → Contains ends.from.roots root → Contains (roots_of m.state.history) root
+    -- the roots of the marking are those of the history and of the group
+    root_held : (root : ℕ) → Contains ends.from.roots root → Contains (working_roots m.state) root
     root_held root has = by ends.was
       where
         l : System
@@ -537,12 +545,15 @@ module _ (d e : Device) (m n : System) (call : Call) (result : Result Reply Faul
             again.room.committed.roots still_on newly.newest newly.saved
             ∙ ap roots_of (newly.history ∙ both.first.refused)
 
-        by : GoesOnFrom l ends.from q.state.storage.ring.note → Contains (roots_of m.state.history) root
+        group : l.state.group ≡ m.state.group
+        group = (saved_between d b c m k q call s both.first both.full (Ok true) again.room).group
+
+        by : GoesOnFrom l ends.from q.state.storage.ring.note → Contains (working_roots m.state) root
         by (inl (some, _)) = absurd (let none = again.room.anew in cc)
         by (inr (_, from, _, _)) =
-            elim (Contains-append_cases (roots_of l.state.history) l.record_roots.items root (subst (λ (xs : List ℕ). Contains xs root) from has)) [
-              | inl own ↦ subst (λ (h : Past ℕ). Contains (roots_of h) root) history own
-              | inr saved ↦ subst (λ (xs : List ℕ). Contains xs root) record_roots saved
+            elim (Contains-append_cases (working_roots l.state) l.record_roots.items root (subst (λ (xs : List ℕ). Contains xs root) from has)) [
+              | inl own ↦ subst (λ (x : Past ℕ × Option (Group ℕ)). Contains (roots_of x.0 ++ group_roots x.1) root) (λ i. (history i, group i)) own
+              | inr saved ↦ Contains-append_left (roots_of m.state.history) (group_roots m.state.group) root (subst (λ (xs : List ℕ). Contains xs root) record_roots saved)
             ]
 
     no_note : (x : ℕ) → set.contains q.state.storage.ring.note x ≡ false
@@ -742,4 +753,4 @@ never_full d e m n call result once none is = by m.state.is_off (subst (λ (r : 
     by : (off : Bool) → once_only.Answers (seen_on d m.state) (machine_on d m.state) off call (Err FlashFull) (seen_on e n.state) (machine_on e n.state) n.state.is_off → ⊥
     by true h = let wrong = h.0 in cc
     by false (inl says, _, _) = true≢false (own_says (machine_on d m.state) call FlashFull says)
-    by false (inr why, _, _) = let needs = why.0 in let zero_need = no_need (makes_version (machine_on d m.state) call) in omega (arith, needs, zero_need)
+    by false (inr why, _, _) = let needs = why.0 in let zero_need = no_need (changes_tree (machine_on d m.state) call) in omega (arith, needs, zero_need)

@@ -163,6 +163,7 @@ module _ (d e : Device) (m : System) (t : State) (call : Call) (result : Result 
     saves = λ sync. absurd (true≢false (sym sync ∙ other));
     told = step.told;
     refused = step.refused;
+    regrouped = step.regrouped;
     stopped = λ off. let still = step.stopped off in (still.0, ap (with_state m) still.1);
     last = λ sync. absurd (true≢false (sym sync ∙ other));
     pass = refl;

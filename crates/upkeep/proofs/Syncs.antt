@@ -8,13 +8,14 @@ use Rattle.std.specs.FinSet as set
 use Rattle.std.specs.Ordering.{nat_cmp}
 use Rattle.std.specs.Option.{option_map_or, option_copied}
 use Rattle.history_machine.specs.Descriptors.{Descriptor, descriptor_at}
-use Rattle.history_machine.specs.History.{Past}
-use Rattle.history_machine.specs.Machine.{Machine, Space, refusal, answer, next, makes_version}
+use Rattle.history_machine.specs.History.{Past, map_group}
+use Rattle.history_machine.specs.Machine.{Machine, Space, refusal, answer, next, makes_version, outside_refusal}
 use Rattle.plain_trees.specs.Trees.{Tree}
 use Rattle.fs_types.specs.declared.calls.Call.{Call}
+use Rattle.fs_types.specs.declared.calls.Group.{Group}
 use Rattle.fs_types.specs.declared.calls.Reply.{Reply}
 use Rattle.fs_types.specs.declared.faults.Fault.{Fault}
-use Rattle.fs_types.specs.declared.faults.Fault.TheVariants.{ReadOnly, Overflow, PowerCut, NoMemory, BadDescriptor}
+use Rattle.fs_types.specs.declared.faults.Fault.TheVariants.{ReadOnly, Overflow, PowerCut, NoMemory, BadDescriptor, InGroup}
 use Rattle.flash_model.specs.Device.{Device, block_of}
 use Rattle.allocator.specs.Ring.{Ring, is_busy, free_count}
 use Rattle.read_only.specs.Modes.{is_read_only}
@@ -28,7 +29,7 @@ use Rattle.commit_pair.specs.Parts.{parts_on, best_on, sequence_of, greatest_on}
 use Rattle.commit_pair.specs.Anchored.{OnlyAnchors}
 use Rattle.commit_pair.specs.Committing.{Commits}
 use Rattle.working_state.specs.Roots.{IsReached}
-use Rattle.working_state.specs.Seen.{Seen, seen_on, machine_on}
+use Rattle.working_state.specs.Seen.{Seen, seen_on, machine_on, tree_on}
 use Rattle.working_state.specs.Steps.{is_sync, is_cut, is_cut_answer, begins_work, is_writing, replied, empty, tells_space, IsLater, Answers, MayRefuse}
 use Rattle.working_state.proofs.BadCounts.{len-within, stays_read_only}
 use Rattle.working_state.specs.declared.state.State.{State}
@@ -56,8 +57,22 @@ pub record IsSyncing (m : Machine) (call : Call) : Type 0 where
   pub begins : begins_work m call ≡ true
   pub writing : is_writing m call ≡ true
 
-pub sync_syncs : (m : Machine) → IsSyncing m Call.Sync
-sync_syncs m = record { sync = refl; accepted = refl; answered = λ space. refl; leaves = refl; no_version = refl; begins = refl; writing = refl }
+-- no group is open
+outside : (m : Machine) → m.group ≡ None → outside_refusal m None ≡ None
+outside m none = ap (λ (g : Option (Group Tree)). if is_some g then Some InGroup else None) none
+
+pub sync_syncs : (m : Machine) → m.group ≡ None → IsSyncing m Call.Sync
+sync_syncs m none =
+    let accepted : refusal m Call.Sync ≡ None = outside m none in
+    record {
+      sync = refl;
+      accepted = accepted;
+      answered = λ space. rw accepted refl;
+      leaves = rw accepted refl;
+      no_version = rw accepted refl;
+      begins = rw accepted refl;
+      writing = rw accepted refl;
+    }
 
 pub fsync_syncs : (m : Machine) (descriptor : ℕ) → refusal m (Call.Fsync descriptor) ≡ None → IsSyncing m (Call.Fsync descriptor)
 fsync_syncs m descriptor accepted = record {
@@ -71,9 +86,9 @@ fsync_syncs m descriptor accepted = record {
 }
 
 -- a file is open under the descriptor
-pub is_open_there : (m : Machine) (descriptor : ℕ) (o : Option Descriptor) → o ≡ descriptor_at m.descriptors descriptor → is_some o ≡ true → refusal m (Call.Fsync descriptor) ≡ None
-is_open_there m descriptor None is some = absurd (true≢false (sym some))
-is_open_there m descriptor (Some x) is some = ap (λ (p : Option Descriptor). option_map_or (λ (y : Descriptor). no_fault) p (Some BadDescriptor)) (sym is)
+pub is_open_there : (m : Machine) (descriptor : ℕ) → m.group ≡ None → (o : Option Descriptor) → o ≡ descriptor_at m.descriptors descriptor → is_some o ≡ true → refusal m (Call.Fsync descriptor) ≡ None
+is_open_there m descriptor none None is some = absurd (true≢false (sym some))
+is_open_there m descriptor none (Some x) is some = ap (λ (p : Option Descriptor). option_map_or (λ (y : Descriptor). outside_refusal m None) p (Some BadDescriptor)) (sym is) ∙ outside m none
   where
     no_fault : Option Fault
     no_fault = None
@@ -161,7 +176,7 @@ module _ {T : Type 0} (d e : Device) (m n : System) (result : Result T Fault) (s
       let from = reached_from (node_of d) (roots_of (history_of r)) b reached in
       (s.stands on r is from.0 from.1).held from.0 refl b from.2
 
-  -- the blocks that a version or a checkpoint reaches are used
+  -- the blocks that a version, a checkpoint or the group reaches are used
   reached_used : (b : ℕ) → IsReached d m.state b → set.contains m.state.storage.ring.used b ≡ true
   reached_used b (root, has, reached) = (s.mounted.roots root has).held root refl b reached
 
@@ -230,6 +245,7 @@ module _ {T : Type 0} (d e : Device) (m n : System) (result : Result T Fault) (s
     saves = λ sync. replied_saves;
     told = λ tells. absurd (tells_none call is.sync tells);
     refused = unchanged result;
+    regrouped = regrouped result;
     stopped = λ off. absurd (true≢false (sym off ∙ on));
     last = λ _ _ _ lacks. let refused = refuses lacks in (ap (replied empty) refused.0, refused.1, refused.2);
     pass = same_pass;
@@ -237,6 +253,10 @@ module _ {T : Type 0} (d e : Device) (m n : System) (result : Result T Fault) (s
     after = record_after call is.sync;
   }
     where
+      regrouped : (r : Result T Fault) → OnErr (replied empty r) (n.state.group ≡ m.state.group)
+      regrouped (Ok x) = tt
+      regrouped (Err fault) = ap (λ (t : State). t.group) saves.state
+
       unchanged : (r : Result T Fault) → OnErr (replied empty r) (n.state.history ≡ m.state.history)
       unchanged (Ok x) = tt
       unchanged (Err fault) = same_history d e m n result s saves
@@ -323,6 +343,7 @@ off_step d m call sync off = record {
   saves = λ is. refused_saves d m PowerCut (ap (λ (b : Bool). b || true) off ∙ sym off) (λ e. absurd cc);
   told = λ tells. tt;
   refused = refl;
+  regrouped = refl;
   stopped = λ is. (refl, refl);
   last = λ _ on. absurd (true≢false (sym off ∙ on));
   pass = refl;
@@ -334,6 +355,38 @@ off_step d m call sync off = record {
     by true is = (refl, refl, refl, refl)
     by false is = absurd (true≢false (sym is))
 
+-- a group is open
+pub grouped_step : (d : Device) (m : System) (call : Call) → is_sync call ≡ true → m.state.is_off ≡ false → refusal (machine_on d m.state) call ≡ Some InGroup → TriesOnce d m call (Err InGroup) d m
+grouped_step d m call sync on refused = record {
+  step = record { later = seen_itself (seen_on d m.state); answers = by m.state.is_off on };
+  leaves = λ none. absurd (true≢false (sym sync ∙ none));
+  saves = λ is. refused_saves d m InGroup (ap (λ (b : Bool). b || false) on ∙ sym on) (λ e. absurd cc);
+  told = λ tells. tt;
+  refused = refl;
+  regrouped = refl;
+  stopped = λ is. (refl, refl);
+  last = λ _ _ accepted. absurd (true≢false (sym accepted ∙ ap is_none refused));
+  pass = refl;
+  pages = λ p reached. refl;
+  after = kept_record d m InGroup _ call;
+}
+  where
+    by : (b : Bool) → b ≡ false → Answers (seen_on d m.state) (machine_on d m.state) b call (Err InGroup) (seen_on d m.state) (machine_on d m.state) b
+    by false is = (inl refused, refl, refl)
+    by true is = absurd (true≢false is)
+
+map_grouped : (f : ℕ → Tree) (g : Option (Group ℕ)) → is_some g ≡ true → is_some (map_group f g) ≡ true
+map_grouped f None some = some
+map_grouped f (Some g) some = refl
+
+pub in_group : (d : Device) (m : System) → is_some m.state.group ≡ true → outside_refusal (machine_on d m.state) None ≡ Some InGroup
+in_group d m some = ap (λ b. if b then Some InGroup else None) (map_grouped (tree_on d) m.state.group some)
+
+-- an fsync of an open file, in a group
+pub fsync_grouped : (m : Machine) (descriptor : ℕ) (o : Option Descriptor) → o ≡ descriptor_at m.descriptors descriptor → is_some o ≡ true → outside_refusal m None ≡ Some InGroup → refusal m (Call.Fsync descriptor) ≡ Some InGroup
+fsync_grouped m descriptor None is some grouped = absurd (true≢false (sym some))
+fsync_grouped m descriptor (Some x) is some grouped = ap (λ (p : Option Descriptor). option_map_or (λ (y : Descriptor). outside_refusal m None) p (Some BadDescriptor)) (sym is) ∙ grouped
+
 -- no file is open under the descriptor
 pub closed_step : (d : Device) (m : System) (call : Call) → is_sync call ≡ true → m.state.is_off ≡ false → refusal (machine_on d m.state) call ≡ Some BadDescriptor → TriesOnce d m call (Err BadDescriptor) d m
 closed_step d m call sync on refused = record {
@@ -342,6 +395,7 @@ closed_step d m call sync on refused = record {
   saves = λ is. refused_saves d m BadDescriptor (ap (λ (b : Bool). b || false) on ∙ sym on) (λ e. absurd cc);
   told = λ tells. tt;
   refused = refl;
+  regrouped = refl;
   stopped = λ is. (refl, refl);
   last = λ _ _ accepted. absurd (true≢false (sym accepted ∙ ap is_none refused));
   pass = refl;

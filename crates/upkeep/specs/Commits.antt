@@ -89,11 +89,12 @@ pub record TriesOnce (old : Device) (m : System) (call : Call) (result : Result 
   pub saves : is_sync call ≡ true → Saves old m result new n
   pub told : tells_space call ≡ true → IfOk result (λ reply. (space : Space) × IsSpace new n.state space × (answer space (machine_on old m.state) call ≡ Ok reply))
   pub refused : OnErr result (n.state.history ≡ m.state.history)
+  pub regrouped : OnErr result (n.state.group ≡ m.state.group)
   pub stopped : m.state.is_off ≡ true → (new ≡ old) × (n ≡ m)
   -- where no sequence is left, a call that commits tells it before memory is asked for, and nothing changes
   pub last : is_sync call ≡ true → m.state.is_off ≡ false → is_accepted (machine_on old m.state) call ≡ true → LacksSequence old m → (result ≡ Err Overflow) × (new ≡ old) × (n ≡ m)
   -- the marking that goes on is as it was
   pub pass : n.pass ≡ m.pass
-  -- no page changes of a block that a version or a checkpoint reaches
+  -- no page changes of a block that a version, a checkpoint or the group reaches
   pub pages : KeepsPages old m.state new
   pub after : RecordAfter (is_sync call ≡ true) call result old (machine_on old m.state).history new

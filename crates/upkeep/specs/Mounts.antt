@@ -1,9 +1,10 @@
 -- What a mount makes of the newest record of a flash, and why it makes nothing of it.
-use Rattle.std.specs.Prelude.{◌≡◌, ◌⊎◌, ◌↔◌, ℕ, ◌<◌, true, false, Some, None, Ok, Err, List, ◌++◌, map}
+use Rattle.std.specs.Prelude.{◌≡◌, ◌⊎◌, ◌↔◌, ℕ, ◌<◌, true, false, Option, Some, None, Ok, Err, List, [], ◌∷◌, ◌++◌, map}
 use Rattle.std.specs.FinSet as set
 use Rattle.history_machine.specs.History.{Past, map_roots}
 use Rattle.history_machine.specs.Machine.{mounted}
 use Rattle.plain_trees.specs.Trees.{Tree}
+use Rattle.fs_types.specs.declared.calls.Group.{Group}
 use Rattle.fs_types.specs.declared.faults.Fault.{Fault}
 use Rattle.fs_types.specs.declared.faults.Fault.TheVariants.{BadGeometry, NoRecord, Damaged, ReadFailed, PowerCut, NoMemory}
 use Rattle.flash_model.specs.Device.{Device}
@@ -35,6 +36,15 @@ history_of r = record {
 -- the roots of all versions and checkpoints
 abbrev pub roots_of : Past ℕ → List ℕ
 roots_of h = map (λ v. v.root) h.versions ++ map (λ e. e.1) h.checkpoints
+
+-- the root of a group, where one is open
+abbrev pub group_roots : Option (Group ℕ) → List ℕ
+group_roots None = []
+group_roots (Some g) = g.root ∷ []
+
+-- the roots of a state: of its versions and checkpoints, and of its group
+abbrev pub working_roots : State → List ℕ
+working_roots s = roots_of s.history ++ group_roots s.group
 
 -- the history that a record holds, with the tree that a flash has of each root
 abbrev pub trees_of : Device → Record → Past Tree

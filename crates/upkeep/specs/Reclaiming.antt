@@ -12,15 +12,15 @@ use Rattle.reclaim.specs.Passes.{Pass, IsPass, Begins}
 use Rattle.working_state.specs.Seen.{seen_on, machine_on}
 use Rattle.working_state.specs.Steps.{is_cut_answer}
 use Rattle.working_state.specs.Worked.{ReadCause}
-use Rattle.upkeep.specs.Mounts.{roots_of}
+use Rattle.upkeep.specs.Mounts.{working_roots}
 use Rattle.upkeep.specs.declared.systems.System.{System}
 
 -- the marking that goes on: the one that was begun; else a new one, which has read nothing, of the roots of the working history
--- and of the newest record, and no block is noted as taken since
+-- and its group and of the newest record, and no block is noted as taken since
 abbrev pub GoesOnFrom : System → Pass → set.FinSet nat_cmp → Type 0
 GoesOnFrom m p note =
     ((m.pass ≡ Some p) × (note ≡ m.state.storage.ring.note))
-    ⊎ ((m.pass ≡ None) × (p.roots ≡ roots_of m.state.history ++ m.record_roots.items) × (p.next ≡ 0) × (note ≡ set.empty))
+    ⊎ ((m.pass ≡ None) × (p.roots ≡ working_roots m.state ++ m.record_roots.items) × (p.next ≡ 0) × (note ≡ set.empty))
 
 -- a marking went on from another: it is of the same flash and roots, and what was marked before is marked, in the same order
 pub record Advances (from to : Pass) : Type 0 where
@@ -63,10 +63,12 @@ StepEnds old m budget (Ok true) new n = EndsPass old m budget n
 StepEnds old m budget (Err fault) new n =
     (n.pass ≡ None) × (n.state.storage.ring.used ≡ m.state.storage.ring.used) × ReadCause (seen_on old m.state) fault (seen_on new n.state)
 
--- only reads came, and the history, the machine, the bad list, the last block taken and the newest record's place are as they were
+-- only reads came, and the history, the group, the machine, the bad list, the last block taken and the newest record's place are
+-- as they were
 pub record Stays (old : Device) (m : System) (new : Device) (n : System) : Type 0 where
   pub reads : OnlyReads old new
   pub history : n.state.history ≡ m.state.history
+  pub group : n.state.group ≡ m.state.group
   pub machine : machine_on new n.state ≡ machine_on old m.state
   pub bad : n.state.storage.bad ≡ m.state.storage.bad
   pub last : n.state.storage.ring.last ≡ m.state.storage.ring.last

@@ -49,6 +49,7 @@ fn load<F: Flash>(
     use_reached(alloc, flash, &mut storage, &roots)?;
     Ok(State {
         history,
+        group: None,
         storage,
         files: OpenFiles::new(),
         is_off: false,

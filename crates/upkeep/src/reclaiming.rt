@@ -11,11 +11,11 @@ ghost use Rattle.reclaim.specs.Passes.{IsPass, IsFinished};
 ghost use Rattle.working_state.specs.Leaves.{HasLooked};
 ghost use Rattle.working_state.specs.Seen.{seen_of};
 ghost use Rattle.working_state.specs.Worked.{ReadCause};
-ghost use Rattle.upkeep.specs.Mounts.{roots_of};
+ghost use Rattle.upkeep.specs.Mounts.{working_roots};
 ghost use Rattle.upkeep.specs.Reclaiming.{GoesOnFrom, Advances, StepEnds, Stays, Reclaims};
 ghost use Rattle.upkeep.specs.Systems.{IsSystem};
 
-use crate::restoring::list_roots;
+use crate::restoring::list_working;
 use crate::systems::System;
 use flash_model::Flash;
 use fs_types::Fault;
@@ -25,8 +25,9 @@ use std::alloc::Global;
 
 impl System {
     /// Reads `budget` blocks more of those that a version or a checkpoint reaches, of the working
-    /// history or of the newest record, or all that remain; whether none remains. Then each block that
-    /// was not met is free, but those taken since the first of these steps. Nothing is written.
+    /// history or of the newest record, or the change group that is open, or all that remain; whether
+    /// none remains. Then each block that was not met is free, but those taken since the first of these
+    /// steps. Nothing is written.
     ///
     /// The marking goes on beside the calls. [`Fault::ReadFailed`], [`Fault::PowerCut`],
     /// [`Fault::NoMemory`]: the next step begins anew.
@@ -72,7 +73,7 @@ impl System {
 
     /// The marking that goes on, which is none of the system's any more; else a new one.
     fn take_pass(&mut self, alloc: Global) -> Result<Pass, Fault>
-        requires { (b : ℕ) → Contains (roots_of self.old.state.history ++ self.old.record_roots.items) b → IsDataBlock self.old.state.storage.ring.blocks b }
+        requires { (b : ℕ) → Contains (working_roots self.old.state ++ self.old.record_roots.items) b → IsDataBlock self.old.state.storage.ring.blocks b }
         ensures from { IfOk result (λ pass. GoesOnFrom self.old pass self.new.state.storage.ring.note) }
         ensures begun { IfOk result (λ pass. self.old.pass ≡ None → (pass.blocks ≡ self.old.state.storage.ring.blocks) × ((f : Blocks) → IsPass f pass)) }
         ensures same { self.new ≡ record self.old {
@@ -90,7 +91,7 @@ impl System {
         }
         let blocks = self.state.storage.ring.blocks();
         self.state.storage.ring.watch();
-        let mut roots = list_roots(alloc, &self.state.history)?;
+        let mut roots = list_working(alloc, &self.state)?;
         roots.extend_from_slice(&self.record_roots)?;
         Pass::start(alloc, blocks, &roots)
     }

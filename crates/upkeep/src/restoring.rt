@@ -7,7 +7,7 @@ ghost use Rattle.fs_types.specs.Names.{name_cmp};
 ghost use Rattle.fs_types.specs.declared.limits.TheConstants.{MAX_BAD_BLOCKS};
 ghost use Rattle.history_machine.specs.History.{IsLawful};
 ghost use Rattle.record_format.specs.Payloads.{is_record, names_ascend};
-ghost use Rattle.upkeep.specs.Mounts.{history_of, roots_of};
+ghost use Rattle.upkeep.specs.Mounts.{history_of, roots_of, working_roots};
 
 use bad_blocks::BadBlocks;
 use fs_types::{CpName, Version};
@@ -15,6 +15,7 @@ use history::History;
 use record_format::{Checkpoint, Record};
 use std::alloc::{AllocError, Global};
 use std::collections::BTreeMap;
+use working_state::State;
 
 /// The versions, with room for one more than `limit`.
 #[tactic(auto, using(crate::proofs::Restored::put_version))]
@@ -75,6 +76,17 @@ pub(crate) fn list_roots(alloc: Global, history: &History<u32>) -> Result<Vec<u3
 {
     let mut roots = version_roots(alloc, history.versions())?;
     push_roots(&mut roots, history.checkpoints())?;
+    Ok(roots)
+}
+
+/// The roots of a state: of its versions and checkpoints, and of its group.
+pub(crate) fn list_working(alloc: Global, state: &State) -> Result<Vec<u32>, AllocError>
+    ensures { IfOk result (λ roots. roots.items ≡ working_roots state.now) }
+{
+    let mut roots = list_roots(alloc, &state.history)?;
+    if let Some(group) = &state.group {
+        roots.push(group.root)?;
+    }
     Ok(roots)
 }
 

@@ -13,10 +13,10 @@ ghost use Rattle.working_state.specs.Roots.{IsSpace};
 ghost use Rattle.working_state.specs.Seen.{seen_on, machine_on};
 ghost use Rattle.working_state.specs.Worked.{IsLooked, ReadCause};
 ghost use Rattle.upkeep.specs.Costs.{AsksEach};
-ghost use Rattle.upkeep.specs.Mounts.{roots_of};
+ghost use Rattle.upkeep.specs.Mounts.{working_roots};
 
 use crate::reaching::marked_on;
-use crate::restoring::list_roots;
+use crate::restoring::list_working;
 use allocator::Marks;
 use bad_blocks::BadBlocks;
 use flash_model::{FIRST_DATA_BLOCK, Flash};
@@ -26,14 +26,15 @@ use std::alloc::Global;
 use working_state::State;
 
 /// How much of a flash is used: [`Reply::Df`]. Free is a data block that is neither bad nor reached by
-/// a version or a checkpoint. Their nodes are read, each once, and nothing is written.
+/// a version, a checkpoint or the change group that is open. Their nodes are read, each once, and
+/// nothing is written.
 ///
 /// [`Fault::ReadFailed`], [`Fault::PowerCut`], [`Fault::NoMemory`].
 pub(crate) fn df<F: Flash>(state: &mut State, alloc: Global, flash: &mut F) -> Result<Reply, Fault>
     requires { IsMounted (F.device flash.old) state.old }
     ensures mounted { IsMounted (F.device flash.new) state.new }
     ensures step { StateStep (F.device flash.old) state.old Call.Df result (F.device flash.new) state.new }
-    ensures asks { AsksEach (F.device flash.old) (roots_of state.old.history) (F.device flash.new) }
+    ensures asks { AsksEach (F.device flash.old) (working_roots state.old) (F.device flash.new) }
 {
     state.check_power()?;
     let space = measure(state, alloc, flash);
@@ -44,11 +45,11 @@ pub(crate) fn df<F: Flash>(state: &mut State, alloc: Global, flash: &mut F) -> R
 fn measure<F: Flash>(state: &mut State, alloc: Global, flash: &mut F) -> Result<Reply, Fault>
     requires { IsMounted (F.device flash.old) state.old }
     ensures looked { IsLooked (moment (F.device flash.old) state.old) (moment (F.device flash.new) state.new) }
-    ensures asks { AsksEach (F.device flash.old) (roots_of state.old.history) (F.device flash.new) }
+    ensures asks { AsksEach (F.device flash.old) (working_roots state.old) (F.device flash.new) }
     ensures told { IfOk result (λ reply. (space : Space) × IsSpace (F.device flash.new) state.new space × (reply_of space (machine_on (F.device flash.old) state.old) Call.Df ≡ reply)) }
     ensures why { IfErr result (λ fault. ReadCause (seen_on (F.device flash.old) state.old) fault (seen_on (F.device flash.new) state.new)) }
 {
-    let roots = list_roots(alloc, &state.history)?;
+    let roots = list_working(alloc, state)?;
     let reached = marked_on(alloc, flash, &mut state.storage, &roots)?;
     Ok(tell_space(&reached, &state.storage.bad))
 }

@@ -10,7 +10,7 @@ ghost use Rattle.commit_pair.specs.Parts.{sequence_of};
 ghost use Rattle.working_state.specs.Steps.{replied, empty};
 ghost use Rattle.upkeep.specs.Contents.{record_of};
 ghost use Rattle.upkeep.specs.Costs.{AsksEach};
-ghost use Rattle.upkeep.specs.Mounts.{roots_of};
+ghost use Rattle.upkeep.specs.Mounts.{working_roots};
 ghost use Rattle.upkeep.specs.Systems.{IsSystem};
 ghost use Rattle.upkeep.specs.Commits.{Saves, SaveCause, LacksSequence, CommitRefuses, TriesOnce};
 ghost use Rattle.upkeep.specs.Steps.{SystemStep};
@@ -32,7 +32,8 @@ use working_state::State;
 /// on.
 #[derive(Drop)]
 pub struct System {
-    /// The versions and checkpoints, what nodes are kept with, and the open files.
+    /// The versions and checkpoints, the change group that is open, if one is, what nodes are kept with,
+    /// and the open files.
     pub state: State,
     /// The place of the newest record, so that a commit may follow.
     pub anchors: Anchors,
@@ -46,21 +47,23 @@ impl System {
     /// Commits the whole working state: history, checkpoints, bad blocks, and the last block taken.
     /// A record is written each time, as [`Anchors::commit`] has it.
     ///
-    /// [`Fault::PowerCut`] where an earlier call answered that; [`Fault::ReadOnly`] in read-only mode,
-    /// or where it is met since anchors fail; [`Fault::Overflow`] where the sequence of the newest
-    /// record is the greatest number there is; [`Fault::PowerCut`]; [`Fault::NoMemory`]. After a
-    /// refusal but `PowerCut` the newest record is the one it was.
+    /// [`Fault::PowerCut`] where an earlier call answered that; [`Fault::InGroup`] where a change group
+    /// is open; [`Fault::ReadOnly`] in read-only mode, or where it is met since anchors fail;
+    /// [`Fault::Overflow`] where the sequence of the newest record is the greatest number there is;
+    /// [`Fault::PowerCut`]; [`Fault::NoMemory`]. After a refusal but `PowerCut` the newest record is the
+    /// one it was.
     pub fn sync<F: Flash>(&mut self, alloc: Global, flash: &mut F) -> Result<(), Fault>
         requires { IsSystem (F.device flash.old) self.old }
         ensures system { IsSystem (F.device flash.new) self.new }
         ensures step { TriesOnce (F.device flash.old) self.old Call.Sync (replied empty result) (F.device flash.new) self.new }
     {
         self.state.check_power()?;
+        self.state.check_outside()?;
         self.commit(alloc, flash)
     }
 
-    /// The same, where the descriptor is of an open file; else [`Fault::BadDescriptor`] (POSIX.1-2017
-    /// `fsync`, which speaks of one file).
+    /// The same, where the descriptor is of an open file; else [`Fault::BadDescriptor`], before
+    /// [`Fault::InGroup`] (POSIX.1-2017 `fsync`, which speaks of one file).
     pub fn fsync<F: Flash>(
         &mut self,
         alloc: Global,
@@ -75,18 +78,20 @@ impl System {
         if self.state.files.get(descriptor).is_none() {
             return Err(Fault::BadDescriptor);
         }
+        self.state.check_outside()?;
         self.commit(alloc, flash)
     }
 
     /// How much of the flash is used: [`Reply::Df`]. Free is a data block that is neither bad nor
-    /// reached by a version or a checkpoint. Their nodes are read, each once, and nothing is written.
+    /// reached by a version, a checkpoint or the change group that is open. Their nodes are read, each
+    /// once, and nothing is written.
     ///
     /// [`Fault::ReadFailed`], [`Fault::PowerCut`], [`Fault::NoMemory`].
     pub fn df<F: Flash>(&mut self, alloc: Global, flash: &mut F) -> Result<Reply, Fault>
         requires { IsSystem (F.device flash.old) self.old }
         ensures system { IsSystem (F.device flash.new) self.new }
         ensures step { TriesOnce (F.device flash.old) self.old Call.Df result (F.device flash.new) self.new }
-        ensures asks { AsksEach (F.device flash.old) (roots_of self.old.state.history) (F.device flash.new) }
+        ensures asks { AsksEach (F.device flash.old) (working_roots self.old.state) (F.device flash.new) }
     {
         df(&mut self.state, alloc, flash)
     }
@@ -131,7 +136,8 @@ impl System {
     }
 
     /// Commits the record of the working state, where no call answered before that the power is off.
-    /// Where it goes in the commit that is remembered.
+    /// It has the history, and nothing of a change group that is open. Where the power goes in the commit
+    /// that is remembered.
     pub(crate) fn commit<F: Flash>(&mut self, alloc: Global, flash: &mut F) -> Result<(), Fault>
         requires system { IsSystem (F.device flash.old) self.old }
         requires is_on { self.old.state.is_off ≡ false }

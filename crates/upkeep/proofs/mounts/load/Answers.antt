@@ -1,4 +1,4 @@
-use Rattle.std.proofs.Common.{◌≡◌, Err, true, false, refl, subst, ap, ◌∙◌, List, ℕ, sym}
+use Rattle.std.proofs.Common.{◌≡◌, Err, true, false, refl, subst, ap, ◌∙◌, List, None, ℕ, sym}
 use Rattle.std.proofs.lemmas.Result.{err_from_is_err_and}
 use Rattle.std.specs.FinSet as set
 use Rattle.std.specs.Prelude.{◌↔◌}
@@ -22,7 +22,7 @@ returns-clause-loaded g c =
     let ring = c.use_reached.ensures.ring in
     let begun = c.in_ok-storage.ensures.ring in
     let roots : c.deref.result.now ≡ roots_of (history_of c.args.saved.now) = c.deref.ensures.value ∙ c.in_ok-roots.ensures ∙ ap roots_of c.in_ok-history.ensures.history in
-    built_loaded d e c.args.saved.now (record { history = c.in_ok-history.history; storage = c.use_reached.new.storage; files = c.new.result; is_off = false })
+    built_loaded d e c.args.saved.now (record { history = c.in_ok-history.history; group = None; storage = c.use_reached.new.storage; files = c.new.result; is_off = false })
     (record {
       lawful = c.requires.lawful;
       only_reads = c.use_reached.ensures.only_reads;
@@ -35,6 +35,7 @@ returns-clause-loaded g c =
       bad = c.use_reached.ensures.bad ∙ c.in_ok-storage.ensures.bad ∙ c.list_bad-bad.ensures ∙ ap (λ (l : List ℕ). set.from_list l) c.as_slice.ensures;
       last = ap (λ (r : Ring). r.last) ring ∙ ap (λ (r : Ring). r.last) begun;
       fits = c.use_reached.ensures.fits.fits (c.in_ok-storage.ensures.fits d (sym c.requires.same));
+      ungrouped = refl;
       files = c.new.ensures;
       is_on = refl;
     })

@@ -3,6 +3,7 @@ use Rattle.std.proofs.Common.{◌≡◌, ℕ, ◌+◌, ◌*◌, ◌<◌, ◌≤�
 use Rattle.std.specs.Prelude.{◌/◌, ◌-◌, ◌≢◌, IfOk, OnOk}
 use Rattle.std.specs.FinSet as set
 use Rattle.std.specs.Ordering.{nat_cmp}
+use Rattle.std.proofs.Math.Nat.{mul-le-mul_right}
 use Rattle.std.proofs.lemmas.Nat.{div-mul-add}
 use Rattle.fs_types.specs.declared.faults.Fault.{Fault}
 use Rattle.flash_model.specs.declared.sizes.Geometry.{Geometry}
@@ -17,11 +18,19 @@ use Rattle.commit_pair.specs.Anchored.{Tries, Asked}
 use Rattle.commit_pair.specs.Committing.{IsNext}
 use Rattle.commit_pair.specs.Programming.{TriesPages}
 use Rattle.commit_pair.specs.Reading.{OnlyReads}
-use Rattle.commit_pair.specs.Remembering.{BeginsAt, ReadsNone, IsPlaced}
+use Rattle.commit_pair.specs.Remembering.{BeginsAt, ReadsNone, IsPlaced, TriesOnce}
 
 -- one operation that was answered with the power on
 pub one_more : {T : Type 0} (old new : Device) (result : Result T DevFault) (reads fails : ℕ) → Operates old new result reads fails → power_after result ≡ true → new.operations ≡ old.operations + 1
 one_more old new result reads fails done on = done.operations ∙ ap (λ b. old.operations + cond b 1 0) (done.was_on on)
+
+one_at_most : (on : Bool) → cond on 1 0 ≤ 1
+one_at_most true = omega arith
+one_at_most false = omega arith
+
+-- one operation, whatever it was answered
+pub operates_one : {T : Type 0} (old new : Device) (result : Result T DevFault) (reads fails : ℕ) → Operates old new result reads fails → new.operations ≤ old.operations + 1
+operates_one old new result reads fails done = let h = done.operations in let one = one_at_most old.powered in omega arith
 
 -- a program that was not done, after n that were
 pub tries_end : (old mid new : Device) (n count : ℕ) (fault : DevFault) → mid.failures ≡ old.failures → mid.operations ≡ old.operations + n → n < count
@@ -112,13 +121,15 @@ elsewhere_next g old mid new home (Err fault) same first next = tt
 
 -- a commit after reads
 pub placed_after : (old mid new : Device) (was now : set.FinSet nat_cmp) (anchors : Anchors) (r : Record) (result : Result (Unit {0}) Fault) → OnlyReads old mid → (ReadsNone was anchors → mid.operations ≡ old.operations)
-    → OnOk result (IsPlaced mid was anchors r 0 new now) → OnOk result ((reads : ℕ) × (ReadsNone was anchors → reads ≡ 0) × IsPlaced old was anchors r reads new now)
-placed_after old mid new was now anchors r (Ok u) only quiet placed =
+    → mid.operations ≤ old.operations + first_data * r.geometry.pages
+    → OnOk result (IsPlaced mid was anchors r 0 new now) → OnOk result ((reads : ℕ) × (ReadsNone was anchors → reads ≡ 0) × (reads ≤ first_data * r.geometry.pages) × IsPlaced old was anchors r reads new now)
+placed_after old mid new was now anchors r (Ok u) only quiet few placed =
     let reads = mid.operations - old.operations in
     let is : mid.operations ≡ old.operations + reads = let h = only.operations in omega arith in
     let pages : placed.found.page / mid.geometry.pages ≡ placed.found.page / old.geometry.pages = ap (λ (g : Geometry). placed.found.page / g.pages) only.geometry in (
       reads,
       λ none. let e = quiet none in omega arith,
+      omega (arith, is, few),
       record {
         home = placed.home;
         place = placed.place;
@@ -130,7 +141,7 @@ placed_after old mid new was now anchors r (Ok u) only quiet placed =
         elsewhere = λ apart. asked_after old mid new reads (1 + placed.found.head.count) only is (placed.elsewhere (λ here. apart (sym pages ∙ here)));
       },
     )
-placed_after old mid new was now anchors r (Err fault) only quiet placed = tt
+placed_after old mid new was now anchors r (Err fault) only quiet few placed = tt
 
 -- an erase was asked for
 pub tried_done : (old new : Device) (b : ℕ) (u : Unit {0}) → Erases old b new (Ok u) → Tries old new 1 true
@@ -152,9 +163,23 @@ pub tried_once : (old new : Device) (done : Bool) → Tries old new 1 done → n
 tried_once old new true tries = tries.1
 tried_once old new false tries = omega (arith, tries.1, tries.2)
 
-one_at_most : (on : Bool) → cond on 1 0 ≤ 1
-one_at_most true = omega arith
-one_at_most false = omega arith
-
 pub asks_one : (old new : Device) (b : ℕ) (result : Result (Unit {0}) DevFault) → Erases old b new result → new.operations ≤ old.operations + 1
 asks_one old new b result e = let h = e.operates.operations in let one = one_at_most old.powered in omega arith
+
+-- each anchor is tried once
+pub next_tried : (old mid new step most pages : ℕ) → mid + (pages + 1) ≤ old + step * (pages + 1) → new ≤ mid + (pages + 1) → step ≤ most → new ≤ old + most * (pages + 1)
+next_tried old mid new step most pages so_far one few = let all : step * (pages + 1) ≤ most * (pages + 1) = mul-le-mul_right (pages + 1) few in omega (arith, so_far, one, all)
+
+pub tried_none : (d : Device) (was : set.FinSet nat_cmp) (anchors : Anchors) → TriesOnce d was anchors d
+tried_none d was anchors = record { reads = 0; none = λ _. refl; once = omega arith; most = omega arith }
+
+pub tried_after : (old mid new : Device) (was : set.FinSet nat_cmp) (anchors : Anchors) (pages : ℕ) → OnlyReads old mid → pages ≡ old.geometry.pages → (ReadsNone was anchors → mid.operations ≡ old.operations)
+    → mid.operations ≤ old.operations + first_data * pages → new.operations ≤ mid.operations + first_data * (pages + 1) → TriesOnce old was anchors new
+tried_after old mid new was anchors pages only same quiet few more =
+    let later = only.operations in
+    record {
+      reads = mid.operations - old.operations;
+      none = λ none. let e = quiet none in omega (arith, e);
+      once = omega (arith, later, few, same);
+      most = omega (arith, later, more, same);
+    }

@@ -95,8 +95,8 @@ pub attempted : (old new : Device) (was now : set.FinSet nat_cmp) (r : Record) (
     → Placed r.geometry old.pages new.pages (record { page = anchor * r.geometry.pages + place; head = head_for r.geometry sequence bytes count 0 }) (record { sequence = sequence; payload = bytes }) done
     → IfOk done (λ is. is ≡ true → IsEnd r.geometry new.pages anchor r.geometry.pages (place + count)) → IfOk done (λ is. now ≡ cond is was (set.insert was anchor)) → OnErr done (now ≡ was)
     → ((p : ℕ) → block_of old p ≢ anchor → new.pages p ≡ old.pages p) → OnlyAnchors old was new now → IfOk done (Tries old new operations)
-    → IfErr done (λ fault. (fault ≡ PowerCut) × (new.powered ≡ false)) → Attempted old was new now r sequence anchor place more (answered done found)
-attempted old new was now r sequence bytes anchor place count more operations found (Ok true) same lt sum few good page head means placed end list stays others only tries why = record {
+    → IfErr done (λ fault. (fault ≡ PowerCut) × (new.powered ≡ false)) → new.operations ≤ old.operations + operations → Attempted old was new now r sequence anchor place more (answered done found)
+attempted old new was now r sequence bytes anchor place count more operations found (Ok true) same lt sum few good page head means placed end list stays others only tries why most = record {
   attempts = commits_at old.pages new.pages r sequence was now bytes anchor place count found true refl lt page head placed end list means;
   page = page;
   fits = lt;
@@ -108,10 +108,11 @@ attempted old new was now r sequence bytes anchor place count more operations fo
       let all : found.head.count ≡ count = ap (λ (h : PageHead). h.count) head in
       subst (Asked old new) (sum ∙ ap (λ n. more + n) (sym all)) (asked_done old new operations true refl tries);
   tried = tt;
+  operations = omega (arith, few, most);
   only_anchors = only;
   why = tt;
 }
-attempted old new was now r sequence bytes anchor place count more operations found (Ok false) same lt sum few good page head means placed end list stays others only tries why =
+attempted old new was now r sequence bytes anchor place count more operations found (Ok false) same lt sum few good page head means placed end list stays others only tries why most =
     let bad = failed_listed was now anchor false refl list in
     let pages : old.geometry.pages ≡ r.geometry.pages = ap (λ (g : Geometry). g.pages) same in
     record {
@@ -124,10 +125,11 @@ attempted old new was now r sequence bytes anchor place count more operations fo
       untouched = failed_untouched old new now anchor bad others;
       asked = tt;
       tried = asked_failed old new operations false refl (omega arith) tries;
+      operations = omega (arith, few, most);
       only_anchors = only;
       why = tt;
     }
-attempted old new was now r sequence bytes anchor place count more operations found (Err fault) same lt sum few good page head means placed end list stays others only tries why = record {
+attempted old new was now r sequence bytes anchor place count more operations found (Err fault) same lt sum few good page head means placed end list stays others only tries why most = record {
   attempts =
       attempts_cut old.pages new.pages r sequence now bytes (anchor * r.geometry.pages + place) (head_for r.geometry sequence bytes count 0) fault why.0
       (subst (λ bad. Means r sequence bad bytes) (sym stays) means) placed;
@@ -139,6 +141,7 @@ attempted old new was now r sequence bytes anchor place count more operations fo
   untouched = tt;
   asked = tt;
   tried = tt;
+  operations = omega (arith, few, most);
   only_anchors = only;
   why = why;
 }

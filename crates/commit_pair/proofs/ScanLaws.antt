@@ -1,20 +1,23 @@
 -- The best record, met page by page.
 use Rattle.std.proofs.Common.{◌≡◌, ◌≢◌, ◌⊎◌, ℕ, zero, suc, ◌+◌, ◌-◌, ◌*◌, ◌<◌, ◌≤◌, Bool, true, false, cond, ltb, leb, eqb, Option, Some, None, inl, inr, refl, sym, ap, subst, ◌∙◌, arith}
 use Rattle.std.specs.Prelude.{◌&&◌, ◌%◌, ◌/◌}
+use Rattle.std.specs.FinSet as set
 use Rattle.std.specs.Option.{option_map, option_and_then}
-use Rattle.std.proofs.lemmas.Bool.{cases_Bool, cases_eq, and_right, lt-ltb, le-leb, ltb-true, leb-true, eqb-true, eq-eqb, ne_eqb, both_ways}
+use Rattle.std.specs.Ordering.{nat_cmp}
+use Rattle.std.proofs.lemmas.Bool.{cases_eq, and_right, lt-ltb, le-leb, ltb-true, leb-true, eqb-true, eq-eqb, ne_eqb, both_ways}
 use Rattle.std.proofs.lemmas.Nat.{div-mul-add, mod-mul-add}
 use Rattle.flash_model.specs.declared.sizes.Geometry.{Geometry}
-use Rattle.flash_model.specs.Device.{Device, Page}
+use Rattle.flash_model.specs.Device.{Device, Page, erased}
 use Rattle.record_format.specs.declared.pages.PageHead.{PageHead}
 use Rattle.commit_pair.specs.declared.best.Found.{Found}
 use Rattle.commit_pair.specs.declared.best.Best.{Best}
 use Rattle.commit_pair.specs.declared.runs.Run.{Run}
 use Rattle.commit_pair.specs.declared.runs.Scan.{Scan}
-use Rattle.commit_pair.specs.Parts.{Part, head_at, is_part, is_filled, are_parts, is_record, record_head, considered, considered_with, best_below, first_data, parts_on, newest_at, pages_of}
+use Rattle.commit_pair.specs.Parts.{Part, part_of, head_at, is_part, are_parts, is_record, record_head, considered, considered_with, best_below, first_data, parts_on, newest_at, pages_of}
+use Rattle.commit_pair.specs.Anchored.{AreErased}
 use Rattle.commit_pair.specs.Reading.{OnlyReads}
 use Rattle.commit_pair.specs.Scanning.{begun, followed, settled, next, GoesOn, IsRun, IsMet}
-use Rattle.commit_pair.proofs.ReadParts.{parts_start, parts_go_on, parts_stop, parts_end}
+use Rattle.commit_pair.proofs.ReadParts.{no_part, parts_start, parts_go_on, parts_stop, parts_end}
 
 -- ---- tests
 
@@ -90,6 +93,23 @@ best_same g parts p zero none = let e : p + 0 ≡ p = omega arith in ap (best_be
 best_same g parts p (suc k) none =
     let e : p + suc k ≡ p + k + 1 = omega arith in
     ap (best_below g parts) e ∙ best_next g parts (p + k) None (none k (omega arith)) ∙ best_same g parts p k (λ m lt. none m (omega arith))
+
+-- no record begins at an erased page, so none on an anchor that is erased
+erased_none : (g : Geometry) (pages : ℕ → Page) (p : ℕ) → pages p ≡ erased → record_head g (parts_on g pages) p ≡ None
+erased_none g pages p is =
+    let none : parts_on g pages p ≡ None = sym (no_part g pages p (ap part_of is)) in
+    ap (λ (o : Option Part). option_and_then (λ first. cond (is_record g (parts_on g pages) p first) (Some first) None) (option_map (λ part. part.head) o)) none
+
+pub best_past_erased : (d : Device) (g : Geometry) (bad : set.FinSet nat_cmp) (anchor : ℕ) (best : Best) → d.geometry ≡ g → 1 ≤ g.pages → anchor < first_data → set.contains bad anchor ≡ false → AreErased d bad first_data
+    → best ≡ best_below g (parts_on g d.pages) (anchor * g.pages) → best ≡ best_below g (parts_on g d.pages) ((anchor + 1) * g.pages)
+best_past_erased d g bad anchor best same some lt good blank is =
+    let all : (anchor + 1) * g.pages ≡ anchor * g.pages + g.pages = omega arith in
+    is ∙ sym (ap (best_below g (parts_on g d.pages)) all ∙ best_same g (parts_on g d.pages) (anchor * g.pages) g.pages (λ m below. erased_none g d.pages (anchor * g.pages + m) (erased_at m below)))
+  where
+    erased_at : (m : ℕ) → m < g.pages → d.pages (anchor * g.pages + m) ≡ erased
+    erased_at m below =
+        let block : (anchor * g.pages + m) / d.geometry.pages ≡ anchor = ap (λ (h : Geometry). (anchor * g.pages + m) / h.pages) same ∙ div-mul-add anchor g.pages m below in
+        blank (anchor * g.pages + m) (subst (λ (b : ℕ). b < first_data) (sym block) lt) (ap (set.contains bad) block ∙ good)
 
 module _ (g : Geometry) (parts : ℕ → Option Part) (first n : ℕ) (run : Run) (is : IsRun g parts first n run) where
   abbrev start : ℕ

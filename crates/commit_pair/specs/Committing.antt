@@ -68,6 +68,7 @@ pub record Attempted (old : Device) (was : set.FinSet nat_cmp) (new : Device) (n
   pub untouched : OnNone result (Untouched old now new)
   pub asked : IfPlaced result (λ found. Asked old new (more + found.head.count))
   pub tried : OnNone result (Asked old new 0)
+  pub operations : new.operations ≤ old.operations + (r.geometry.pages + 1)
   pub only_anchors : OnlyAnchors old was new now
   pub why : IfErr result (λ fault. (fault ≡ PowerCut) × (new.powered ≡ false))
 

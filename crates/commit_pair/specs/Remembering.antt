@@ -1,5 +1,5 @@
 -- What is remembered of the anchors from call to call, and what a commit makes of it.
-use Rattle.std.specs.Prelude.{◌≡◌, ◌≢◌, ◌⊎◌, ℕ, ◌+◌, ◌/◌, ◌-◌, ◌^◌, ◌<◌, true, false, Option, Some, None, Result, Err, IsErr}
+use Rattle.std.specs.Prelude.{◌≡◌, ◌≢◌, ◌⊎◌, ℕ, ◌+◌, ◌*◌, ◌/◌, ◌-◌, ◌^◌, ◌<◌, ◌≤◌, true, false, Option, Some, None, Result, Err, IsErr}
 use Rattle.std.specs.FinSet as set
 use Rattle.std.specs.Ordering.{nat_cmp}
 use Rattle.fs_types.specs.declared.faults.Fault.{Fault}
@@ -55,6 +55,14 @@ pub record IsPlaced (old : Device) (was : set.FinSet nat_cmp) (anchors : Anchors
   pub goes : GoesTo r was now home place found.page
   pub begun : found.page / old.geometry.pages ≡ home → Asked old new (reads + found.head.count)
   pub elsewhere : found.page / old.geometry.pages ≢ home → Asked old new (reads + (1 + found.head.count))
+
+-- whatever is answered, each page of the anchors was read once at most, and none where a commit reads none; and then each anchor
+-- was tried once at most, by an erase and its pages
+pub record TriesOnce (old : Device) (was : set.FinSet nat_cmp) (anchors : Anchors) (new : Device) : Type 0 where
+  pub reads : ℕ
+  pub none : ReadsNone was anchors → reads ≡ 0
+  pub once : reads ≤ first_data * old.geometry.pages
+  pub most : new.operations ≤ old.operations + reads + first_data * (old.geometry.pages + 1)
 
 -- what a commit leaves where no sequence is left: nothing is written. Where the place of the newest record is known that is told before all else but read-only mode
 pub record RefusesLast (old : Device) (was : set.FinSet nat_cmp) (anchors : Anchors) (new : Device) (now : set.FinSet nat_cmp) (result : Result (Unit {0}) Fault) : Type 0 where

@@ -1,8 +1,7 @@
 -- The records of an anchor, met page by page.
-use Rattle.std.specs.Prelude.{◌≡◌, ℕ, ◌+◌, ◌*◌, ◌%◌, ◌<◌, ◌≤◌, Bool, true, ◌&&◌, ◌==◌, nat_lt, nat_le, Option, Some, None, if◌then◌else◌}
+use Rattle.std.specs.Prelude.{◌≡◌, ℕ, ◌+◌, ◌%◌, ◌<◌, ◌≤◌, true, ◌&&◌, ◌==◌, nat_lt, nat_le, Option, Some, None, if◌then◌else◌}
 use Rattle.flash_model.specs.declared.sizes.Geometry.{Geometry}
 use Rattle.record_format.specs.declared.pages.PageHead.{PageHead}
-use Rattle.commit_pair.specs.declared.best.Found.{Found}
 use Rattle.commit_pair.specs.declared.best.Best.{Best}
 use Rattle.commit_pair.specs.declared.runs.Run.{Run}
 use Rattle.commit_pair.specs.declared.runs.Scan.{Scan}

@@ -10,7 +10,7 @@ ghost use Rattle.commit_pair.specs.Keeping.{AreOlder};
 ghost use Rattle.commit_pair.specs.Newest.{remembered, IsUncleared};
 ghost use Rattle.commit_pair.specs.Reading.{OnlyReads, ReadCause};
 ghost use Rattle.commit_pair.specs.Committing.{IsLowest, Commits, Untouched, TryCause};
-ghost use Rattle.commit_pair.specs.Remembering.{MayCommit, BeginsAt, ReadsNone, IsPlaced, RefusesLast, CommitCause};
+ghost use Rattle.commit_pair.specs.Remembering.{MayCommit, BeginsAt, ReadsNone, IsPlaced, TriesOnce, RefusesLast, CommitCause};
 
 use crate::anchors::Anchors;
 use crate::left::find_greatest;
@@ -79,7 +79,8 @@ impl Anchors {
         requires on_flash { (b : ℕ) → set.contains bad.old b ≡ true → b < saved.now.geometry.blocks }
         requires ready { MayCommit (F.device flash.old) bad.old self.old }
         ensures commits { Commits (F.device flash.old).pages (F.device flash.new).pages saved.now (greatest_on saved.now.geometry (F.device flash.old).pages + 1) bad.new result }
-        ensures placed { OnOk result ((reads : ℕ) × (ReadsNone bad.old self.old → reads ≡ 0) × IsPlaced (F.device flash.old) bad.old self.old saved.now reads (F.device flash.new) bad.new) }
+        ensures placed { OnOk result ((reads : ℕ) × (ReadsNone bad.old self.old → reads ≡ 0) × (reads ≤ first_data * saved.now.geometry.pages) × IsPlaced (F.device flash.old) bad.old self.old saved.now reads (F.device flash.new) bad.new) }
+        ensures tries { TriesOnce (F.device flash.old) bad.old self.old (F.device flash.new) }
         ensures only_anchors { OnlyAnchors (F.device flash.old) bad.old (F.device flash.new) bad.new }
         ensures untouched { IfErr result (λ fault. fault ≢ Fault.PowerCut → Untouched (F.device flash.old) bad.new (F.device flash.new)) }
         ensures ready { result ≢ Err Fault.PowerCut → MayCommit (F.device flash.new) bad.new self.new }
@@ -113,6 +114,7 @@ impl Anchors {
     }
 
     /// The greatest sequence of a valid record, 0 where none is valid.
+    #[tactic(auto, using(crate::specs::Reading::OnlyReads_itself))]
     fn greatest<F: Flash>(
         &self,
         flash: &mut F,
@@ -128,6 +130,7 @@ impl Anchors {
         ensures only_reads { OnlyReads (F.device flash.old) (F.device flash.new) }
         ensures none { IfErr result (λ fault. remembered self.now ≡ None) }
         ensures quiet { ReadsNone bad.now self.now → (F.device flash.new).operations ≡ (F.device flash.old).operations }
+        ensures operations { (F.device flash.new).operations ≤ (F.device flash.old).operations + first_data * geometry.pages }
         ensures why { IfErr result (ReadCause (F.device flash.old) (F.device flash.new)) }
     {
         match self.newest {
@@ -167,6 +170,7 @@ impl Anchors {
         requires room { saved.now.geometry.page ≤ vec_capacity page.old }
         ensures commits { Commits (F.device flash.old).pages (F.device flash.new).pages saved.now sequence bad.new result }
         ensures placed { OnOk result (IsPlaced (F.device flash.old) bad.old self.old saved.now 0 (F.device flash.new) bad.new) }
+        ensures operations { (F.device flash.new).operations ≤ (F.device flash.old).operations + first_data * (saved.now.geometry.pages + 1) }
         ensures only_anchors { OnlyAnchors (F.device flash.old) bad.old (F.device flash.new) bad.new }
         ensures untouched { IfErr result (λ fault. fault ≢ Fault.PowerCut → Untouched (F.device flash.old) bad.new (F.device flash.new)) }
         ensures ready { result ≢ Err Fault.PowerCut → MayCommit (F.device flash.new) bad.new self.new }

@@ -152,6 +152,7 @@ pub(crate) fn commit_anew<F: Flash>(
     ensures untouched { spec.OnNone result (spec.Untouched (F.device flash.old) bad.new (F.device flash.new)) }
     ensures asked { spec.IfPlaced result (λ found. Asked (F.device flash.old) (F.device flash.new) (1 + found.head.count)) }
     ensures tried { spec.OnNone result (Asked (F.device flash.old) (F.device flash.new) 0) }
+    ensures operations { (F.device flash.new).operations ≤ (F.device flash.old).operations + (saved.now.geometry.pages + 1) }
     ensures only_anchors { OnlyAnchors (F.device flash.old) bad.old (F.device flash.new) bad.new }
     ensures why { IfErr result (λ fault. (fault ≡ Fault.PowerCut) × ((F.device flash.new).powered ≡ false)) }
     ensures room { saved.now.geometry.page ≤ vec_capacity page.new }
@@ -202,6 +203,7 @@ pub(crate) fn commit_after<F: Flash>(
     ensures fits { spec.IfPlaced result (λ found. place < saved.now.geometry.pages) }
     ensures asked { spec.IfPlaced result (λ found. Asked (F.device flash.old) (F.device flash.new) found.head.count) }
     ensures tried { spec.OnNone result (Asked (F.device flash.old) (F.device flash.new) 0) }
+    ensures operations { (F.device flash.new).operations ≤ (F.device flash.old).operations + (saved.now.geometry.pages + 1) }
     ensures only_anchors { OnlyAnchors (F.device flash.old) bad.old (F.device flash.new) bad.new }
     ensures why { IfErr result (λ fault. (fault ≡ Fault.PowerCut) × ((F.device flash.new).powered ≡ false)) }
     ensures room { saved.now.geometry.page ≤ vec_capacity page.new }

@@ -1,5 +1,5 @@
 //! Records that are left on anchors of which the erase failed.
-ghost use Rattle.std.specs.Prelude.{◌≡◌, ℕ, ◌*◌, ◌/◌, ◌<◌, false, length, IfOk, IfErr};
+ghost use Rattle.std.specs.Prelude.{◌≡◌, ℕ, ◌+◌, ◌*◌, ◌<◌, ◌≤◌, false, length, IfOk, IfErr};
 ghost use Rattle.std.specs.FinSet as set;
 ghost use Rattle.flash_model.specs.Geometry.{IsGeometry};
 ghost use Rattle.commit_pair.specs.Anchored.{AreErased};
@@ -7,39 +7,43 @@ ghost use Rattle.commit_pair.specs.Parts as spec;
 ghost use Rattle.commit_pair.specs.Reading.{OnlyReads, ReadCause};
 
 use crate::best::Best;
-use crate::parts::{FIRST_DATA, read_record_head};
+use crate::parts::FIRST_DATA;
+use crate::scan::scan_anchor;
 use bad_blocks::BadBlocks;
 use flash_model::{Flash, Geometry};
 use fs_types::Fault;
-use record_format::PageHead;
 
-/// The first header of the valid record that begins at a page of an anchor. The page is read only
-/// where the anchor is in the list; the others are erased.
-fn read_left_head<F: Flash>(
+/// The best record, those on an anchor among them. Each page of the anchor is read once where it is
+/// in the list; else they are erased.
+fn scan_left<F: Flash>(
     flash: &mut F,
     bad: &BadBlocks,
     geometry: Geometry,
-    page: u32,
+    anchor: u32,
+    best: Best,
     buffer: &mut [u8],
-) -> Result<Option<PageHead>, Fault>
+) -> Result<Best, Fault>
     requires same { (F.device flash.old).geometry ≡ geometry }
     requires lawful { IsGeometry geometry }
-    requires in_range { page < spec.first_data * geometry.pages }
+    requires anchor { anchor < spec.first_data }
     requires whole { length buffer.old ≡ geometry.page }
     requires erased { AreErased (F.device flash.old) bad.now spec.first_data }
-    ensures head { IfOk result (λ head. head ≡ spec.record_head geometry (spec.parts_on geometry (F.device flash.old).pages) page) }
+    requires best { best ≡ spec.best_below geometry (spec.parts_on geometry (F.device flash.old).pages) (anchor * geometry.pages) }
+    ensures best { IfOk result (λ next. next ≡ spec.best_below geometry (spec.parts_on geometry (F.device flash.old).pages) ((anchor + 1) * geometry.pages)) }
     ensures only_reads { OnlyReads (F.device flash.old) (F.device flash.new) }
-    ensures quiet { set.contains bad.now (page / geometry.pages) ≡ false → (F.device flash.new).operations ≡ (F.device flash.old).operations }
+    ensures operations { (F.device flash.new).operations ≤ (F.device flash.old).operations + geometry.pages }
+    ensures quiet { set.contains bad.now anchor ≡ false → (F.device flash.new).operations ≡ (F.device flash.old).operations }
     ensures why { IfErr result (ReadCause (F.device flash.old) (F.device flash.new)) }
 {
-    if !bad.contains(page / geometry.pages) {
-        return Ok(None);
+    if !bad.contains(anchor) {
+        return Ok(best);
     }
-    read_record_head(flash, geometry, page, buffer)
+    let (next, _end) = scan_anchor(flash, geometry, anchor, best, buffer)?;
+    Ok(next)
 }
 
 /// The greatest sequence of a valid record on the anchors, 0 where none is valid. Only those in the
-/// list are read; the others are erased.
+/// list are read, each page once; the others are erased.
 pub(crate) fn find_greatest<F: Flash>(
     flash: &mut F,
     bad: &BadBlocks,
@@ -52,6 +56,7 @@ pub(crate) fn find_greatest<F: Flash>(
     requires erased { AreErased (F.device flash.old) bad.now spec.first_data }
     ensures greatest { IfOk result (λ greatest. greatest ≡ spec.greatest_on geometry (F.device flash.old).pages) }
     ensures only_reads { OnlyReads (F.device flash.old) (F.device flash.new) }
+    ensures operations { (F.device flash.new).operations ≤ (F.device flash.old).operations + spec.first_data * geometry.pages }
     ensures quiet { ((b : ℕ) → b < spec.first_data → set.contains bad.now b ≡ false) → (F.device flash.new).operations ≡ (F.device flash.old).operations }
     ensures why { IfErr result (ReadCause (F.device flash.old) (F.device flash.new)) }
 {
@@ -59,9 +64,8 @@ pub(crate) fn find_greatest<F: Flash>(
         found: None,
         twice: false,
     };
-    for page in 0..FIRST_DATA * geometry.pages {
-        let head = read_left_head(flash, bad, geometry, page, buffer)?;
-        best = best.considered(page, head);
+    for anchor in 0..FIRST_DATA {
+        best = scan_left(flash, bad, geometry, anchor, best, buffer)?;
     }
     Ok(best.sequence())
 }

@@ -65,6 +65,7 @@ pub(crate) fn program_record<F: Flash>(
     ensures programmed { (n : ℕ) × spec.EndsAt count n result × spec.HasPages geometry (F.device flash.old).pages (F.device flash.new).pages (anchor * geometry.pages + place) sequence payload.now count n }
     ensures touches { Touches (F.device flash.old) anchor (F.device flash.new) result }
     ensures tries { spec.TriesPages (F.device flash.old) (F.device flash.new) count result }
+    ensures operations { (F.device flash.new).operations ≤ (F.device flash.old).operations + count }
     ensures room { geometry.page ≤ vec_capacity page.new }
 {
     for n in 0..count {
@@ -111,6 +112,7 @@ pub(crate) fn place_record<F: Flash>(
     ensures others { (p : ℕ) → block_of (F.device flash.old) p ≢ anchor → (F.device flash.new).pages p ≡ (F.device flash.old).pages p }
     ensures only_anchors { OnlyAnchors (F.device flash.old) bad.old (F.device flash.new) bad.new }
     ensures tries { IfOk result (Tries (F.device flash.old) (F.device flash.new) count) }
+    ensures operations { (F.device flash.new).operations ≤ (F.device flash.old).operations + count }
     ensures why { IfErr result (λ fault. (fault ≡ Fault.PowerCut) × ((F.device flash.new).powered ≡ false)) }
     ensures room { geometry.page ≤ vec_capacity page.new }
 {
@@ -156,6 +158,7 @@ pub(crate) fn write_anchor<F: Flash>(
     ensures others { (p : ℕ) → block_of (F.device flash.old) p ≢ anchor → (F.device flash.new).pages p ≡ (F.device flash.old).pages p }
     ensures only_anchors { OnlyAnchors (F.device flash.old) bad.old (F.device flash.new) bad.new }
     ensures tries { IfOk result (Tries (F.device flash.old) (F.device flash.new) (1 + count)) }
+    ensures operations { (F.device flash.new).operations ≤ (F.device flash.old).operations + (1 + count) }
     ensures why { IfErr result (λ fault. (fault ≡ Fault.PowerCut) × ((F.device flash.new).powered ≡ false)) }
     ensures room { geometry.page ≤ vec_capacity page.new }
 {

@@ -43,6 +43,7 @@ pub(crate) fn commit_next<F: Flash>(
     ensures stands { IfOk result (spec.Stands (F.device flash.new).pages saved.now) }
     ensures next { IfOk result (λ found. (anchor : ℕ) × (found.page ≡ anchor * saved.now.geometry.pages) × spec.IsNext bad.new home anchor) }
     ensures asked { IfOk result (λ found. Asked (F.device flash.old) (F.device flash.new) (1 + found.head.count)) }
+    ensures operations { (F.device flash.new).operations ≤ (F.device flash.old).operations + 7 * (saved.now.geometry.pages + 1) }
     ensures open { OnOk result (mode.is_read_only bad.new ≡ false) }
     ensures untouched { IfErr result (λ fault. fault ≢ Fault.PowerCut → spec.Untouched (F.device flash.old) bad.new (F.device flash.new)) }
     ensures only_anchors { OnlyAnchors (F.device flash.old) bad.old (F.device flash.new) bad.new }
@@ -90,6 +91,7 @@ pub(crate) fn commit_from<F: Flash>(
     ensures goes { IfOk result (λ found. spec.GoesTo saved.now bad.old bad.new home place found.page) }
     ensures begun { IfOk result (λ found. found.page / saved.now.geometry.pages ≡ home → Asked (F.device flash.old) (F.device flash.new) found.head.count) }
     ensures elsewhere { IfOk result (λ found. found.page / saved.now.geometry.pages ≢ home → Asked (F.device flash.old) (F.device flash.new) (1 + found.head.count)) }
+    ensures operations { (F.device flash.new).operations ≤ (F.device flash.old).operations + first_data * (saved.now.geometry.pages + 1) }
     ensures open { OnOk result (mode.is_read_only bad.new ≡ false) }
     ensures untouched { IfErr result (λ fault. fault ≢ Fault.PowerCut → spec.Untouched (F.device flash.old) bad.new (F.device flash.new)) }
     ensures only_anchors { OnlyAnchors (F.device flash.old) bad.old (F.device flash.new) bad.new }

@@ -47,7 +47,7 @@ fn read_page<F: Flash>(
 
 /// Reads each page of an anchor once: the best record, this anchor's among them, and the place after
 /// the anchor's last page that is not erased.
-fn scan_anchor<F: Flash>(
+pub(crate) fn scan_anchor<F: Flash>(
     flash: &mut F,
     geometry: Geometry,
     anchor: u32,

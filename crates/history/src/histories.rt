@@ -1,5 +1,5 @@
 //! A bounded list of versions with a cursor, and checkpoints by name.
-ghost use Rattle.std.specs.Prelude.{◌≡◌, ◌+◌, ◌<◌, ◌≤◌, Some, None, drop, vec_len, vec_capacity, unwrap_or, IfOk, IfErr, OnOk, OnErr};
+ghost use Rattle.std.specs.Prelude.{◌≡◌, ◌+◌, ◌<◌, ◌≤◌, Some, None, drop, length, vec_len, vec_capacity, unwrap_or, IfOk, IfErr, OnOk, OnErr};
 ghost use Rattle.history_machine.specs.History.{fresh, changed, undo_refusal, undone, redo_refusal, redone, serial_refusal, gone_to, forget_refusal, forgotten, present_root, checkpoint_refusal, with_checkpoint, name_refusal, without_checkpoint};
 ghost use Rattle.history.specs.Answers.{answer};
 ghost use Rattle.history.specs.Kept.{IsKept};
@@ -9,7 +9,7 @@ mod checks;
 mod readers;
 
 use fs_types::{CpName, Fault, Version};
-use std::alloc::Global;
+use std::alloc::{AllocError, Global};
 use std::collections::BTreeMap;
 use std::marker::Model;
 
@@ -59,29 +59,6 @@ impl<R: Drop> History<R> {
             checkpoints: BTreeMap::new(alloc),
             limit,
         })
-    }
-
-    /// The history of these parts. The versions have room for one more than `limit`: it takes no memory.
-    pub fn restore(
-        versions: Vec<Version<R>>,
-        cursor: usize,
-        dropped: bool,
-        next: u64,
-        checkpoints: BTreeMap<CpName, R>,
-        limit: usize,
-    ) -> Self
-        requires kept { IsKept (record { versions = versions.items; cursor = cursor; dropped = dropped; next = next; checkpoints = checkpoints.entries; limit = limit }) }
-        requires room { vec_capacity versions ≡ limit + 1 }
-        ensures { result ≡ record { versions = versions.items; cursor = cursor; dropped = dropped; next = next; checkpoints = checkpoints.entries; limit = limit } }
-    {
-        History {
-            versions,
-            cursor,
-            dropped,
-            next,
-            checkpoints,
-            limit,
-        }
     }
 
     /// A change: the versions after the present one are given up, and one with this root follows it.
@@ -147,6 +124,32 @@ impl<R: Drop> History<R> {
     }
 }
 
+impl<R: Copy> History<R> {
+    /// The history of these parts, with room for one version more than `limit`.
+    pub fn restore(
+        alloc: Global,
+        versions: &[Version<R>],
+        cursor: usize,
+        dropped: bool,
+        next: u64,
+        checkpoints: BTreeMap<CpName, R>,
+        limit: usize,
+    ) -> Result<Self, AllocError>
+        requires { IsKept (record { versions = versions.now; cursor = cursor; dropped = dropped; next = next; checkpoints = checkpoints.entries; limit = limit }) }
+        ensures { IfOk result (λ history. history ≡ record { versions = versions.now; cursor = cursor; dropped = dropped; next = next; checkpoints = checkpoints.entries; limit = limit }) }
+    {
+        let versions = copy_versions(alloc, versions, limit)?;
+        Ok(History {
+            versions,
+            cursor,
+            dropped,
+            next,
+            checkpoints,
+            limit,
+        })
+    }
+}
+
 impl<R> History<R> {
     /// The version before becomes the present one. Where there is none: [`Fault::TooOld`] if versions
     /// were dropped, else [`Fault::NothingToUndo`].
@@ -183,6 +186,24 @@ impl<R> History<R> {
         self.cursor = place;
         Ok(())
     }
+}
+
+/// These versions, with room for one more than `limit`.
+fn copy_versions<R: Copy>(
+    alloc: Global,
+    saved: &[Version<R>],
+    limit: usize,
+) -> Result<Vec<Version<R>>, AllocError>
+    requires few { length saved.now ≤ limit }
+    requires at_most { limit ≤ MAX_VERSIONS }
+    ensures items { IfOk result (λ versions. versions.items ≡ saved.now) }
+    ensures room { IfOk result (λ versions. vec_capacity versions ≡ limit + 1) }
+{
+    let mut versions = Vec::with_capacity(alloc, limit + 1)?;
+    for version in saved {
+        versions.push_reserved(*version);
+    }
+    Ok(versions)
 }
 
 fn drop_oldest<R: Drop>(versions: &mut Vec<Version<R>>, count: usize)

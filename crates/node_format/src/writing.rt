@@ -5,6 +5,7 @@ ghost use Rattle.fs_types.specs.declared.limits.TheConstants.{MAX_ENTRIES};
 ghost use Rattle.fs_types.specs.Names.{is_name};
 ghost use Rattle.node_format.specs.Headers.{IsNode};
 ghost use Rattle.node_format.specs.Items.{is_place, named};
+ghost use Rattle.node_format.specs.Directories as spec;
 ghost use Rattle.node_format.specs.Directories.{item_bytes, kind_of, head_of, size_of, IsDirectory, directory_at};
 ghost use Rattle.node_format.specs.Edits.{IsEdited};
 
@@ -16,6 +17,7 @@ use std::alloc::{AllocError, Global};
 /// The bytes of a directory without entries.
 pub const fn empty_directory() -> [u8; 16]
     ensures spelled { IsDirectory result [] }
+    ensures written { result ≡ spec.directory_bytes (replicate 4 0) [] }
     ensures read { directory_at result ≡ Some [] }
     ensures node { (block : ℕ) → 4096 ≤ block → IsNode block result }
 {

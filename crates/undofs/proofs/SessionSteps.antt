@@ -260,7 +260,7 @@ pub start_leads : (d e : Device) (t : Option System) (answer : Answer) (found : 
 start_leads d e t Answer.Mounted found start lawful saved =
     subst (λ (x : Option System). (more : List (Past Tree)) × Mounts d found Answer.Mounted (world e x more) × Stands (world e x more)) (sym start.is)
     (mounted_starts d e found lawful saved start.reads start.system start.holds start.mounted)
-start_leads d e t (Answer.Refused fault) found (none, why, reads) lawful saved =
+start_leads d e t (Answer.Refused fault) found (none, why, reads, asks) lawful saved =
     subst (λ (x : Option System). (more : List (Past Tree)) × Mounts d found (Answer.Refused fault) (world e x more) × Stands (world e x more)) (sym none)
     (refused_starts d e found lawful saved reads fault why)
 start_leads d e t (Answer.Done reply) found start lawful saved = absurd start

@@ -2,8 +2,10 @@
 use Rattle.fs_types.specs.declared.faults.Fault.{Fault}
 use Rattle.flash_model.specs.Device.{Device}
 use Rattle.flash_model.specs.Reading.{OnlyReads}
+use Rattle.upkeep.specs.Costs.{AsksUntilRefused}
 use Rattle.upkeep.specs.Mounts.{MountCause}
 
--- the flash was only read, and what is on it, or what the reads left of the device, is the cause of this refusal
+-- the flash was only read, by no more than a mount may ask for, and what is on it, or what the reads left of the device, is the
+-- cause of this refusal
 abbrev pub RefusesMount : Device → Fault → Type 0
-RefusesMount old fault = (left : Device) × OnlyReads old left × MountCause old left fault
+RefusesMount old fault = (left : Device) × OnlyReads old left × AsksUntilRefused old left × MountCause old left fault

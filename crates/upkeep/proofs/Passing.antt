@@ -1,5 +1,5 @@
 -- A step of reclaiming leaves a system.
-use Rattle.std.proofs.Common.{◌≡◌, ◌≢◌, inl, inr, ℕ, ◌+◌, ◌-◌, ◌<◌, ◌≤◌, ◌++◌, Bool, true, false, ◌||◌, Option, Some, None, Result, Ok, Err, List, [], ◌∷◌, refl, sym, ap, subst, ◌∙◌, arith}
+use Rattle.std.proofs.Common.{◌≡◌, ◌≢◌, inl, inr, ℕ, ◌+◌, ◌*◌, ◌-◌, ◌<◌, ◌≤◌, ◌++◌, Bool, true, false, ◌||◌, Option, Some, None, Result, Ok, Err, List, [], ◌∷◌, refl, sym, ap, subst, ◌∙◌, arith}
 use Rattle.std.proofs.lemmas.Bool.{true≢false, both_ways}
 use Rattle.std.proofs.lemmas.Cmp.{nat_cmp_total}
 use Rattle.std.proofs.lemmas.List.Elements.{Contains-append_left, Contains-append_right, Contains-append_cases}
@@ -41,12 +41,14 @@ use Rattle.working_state.specs.Seen.{capacity_of, seen_of, machine_on}
 use Rattle.working_state.specs.Steps.{is_cut_answer}
 use Rattle.working_state.specs.Worked.{ReadCause}
 use Rattle.working_state.specs.declared.state.State.{State}
+use Rattle.upkeep.specs.Costs.{AsksForRest, AsksToStep}
 use Rattle.upkeep.specs.Mounts.{history_of, roots_of, group_roots, working_roots}
-use Rattle.upkeep.specs.Reclaiming.{GoesOnFrom, Advances, EndsPass, StepEnds, Stays, Reclaims}
+use Rattle.upkeep.specs.Reclaiming.{GoesOnFrom, Advances, EndsPass, StepEnds, Stays, Reclaims, marking_of}
 use Rattle.upkeep.specs.Saved.{saved_on}
 use Rattle.upkeep.specs.Systems.{IsSystem, IsRunning, MustStay}
 use Rattle.upkeep.specs.declared.systems.System.{System}
 use Rattle.upkeep.proofs.AfterCommits.{knows, known, is_newest, not_none}
+use Rattle.upkeep.proofs.Costing.{asks_still, asks_on}
 use Rattle.upkeep.proofs.Installed.{marked_in, with_ring, with_marks}
 use Rattle.upkeep.proofs.Measured.{has_same, listed_root, listed_reached, mounted_roots, reached_to, roots_hold_data}
 use Rattle.upkeep.proofs.Running.{running_on}
@@ -424,6 +426,14 @@ pub is_stepped : (d e : Device) (m n : System) (p q : Pass) (st : Storage) → I
     → (m.pass ≡ None → (p.blocks ≡ m.state.storage.ring.blocks) × ((f : Blocks) → IsPass f p)) → Advances p q → HasLooked d n.state.storage e st → IsStepped d e m n p q st
 is_stepped d e m n p q st system on noted from begun goes looked = record { system = system; on = on; noted = noted; from = from; begun = begun; goes = goes; looked = looked }
 
+-- no marking was taken up
+pub untaken_asks : (d : Device) (m : System) (budget : ℕ) → IsSystem d m → m.state.is_off ≡ false → AsksToStep d (marking_of m) budget d
+untaken_asks d m budget s on = asks_still d m budget (by m.pass (s.passing on))
+  where
+    by : (o : Option Pass) → IfSome o (IsRunning d m) → IfSome o (λ p. (IsPass (node_of d) p → ⊥) → ⊥)
+    by None _ = tt
+    by (Some p) r = r.marking
+
 module _ (d e : Device) (m n : System) (p q : Pass) (st : Storage) (t : IsStepped d e m n p q st) where
   first : IsSystem d n
   first = noted_system d m t.system t.on n t.noted
@@ -442,6 +452,9 @@ module _ (d e : Device) (m n : System) (p q : Pass) (st : Storage) (t : IsSteppe
 
   pub stepped_stays : (pass : Option Pass) → Stays d m e (with_storage n st pass)
   stepped_stays pass = stays_on d d e m n (with_storage n st pass) first_stays (kept_stays d e n (with_storage n st pass) first step_is_on (looked_keeps d e n st first step_is_on t.looked pass))
+
+  pub stepped_asks : (budget : ℕ) → e.operations ≤ d.operations + budget * d.geometry.pages → (IsPass (node_of d) p → AsksForRest d p e) → AsksToStep d (marking_of m) budget e
+  stepped_asks budget few rest = asks_on d e m p n.state.storage.ring.note budget t.from running.marking few rest
 
   -- it was refused
   pub refused_system : IsSystem e (with_storage n st n.pass)
@@ -504,7 +517,8 @@ power_system e n off s on is_off = record {
     by None _ = tt
     by (Some p) r = record { blocks = r.blocks; marking = r.marking; held = r.held; nodes = r.nodes; taken = r.taken }
 
-module _ (d e : Device) (m n : System) (budget : ℕ) (answer : Result Bool Fault) (on : m.state.is_off ≡ false) (system : IsSystem e n) (still_on : n.state.is_off ≡ false) (stays : Stays d m e n) (ends : StepEnds d m budget answer e n) where
+module _ (d e : Device) (m n : System) (budget : ℕ) (answer : Result Bool Fault) (on : m.state.is_off ≡ false) (system : IsSystem e n) (still_on : n.state.is_off ≡ false) (stays : Stays d m e n) (ends : StepEnds d m budget answer e n)
+    (asks : AsksToStep d (marking_of m) budget e) where
   abbrev left : System
   left = with_power n (n.state.is_off || is_cut_answer answer)
 
@@ -525,6 +539,7 @@ module _ (d e : Device) (m n : System) (budget : ℕ) (answer : Result Bool Faul
   is_reclaimed = record {
     stays = record { reads = stays.reads; history = stays.history; group = stays.group; machine = stays.machine; bad = stays.bad; last = stays.last; takes = stays.takes; anchors = stays.anchors; room = stays.room };
     ends = λ _. still_ends answer ends;
+    asks = λ _. asks;
     off = ap (λ (b : Bool). b || is_cut_answer answer) (still_on ∙ sym on);
     stopped = λ off. absurd (both_ways m.state.is_off on off);
   }

@@ -1,5 +1,5 @@
 -- What a step of reclaiming does: a marking of what must stay goes on, and at its end the other blocks are free.
-use Rattle.std.specs.Prelude.{◌≡◌, ◌⊎◌, ℕ, ◌+◌, ◌-◌, ◌^◌, ◌<◌, ◌≤◌, Bool, true, false, ◌||◌, Some, None, Result, Ok, Err, ◌++◌, length}
+use Rattle.std.specs.Prelude.{◌≡◌, ◌⊎◌, ℕ, ◌+◌, ◌-◌, ◌^◌, ◌<◌, ◌≤◌, Bool, true, false, ◌||◌, Some, None, unwrap_or, Result, Ok, Err, [], ◌++◌, length}
 use Rattle.std.specs.FinSet as set
 use Rattle.std.specs.Ordering.{nat_cmp}
 use Rattle.fs_types.specs.declared.faults.Fault.{Fault}
@@ -12,6 +12,7 @@ use Rattle.reclaim.specs.Passes.{Pass, IsPass, Begins}
 use Rattle.working_state.specs.Seen.{seen_on, machine_on}
 use Rattle.working_state.specs.Steps.{is_cut_answer}
 use Rattle.working_state.specs.Worked.{ReadCause}
+use Rattle.upkeep.specs.Costs.{AsksToStep}
 use Rattle.upkeep.specs.Mounts.{working_roots}
 use Rattle.upkeep.specs.declared.systems.System.{System}
 
@@ -21,6 +22,10 @@ abbrev pub GoesOnFrom : System → Pass → set.FinSet nat_cmp → Type 0
 GoesOnFrom m p note =
     ((m.pass ≡ Some p) × (note ≡ m.state.storage.ring.note))
     ⊎ ((m.pass ≡ None) × (p.roots ≡ working_roots m.state ++ m.record_roots.items) × (p.next ≡ 0) × (note ≡ set.empty))
+
+-- the same, as one that has listed nothing where it is new
+abbrev pub marking_of : System → Pass
+marking_of m = unwrap_or m.pass (record { blocks = m.state.storage.ring.blocks; roots = working_roots m.state ++ m.record_roots.items; order = []; next = 0 })
 
 -- a marking went on from another: it is of the same flash and roots, and what was marked before is marked, in the same order
 pub record Advances (from to : Pass) : Type 0 where
@@ -80,5 +85,6 @@ pub record Stays (old : Device) (m : System) (new : Device) (n : System) : Type 
 pub record Reclaims (old : Device) (m : System) (budget : ℕ) (result : Result Bool Fault) (new : Device) (n : System) : Type 0 where
   pub stays : Stays old m new n
   pub ends : m.state.is_off ≡ false → StepEnds old m budget result new n
+  pub asks : m.state.is_off ≡ false → AsksToStep old (marking_of m) budget new
   pub off : n.state.is_off ≡ m.state.is_off || is_cut_answer result
   pub stopped : m.state.is_off ≡ true → (result ≡ Err PowerCut) × (new ≡ old) × (n ≡ m)

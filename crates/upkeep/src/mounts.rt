@@ -1,11 +1,11 @@
 //! Mounting what the newest record of a flash holds.
-ghost use Rattle.std.specs.Prelude.{◌≡◌, ◌≢◌, ◌↔◌, ◌⊎◌, ◌<◌, true, [], Err, IfOk, IfErr};
+ghost use Rattle.std.specs.Prelude.{◌≡◌, ◌≢◌, ◌↔◌, ◌⊎◌, ◌<◌, true, [], Err, IfOk, OnErr, IfErr};
 ghost use Rattle.fs_types.specs.declared.faults.Fault.{Fault};
 ghost use Rattle.flash_model.specs.Geometry.{IsGeometry};
 ghost use Rattle.flash_model.specs.Reading.{OnlyReads};
 ghost use Rattle.node_cache.specs.declared.caches.TheConstants.{MAX_CACHED_NODES};
 ghost use Rattle.record_format.specs.Payloads.{is_record};
-ghost use Rattle.upkeep.specs.Costs.{AsksToVerify, AsksToMount};
+ghost use Rattle.upkeep.specs.Costs.{AsksToVerify, AsksToMount, AsksUntilRefused};
 ghost use Rattle.upkeep.specs.Mounts.{history_of, roots_of, IsLoaded, IsMountOf, RootsCause, MountCause};
 ghost use Rattle.upkeep.specs.Systems.{IsSystem};
 
@@ -64,6 +64,7 @@ fn mount_cached<F: Flash>(alloc: Global, flash: &mut F, cache: NodeCache) -> Res
     ensures room { IfOk result (λ system. system.state.storage.cache.room ≡ cache.room) }
     ensures only_reads { OnlyReads (F.device flash.old) (F.device flash.new) }
     ensures asks { IfOk result (λ _. AsksToMount (F.device flash.old) (F.device flash.new)) }
+    ensures asks_at_most { OnErr result (AsksUntilRefused (F.device flash.old) (F.device flash.new)) }
     ensures why { IfErr result (MountCause (F.device flash.old) (F.device flash.new)) }
 {
     if !flash.geometry().is_lawful() {
@@ -98,6 +99,7 @@ pub fn mount_with<F: Flash>(alloc: Global, flash: &mut F, nodes: usize) -> Resul
     ensures room { IfOk result (λ system. system.state.storage.cache.room ≡ nodes) }
     ensures only_reads { OnlyReads (F.device flash.old) (F.device flash.new) }
     ensures asks { IfOk result (λ _. AsksToMount (F.device flash.old) (F.device flash.new)) }
+    ensures asks_at_most { OnErr result (AsksUntilRefused (F.device flash.old) (F.device flash.new)) }
     ensures invalid { (result ≡ Err Fault.Invalid) ↔ ((nodes < 1) ⊎ (MAX_CACHED_NODES < nodes)) }
     ensures unread { result ≡ Err Fault.Invalid → F.device flash.new ≡ F.device flash.old }
     ensures why { IfErr result (λ fault. fault ≢ Fault.Invalid → MountCause (F.device flash.old) (F.device flash.new) fault) }
@@ -113,6 +115,7 @@ pub fn mount<F: Flash>(alloc: Global, flash: &mut F) -> Result<System, Fault>
     ensures room { IfOk result (λ system. system.state.storage.cache.room ≡ MOUNTED_NODES) }
     ensures only_reads { OnlyReads (F.device flash.old) (F.device flash.new) }
     ensures asks { IfOk result (λ _. AsksToMount (F.device flash.old) (F.device flash.new)) }
+    ensures asks_at_most { OnErr result (AsksUntilRefused (F.device flash.old) (F.device flash.new)) }
     ensures why { IfErr result (MountCause (F.device flash.old) (F.device flash.new)) }
 {
     mount_with(alloc, flash, MOUNTED_NODES)

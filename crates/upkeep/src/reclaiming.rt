@@ -1,5 +1,5 @@
 //! Reclaiming in steps: blocks that nothing keeps are used again.
-ghost use Rattle.std.specs.Prelude.{◌≡◌, ◌≢◌, ◌<◌, ◌≤◌, ◌+◌, ◌-◌, ◌^◌, ◌++◌, ℕ, true, false, None, Ok, length, Contains, OnOk, IfOk, IfErr, IsErrOf};
+ghost use Rattle.std.specs.Prelude.{◌≡◌, ◌≢◌, ◌<◌, ◌≤◌, ◌+◌, ◌-◌, ◌*◌, ◌^◌, ◌++◌, ℕ, true, false, None, Ok, length, Contains, OnOk, IfOk, IfErr, IsErrOf};
 ghost use Rattle.flash_model.specs.Geometry.{IsGeometry};
 ghost use Rattle.allocator.specs.Ring.{IsDataBlock};
 ghost use Rattle.block_trees.specs.Bodies.{Blocks};
@@ -11,8 +11,9 @@ ghost use Rattle.reclaim.specs.Passes.{IsPass, IsFinished};
 ghost use Rattle.working_state.specs.Leaves.{HasLooked};
 ghost use Rattle.working_state.specs.Seen.{seen_of};
 ghost use Rattle.working_state.specs.Worked.{ReadCause};
+ghost use Rattle.upkeep.specs.Costs.{AsksForRest, AsksToStep};
 ghost use Rattle.upkeep.specs.Mounts.{working_roots};
-ghost use Rattle.upkeep.specs.Reclaiming.{GoesOnFrom, Advances, StepEnds, Stays, Reclaims};
+ghost use Rattle.upkeep.specs.Reclaiming.{GoesOnFrom, Advances, StepEnds, Stays, Reclaims, marking_of};
 ghost use Rattle.upkeep.specs.Systems.{IsSystem};
 
 use crate::restoring::list_working;
@@ -59,6 +60,7 @@ impl System {
         ensures is_on { self.new.state.is_off ≡ false }
         ensures stays { Stays (F.device flash.old) self.old (F.device flash.new) self.new }
         ensures ends { StepEnds (F.device flash.old) self.old budget result (F.device flash.new) self.new }
+        ensures asks { AsksToStep (F.device flash.old) (marking_of self.old) budget (F.device flash.new) }
     {
         let mut pass = self.take_pass(alloc)?;
         if !step_on(flash, &mut self.state.storage, &mut pass, budget)? {
@@ -115,6 +117,8 @@ fn step_on<F: Flash>(
     ensures all { result ≡ Ok false → budget < 2 ^ 64 - 1 }
     ensures damaged { IsPass (node_of (F.device flash.old)) pass.old → IsErrOf result Fault.Damaged → (b : ℕ) × Reached (node_of (F.device flash.old)) pass.old.roots b × (node_of (F.device flash.old) b ≡ None) }
     ensures looked { HasLooked (F.device flash.old) storage.old (F.device flash.new) storage.new }
+    ensures few { (F.device flash.new).operations ≤ (F.device flash.old).operations + budget * (F.device flash.old).geometry.pages }
+    ensures rest { IsPass (node_of (F.device flash.old)) pass.old → AsksForRest (F.device flash.old) pass.old (F.device flash.new) }
     ensures why { IfErr result (λ fault. fault ≢ Fault.Damaged → ReadCause (seen_of (F.device flash.old) storage.old) fault (seen_of (F.device flash.new) storage.new)) }
 {
     let mut store = Store::new(flash, storage);
@@ -134,6 +138,8 @@ fn step_in<F: Flash>(store: &mut Store<'_, F>, pass: &mut Pass, budget: u64) -> 
     ensures damaged { IsPass (node_of (F.device store.old.flash.now)) pass.old → IsErrOf result Fault.Damaged → (b : ℕ) × Reached (node_of (F.device store.old.flash.now)) pass.old.roots b × (node_of (F.device store.old.flash.now) b ≡ None) }
     ensures looked { HasLooked (F.device store.old.flash.now) store.old.storage.now (F.device store.new.flash.now) store.new.storage.now }
     ensures reads { store.new.reads.n ≤ store.old.reads.n + budget }
+    ensures few { (F.device store.new.flash.now).operations ≤ (F.device store.old.flash.now).operations + budget * (F.device store.old.flash.now).geometry.pages }
+    ensures rest { IsPass (node_of (F.device store.old.flash.now)) pass.old → AsksForRest (F.device store.old.flash.now) pass.old (F.device store.new.flash.now) }
     ensures why { IfErr result (λ fault. fault ≢ Fault.Damaged → ReadCause (seen_of (F.device store.old.flash.now) store.old.storage.now) fault (seen_of (F.device store.new.flash.now) store.new.storage.now)) }
 {
     pass.step(store, budget)

@@ -1,5 +1,5 @@
 //! The parts of a record, as a working state keeps them.
-ghost use Rattle.std.specs.Prelude.{◌≡◌, [], true, ◌+◌, ◌≤◌, ◌++◌, length, map, IfOk, OnOk, vec_capacity};
+ghost use Rattle.std.specs.Prelude.{◌≡◌, [], true, ◌+◌, ◌≤◌, ◌++◌, length, map, IfOk, OnOk};
 ghost use Rattle.std.specs.FinSet as set;
 ghost use Rattle.std.specs.BTreeMap.{IsOrdered};
 ghost use Rattle.std.specs.List.Sorted.{IsStrictlySortedBy};
@@ -16,25 +16,6 @@ use record_format::{Checkpoint, Record};
 use std::alloc::{AllocError, Global};
 use std::collections::BTreeMap;
 use working_state::State;
-
-/// The versions, with room for one more than `limit`.
-#[tactic(auto, using(crate::proofs::Restored::put_version))]
-fn versions_of(
-    alloc: Global,
-    limit: usize,
-    saved: &[Version<u32>],
-) -> Result<Vec<Version<u32>>, AllocError>
-    requires few { length saved.now ≤ limit }
-    requires at_most { limit ≤ 64 }
-    ensures items { IfOk result (λ versions. versions.items ≡ saved.now) }
-    ensures room { IfOk result (λ versions. vec_capacity versions ≡ limit + 1) }
-{
-    let mut versions = Vec::with_capacity(alloc, limit + 1)?;
-    for version in saved {
-        versions.push_reserved(*version);
-    }
-    Ok(versions)
-}
 
 /// The checkpoints by their names.
 fn checkpoints_of(alloc: Global, saved: &[Checkpoint]) -> Result<BTreeMap<CpName, u32>, AllocError>
@@ -57,17 +38,16 @@ pub(crate) fn restore_history(alloc: Global, saved: &Record) -> Result<History<u
     ensures lawful { IfOk result (λ history. IsLawful history) }
     ensures named { IfOk result (λ history. IsStrictlySortedBy name_cmp (map (λ e. e.0) history.checkpoints)) }
 {
-    let limit = saved.limit as usize;
-    let versions = versions_of(alloc, limit, saved.versions.as_slice())?;
     let checkpoints = checkpoints_of(alloc, saved.checkpoints.as_slice())?;
-    Ok(History::restore(
-        versions,
+    History::restore(
+        alloc,
+        saved.versions.as_slice(),
         saved.cursor as usize,
         saved.dropped,
         saved.next,
         checkpoints,
-        limit,
-    ))
+        saved.limit as usize,
+    )
 }
 
 /// The roots of all versions and checkpoints.

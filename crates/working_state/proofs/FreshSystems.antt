@@ -1,9 +1,12 @@
 -- A fresh system: its one version is the empty root.
-use Rattle.std.proofs.Common.{◌≡◌, ℕ, zero, suc, ◌+◌, ◌-◌, ◌<◌, ◌≤◌, ◌≢◌, ◌⊎◌, inl, inr, Bool, true, false, cond, List, Option, Some, None, [], Result, Ok, Err, refl, sym, ap, subst, ◌∙◌, arith}
+use Rattle.std.proofs.Common.{◌≡◌, ℕ, zero, suc, ◌+◌, ◌-◌, ◌*◌, ◌<◌, ◌≤◌, ◌≢◌, ◌⊎◌, inl, inr, Bool, true, false, cond, List, Option, Some, None, [], length, Result, Ok, Err, refl, sym, ap, subst, ◌∙◌, arith}
+use Rattle.std.proofs.Math.Nat.{add-mul}
 use Rattle.std.proofs.lemmas.Bool.{true≢false, cases_Bool}
+use Rattle.std.proofs.lemmas.Bool.Decides.{nat_tests}
+use Rattle.std.proofs.lemmas.Nat.{mul-le}
 use Rattle.std.proofs.lemmas.List.Elements.{All-push}
 use Rattle.std.proofs.lemmas.List.Sums.{sum_by-cons}
-use Rattle.std.specs.Prelude.{not, ◌||◌, count_by, IfOk, IfErr, IfSome}
+use Rattle.std.specs.Prelude.{not, ◌||◌, count_by, IfOk, IfErr, IfSome, IsTrue}
 use Rattle.std.specs.FinSet as set
 use Rattle.std.specs.List.{range_with_len}
 use Rattle.std.specs.Ordering.{nat_cmp}
@@ -18,18 +21,19 @@ use Rattle.fs_types.specs.declared.faults.Fault.TheVariants.{FlashFull, ReadOnly
 use Rattle.history_machine.proofs.Kept.{machine_law}
 use Rattle.flash_model.specs.Device.{Device}
 use Rattle.flash_model.specs.declared.sizes.Geometry.{Geometry}
-use Rattle.flash_model.specs.Geometry.{IsGeometry}
+use Rattle.flash_model.specs.Geometry.{IsGeometry, is_page_size}
 use Rattle.allocator.specs.Ring.{Ring, IsDataBlock, is_busy, free_count, IsNext}
 use Rattle.allocator.specs.RingLaws.{distance_earlier}
 use Rattle.node_store.specs.declared.storage.Storage.{Storage}
-use Rattle.node_store.specs.NodePages.{first_data, node_of}
+use Rattle.node_store.specs.NodeLaws.{pages_for-most}
+use Rattle.node_store.specs.NodePages.{first_data, node_of, pages_for}
 use Rattle.node_store.specs.Fitting.{Fits, StillFits}
 use Rattle.node_store.specs.Storage as parts
-use Rattle.node_store.specs.Storage.{Evolved, Pays, Adds, unpaid}
+use Rattle.node_store.specs.Storage.{Evolved, Pays, Spends, Adds, unpaid}
 use Rattle.node_format.specs.Directories.{directory_at}
 use Rattle.block_trees.specs.Trees.{entries_of, entries_in}
 use Rattle.block_trees.proofs.RootMaps.{empty_root}
-use Rattle.working_state.specs.Fresh.{unused_ring, unused_beside, IsFirstGood, IsBegun, HasGrown, BeginCause, RootCause}
+use Rattle.working_state.specs.Fresh.{unused_ring, unused_beside, IsFirstGood, IsBegun, AsksForRoot, HasGrown, BeginCause, RootCause}
 use Rattle.working_state.specs.Leaves.{HasWritten}
 use Rattle.working_state.specs.Moments.{moment, Moment, IsMountedAt, nodes_at, capacity_at}
 use Rattle.working_state.specs.Seen.{IsLaterFlash, capacity_of, tree_on}
@@ -38,6 +42,7 @@ use Rattle.working_state.specs.declared.state.State.{State}
 use Rattle.block_trees.proofs.EmptyDirectories.{empty_held}
 use Rattle.working_state.proofs.Roots.{with_history, all_roots, at_history}
 use Rattle.working_state.proofs.Standing.{AllStand}
+use Rattle.working_state.proofs.BadCounts.{len-within}
 use Rattle.working_state.proofs.BadData.{all_bad}
 
 -- an empty root stands
@@ -152,6 +157,35 @@ root_written d s e t result evolved pays fits = record {
   paid = let one = unpaid_one result in omega arith;
   fits = fits;
 }
+
+-- so many takes, and what each spends
+spent : (before after was now n more failed : ℕ) → now ≡ was + n → n ≤ 1 + failed → more ≤ 2 → after + was * more ≤ before + now * more → after ≤ before + (1 + failed) * 2
+spent before after was now n more failed taken few small all =
+    let sum : now * more ≡ was * more + n * more = ap (λ (k : ℕ). k * more) taken ∙ add-mul was n more in
+    let most : n * more ≤ (1 + failed) * 2 = mul-le n more (1 + failed) 2 few small in
+    omega (arith, sum, most, all)
+
+page_size-least : (n : ℕ) → IsTrue (is_page_size n) → 256 ≤ n
+page_size-least n h = grind (arith, nat_tests)
+
+-- an erase and a page in each block that was tried: one more than failed at most
+pub root_asks : (s t : parts.Storage) (bytes : List ℕ) (result : Result ℕ Fault) → IsGeometry s.device.geometry → length bytes ≡ 16 → Evolved s t → Pays s t (unpaid result) → Spends s t bytes → AsksForRoot s.device t.device
+root_asks s t bytes result lawful size evolved pays spends =
+    let least : 256 ≤ s.device.geometry.page = page_size-least s.device.geometry.page lawful.page_size in
+    let page : pages_for s.device.geometry.page (length bytes) ≤ 1 = pages_for-most s.device.geometry.page 1 (length bytes) (omega arith) (omega arith) in
+    let grown : set.len s.bad ≤ set.len t.bad = len-within s.bad t.bad evolved.stays_bad in
+    let failed : ℕ = set.len t.bad - set.len s.bad in
+    let one = unpaid_one result in
+    let failures = evolved.failures in
+    record {
+      failed = failed;
+      failures = omega (arith, grown, failures);
+      most = spent s.device.operations t.device.operations s.ring.takes t.ring.takes (failed + unpaid result) (1 + pages_for s.device.geometry.page (length bytes)) failed
+          (omega (arith, grown, pays)) (omega (arith, one)) (omega (arith, page)) spends;
+    }
+
+pub root_untried : (d : Device) → AsksForRoot d d
+root_untried d = record { failed = 0; failures = omega arith; most = omega arith }
 
 pub root_why : (s : parts.Storage) (bytes : List ℕ) (t : parts.Storage) (result : Result ℕ Fault) → Evolved s t → Pays s t (unpaid result) → Adds s bytes t result
     → IfErr result (λ fault. RootCause s fault t)

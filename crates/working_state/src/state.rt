@@ -12,7 +12,7 @@ ghost use Rattle.node_store.specs.NodePages.{first_data, node_of};
 ghost use Rattle.node_store.specs.Storage as parts;
 ghost use Rattle.block_trees.specs.Trees.{entries_in};
 ghost use Rattle.working_state.specs.Leaves.{HasWritten};
-ghost use Rattle.working_state.specs.Fresh.{unused_ring, IsBegun, BeginCause, RootCause};
+ghost use Rattle.working_state.specs.Fresh.{unused_ring, IsBegun, AsksForRoot, BeginCause, RootCause};
 ghost use Rattle.working_state.specs.Moments.{moment};
 ghost use Rattle.working_state.specs.Seen.{IsLaterFlash};
 
@@ -68,6 +68,7 @@ impl State {
         requires anchors { (b : ℕ) → set.contains bad b ≡ true → b < first_data }
         ensures later { IsLaterFlash (F.device flash.old) (F.device flash.new) }
         ensures begun { IfOk result (λ state. IsBegun (F.device flash.old) bad limit (moment (F.device flash.new) state)) }
+        ensures asks { AsksForRoot (F.device flash.old) (F.device flash.new) }
         ensures why { IfErr result (λ fault. BeginCause (F.device flash.old) bad fault (F.device flash.new)) }
     {
         let geometry = flash.geometry();
@@ -104,6 +105,7 @@ fn write_root<F: Flash>(flash: &mut F, storage: &mut Storage) -> Result<u32, Fau
     ensures kept { IfOk result (λ root. set.contains storage.new.ring.used root ≡ true) }
     ensures empty { IfOk result (λ root. entries_in (node_of (F.device flash.new)) root ≡ Some []) }
     ensures next { IfOk result (λ root. parts.IsNextBlock (parts.storage (F.device flash.old) storage.old.bad storage.old.ring) (parts.storage (F.device flash.new) storage.new.bad storage.new.ring) root) }
+    ensures asks { AsksForRoot (F.device flash.old) (F.device flash.new) }
     ensures data_blocks { (b : ℕ) → set.contains storage.new.ring.used b ≡ true → IsDataBlock storage.new.ring.blocks b }
     ensures why { IfErr result (λ fault. RootCause (parts.storage (F.device flash.old) storage.old.bad storage.old.ring) fault (parts.storage (F.device flash.new) storage.new.bad storage.new.ring)) }
 {

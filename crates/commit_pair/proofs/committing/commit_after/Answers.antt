@@ -135,3 +135,6 @@ attempt_after-requires-clause-fills g c = c.pages_for-count.ensures.fills
 
 pub attempt_after-requires-clause-blank : goal.attempt_after-requires-clause-blank
 attempt_after-requires-clause-blank g c = c.requires.blank (sym c.contains.ensures ∙ c.if-contains.false)
+
+pub returns-clause-operations : goal.returns-clause-operations
+returns-clause-operations g c = c.attempt_after.ensures.attempted.operations

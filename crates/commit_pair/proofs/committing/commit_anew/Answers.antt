@@ -95,3 +95,6 @@ attempt_anew-requires-clause-short g c = subst (λ (bytes : List ℕ). length by
 
 pub attempt_anew-requires-clause-spares : goal.attempt_anew-requires-clause-spares
 attempt_anew-requires-clause-spares g c = c.requires.spares (sym c.contains.ensures ∙ c.if-contains.false)
+
+pub returns-clause-operations : goal.returns-clause-operations
+returns-clause-operations g c = c.attempt_anew.ensures.attempted.operations

@@ -8,7 +8,7 @@ use Rattle.record_format.specs.Pages.{page_bytes}
 use Rattle.commit_pair.specs.Parts.{part_of}
 use Rattle.commit_pair.specs.Programming.{bytes_for}
 use Rattle.commit_pair.proofs.Anchoring.{program_touches, Touches_itself, Touches_on}
-use Rattle.commit_pair.proofs.Asking.{one_more, tries_end}
+use Rattle.commit_pair.proofs.Asking.{one_more, operates_one, tries_end}
 use Rattle.commit_pair.proofs.Places.{anchor_on_flash, below_end}
 use Rattle.commit_pair.proofs.Programmed.{pages_next, pages_end, piece_inside, piece_fits, room_on, failed_none}
 use Rattle.commit_pair.proofs.programming.program_record.Goals as goal
@@ -146,3 +146,16 @@ pub returns-clause-tries : goal.returns-clause-tries
 returns-clause-tries g c =
     let all : c.loop-n.n ≡ c.args.count = let test = c.loop-n-test.false in let within = c.loop-n.auto.n-end in omega arith in
     (failed_none _ _ c.loop-n.invariant.touches.failures, c.loop-n.invariant.operations ∙ ap (λ n. (g.F.Flash.device c.args.flash.now).operations + n) all)
+
+pub returns-in_err-program-clause-operations : goal.returns-in_err-program-clause-operations
+returns-in_err-program-clause-operations g c =
+    let one = operates_one (g.F.Flash.device c.loop-n.flash) (g.F.Flash.device c.program.new.self) _ _ _ c.in_err-program.ensures.operates in
+    let h = c.loop-n.invariant.operations in
+    let lt = c.loop-n-test.true in
+    omega (arith, one, h, lt)
+
+pub returns-clause-operations : goal.returns-clause-operations
+returns-clause-operations g c =
+    let within = c.loop-n.auto.n-end in
+    let h = c.loop-n.invariant.operations in
+    omega (arith, within, h)

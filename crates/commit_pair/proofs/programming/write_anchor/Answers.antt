@@ -1,4 +1,4 @@
-use Rattle.std.proofs.Common.{◌+◌, ◌*◌, ◌/◌, sym, ap, ◌∙◌, inl}
+use Rattle.std.proofs.Common.{◌+◌, ◌*◌, ◌/◌, sym, ap, ◌∙◌, inl, arith}
 use Rattle.std.proofs.lemmas.Result.{err_from_is_err_and}
 use Rattle.std.proofs.lemmas.Nat.{div-mul-add}
 use Rattle.flash_model.specs.declared.sizes.Geometry.{Geometry}
@@ -65,3 +65,12 @@ returns-clause-why g c = c.place_record.ensures.why
 pub returns-clause-others : goal.returns-clause-others
 returns-clause-others g c = λ p apart.
     c.place_record.ensures.others p (λ here. apart (sym (ap (λ (h : Geometry). p / h.pages) c.erase_anchor.ensures.only_anchors.geometry) ∙ here)) ∙ c.erase_anchor.ensures.others p apart
+
+pub returns-in_err-erase_anchor-clause-operations : goal.returns-in_err-erase_anchor-clause-operations
+returns-in_err-erase_anchor-clause-operations g c = let one = c.erase_anchor.ensures.operations in omega (arith, one)
+
+pub returns-then-not-branch-clause-operations : goal.returns-then-not-branch-clause-operations
+returns-then-not-branch-clause-operations g c = let one = c.erase_anchor.ensures.operations in omega (arith, one)
+
+pub returns-clause-operations : goal.returns-clause-operations
+returns-clause-operations g c = let one = c.erase_anchor.ensures.operations in let more = c.place_record.ensures.operations in omega (arith, one, more)

@@ -1,4 +1,4 @@
-use Rattle.std.proofs.Common.{ℕ, ◌/◌, ap, ◌∙◌, inl}
+use Rattle.std.proofs.Common.{ℕ, ◌/◌, ap, ◌∙◌, inl, arith}
 use Rattle.std.specs.FinSet as set
 use Rattle.read_only.specs.Modes.{is_read_only}
 use Rattle.std.proofs.lemmas.Result.{err_from_is_err_and}
@@ -160,3 +160,12 @@ returns-in_err-tried-clause-elsewhere g c = rw (err_from_is_err_and c.from_resid
 
 pub returns-in_err-tried-clause-open : goal.returns-in_err-tried-clause-open
 returns-in_err-tried-clause-open g c = rw (err_from_is_err_and c.from_residual.result c.from_residual.ensures.1).1 tt
+
+pub returns-in_err-tried-clause-operations : goal.returns-in_err-tried-clause-operations
+returns-in_err-tried-clause-operations g c = let one = c.in_err-tried.ensures.operations in omega (arith, one)
+
+pub returns-in-Some-clause-operations : goal.returns-in-Some-clause-operations
+returns-in-Some-clause-operations g c = let one = c.in_ok-tried.ensures.operations in omega (arith, one)
+
+pub returns-clause-operations : goal.returns-clause-operations
+returns-clause-operations g c = let one = c.in_ok-tried.ensures.operations in let more = c.commit_next.ensures.operations in omega (arith, one, more)

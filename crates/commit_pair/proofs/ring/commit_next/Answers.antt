@@ -1,8 +1,8 @@
-use Rattle.std.proofs.Common.{◌+◌, ◌%◌, refl, sym, ap, ◌∙◌, arith}
+use Rattle.std.proofs.Common.{◌≡◌, ℕ, ◌+◌, ◌*◌, ◌≤◌, ◌%◌, refl, sym, ap, subst, ◌∙◌, arith}
 use Rattle.read_only.specs.Modes.{is_read_only}
 use Rattle.std.proofs.lemmas.Result.{err_from_is_err_and}
 use Rattle.commit_pair.proofs.Anchoring.{OnlyAnchors_itself, OnlyAnchors_on}
-use Rattle.commit_pair.proofs.Asking.{Asked_itself, Asked_later}
+use Rattle.commit_pair.proofs.Asking.{Asked_itself, Asked_later, next_tried}
 use Rattle.commit_pair.proofs.Sparing.{Keeps_itself, Keeps_on}
 use Rattle.commit_pair.proofs.Following.{Untouched_on, spared, older_on, cut_attempt, either_on, one_more_tried, next_is, all_tried, on_flash_still, anchor_of_ring}
 use Rattle.commit_pair.proofs.ring.commit_next.Goals as goal
@@ -63,6 +63,7 @@ loop-step-preserved g c =
     record {
       only_anchors = OnlyAnchors_on old mid new c.args.bad.now c.loop-step.bad c.commit_anew.new.bad so_far.only_anchors now.only_anchors;
       asked = Asked_later old mid new 0 so_far.only_anchors.geometry so_far.asked (rw c.in_default.is at now.tried);
+      operations = let a = so_far.operations in let b = now.operations in omega (arith, a, b);
       keeps = Keeps_on c.args.saved.now.geometry old.pages mid.pages new.pages so_far.keeps (rw c.in_default.is at now.attempts);
       untouched = Untouched_on old mid new c.args.bad.now c.loop-step.bad c.commit_anew.new.bad so_far.only_anchors now.only_anchors so_far.untouched (rw c.in_default.is at now.untouched);
       tried = one_more_tried c.loop-step.bad c.commit_anew.new.bad c.args.home c.loop-step.step now.only_anchors.stays_bad so_far.tried (rw c.in_default.is at now.refused);
@@ -79,6 +80,7 @@ loop-step-init g c =
     record {
       only_anchors = OnlyAnchors_itself old c.args.bad.now;
       asked = Asked_itself old;
+      operations = omega arith;
       keeps = Keeps_itself c.args.saved.now.geometry old.pages;
       untouched = λ p good. refl;
       tried = λ k some below. absurd (omega arith);
@@ -157,3 +159,24 @@ returns-in_err-tried-clause-asked g c = rw (err_from_is_err_and c.from_residual.
 
 pub returns-in_err-tried-clause-open : goal.returns-in_err-tried-clause-open
 returns-in_err-tried-clause-open g c = rw (err_from_is_err_and c.from_residual.result c.from_residual.ensures.1).1 tt
+
+pub returns-then-is_read_only-clause-operations : goal.returns-then-is_read_only-clause-operations
+returns-then-is_read_only-clause-operations g c =
+    next_tried (g.F.Flash.device c.args.flash.now).operations (g.F.Flash.device c.loop-step.flash).operations (g.F.Flash.device c.loop-step.flash).operations c.loop-step.step 7 c.args.saved.now.geometry.pages
+    c.loop-step.invariant.operations (omega arith) (let lt = c.loop-step-test.true in omega (arith, lt))
+
+pub returns-in_err-tried-clause-operations : goal.returns-in_err-tried-clause-operations
+returns-in_err-tried-clause-operations g c =
+    next_tried (g.F.Flash.device c.args.flash.now).operations (g.F.Flash.device c.loop-step.flash).operations (g.F.Flash.device c.commit_anew.new.flash).operations c.loop-step.step 7 c.args.saved.now.geometry.pages
+    c.loop-step.invariant.operations c.in_err-tried.ensures.operations (let lt = c.loop-step-test.true in omega (arith, lt))
+
+pub returns-in-Some-clause-operations : goal.returns-in-Some-clause-operations
+returns-in-Some-clause-operations g c =
+    next_tried (g.F.Flash.device c.args.flash.now).operations (g.F.Flash.device c.loop-step.flash).operations (g.F.Flash.device c.commit_anew.new.flash).operations c.loop-step.step 7 c.args.saved.now.geometry.pages
+    c.loop-step.invariant.operations c.in_ok-tried.ensures.operations (let lt = c.loop-step-test.true in omega (arith, lt))
+
+pub returns-clause-operations : goal.returns-clause-operations
+returns-clause-operations g c =
+    let all : c.loop-step.step ≡ 8 = let end = c.loop-step-test.false in let within = c.loop-step.auto.step-end in omega arith in
+    let h = subst (λ (n : ℕ). (g.F.Flash.device c.loop-step.flash).operations + (c.args.saved.now.geometry.pages + 1) ≤ (g.F.Flash.device c.args.flash.now).operations + n * (c.args.saved.now.geometry.pages + 1)) all c.loop-step.invariant.operations in
+    omega (arith, h)

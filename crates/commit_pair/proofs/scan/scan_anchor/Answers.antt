@@ -1,14 +1,10 @@
-use Rattle.std.proofs.Common.{◌≡◌, ℕ, ◌+◌, ◌*◌, Option, sym, ap, subst, ◌∙◌, arith}
-use Rattle.std.proofs.lemmas.Result.{err_from_is_err_and}
+use Rattle.std.proofs.Common.{◌≡◌, ℕ, ◌+◌, ◌*◌, sym, ap, subst, ◌∙◌, arith}
 use Rattle.flash_model.specs.Device.{Page}
-use Rattle.record_format.specs.declared.pages.PageHead.{PageHead}
 use Rattle.commit_pair.specs.declared.runs.Scan.{Scan}
 use Rattle.commit_pair.specs.Parts.{parts_on, head_at}
 use Rattle.commit_pair.specs.Reading.{IsEnd, OnlyReads_itself, OnlyReads_on}
 use Rattle.commit_pair.specs.Scanning.{next, IsMet}
-use Rattle.commit_pair.proofs.Places.{anchor_on_flash, page_of_anchor, room_for_head}
-use Rattle.commit_pair.proofs.ReadParts.{ReadCause_on}
-use Rattle.commit_pair.proofs.ScanLaws.{met_begins, met_next, met_goes_on, met_ends}
+use Rattle.commit_pair.proofs.ScanLaws.{met_begins, met_next, met_ends}
 use Rattle.commit_pair.proofs.Ending.{IsEnd_start, IsEnd_blank, IsEnd_data, IsEnd_all}
 use Rattle.commit_pair.proofs.scan.scan_anchor.Goals as goal
 use Rattle.commit_pair.proofs.scan.scan_anchor.Goals.{then-not-blank, else-not-blank}

@@ -1,4 +1,4 @@
-use Rattle.std.proofs.Common.{◌+◌, ◌∙◌, refl, sym, ap}
+use Rattle.std.proofs.Common.{◌+◌, ◌∙◌, refl, sym, ap, arith}
 use Rattle.std.proofs.lemmas.Bool.{both_ways}
 use Rattle.flash_model.specs.declared.sizes.Geometry.{Geometry}
 use Rattle.read_only.specs.Modes.{is_read_only}
@@ -7,7 +7,7 @@ use Rattle.commit_pair.proofs.Sparing.{Keeps_itself}
 use Rattle.std.proofs.lemmas.Result.{err_from_is_err_and}
 use Rattle.commit_pair.specs.Parts.{greatest_on}
 use Rattle.commit_pair.proofs.Anchoring.{OnlyAnchors_on, OnlyAnchors_itself}
-use Rattle.commit_pair.proofs.Asking.{placed_after}
+use Rattle.commit_pair.proofs.Asking.{placed_after, tried_none, tried_after}
 use Rattle.commit_pair.proofs.Beginning.{above_all, reads_only_anchors, reads_untouched, reads_may_commit, reads_keep, reads_commit, read_commit_cause, try_commit_cause, if_err_each, none_left, one_left}
 use Rattle.commit_pair.proofs.Following.{Commits_on, refused_on}
 use Rattle.commit_pair.proofs.anchors.Anchors.commit.Goals as goal
@@ -28,7 +28,7 @@ pub returns-clause-placed : goal.returns-clause-placed
 returns-clause-placed g c =
     let first = c.in_ok-greatest.ensures in
     placed_after (g.F.Flash.device c.args.flash.now) (g.F.Flash.device c.greatest.new.flash) (g.F.Flash.device c.commit_as.new.flash) c.args.bad.now c.commit_as.new.bad c.args.self.now c.args.saved.now c.commit_as.result
-    first.only_reads first.quiet c.commit_as.ensures.placed
+    first.only_reads first.quiet first.operations c.commit_as.ensures.placed
 
 pub returns-in_err-greatest-clause-commits : goal.returns-in_err-greatest-clause-commits
 returns-in_err-greatest-clause-commits g c =
@@ -268,3 +268,27 @@ returns-in_err-greatest-clause-uncleared g c = rw (err_from_is_err_and c.from_re
 
 pub returns-clause-uncleared : goal.returns-clause-uncleared
 returns-clause-uncleared g c = c.commit_as.ensures.uncleared
+
+pub returns-then-is_read_only-clause-tries : goal.returns-then-is_read_only-clause-tries
+returns-then-is_read_only-clause-tries g c = tried_none (g.F.Flash.device c.args.flash.now) c.args.bad.now c.args.self.now
+
+pub returns-then-not-has_next_sequence-clause-tries : goal.returns-then-not-has_next_sequence-clause-tries
+returns-then-not-has_next_sequence-clause-tries g c = tried_none (g.F.Flash.device c.args.flash.now) c.args.bad.now c.args.self.now
+
+pub returns-in_err-page-clause-tries : goal.returns-in_err-page-clause-tries
+returns-in_err-page-clause-tries g c = tried_none (g.F.Flash.device c.args.flash.now) c.args.bad.now c.args.self.now
+
+pub returns-in_err-greatest-clause-tries : goal.returns-in_err-greatest-clause-tries
+returns-in_err-greatest-clause-tries g c =
+    let mid = g.F.Flash.device c.greatest.new.flash in
+    tried_after (g.F.Flash.device c.args.flash.now) mid mid c.args.bad.now c.args.self.now c.args.saved.now.geometry.pages c.greatest.ensures.only_reads (ap (λ (h : Geometry). h.pages) (sym c.requires.same)) c.greatest.ensures.quiet c.greatest.ensures.operations (omega arith)
+
+pub returns-then-greatest-clause-tries : goal.returns-then-greatest-clause-tries
+returns-then-greatest-clause-tries g c =
+    let mid = g.F.Flash.device c.greatest.new.flash in
+    tried_after (g.F.Flash.device c.args.flash.now) mid mid c.args.bad.now c.args.self.now c.args.saved.now.geometry.pages c.greatest.ensures.only_reads (ap (λ (h : Geometry). h.pages) (sym c.requires.same)) c.greatest.ensures.quiet c.greatest.ensures.operations (omega arith)
+
+pub returns-clause-tries : goal.returns-clause-tries
+returns-clause-tries g c =
+    tried_after (g.F.Flash.device c.args.flash.now) (g.F.Flash.device c.greatest.new.flash) (g.F.Flash.device c.commit_as.new.flash) c.args.bad.now c.args.self.now c.args.saved.now.geometry.pages c.greatest.ensures.only_reads
+    (ap (λ (h : Geometry). h.pages) (sym c.requires.same)) c.greatest.ensures.quiet c.greatest.ensures.operations c.commit_as.ensures.operations

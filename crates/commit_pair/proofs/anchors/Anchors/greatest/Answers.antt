@@ -1,8 +1,4 @@
-use Rattle.commit_pair.specs.Reading.{OnlyReads_itself}
 use Rattle.commit_pair.proofs.anchors.Anchors.greatest.Goals as goal
-
-pub returns-in-Some-clause-only_reads : goal.returns-in-Some-clause-only_reads
-returns-in-Some-clause-only_reads g c = OnlyReads_itself (g.F.Flash.device c.args.flash.now)
 
 pub returns-in-None-clause-greatest : goal.returns-in-None-clause-greatest
 returns-in-None-clause-greatest g c = c.find_greatest.ensures.greatest

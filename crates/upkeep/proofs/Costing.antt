@@ -19,7 +19,7 @@ use Rattle.reclaim.specs.Verified.{HasCost, most_reads}
 use Rattle.record_format.specs.declared.records.Record.{Record}
 use Rattle.commit_pair.specs.Newest.{committed_on}
 use Rattle.upkeep.specs.Costs.{ReadsEach, AsksEach, AsksForRest, AsksToStep, AsksToVerify, AsksToMount, scan_pages}
-use Rattle.upkeep.specs.Mounts.{history_of, roots_of}
+use Rattle.upkeep.specs.Mounts.{history_of, roots_of, working_roots}
 use Rattle.upkeep.specs.Reclaiming.{GoesOnFrom, marking_of}
 use Rattle.upkeep.specs.declared.systems.System.{System}
 

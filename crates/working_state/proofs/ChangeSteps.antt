@@ -3,14 +3,13 @@ use Rattle.std.proofs.Common.{◌≡◌, ◌≢◌, ℕ, Option, None, ◌<◌, 
 use Rattle.std.proofs.lemmas.Bool.{true≢false, and_parts, and_from, leb-true}
 use Rattle.std.specs.Prelude.{nat_le, is_some, is_none, if◌then◌else◌}
 use Rattle.std.specs.List.{list_all}
-use Rattle.std.specs.Option.{option_map_or}
 use Rattle.std.specs.FinSet as set
 use Rattle.fs_types.specs.Names.{Path, is_name, is_path}
 use Rattle.plain_trees.specs.Trees.{Tree}
 use Rattle.history_machine.specs.History.{Past, working_root, history_with, group_with, map_roots, map_group}
 use Rattle.history_machine.specs.HistoryMaps.{history_with-map, group_with-map}
 use Rattle.history_machine.specs.Descriptors.{Descriptors}
-use Rattle.history_machine.specs.Machine.{Machine, Space, has_paths, working_tree, refusal, need, change_need, answer_of, machine_of, reply_of, is_accepted, tree_after, version_after, history_after, group_after, history_moved, descriptors_after, changes_tree, makes_version, machine_with}
+use Rattle.history_machine.specs.Machine.{Machine, Space, has_paths, working_tree, refusal, need, change_need, answer_of, machine_of, reply_of, is_accepted, tree_after, version_after, history_after, group_after, descriptors_after, changes_tree, makes_version, machine_with}
 use Rattle.fs_types.specs.declared.calls.Call.{Call}
 use Rattle.fs_types.specs.declared.calls.Group.{Group}
 use Rattle.fs_types.specs.declared.calls.Reply.{Reply}

@@ -9,7 +9,7 @@ use Rattle.std.specs.FinSet as set
 use Rattle.fs_types.specs.Names.{Path, is_path}
 use Rattle.plain_trees.specs.Contents.{Contents, Entry, overwritten, resized, pwrite_need, ftruncate_need}
 use Rattle.plain_trees.specs.Trees.{Tree, put, IsFile, bytes_of, bytes_at}
-use Rattle.history_machine.specs.History.{Past, working_root, changed, group_with}
+use Rattle.history_machine.specs.History.{working_root, changed, group_with}
 use Rattle.history_machine.specs.Descriptors.{Descriptor, descriptor_at}
 use Rattle.history_machine.specs.Machine.{Machine, Space, has_paths, working_tree, file_put, refusal, change_need, reply_of, tree_after, descriptors_after, changes_tree, machine_of, machine_with}
 use Rattle.fs_types.specs.declared.calls.Call.{Call}

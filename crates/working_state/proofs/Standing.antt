@@ -33,7 +33,7 @@ use Rattle.working_state.specs.Steps.{IsLater}
 use Rattle.working_state.specs.Mounted.{IsStanding, KeepsPages}
 use Rattle.working_state.specs.Worked.{IsSameBut, IsWorked, IsLooked}
 use Rattle.working_state.specs.declared.state.State.{State}
-use Rattle.working_state.proofs.Roots.{AllRoots, ReachesBefore, of_versions, of_checkpoints, of_group, at_history, with_history, at_work, with_work, all_reach}
+use Rattle.working_state.proofs.Roots.{AllRoots, ReachesBefore, of_versions, of_checkpoints, of_group, at_history, at_work, with_work, all_reach}
 use Rattle.working_state.proofs.BadCounts.{len-within, stays_read_only}
 
 -- Blocks and roots.

@@ -7,6 +7,7 @@ use Rattle.plain_trees.specs.Trees.{Tree}
 use Rattle.history_machine.specs.History.{Past}
 use Rattle.history_machine.specs.Descriptors.{Descriptors}
 use Rattle.history_machine.specs.Machine.{Machine, machine_with}
+use Rattle.fs_types.specs.declared.calls.Group.{Group}
 use Rattle.fs_types.specs.declared.calls.Version.{Version}
 use Rattle.open_files.specs.Codes.{path_code, descriptors_code}
 use Rattle.plain_machine.specs.Plain.{entry_of, bytes_in, entry_of-bytes_in}
@@ -30,5 +31,13 @@ history_code =
     (λ p. record { versions = p.0; cursor = p.1.0; dropped = p.1.1.0; next = p.1.1.1.0; checkpoints = p.1.1.1.1.0; limit = p.1.1.1.1.1 })
     (λ _. refl)
 
+abbrev pub group_code : Coded (Group Tree)
+group_code = code_by (Tree × Bool) (coded× tree_code coded_bool) (λ g. (g.root, g.is_due)) (λ p. record { root = p.0; is_due = p.1 }) (λ _. refl)
+
 abbrev pub machine_code : Coded Machine
-machine_code = code_by (Past Tree × Descriptors) (coded× history_code descriptors_code) (λ m. (m.history, m.descriptors)) (λ p. machine_with p.0 p.1) (λ _. refl)
+machine_code =
+    code_by (Past Tree × (Option (Group Tree) × Descriptors))
+    (coded× history_code (coded× (coded_option group_code) descriptors_code))
+    (λ m. (m.history, (m.group, m.descriptors)))
+    (λ p. machine_with p.0 p.1.0 p.1.1)
+    (λ _. refl)

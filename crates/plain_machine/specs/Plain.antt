@@ -1,5 +1,5 @@
 -- What the plain machine answers and leaves.
-use Rattle.std.specs.Prelude.{◌≡◌, ℕ, ◌+◌, ◌-◌, ◌^◌, ◌<◌, not, Bool, true, false, ◌==◌, ◌&&◌, ◌⊎◌, nat_lt, Option, Some, None, Result, Err, List, [], ◌∷◌, ◌++◌, length, is_some, refl, if◌then◌else◌}
+use Rattle.std.specs.Prelude.{◌≡◌, ℕ, ◌+◌, ◌-◌, ◌^◌, ◌<◌, not, Bool, true, false, ◌==◌, ◌&&◌, ◌⊎◌, nat_lt, Option, Some, None, Result, Err, List, [], ◌∷◌, ◌++◌, length, is_some, unwrap_or, refl, if◌then◌else◌}
 use Rattle.std.specs.FinMap.{from_entries, insert}
 use Rattle.std.specs.List.Sorted.{IsStrictlySortedBy}
 use Rattle.std.specs.Map.{keys_of}
@@ -8,11 +8,12 @@ use Rattle.fs_types.specs.declared.limits.TheConstants.{MAX_NAMES, MAX_FILE_BYTE
 use Rattle.fs_types.specs.Names.{Name, Path, path_cmp}
 use Rattle.plain_trees.specs.Contents.{Entry, beneath}
 use Rattle.plain_trees.specs.Contents.Entry.{Dir, File}
-use Rattle.plain_trees.specs.Trees.{Tree, entry_count, bytes_at}
-use Rattle.history_machine.specs.History.{Past, fresh, undo_refusal, redo_refusal, serial_refusal, forget_refusal, checkpoint_refusal, name_refusal}
+use Rattle.plain_trees.specs.Trees.{Tree, bare, entry_count, bytes_at}
+use Rattle.history_machine.specs.History.{Past, fresh, changed, present_root, due_root, undo_refusal, redo_refusal, serial_refusal, forget_refusal, checkpoint_refusal, name_refusal}
 use Rattle.history_machine.specs.Descriptors.{Descriptor, Descriptors}
-use Rattle.history_machine.specs.Machine.{Machine, Space, Stepped, step, is_accepted, makes_version, tree_after, machine_with}
+use Rattle.history_machine.specs.Machine.{Machine, Space, Stepped, step, is_accepted, makes_version, version_after, history_moved, machine_with}
 use Rattle.fs_types.specs.declared.calls.Call.{Call}
+use Rattle.fs_types.specs.declared.calls.Group.{Group}
 use Rattle.fs_types.specs.declared.calls.Reply.{Reply}
 use Rattle.fs_types.specs.declared.faults.Fault.{Fault}
 use Rattle.fs_types.specs.declared.faults.Fault.TheVariants.{TooBig, NotEmpty, Overflow, NoMemory}
@@ -70,7 +71,11 @@ is_deep old depth p = option_map_or (λ rest. nat_lt MAX_NAMES (depth + length r
 
 -- a machine with this present tree
 abbrev pub machine_at : Tree → Descriptors → Machine
-machine_at t descriptors = machine_with (fresh 2 t) descriptors
+machine_at t descriptors = machine_with (fresh 2 t) None descriptors
+
+-- a machine with this group
+abbrev pub machine_in : Option (Group Tree) → Descriptors → Machine
+machine_in group descriptors = machine_with (fresh 2 bare) group descriptors
 
 -- a flash of nothing, for calls that do not tell of it
 abbrev pub no_space : Space
@@ -78,7 +83,7 @@ no_space = record { blocks = 0; bad = 0; free = 0; anchors = 0 }
 
 -- a call that makes a version, if it is not refused, has a serial for it
 abbrev pub HasSerial : Machine → Call → Type 0
-HasSerial m call = is_some (tree_after m call) ≡ true → m.history.next < 2 ^ 64 - 1
+HasSerial m call = is_some (version_after m call) ≡ true → m.history.next < 2 ^ 64 - 1
 
 -- an ftruncate to this length changes the file that is open
 abbrev pub ftruncates : Tree → Option Descriptor → ℕ → Bool
@@ -93,6 +98,17 @@ moving_refusal h (Call.Forget count) = forget_refusal h count
 moving_refusal h (Call.Checkpoint name) = checkpoint_refusal h name
 moving_refusal h (Call.RemoveCheckpoint name) = name_refusal h name
 moving_refusal h _ = None
+
+-- what a call that changes no tree leaves of the history and of the group: an `end` makes a version, where one is due
+abbrev pub history_still : Past Tree → Option (Group Tree) → Call → Past Tree
+history_still h group Call.End = option_map_or (changed h) (due_root group) h
+history_still h group call = history_moved h call
+
+abbrev pub group_still : Past Tree → Option (Group Tree) → Call → Option (Group Tree)
+group_still h group Call.Begin = Some (record { root = unwrap_or (present_root h) bare; is_due = false })
+group_still h group Call.End = None
+group_still h group Call.Abandon = None
+group_still h group call = group
 
 -- the file that a call opens, if it is an open
 abbrev pub file_of : Call → Option Descriptor

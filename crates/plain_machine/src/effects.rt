@@ -1,27 +1,44 @@
 //! What calls leave that change something. Memory is taken first, so that nothing is changed without it.
-ghost use Rattle.std.specs.Prelude.{◌≡◌, Bool, not, ◌==◌, ◌&&◌, length, [], Some, None, is_some, IfOk, IfErr, OnOk, OnErr};
+ghost use Rattle.std.specs.Prelude.{◌≡◌, ◌<◌, Bool, true, not, ◌==◌, ◌&&◌, length, [], Some, None, is_some, IfOk, IfErr, OnOk, OnErr};
 ghost use Rattle.plain_trees.specs.Contents.{Entry, overwritten, resized};
 ghost use Rattle.plain_trees.specs.Trees.{bare, put, remove};
 ghost use Rattle.history_machine.specs.Descriptors.{none_open, descriptor_at};
-ghost use Rattle.history_machine.specs.History.{checkpoint_root, checkpoint_refusal, with_checkpoint};
+ghost use Rattle.history_machine.specs.History.{checkpoint_root, checkpoint_refusal, with_checkpoint, due_root};
 ghost use Rattle.history_machine.specs.Machine as machine;
 ghost use Rattle.fs_types.specs.declared.calls.Call.{Call};
 ghost use Rattle.fs_types.specs.declared.faults.Fault.{Fault};
-ghost use Rattle.plain_machine.specs.Plain.{machine_at, ftruncates, file_of, moving_refusal};
+ghost use Rattle.plain_machine.specs.Plain.{machine_at, ftruncates, file_of, moving_refusal, history_still, group_still};
 ghost use Rattle.history_machine.specs.Machine.{machine_with};
 
+use crate::groups::{begin, end, working_tree};
 use crate::nodes::Node;
 use crate::replies::bytes_at;
 use crate::trees::Tree;
 use bitflags::Flags;
-use fs_types::{Bytes, Call, CpName, Fault, OpenFlags, Path};
+use fs_types::{Bytes, Call, CpName, Fault, Group, OpenFlags, Path};
 use history::History;
 use open_files::{OpenFile, OpenFiles};
 use std::alloc::{AllocError, Global};
 
-/// Whether the call makes a version, where it is not refused.
-pub fn changes(history: &History<Tree>, files: &OpenFiles, call: &Call) -> bool
-    ensures { result ≡ is_some (machine.tree_after (machine_with history.now files.now) call.now) }
+/// Whether the call makes a version, where it is not refused: a change outside a group, and an `end` of
+/// a group that was changed.
+pub fn makes_version(
+    history: &History<Tree>,
+    group: &Option<Group<Tree>>,
+    files: &OpenFiles,
+    call: &Call,
+) -> bool
+    ensures { result ≡ is_some (machine.version_after (machine_with history.now group.now files.now) call.now) }
+{
+    match group {
+        Some(group) => group.is_due && matches!(call, Call::End),
+        None => changes_tree(history, files, call),
+    }
+}
+
+/// Whether the call changes the tree outside a group, where it is not refused.
+fn changes_tree(history: &History<Tree>, files: &OpenFiles, call: &Call) -> bool
+    ensures { result ≡ is_some (machine.tree_after (machine_with history.now None files.now) call.now) }
 {
     match call {
         Call::Open { path, flags } => open_changes(history.root(), path, *flags),
@@ -99,17 +116,18 @@ fn resize(alloc: Global, old: &[u8], length: usize) -> Result<Vec<u8>, AllocErro
     Ok(new)
 }
 
-/// The tree that a change makes; none where the call makes no version.
+/// The tree that a change makes; none where the call changes no tree.
 pub fn tree_after(
     alloc: Global,
     history: &History<Tree>,
+    group: &Option<Group<Tree>>,
     files: &OpenFiles,
     call: &Call,
 ) -> Result<Option<Tree>, AllocError>
-    requires { machine.refusal (machine_with history.now files.now) call.now ≡ None }
-    ensures { IfOk result (λ next. next ≡ machine.tree_after (machine_with history.now files.now) call.now) }
+    requires { machine.refusal (machine_with history.now group.now files.now) call.now ≡ None }
+    ensures { IfOk result (λ next. next ≡ machine.tree_after (machine_with history.now group.now files.now) call.now) }
 {
-    let tree = history.root();
+    let tree = working_tree(history, group);
     match call {
         Call::Open { path, flags } => open_path(alloc, tree, path, *flags),
         Call::Pwrite {
@@ -225,23 +243,34 @@ fn rolled_back(history: &History<Tree>, name: &CpName) -> Result<Option<Tree>, A
     }
 }
 
-/// What a call leaves of the history that makes no version. The only error is [`Fault::NoMemory`],
-/// which leaves it unchanged.
-pub fn move_history(history: &mut History<Tree>, call: &Call) -> Result<(), Fault>
-    requires { moving_refusal history.old call.now ≡ None }
-    ensures ok { OnOk result (history.new ≡ machine.history_moved history.old call.now) }
+/// What a call leaves of the history and of the group that changes no tree. The only error is
+/// [`Fault::NoMemory`], which leaves both unchanged.
+pub fn move_history(
+    history: &mut History<Tree>,
+    group: &mut Option<Group<Tree>>,
+    call: &Call,
+) -> Result<(), Fault>
+    requires accepted { moving_refusal history.old call.now ≡ None }
+    requires serial { call.now ≡ Call.End → is_some (due_root group.old) ≡ true → history.old.next < u64.MAX }
+    ensures history { OnOk result (history.new ≡ history_still history.old group.old call.now) }
+    ensures group { OnOk result (group.new ≡ group_still history.old group.old call.now) }
     ensures refused { IfErr result (λ fault. fault ≡ Fault.NoMemory) }
-    ensures err { OnErr result (history.new ≡ history.old) }
+    ensures err_history { OnErr result (history.new ≡ history.old) }
+    ensures err_group { OnErr result (group.new ≡ group.old) }
 {
     match call {
-        Call::Undo => history.undo(),
-        Call::Redo => history.redo(),
-        Call::Goto { serial } => history.goto(*serial),
-        Call::Forget { count } => history.forget(*count),
-        Call::Checkpoint { name } => keep_present(history, name),
-        Call::RemoveCheckpoint { name } => history.remove_checkpoint(name),
-        _ => Ok(()),
+        Call::Undo => history.undo()?,
+        Call::Redo => history.redo()?,
+        Call::Goto { serial } => history.goto(*serial)?,
+        Call::Forget { count } => history.forget(*count)?,
+        Call::Checkpoint { name } => keep_present(history, name)?,
+        Call::RemoveCheckpoint { name } => history.remove_checkpoint(name)?,
+        Call::Begin => begin(history, group)?,
+        Call::End => end(history, group),
+        Call::Abandon => *group = None,
+        _ => (),
     }
+    Ok(())
 }
 
 fn keep_present(history: &mut History<Tree>, name: &CpName) -> Result<(), Fault>

@@ -2,6 +2,7 @@
 #![tactic(auto)]
 
 mod effects;
+mod groups;
 mod machines;
 mod maps;
 mod names;

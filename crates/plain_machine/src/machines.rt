@@ -9,20 +9,23 @@ ghost use Rattle.plain_machine.specs.Plain.{HasSerial, IsPlainStep};
 ghost use Rattle.plain_machine.specs.Spaces.{space_of};
 ghost use Rattle.history_machine.specs.Machine.{machine_with};
 
+use crate::groups::adopt;
 use crate::refusals::refusal;
 use crate::spaces::Space;
 use crate::trees::Tree;
 use crate::{effects, replies};
-use fs_types::{Call, Fault, Reply};
+use fs_types::{Call, Fault, Group, Reply};
 use history::History;
 use open_files::OpenFiles;
 use std::alloc::Global;
 use std::marker::Model;
 
-/// A whole file system in memory: a history of trees, and the open files.
+/// A whole file system in memory: a history of trees, the change group that is open, if one is, and the
+/// open files.
 #[derive(Drop)]
 pub struct PlainMachine {
     history: History<Tree>,
+    group: Option<Group<Tree>>,
     files: OpenFiles,
 }
 
@@ -34,7 +37,7 @@ impl Model for PlainMachine {
 
     ghost coded = { machine_code };
 
-    ghost view = { λ m. machine_with m.history m.files };
+    ghost view = { λ m. machine_with m.history m.group m.files };
 }
 
 impl PlainMachine {
@@ -47,6 +50,7 @@ impl PlainMachine {
     {
         Ok(PlainMachine {
             history: History::new(alloc, limit, Tree::bare(alloc)?)?,
+            group: None,
             files: OpenFiles::new(),
         })
     }
@@ -58,15 +62,22 @@ impl PlainMachine {
     pub fn step(&mut self, alloc: Global, space: Space, call: &Call) -> Result<Reply, Fault>
         ensures { IsPlainStep (space_of space) self.old call.now result self.new }
     {
-        if let Some(fault) = refusal(&self.history, &self.files, call) {
+        if let Some(fault) = refusal(&self.history, &self.group, &self.files, call) {
             return Err(fault);
         }
         if self.history.is_exhausted() {
-            if effects::changes(&self.history, &self.files, call) {
+            if effects::makes_version(&self.history, &self.group, &self.files, call) {
                 return Err(Fault::Overflow);
             }
         }
-        carry_out(alloc, &mut self.history, &mut self.files, space, call)
+        carry_out(
+            alloc,
+            &mut self.history,
+            &mut self.group,
+            &mut self.files,
+            space,
+            call,
+        )
     }
 }
 
@@ -74,24 +85,31 @@ impl PlainMachine {
 fn carry_out(
     alloc: Global,
     history: &mut History<Tree>,
+    group: &mut Option<Group<Tree>>,
     files: &mut OpenFiles,
     space: Space,
     call: &Call,
 ) -> Result<Reply, Fault>
-    requires accepted { machine.refusal (machine_with history.old files.old) call.now ≡ None }
-    requires serial { HasSerial (machine_with history.old files.old) call.now }
-    ensures reply { IfOk result (λ reply. reply ≡ machine.reply_of (space_of space) (machine_with history.old files.old) call.now) }
-    ensures history { OnOk result (history.new ≡ machine.history_after (machine_with history.old files.old) call.now) }
-    ensures files { OnOk result (files.new ≡ machine.descriptors_after (machine_with history.old files.old) call.now) }
+    requires accepted { machine.refusal (machine_with history.old group.old files.old) call.now ≡ None }
+    requires serial { HasSerial (machine_with history.old group.old files.old) call.now }
+
+    // what it answers and leaves
+    ensures reply { IfOk result (λ reply. reply ≡ machine.reply_of (space_of space) (machine_with history.old group.old files.old) call.now) }
+    ensures history { OnOk result (history.new ≡ machine.history_after (machine_with history.old group.old files.old) call.now) }
+    ensures group { OnOk result (group.new ≡ machine.group_after (machine_with history.old group.old files.old) call.now) }
+    ensures files { OnOk result (files.new ≡ machine.descriptors_after (machine_with history.old group.old files.old) call.now) }
+
+    // without memory all stays
     ensures refused { IfErr result (λ fault. fault ≡ Fault.NoMemory) }
     ensures err_history { OnErr result (history.new ≡ history.old) }
+    ensures err_group { OnErr result (group.new ≡ group.old) }
     ensures err_files { OnErr result (files.new ≡ files.old) }
 {
-    let reply = replies::reply(alloc, history, files, space, call)?;
+    let reply = replies::reply(alloc, history, group, files, space, call)?;
     let file = effects::opened_file(call)?;
-    match effects::tree_after(alloc, history, files, call)? {
-        Some(tree) => history.push(tree),
-        None => effects::move_history(history, call)?,
+    match effects::tree_after(alloc, history, group, files, call)? {
+        Some(tree) => adopt(history, group, tree),
+        None => effects::move_history(history, group, call)?,
     }
     effects::settle_files(files, call, file);
     Ok(reply)

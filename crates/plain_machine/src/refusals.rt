@@ -7,22 +7,28 @@ ghost use Rattle.history_machine.specs.Descriptors as descriptors;
 ghost use Rattle.history_machine.specs.Machine as machine;
 ghost use Rattle.fs_types.specs.declared.calls.Call.{Call};
 ghost use Rattle.fs_types.specs.declared.faults.Fault.{Fault};
-ghost use Rattle.plain_machine.specs.Plain.{machine_at, size_refusal, emptiness_refusal};
+ghost use Rattle.plain_machine.specs.Plain.{machine_at, machine_in, size_refusal, emptiness_refusal};
 ghost use Rattle.history_machine.specs.Machine.{machine_with};
 
+use crate::groups::{seen_tree, working_tree};
 use crate::nodes::Node;
 use crate::trees::Tree;
 use bitflags::Flags;
-use fs_types::{Bytes, Call, Fault, MAX_FILE_BYTES, Name, OpenFlags, Path, View};
+use fs_types::{Bytes, Call, Fault, Group, MAX_FILE_BYTES, Name, OpenFlags, Path, View};
 use history::History;
 use open_files::OpenFiles;
 use plain_trees::{is_beginning, parent};
 
 /// The first refusal of a call, if any.
-pub fn refusal(history: &History<Tree>, files: &OpenFiles, call: &Call) -> Option<Fault>
-    ensures { result ≡ machine.refusal (machine_with history.now files.now) call.now }
+pub fn refusal(
+    history: &History<Tree>,
+    group: &Option<Group<Tree>>,
+    files: &OpenFiles,
+    call: &Call,
+) -> Option<Fault>
+    ensures { result ≡ machine.refusal (machine_with history.now group.now files.now) call.now }
 {
-    let tree = history.root();
+    let tree = working_tree(history, group);
     match call {
         Call::Open { path, flags } => open_refusal(tree, files, path, *flags),
         Call::Close { descriptor } => descriptor_refusal(files, *descriptor),
@@ -37,20 +43,23 @@ pub fn refusal(history: &History<Tree>, files: &OpenFiles, call: &Call) -> Optio
         Call::Unlink { path } => unlink_refusal(tree, files, path),
         Call::Mkdir { path } => mkdir_refusal(tree, path),
         Call::Rmdir { path } => rmdir_refusal(tree, path),
-        Call::Fsync { descriptor } => descriptor_refusal(files, *descriptor),
-        Call::Sync => None,
-        Call::Stat { view, path } => stat_refusal(history, view, path),
-        Call::List { view, path } => list_refusal(history, view, path),
-        Call::ReadAt { view, path, .. } => read_at_refusal(history, view, path),
+        Call::Fsync { descriptor } => fsync_refusal(group, files, *descriptor),
+        Call::Sync => outside_refusal(group, None),
+        Call::Stat { view, path } => stat_refusal(history, group, view, path),
+        Call::List { view, path } => list_refusal(history, group, view, path),
+        Call::ReadAt { view, path, .. } => read_at_refusal(history, group, view, path),
         Call::Log => None,
         Call::Df => None,
-        Call::Undo => travel_refusal(files, history.check_undo().err()),
-        Call::Redo => travel_refusal(files, history.check_redo().err()),
-        Call::Goto { serial } => travel_refusal(files, history.check_goto(*serial).err()),
-        Call::Rollback { name } => travel_refusal(files, history.check_name(name).err()),
-        Call::Forget { count } => history.check_forget(*count).err(),
-        Call::Checkpoint { name } => history.check_checkpoint(name).err(),
-        Call::RemoveCheckpoint { name } => history.check_name(name).err(),
+        Call::Undo => travel_refusal(group, files, history.check_undo().err()),
+        Call::Redo => travel_refusal(group, files, history.check_redo().err()),
+        Call::Goto { serial } => travel_refusal(group, files, history.check_goto(*serial).err()),
+        Call::Rollback { name } => travel_refusal(group, files, history.check_name(name).err()),
+        Call::Forget { count } => outside_refusal(group, history.check_forget(*count).err()),
+        Call::Checkpoint { name } => outside_refusal(group, history.check_checkpoint(name).err()),
+        Call::RemoveCheckpoint { name } => outside_refusal(group, history.check_name(name).err()),
+        Call::Begin => travel_refusal(group, files, None),
+        Call::End => end_refusal(group, files),
+        Call::Abandon => end_refusal(group, files),
     }
 }
 
@@ -123,6 +132,15 @@ fn descriptor_refusal(files: &OpenFiles, descriptor: u64) -> Option<Fault>
     match files.get(descriptor) {
         None => Some(Fault::BadDescriptor),
         Some(_) => None,
+    }
+}
+
+fn fsync_refusal(group: &Option<Group<Tree>>, files: &OpenFiles, descriptor: u64) -> Option<Fault>
+    ensures { result ≡ machine.refusal (machine_in group.now files.now) (Call.Fsync descriptor) }
+{
+    match files.get(descriptor) {
+        None => Some(Fault::BadDescriptor),
+        Some(_) => outside_refusal(group, None),
     }
 }
 
@@ -299,51 +317,99 @@ fn rmdir_refusal(tree: &Tree, path: &Path) -> Option<Fault>
 }
 
 /// The node that a view shows at a path, or why there is none.
-fn found_in<'a>(history: &'a History<Tree>, view: &View, path: &Path) -> Result<&'a Node, Fault>
-    ensures node { IfOk result (λ node. (refuse : Entry → Option Fault) → machine.view_path_refusal (machine_with history.now descriptors.none_open) view.now path.now refuse ≡ refuse node.now) }
-    ensures refused { IfErr result (λ fault. (refuse : Entry → Option Fault) → machine.view_path_refusal (machine_with history.now descriptors.none_open) view.now path.now refuse ≡ Some fault) }
+fn found_in<'a>(
+    history: &'a History<Tree>,
+    group: &'a Option<Group<Tree>>,
+    view: &View,
+    path: &Path,
+) -> Result<&'a Node, Fault>
+    ensures node { IfOk result (λ node. (refuse : Entry → Option Fault) → machine.view_path_refusal (machine_with history.now group.now descriptors.none_open) view.now path.now refuse ≡ refuse node.now) }
+    ensures refused { IfErr result (λ fault. (refuse : Entry → Option Fault) → machine.view_path_refusal (machine_with history.now group.now descriptors.none_open) view.now path.now refuse ≡ Some fault) }
 {
-    match history.find(view) {
+    match seen_tree(history, group, view) {
         Ok(tree) => found(tree, path.names()),
         Err(fault) => Err(fault),
     }
 }
 
-fn stat_refusal(history: &History<Tree>, view: &View, path: &Path) -> Option<Fault>
-    ensures { result ≡ machine.refusal (machine_with history.now descriptors.none_open) (Call.Stat view.now path.now) }
+fn stat_refusal(
+    history: &History<Tree>,
+    group: &Option<Group<Tree>>,
+    view: &View,
+    path: &Path,
+) -> Option<Fault>
+    ensures { result ≡ machine.refusal (machine_with history.now group.now descriptors.none_open) (Call.Stat view.now path.now) }
 {
-    match found_in(history, view, path) {
+    match found_in(history, group, view, path) {
         Ok(_) => None,
         Err(fault) => Some(fault),
     }
 }
 
-fn list_refusal(history: &History<Tree>, view: &View, path: &Path) -> Option<Fault>
-    ensures { result ≡ machine.refusal (machine_with history.now descriptors.none_open) (Call.List view.now path.now) }
+fn list_refusal(
+    history: &History<Tree>,
+    group: &Option<Group<Tree>>,
+    view: &View,
+    path: &Path,
+) -> Option<Fault>
+    ensures { result ≡ machine.refusal (machine_with history.now group.now descriptors.none_open) (Call.List view.now path.now) }
 {
-    match found_in(history, view, path) {
+    match found_in(history, group, view, path) {
         Ok(node) if node.is_dir() => None,
         Ok(_) => Some(Fault::NotDirectory),
         Err(fault) => Some(fault),
     }
 }
 
-fn read_at_refusal(history: &History<Tree>, view: &View, path: &Path) -> Option<Fault>
-    ensures { result ≡ machine.refusal (machine_with history.now descriptors.none_open) (Call.ReadAt view.now path.now 0 0) }
+fn read_at_refusal(
+    history: &History<Tree>,
+    group: &Option<Group<Tree>>,
+    view: &View,
+    path: &Path,
+) -> Option<Fault>
+    ensures { result ≡ machine.refusal (machine_with history.now group.now descriptors.none_open) (Call.ReadAt view.now path.now 0 0) }
 {
-    match found_in(history, view, path) {
+    match found_in(history, group, view, path) {
         Ok(node) if node.is_dir() => Some(Fault::IsDirectory),
         Ok(_) => None,
         Err(fault) => Some(fault),
     }
 }
 
-/// A call that moves the present version is refused while a file is open.
-fn travel_refusal(files: &OpenFiles, refused: Option<Fault>) -> Option<Fault>
-    ensures { result ≡ machine.travel_refusal (machine_at bare files.now) refused }
+/// A call on the history is refused in a change group, before all else.
+fn outside_refusal(group: &Option<Group<Tree>>, refused: Option<Fault>) -> Option<Fault>
+    ensures { result ≡ machine.outside_refusal (machine_in group.now descriptors.none_open) refused }
 {
+    if group.is_some() {
+        return Some(Fault::InGroup);
+    }
+    refused
+}
+
+/// A call that moves the present version, or begins a group, is refused in a group, and then while a
+/// file is open.
+fn travel_refusal(
+    group: &Option<Group<Tree>>,
+    files: &OpenFiles,
+    refused: Option<Fault>,
+) -> Option<Fault>
+    ensures { result ≡ machine.outside_refusal (machine_in group.now files.now) (machine.travel_refusal (machine_in group.now files.now) refused) }
+{
+    if group.is_none() && files.any_open() {
+        return Some(Fault::Busy);
+    }
+    outside_refusal(group, refused)
+}
+
+/// A group ends where one is open, and no file is.
+fn end_refusal(group: &Option<Group<Tree>>, files: &OpenFiles) -> Option<Fault>
+    ensures { result ≡ machine.refusal (machine_in group.now files.now) Call.End }
+{
+    if group.is_none() {
+        return Some(Fault::NoGroup);
+    }
     if files.any_open() {
         return Some(Fault::Busy);
     }
-    refused
+    None
 }

@@ -12,9 +12,10 @@ ghost use Rattle.plain_machine.specs.Plain.{machine_at, no_space};
 ghost use Rattle.plain_machine.specs.Spaces.{space_of};
 ghost use Rattle.history_machine.specs.Machine.{machine_with};
 
+use crate::groups::{seen_tree, working_tree};
 use crate::spaces::Space;
 use crate::trees::Tree;
-use fs_types::{Call, Path, Reply, Sequence, Stat, View};
+use fs_types::{Call, Group, Path, Reply, Sequence, Stat, View};
 use history::History;
 use open_files::OpenFiles;
 use std::alloc::{AllocError, Global};
@@ -53,12 +54,13 @@ fn bytes_reply(alloc: Global, bytes: &[u8]) -> Result<Reply, AllocError>
 pub fn reply(
     alloc: Global,
     history: &History<Tree>,
+    group: &Option<Group<Tree>>,
     files: &OpenFiles,
     space: Space,
     call: &Call,
 ) -> Result<Reply, AllocError>
-    requires { machine.refusal (machine_with history.now files.now) call.now ≡ None }
-    ensures { IfOk result (λ reply. reply ≡ machine.reply_of (space_of space) (machine_with history.now files.now) call.now) }
+    requires { machine.refusal (machine_with history.now group.now files.now) call.now ≡ None }
+    ensures { IfOk result (λ reply. reply ≡ machine.reply_of (space_of space) (machine_with history.now group.now files.now) call.now) }
 {
     match call {
         Call::Open { .. } => Ok(Reply::Fd(files.least_free().unwrap_or(0))),
@@ -66,16 +68,23 @@ pub fn reply(
             descriptor,
             offset,
             count,
-        } => pread(alloc, history.root(), files, *descriptor, *offset, *count),
+        } => pread(
+            alloc,
+            working_tree(history, group),
+            files,
+            *descriptor,
+            *offset,
+            *count,
+        ),
         Call::Pwrite { bytes, .. } => Ok(Reply::Count(bytes.as_slice().len() as u64)),
-        Call::Stat { view, path } => Ok(stat(history, view, path)),
-        Call::List { view, path } => list(alloc, history, view, path),
+        Call::Stat { view, path } => Ok(stat(history, group, view, path)),
+        Call::List { view, path } => list(alloc, history, group, view, path),
         Call::ReadAt {
             view,
             path,
             offset,
             count,
-        } => read_at(alloc, history, view, path, *offset, *count),
+        } => read_at(alloc, history, group, view, path, *offset, *count),
         Call::Log => log(alloc, history),
         Call::Df => Ok(Reply::Df {
             blocks: space.blocks,
@@ -106,11 +115,11 @@ fn pread(
     }
 }
 
-fn stat(history: &History<Tree>, view: &View, path: &Path) -> Reply
-    requires { machine.refusal (machine_with history.now none_open) (Call.Stat view.now path.now) ≡ None }
-    ensures { result ≡ machine.reply_of no_space (machine_with history.now none_open) (Call.Stat view.now path.now) }
+fn stat(history: &History<Tree>, group: &Option<Group<Tree>>, view: &View, path: &Path) -> Reply
+    requires { machine.refusal (machine_with history.now group.now none_open) (Call.Stat view.now path.now) ≡ None }
+    ensures { result ≡ machine.reply_of no_space (machine_with history.now group.now none_open) (Call.Stat view.now path.now) }
 {
-    match history.find(view) {
+    match seen_tree(history, group, view) {
         Ok(tree) => Reply::Stat(stat_of(tree, path)),
         Err(_) => Reply::Empty,
     }
@@ -128,13 +137,14 @@ fn stat_of(tree: &Tree, path: &Path) -> Stat
 fn list(
     alloc: Global,
     history: &History<Tree>,
+    group: &Option<Group<Tree>>,
     view: &View,
     path: &Path,
 ) -> Result<Reply, AllocError>
-    requires { machine.refusal (machine_with history.now none_open) (Call.List view.now path.now) ≡ None }
-    ensures { IfOk result (λ reply. reply ≡ machine.reply_of no_space (machine_with history.now none_open) (Call.List view.now path.now)) }
+    requires { machine.refusal (machine_with history.now group.now none_open) (Call.List view.now path.now) ≡ None }
+    ensures { IfOk result (λ reply. reply ≡ machine.reply_of no_space (machine_with history.now group.now none_open) (Call.List view.now path.now)) }
 {
-    match history.find(view) {
+    match seen_tree(history, group, view) {
         Ok(tree) => Ok(Reply::Names(tree.children(alloc, path.names())?)),
         Err(_) => Ok(Reply::Empty),
     }
@@ -143,15 +153,16 @@ fn list(
 fn read_at(
     alloc: Global,
     history: &History<Tree>,
+    group: &Option<Group<Tree>>,
     view: &View,
     path: &Path,
     offset: u64,
     count: u64,
 ) -> Result<Reply, AllocError>
-    requires { machine.refusal (machine_with history.now none_open) (Call.ReadAt view.now path.now offset count) ≡ None }
-    ensures { IfOk result (λ reply. reply ≡ machine.reply_of no_space (machine_with history.now none_open) (Call.ReadAt view.now path.now offset count)) }
+    requires { machine.refusal (machine_with history.now group.now none_open) (Call.ReadAt view.now path.now offset count) ≡ None }
+    ensures { IfOk result (λ reply. reply ≡ machine.reply_of no_space (machine_with history.now group.now none_open) (Call.ReadAt view.now path.now offset count)) }
 {
-    match history.find(view) {
+    match seen_tree(history, group, view) {
         Ok(tree) => bytes_reply(alloc, read_from(bytes_at(tree, path), offset, count)),
         Err(_) => Ok(Reply::Empty),
     }

@@ -9,7 +9,7 @@ use Rattle.fs_types.specs.declared.faults.Fault.{Fault}
 use Rattle.fs_types.specs.declared.faults.Fault.TheVariants.{Invalid}
 use Rattle.fs_types.specs.declared.calls.View.{View}
 use Rattle.fs_types.specs.declared.calls.View.TheVariants.{Present, Serial, Checkpoint as checkpoint_view}
-use Rattle.fs_types.specs.declared.calls.Call.TheVariants.{Open, Close, Pread, Pwrite, Ftruncate, Rename, Unlink, Mkdir, Rmdir, Fsync, Sync, Stat, List as list_call, ReadAt, Log, Df, Undo, Redo, Goto, Rollback, Forget, Checkpoint, RemoveCheckpoint}
+use Rattle.fs_types.specs.declared.calls.Call.TheVariants.{Open, Close, Pread, Pwrite, Ftruncate, Rename, Unlink, Mkdir, Rmdir, Fsync, Sync, Stat, List as list_call, ReadAt, Log, Df, Undo, Redo, Goto, Rollback, Forget, Checkpoint, RemoveCheckpoint, Begin, End, Abandon}
 use Rattle.script.specs.Kinds.{kinds}
 use Rattle.script.specs.Verbs.{verbs}
 use Rattle.script.specs.declared.verbs.Verb.{Verb}
@@ -209,6 +209,9 @@ asked Verb.Rollback words = only_name words >>= λ name. Ok (Call (Rollback name
 asked Verb.Forget words = only_number words >>= λ count. Ok (Call (Forget count))
 asked Verb.Checkpoint words = only_name words >>= λ name. Ok (Call (Checkpoint name))
 asked Verb.Rmcheckpoint words = only_name words >>= λ name. Ok (Call (RemoveCheckpoint name))
+asked Verb.Begin words = alone (Call Begin) words
+asked Verb.End words = alone (Call End) words
+asked Verb.Abandon words = alone (Call Abandon) words
 asked Verb.Log words = alone (Call Log) words
 asked Verb.Df words = alone (Call Df) words
 asked Verb.Reclaim words = only_number words >>= λ budget. Ok (ReclaimStep budget)

@@ -74,6 +74,9 @@ fn line_by_verb(alloc: Global, verb: Verb, words: &[&[u8]]) -> Result<Line, Misr
         Verb::Rmcheckpoint => only_name(alloc, words).map(|name| Line::Call(Call::RemoveCheckpoint {
             name,
         })),
+        Verb::Begin => line_without_words(words, Line::Call(Call::Begin)),
+        Verb::End => line_without_words(words, Line::Call(Call::End)),
+        Verb::Abandon => line_without_words(words, Line::Call(Call::Abandon)),
         Verb::Log => line_without_words(words, Line::Call(Call::Log)),
         Verb::Df => line_without_words(words, Line::Call(Call::Df)),
         Verb::Reclaim => only_number(words).map(Line::ReclaimStep),

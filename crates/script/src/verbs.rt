@@ -30,6 +30,9 @@ pub enum Verb {
     Forget,
     Checkpoint,
     Rmcheckpoint,
+    Begin,
+    End,
+    Abandon,
     Log,
     Df,
     Reclaim,
@@ -37,7 +40,7 @@ pub enum Verb {
     PlanFault,
 }
 
-const VERBS: [(&[u8], Verb); 26] = [
+const VERBS: [(&[u8], Verb); 29] = [
     (b"open", Verb::Open),
     (b"close", Verb::Close),
     (b"pread", Verb::Pread),
@@ -59,6 +62,9 @@ const VERBS: [(&[u8], Verb); 26] = [
     (b"forget", Verb::Forget),
     (b"checkpoint", Verb::Checkpoint),
     (b"rmcheckpoint", Verb::Rmcheckpoint),
+    (b"begin", Verb::Begin),
+    (b"end", Verb::End),
+    (b"abandon", Verb::Abandon),
     (b"log", Verb::Log),
     (b"df", Verb::Df),
     (b"reclaim", Verb::Reclaim),

@@ -3,9 +3,10 @@ use Rattle.std.proofs.Common.{◌≡◌, ℕ, zero, suc, Bool, true, false, Some
 use Rattle.std.specs.Prelude.{Contains, IsOk}
 use Rattle.std.specs.Option.{option_map}
 use Rattle.history_machine.specs.Descriptors.{any_open}
-use Rattle.history_machine.specs.History.{Past, IsLawful, fresh}
+use Rattle.history_machine.specs.History.{Past, IsLawful, fresh, undo_refusal}
 use Rattle.history_machine.specs.Laws.{UndoLaw, RedoLaw, RollbackLaw}
-use Rattle.history_machine.specs.Machine.{Machine, Space, mounted, next, after, present_tree, refusal, answer, step}
+use Rattle.history_machine.specs.Machine.{Machine, Space, mounted, next, after, present_tree, refusal, travel_refusal, answer, step}
+use Rattle.history_machine.proofs.Steps.{passes, outside}
 use Rattle.plain_trees.specs.Trees.{Tree, bare}
 use Rattle.fs_types.specs.declared.calls.Call.{Call}
 use Rattle.fs_types.specs.declared.events.Event.{Event}
@@ -24,7 +25,7 @@ use Rattle.undofs.proofs.RunLaws.{shown, refused_keeps, not_both}
 
 -- ---- what is shown after calls
 
-accepts_next : (w v : World) (m : Machine) (call : Call) → Shows w m → Accepts w call v → (refusal m call ≡ None) × Shows v (next m call)
+pub accepts_next : (w v : World) (m : Machine) (call : Call) → Shows w m → Accepts w call v → (refusal m call ≡ None) × Shows v (next m call)
 accepts_next w v m call is (reply, here) =
     let done = here.step.answers.1 in
     let was = shown w m here.before is here.was in
@@ -53,11 +54,11 @@ shows_after w m (Event.ReclaimStep budget ∷ events) (Answer.Mounted ∷ answer
 shows_after w m (Event.ReclaimStep budget ∷ events) (Answer.Unmounted ∷ answers) v is calls (between, here, rest) = absurd (not_both w is.0 is.1 here.0)
 shows_after w m (Event.Restart ∷ events) (answer ∷ answers) v is calls run = absurd calls
 
-answers_after : (w v : World) (m : Machine) (calls : List Call) → Shows w m → Answers w calls v → Shows v (after m calls)
+pub answers_after : (w v : World) (m : Machine) (calls : List Call) → Shows w m → Answers w calls v → Shows v (after m calls)
 answers_after w v m calls is (events, answers, are, run, same) = subst (λ (x : List Call). Shows v (after m x)) same (shows_after w m events answers v is are run)
 
 -- a world shows one machine
-one_machine : (v : World) (m n : Machine) → Shows v m → Shows v n → n ≡ m
+pub one_machine : (v : World) (m n : Machine) → Shows v m → Shows v n → n ≡ m
 one_machine v m n is other = sym (shown v n is.0 other is.1) ∙ is.2
 
 -- ---- what is given back
@@ -71,15 +72,13 @@ accepted_checkpoint space m name none = rw none refl
 accepted_rollback : (space : Space) (m : Machine) (name : List ℕ) → refusal m (Call.Rollback name) ≡ None → IsOk (step space m (Call.Rollback name)).reply
 accepted_rollback space m name none = rw none refl
 
-no_space : Space
+pub no_space : Space
 no_space = record { blocks = 0; bad = 0; free = 0; anchors = 0 }
 
-none_open : (m : Machine) → refusal m Call.Undo ≡ None → any_open m.descriptors ≡ false
-none_open m none = by (any_open m.descriptors) refl
-  where
-    by : (b : Bool) → any_open m.descriptors ≡ b → any_open m.descriptors ≡ false
-    by false is = is
-    by true is = absurd (let busy : refusal m Call.Undo ≡ Some Busy = (rw is refl) in cc)
+none_open : (m : Machine) → refusal m Call.Undo ≡ None → (m.group ≡ None) × (any_open m.descriptors ≡ false)
+none_open m none =
+    let alone = outside m (travel_refusal m (undo_refusal m.history)) none in
+    (alone.0, (passes (any_open m.descriptors) Busy (undo_refusal m.history) alone.1).0)
 
 module _ (undo : UndoLaw) (redo : RedoLaw) (rollback : RollbackLaw) (w : World) (m : Machine) (lawful : IsLawful m.history) (is : Shows w m) where
   pub gives_back : GivesBack w m
@@ -88,7 +87,7 @@ module _ (undo : UndoLaw) (redo : RedoLaw) (rollback : RollbackLaw) (w : World) 
         let then = answers_after changed between (next m call) calls (accepts_next w changed m call is first).1 others in
         let undone = accepts_next between v (after (next m call) calls) Call.Undo then last in
         ap (λ (x : Machine). present_tree x) (one_machine v (next (after (next m call) calls) Call.Undo) n undone.1 now)
-        ∙ (undo no_space m call calls lawful makes keeps (none_open (after (next m call) calls) undone.0)).1;
+        ∙ (undo no_space m call calls lawful makes keeps (none_open (after (next m call) calls) undone.0).1 (none_open (after (next m call) calls) undone.0).0).1;
     redo = λ undone v n first last now.
         let once = accepts_next w undone m Call.Undo is first in
         let twice = accepts_next undone v (next m Call.Undo) Call.Redo once.1 last in
@@ -104,13 +103,13 @@ module _ (undo : UndoLaw) (redo : RedoLaw) (rollback : RollbackLaw) (w : World) 
 -- ---- after a session
 
 -- what is mounted on a world
-abbrev Holds : World → Type 0
+abbrev pub Holds : World → Type 0
 Holds w = (s : System) → w.system ≡ Some s → IsSystem w.device s
 
 the_system : (w : World) (s t : System) → w.system ≡ Some s → IsSystem w.device s → w.system ≡ Some t → IsSystem w.device t
 the_system w s t is system there = subst (IsSystem w.device) (let same : s ≡ t = cc in same) system
 
-holds_on : (w : World) (events : List Event) (answers : List Answer) (v : World) → Holds w → Run w events answers v → Holds v
+pub holds_on : (w : World) (events : List Event) (answers : List Answer) (v : World) → Holds w → Run w events answers v → Holds v
 holds_on w [] [] v holds run = subst Holds (sym run) holds
 holds_on w [] (answer ∷ answers) v holds run = absurd run
 holds_on w (event ∷ events) [] v holds run = absurd run
@@ -143,7 +142,7 @@ pub record IsBegun (history : Past Tree) (w : World) : Type 0 where
   pub shows : (n : Machine) → Shows w n → n ≡ mounted history
   pub holds : Holds w
 
-begins : (d : Device) (history : Past Tree) (first : Answer) (w : World) → Mounts d (history ∷ []) first w → IsBegun history w
+pub begins : (d : Device) (history : Past Tree) (first : Answer) (w : World) → Mounts d (history ∷ []) first w → IsBegun history w
 begins d history Answer.Mounted w here =
     let same : history ≡ here.history = only_one history here.history here.among in
     record {

@@ -6,6 +6,7 @@ use Rattle.std.specs.Prelude.{Contains, if◌then◌else◌}
 use Rattle.std.specs.Option.{option_map}
 use Rattle.history_machine.specs.History.{Past}
 use Rattle.history_machine.specs.Machine.{Machine, mounted, next, refusal}
+use Rattle.history_machine.proofs.Steps.{outside}
 use Rattle.plain_trees.specs.Trees.{Tree}
 use Rattle.fs_types.specs.declared.calls.Call.{Call}
 use Rattle.fs_types.specs.declared.calls.Reply.{Reply}
@@ -49,7 +50,7 @@ module _ (d e : Device) (lawful : IsGeometry d.geometry) (geometry : e.geometry 
 
 -- an accepted sync leaves the machine
 sync_keeps : (m : Machine) (call : Call) → is_sync call ≡ true → refusal m call ≡ None → next m call ≡ m
-sync_keeps m Call.Sync sync accepted = (sync_syncs m).leaves
+sync_keeps m Call.Sync sync accepted = (sync_syncs m (outside m None accepted).0).leaves
 sync_keeps m (Call.Fsync descriptor) sync accepted = (fsync_syncs m descriptor accepted).leaves
 sync_keeps m _ sync accepted = absurd (true≢false (sym sync))
 

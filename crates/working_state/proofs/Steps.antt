@@ -25,6 +25,7 @@ use Rattle.working_state.specs.Roots.{HasRoot, IsSpace, ReachesNew}
 use Rattle.working_state.specs.Seen.{Seen}
 use Rattle.read_only.specs.Modes.{is_read_only}
 use Rattle.working_state.specs.Steps.{last_serial, replied, empty, is_cut, is_writing, is_for_record, tells_space, MayRefuse, Answers, IsLater, CallStep}
+use Rattle.working_state.specs.Travels.{TravelCause}
 use Rattle.working_state.specs.declared.state.State.{State}
 use Rattle.working_state.proofs.Roots.{with_history, at_history, at_work, with_work, same_reach, after_checkpoint}
 use Rattle.working_state.proofs.Standing.{AllStand, still_leaves}
@@ -169,6 +170,13 @@ pub refused_open : (a : Moment) (call : Call) (fault : Fault) (other : Option Fa
     → (fault ≡ Fault.Busy) × (any_open a.state.files ≡ true) → Steps a call (Err fault) a
 refused_open a call fault other on travels why =
     subst (λ f. Steps a call (Err f) a) (sym why.0) (refused a call Fault.Busy on refl (inl (travels ∙ may_not_travel (machine_at a) other why.1)))
+
+-- a call that would move the present version or begin a group, and is refused before all else
+pub refused_travel : (a : Moment) (call : Call) (fault : Fault) (other : Option Fault) → refusal (machine_at a) call ≡ outside_refusal (machine_at a) (travel_refusal (machine_at a) other)
+    → TravelCause a.state fault → Steps a call (Err fault) a
+refused_travel a call fault other works (inl off) = off_step a call fault off
+refused_travel a call fault other works (inr (on, inl grouped)) = refused_grouped a call fault (travel_refusal (machine_at a) other) on works grouped
+refused_travel a call fault other works (inr (on, inr (outside, is, some))) = refused_open a call fault other on (works ∙ may_change a (travel_refusal (machine_at a) other) outside) (is, some)
 
 -- Rollback to a checkpoint that is there.
 

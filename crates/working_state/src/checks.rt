@@ -5,6 +5,7 @@ ghost use Rattle.fs_types.specs.declared.faults.Fault.{Fault};
 ghost use Rattle.working_state.specs.Changes.{IsReadOnly, IsOverflow};
 ghost use Rattle.read_only.specs.Modes.{is_read_only};
 ghost use Rattle.working_state.specs.Steps.{last_serial, is_cut_answer};
+ghost use Rattle.working_state.specs.Travels.{TravelCause};
 
 use crate::state::State;
 use fs_types::{Fault, Group};
@@ -48,7 +49,7 @@ impl State {
         }
     }
 
-    /// Refuses to move the present version while a file is open.
+    /// Refuses to move the present version, and to begin or end a change group, while a file is open.
     pub(crate) fn check_none_open(&self) -> Result<(), Fault>
         ensures ok { OnOk result (any_open self.now.files ≡ false) }
         ensures err { IfErr result (λ fault. (fault ≡ Fault.Busy) × (any_open self.now.files ≡ true)) }
@@ -58,6 +59,19 @@ impl State {
         } else {
             Ok(())
         }
+    }
+
+    /// Refuses to move the present version, and to begin a change group: where an earlier call answered
+    /// that the power is off, in a group, and while a file is open.
+    pub(crate) fn check_travel(&self) -> Result<(), Fault>
+        ensures on { OnOk result (self.now.is_off ≡ false) }
+        ensures outside { OnOk result (self.now.group ≡ None) }
+        ensures closed { OnOk result (any_open self.now.files ≡ false) }
+        ensures err { IfErr result (TravelCause self.now) }
+    {
+        self.check_power()?;
+        self.check_outside()?;
+        self.check_none_open()
     }
 
     /// Remembers that the power is off, where a call answers that.

@@ -23,9 +23,7 @@ impl State {
         ensures mounted { (device : Device) → IsMounted device self.old → IsMounted device self.new }
         ensures step { (device : Device) → StateStep device self.old Call.Undo (replied empty result) device self.new }
     {
-        self.check_power()?;
-        self.check_outside()?;
-        self.check_none_open()?;
+        self.check_travel()?;
         self.history.undo()
     }
 
@@ -34,9 +32,7 @@ impl State {
         ensures mounted { (device : Device) → IsMounted device self.old → IsMounted device self.new }
         ensures step { (device : Device) → StateStep device self.old Call.Redo (replied empty result) device self.new }
     {
-        self.check_power()?;
-        self.check_outside()?;
-        self.check_none_open()?;
+        self.check_travel()?;
         self.history.redo()
     }
 
@@ -45,9 +41,7 @@ impl State {
         ensures mounted { (device : Device) → IsMounted device self.old → IsMounted device self.new }
         ensures step { (device : Device) → StateStep device self.old (Call.Goto serial) (replied empty result) device self.new }
     {
-        self.check_power()?;
-        self.check_outside()?;
-        self.check_none_open()?;
+        self.check_travel()?;
         self.history.goto(serial)
     }
 
@@ -64,9 +58,7 @@ impl State {
         ensures still { F.device flash.new ≡ F.device flash.old }
         ensures storage { self.new.storage ≡ self.old.storage }
     {
-        self.check_power()?;
-        self.check_outside()?;
-        self.check_none_open()?;
+        self.check_travel()?;
         let root = *self.history.checkpoint_root(name)?;
         let edit = Edit::Restore { root };
         change(

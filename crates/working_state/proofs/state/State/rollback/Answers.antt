@@ -1,5 +1,5 @@
 -- A name that is not there is refused as the machine refuses it; a change to its root is the machine's change to its tree.
-use Rattle.std.proofs.Common.{◌∙◌, refl, inl, Err, ap}
+use Rattle.std.proofs.Common.{◌∙◌, refl, inl}
 use Rattle.std.proofs.lemmas.Result.{err_from_is_err_and}
 use Rattle.history_machine.specs.History.{name_refusal}
 use Rattle.history_machine.specs.HistoryMaps.{name_refusal-map}
@@ -11,27 +11,14 @@ use Rattle.working_state.proofs.ChangedCalls.{mounted_ready}
 use Rattle.working_state.proofs.PathCalls.{working_stands}
 use Rattle.working_state.proofs.Rollbacks.{rollback_step, rollback_mounted}
 use Rattle.working_state.proofs.Roots.{of_checkpoint}
-use Rattle.working_state.specs.Steps.{empty}
-use Rattle.working_state.proofs.Steps.{refused_off, refused_grouped, may_change, refused_open, refused, may_travel, no_cut, name-no_cut}
+use Rattle.working_state.proofs.Steps.{refused_travel, may_change, refused, may_travel, no_cut, name-no_cut}
 use Rattle.working_state.proofs.state.State.rollback.Goals as goal
 
-pub returns-in_err-check_power-clause-step : goal.returns-in_err-check_power-clause-step
-returns-in_err-check_power-clause-step g c =
-    let p = err_from_is_err_and c.from_residual.result c.from_residual.ensures.1 in
-    refused_off (moment (g.F.Flash.device c.args.flash.now) c.args.self.now) (Call.Rollback c.args.name.now) empty _ c.from_residual.result (p.1 ∙ ap Err p.2) c.in_err-check_power.ensures.off
-
-pub returns-in_err-check_outside-clause-step : goal.returns-in_err-check_outside-clause-step
-returns-in_err-check_outside-clause-step g c =
-    let p = err_from_is_err_and c.from_residual-in_err-check_outside.result c.from_residual-in_err-check_outside.ensures.1 in
-    rw (p.1, p.2) (refused_grouped (moment (g.F.Flash.device c.args.flash.now) c.args.self.now) (Call.Rollback c.args.name.now) c.in_err-check_outside.field-0.0 _ c.in_ok-check_power.ensures.ok refl c.in_err-check_outside.ensures.err)
-
-pub returns-in_err-check_none_open-clause-step : goal.returns-in_err-check_none_open-clause-step
-returns-in_err-check_none_open-clause-step g c =
+pub returns-in_err-check_travel-clause-step : goal.returns-in_err-check_travel-clause-step
+returns-in_err-check_travel-clause-step g c =
     let device = g.F.Flash.device c.args.flash.now in
-    let s = c.args.self.now in
-    let name = c.args.name.now in
-    let p = err_from_is_err_and c.from_residual-in_err-check_none_open.result c.from_residual-in_err-check_none_open.ensures.1 in
-    rw (p.1, p.2) (refused_open (moment device s) (Call.Rollback name) c.in_err-check_none_open.field-0.0 (name_refusal (machine_at (moment device s)).history name) c.in_ok-check_power.ensures.ok (may_change (moment device s) _ c.in_ok-check_outside.ensures.ok) c.in_err-check_none_open.ensures.err)
+    let p = err_from_is_err_and c.from_residual.result c.from_residual.ensures.1 in
+    rw (p.1, p.2) (refused_travel (moment device c.args.self.now) (Call.Rollback c.args.name.now) c.in_err-check_travel.field-0.0 (name_refusal (machine_at (moment device c.args.self.now)).history c.args.name.now) refl c.in_err-check_travel.ensures.err)
 
 pub returns-in_err-root-clause-step : goal.returns-in_err-root-clause-step
 returns-in_err-root-clause-step g c =
@@ -40,7 +27,7 @@ returns-in_err-root-clause-step g c =
     let name = c.args.name.now in
     let fault = c.in_err-root.field-0.0 in
     let p = err_from_is_err_and c.from_residual-in_err-root.result c.from_residual-in_err-root.ensures.1 in
-    rw (p.1, p.2) (refused (moment device s) (Call.Rollback name) fault c.in_ok-check_power.ensures.ok (no_cut (name_refusal s.history name) fault (name-no_cut s.history name) c.in_err-root.ensures) (inl (may_change (moment device s) _ c.in_ok-check_outside.ensures.ok ∙ may_travel (machine_at (moment device s)) _ c.in_ok-check_none_open.ensures.ok ∙ name_refusal-map (tree_on device) s.history name ∙ c.in_err-root.ensures)))
+    rw (p.1, p.2) (refused (moment device s) (Call.Rollback name) fault c.in_ok-check_travel.ensures.on (no_cut (name_refusal s.history name) fault (name-no_cut s.history name) c.in_err-root.ensures) (inl (may_change (moment device s) _ c.in_ok-check_travel.ensures.outside ∙ may_travel (machine_at (moment device s)) _ c.in_ok-check_travel.ensures.closed ∙ name_refusal-map (tree_on device) s.history name ∙ c.in_err-root.ensures)))
 
 pub change-requires-clause-ready : goal.change-requires-clause-ready
 change-requires-clause-ready g c = mounted_ready (moment (g.F.Flash.device c.args.flash.now) c.args.self.now) c.requires
@@ -58,12 +45,12 @@ change-requires-clause-editable g c = λ root working.
 pub returns-clause-step : goal.returns-clause-step
 returns-clause-step g c =
     rollback_step (moment (g.F.Flash.device c.args.flash.now) c.args.self.now) (g.F.Flash.device c.change.new.flash) c.change.new.storage c.change.new.history c.change.new.group c.args.name.now c.in_ok-root.field-0.now c.change.result
-    c.in_ok-check_power.ensures.ok c.in_ok-check_outside.ensures.ok c.in_ok-check_none_open.ensures.ok c.in_ok-root.ensures c.change.ensures
+    c.in_ok-check_travel.ensures.on c.in_ok-check_travel.ensures.outside c.in_ok-check_travel.ensures.closed c.in_ok-root.ensures c.change.ensures
 
 pub returns-clause-mounted : goal.returns-clause-mounted
 returns-clause-mounted g c =
     rollback_mounted (moment (g.F.Flash.device c.args.flash.now) c.args.self.now) (g.F.Flash.device c.change.new.flash) c.change.new.storage c.change.new.history c.change.new.group c.args.name.now c.in_ok-root.field-0.now c.change.result
-    c.requires c.in_ok-check_power.ensures.ok c.in_ok-check_outside.ensures.ok c.in_ok-check_none_open.ensures.ok c.in_ok-root.ensures c.change.ensures
+    c.requires c.in_ok-check_travel.ensures.on c.in_ok-check_travel.ensures.outside c.in_ok-check_travel.ensures.closed c.in_ok-root.ensures c.change.ensures
 
 pub returns-clause-still : goal.returns-clause-still
 returns-clause-still g c = (c.change.ensures.still refl).0

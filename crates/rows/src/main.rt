@@ -17,6 +17,7 @@ use nodes::run_with_nodes;
 use row::{Row, Side};
 use runs::{append_difference, run_on_flash, run_on_image, run_plain};
 use shell::HostFiles;
+use std::fs::File;
 use std::process::ExitCode;
 use std::rt::{Env, Files};
 use std::{fs, process};
@@ -56,7 +57,11 @@ struct Source<'a> {
 }
 
 /// Runs the row of a file, with its image in a folder, and tells whether it gave its replies.
-fn run<R: Files + AllocGlobal + Print>(rt: &R, folder: &str, name: &str) -> Result<bool> {
+fn run<R: Files<File = File> + AllocGlobal + Print>(
+    rt: &R,
+    folder: &str,
+    name: &str,
+) -> Result<bool> {
     let text = fs::read_to_string(rt, name).context(format_args!("reading {name}"))?;
     let image = format!(in rt.alloc(); "{folder}/image")?;
     let source = Source {
@@ -68,7 +73,10 @@ fn run<R: Files + AllocGlobal + Print>(rt: &R, folder: &str, name: &str) -> Resu
 }
 
 /// Runs a row on all sides, and tells whether it gave its replies.
-fn run_sides<R: Files + AllocGlobal + Print>(rt: &R, source: &Source<'_>) -> Result<bool> {
+fn run_sides<R: Files<File = File> + AllocGlobal + Print>(
+    rt: &R,
+    source: &Source<'_>,
+) -> Result<bool> {
     let mut differences = String::new(rt.alloc());
     let plain = run_side(rt, source, Side::Plain, &mut differences)?;
     let flash = run_side(rt, source, Side::Flash, &mut differences)?;
@@ -85,7 +93,7 @@ fn run_sides<R: Files + AllocGlobal + Print>(rt: &R, source: &Source<'_>) -> Res
 
 /// Runs a row on a side, and answers how many lines it ran, those that look at the flash afterwards
 /// among them. A difference is appended, and an error tells the row and the side.
-fn run_side<R: Files + AllocGlobal>(
+fn run_side<R: Files<File = File> + AllocGlobal>(
     rt: &R,
     source: &Source<'_>,
     side: Side,
@@ -94,7 +102,7 @@ fn run_side<R: Files + AllocGlobal>(
     try_side(rt, source, side, differences).context(format_args!("{} {}", source.name, side.name()))
 }
 
-fn try_side<R: Files + AllocGlobal>(
+fn try_side<R: Files<File = File> + AllocGlobal>(
     rt: &R,
     source: &Source<'_>,
     side: Side,
@@ -107,7 +115,7 @@ fn try_side<R: Files + AllocGlobal>(
 }
 
 /// What a row writes on a side. What it says of the flash and is not so is appended.
-fn written_on<R: Files + AllocGlobal>(
+fn written_on<R: Files<File = File> + AllocGlobal>(
     rt: &R,
     image: &str,
     row: &Row<'_>,

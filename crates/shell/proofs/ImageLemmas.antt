@@ -1,45 +1,118 @@
 -- How what is done on an image ends, by how its parts do.
-use Rattle.std.proofs.Common.{◌≡◌, ◌<◌, ℕ, Option, Result, Ok, Err, List, IfErr, OnOk, OnErr, take, codes, inr, arith}
+use Rattle.std.proofs.Common.{◌≡◌, ◌≢◌, ◌<◌, ℕ, Option, Some, None, Result, Ok, Err, List, IfSome, IfErr, IfOk, OnOk, OnErr, take, codes, inl, inr, refl, sym, ◌∙◌, ap, subst, arith}
 use Rattle.std.specs.Io.KnownBytes.{Appends}
 use Rattle.fs_types.specs.declared.faults.Fault.{Fault}
 use Rattle.flash_model.specs.Geometry.{IsGeometry}
+use Rattle.flash_model.specs.Device.{Device}
+use Rattle.flash_model.specs.Reading.{OnlyReads}
 use Rattle.flash_model.specs.Simulation.{device_of}
 use Rattle.flash_model.specs.declared.simulation.SimFlash.{SimFlash}
 use Rattle.flash_model.specs.declared.sizes.Geometry.{Geometry}
+use Rattle.flash_image.specs.Images.{image_of, IsFault}
 use Rattle.upkeep.specs.Formats.{FormatCause}
 use Rattle.upkeep.specs.Mounts.{IsMountOf}
 use Rattle.upkeep.specs.declared.systems.System.{System}
 use Rattle.shell.specs.Failures.{of_system}
+use Rattle.shell.specs.Files.{Held}
 use Rattle.shell.specs.Memory.{IsNewFlash, IsFormatOf}
-use Rattle.shell.specs.Tools.{AreLawful, FormatEnds, FormatFailure, IsLoaded, IsSaved, IsSaveFailure, Plays, RunEnds, CheckEnds}
+use Rattle.shell.specs.Tools.{AreLawful, IsFront, IsDecoded, DecodeCause, IsUnread, IsLoaded, LoadCause, IsSaved, Unsaved, SavesChange, ChangeUnsaved, IsMade, FormatEnds, FormatFailure, PlaysBy, Plays, RunEnds, CheckEnds}
 use Rattle.shell.specs.declared.failures.Failure.{Failure}
+use Rattle.shell.specs.declared.files.TheConstants.{MOST_BYTES}
 
 -- a limit that is not refused
 pub lawful_limit : (sizes : Geometry) (limit : ℕ) → IsGeometry sizes → (limit < 2 → ⊥) → (64 < limit → ⊥) → AreLawful sizes limit
 lawful_limit sizes limit lawful low high = record { geometry = lawful; least = omega arith; most = omega arith }
 
-pub format_saved : (sizes : Geometry) (limit : ℕ) (start flash : SimFlash) (held saved : Option (List ℕ)) (result : Result (Unit {0}) Failure)
-    → AreLawful sizes limit → IsNewFlash sizes start → IsFormatOf limit start flash → OnOk result (IsSaved saved flash) → IfErr result IsSaveFailure → OnErr result (saved ≡ held)
+pub format_saved : (sizes : Geometry) (limit : ℕ) (flash : SimFlash) (held saved : Option (List ℕ)) (result : Result (Unit {0}) Failure)
+    → IsMade sizes limit flash → OnOk result (IsSaved saved flash) → IfErr result (Unsaved held saved (image_of (device_of flash)))
     → FormatEnds sizes limit held saved result
-format_saved sizes limit start flash held saved (Ok done) lawful made formatted ok why same = (start, flash, lawful, made, formatted, ok)
-format_saved sizes limit start flash held saved (Err Failure.CannotWrite) lawful made formatted ok why same = (lawful, same)
-format_saved sizes limit start flash held saved (Err Failure.Memory) lawful made formatted ok why same = (tt, same)
-format_saved sizes limit start flash held saved (Err Failure.CannotRead) lawful made formatted ok why same = absurd why
-format_saved sizes limit start flash held saved (Err Failure.Input) lawful made formatted ok why same = absurd why
-format_saved sizes limit start flash held saved (Err Failure.Output) lawful made formatted ok why same = absurd why
-format_saved sizes limit start flash held saved (Err (Failure.Image fault)) lawful made formatted ok why same = absurd why
-format_saved sizes limit start flash held saved (Err (Failure.System fault)) lawful made formatted ok why same = absurd why
+format_saved sizes limit flash held saved (Ok done) made ok err = (flash, made, ok)
+format_saved sizes limit flash held saved (Err failure) made ok err = inr (flash, made, err)
 
 pub format_refused : (sizes : Geometry) (limit : ℕ) (start end : SimFlash) (fault : Fault) → IsNewFlash sizes start → FormatCause (device_of start) limit fault (device_of end)
     → FormatFailure sizes limit (of_system fault)
 format_refused sizes limit start end Fault.NoMemory new cause = tt
 format_refused sizes limit start end fault new cause = inr (start, end, new, cause)
 
-pub run_saved : (held saved input left : Option (List ℕ)) (end : SimFlash) (result : Result (Unit {0}) Failure) (old new : Option (List ℕ))
-    → Plays held input left (Ok end) old new → OnOk result (IsSaved saved end) → IfErr result IsSaveFailure → OnErr result (saved ≡ held)
-    → RunEnds held saved input left result old new
-run_saved held saved input left end (Ok done) old new plays ok why same = (end, plays, ok)
-run_saved held saved input left end (Err failure) old new plays ok why same = (same, inr (end, plays, why))
+pub front_same : (held : Option (List ℕ)) (bytes lent : List ℕ) → lent ≡ bytes → IsFront held bytes → IsFront held lent
+front_same held bytes lent same front = subst (IsFront held) (sym same) front
+
+-- the flash of the bytes that are read of a file is that of the file
+pub loaded_front : (held : Option (List ℕ)) (bytes : List ℕ) → IsFront held bytes → (flash : SimFlash) → IsDecoded bytes flash → IsLoaded held flash
+loaded_front None bytes front flash decoded = record { spelled = tt; ready = decoded.ready; plan = decoded.plan }
+loaded_front (Some all) bytes front flash decoded = record { spelled = sym front ∙ decoded.spelled; ready = decoded.ready; plan = decoded.plan }
+
+-- so is the fault of these bytes
+pub cause_front : (held : Option (List ℕ)) (bytes : List ℕ) → IsFront held bytes → (failure : Failure) → DecodeCause bytes failure → LoadCause held failure
+cause_front held bytes front Failure.Memory cause = tt
+cause_front None bytes front (Failure.Image fault) cause = tt
+cause_front (Some all) bytes front (Failure.Image fault) cause = subst (IsFault fault) front cause
+cause_front held bytes front Failure.CannotRead cause = absurd cause
+cause_front held bytes front Failure.Unavailable cause = absurd cause
+cause_front held bytes front Failure.CannotWrite cause = absurd cause
+cause_front held bytes front Failure.Unsynced cause = absurd cause
+cause_front held bytes front Failure.Input cause = absurd cause
+cause_front held bytes front Failure.Output cause = absurd cause
+cause_front held bytes front (Failure.System fault) cause = absurd cause
+
+-- a file that is not read gives no flash
+pub cause_unread : (held : Option (List ℕ)) (failure : Failure) → IsUnread held failure → LoadCause held failure
+cause_unread held Failure.CannotRead cause = cause
+cause_unread held Failure.Memory cause = tt
+cause_unread held Failure.Unavailable cause = absurd cause
+cause_unread held Failure.CannotWrite cause = absurd cause
+cause_unread held Failure.Unsynced cause = absurd cause
+cause_unread held Failure.Input cause = absurd cause
+cause_unread held Failure.Output cause = absurd cause
+cause_unread held (Failure.Image fault) cause = absurd cause
+cause_unread held (Failure.System fault) cause = absurd cause
+
+-- a script is run on the flash of the bytes that are read of a file
+pub plays_front : (held : Option (List ℕ)) (bytes : List ℕ) → IsFront held bytes → (input left : Option (List ℕ)) (result : Result SimFlash Failure) (old new : Option (List ℕ))
+    → PlaysBy (IsDecoded bytes) (DecodeCause bytes) input left result old new → Plays held input left result old new
+plays_front held bytes front input left (Ok end) old new (start, decoded, ends) = (start, loaded_front held bytes front start decoded, ends)
+plays_front held bytes front input left (Err failure) old new (inl (cause, unread, unwritten)) = inl (cause_front held bytes front failure cause, unread, unwritten)
+plays_front held bytes front input left (Err failure) old new (inr (start, end, fault, decoded, ends, is)) = inr (start, end, fault, loaded_front held bytes front start decoded, ends, is)
+
+-- a run ends so whatever the files hold that were claimed, since a claim changes none
+after_claim : (name : List ℕ) (held claimed saved : Held) (input left : Option (List ℕ)) (result : Result (Unit {0}) Failure) (old new : Option (List ℕ))
+    → claimed ≡ held → RunEnds name claimed saved input left result old new → RunEnds name held saved input left result old new
+after_claim name held claimed saved input left result old new same ends = subst (λ (h : Held). RunEnds name h saved input left result old new) same ends
+
+-- what a script leaves is saved where it changed
+pub run_saved : (name : List ℕ) (held claimed saved : Held) (bytes kept : List ℕ) (input left : Option (List ℕ)) (end : SimFlash) (result : Result (Unit {0}) Failure) (old new : Option (List ℕ))
+    → claimed ≡ held → IsFront (claimed name) bytes → PlaysBy (IsDecoded bytes) (DecodeCause bytes) input left (Ok end) old new → kept ≡ bytes
+    → OnOk result (SavesChange name claimed saved kept (image_of (device_of end))) → IfErr result (ChangeUnsaved name claimed saved kept (image_of (device_of end)))
+    → RunEnds name held saved input left result old new
+run_saved name held claimed saved bytes kept input left end (Ok done) old new same front (start, decoded, ends) is ok err =
+    after_claim name held claimed saved input left (Ok done) old new same (
+      start,
+      end,
+      loaded_front (claimed name) bytes front start decoded,
+      ends,
+      subst (λ (was : List ℕ). SavesChange name claimed saved was (image_of (device_of end))) (is ∙ decoded.spelled) ok,
+    )
+run_saved name held claimed saved bytes kept input left end (Err failure) old new same front (start, decoded, ends) is ok err =
+    after_claim name held claimed saved input left (Err failure) old new same (inr (
+      start,
+      end,
+      loaded_front (claimed name) bytes front start decoded,
+      ends,
+      subst (λ (was : List ℕ). ChangeUnsaved name claimed saved was (image_of (device_of end)) failure) (is ∙ decoded.spelled) err,
+    ))
+
+-- a script that does not run to its end changes no file
+pub run_broken : (name : List ℕ) (held claimed : Held) (bytes : List ℕ) (input left : Option (List ℕ)) (failure : Failure) (old new : Option (List ℕ))
+    → claimed ≡ held → IsFront (claimed name) bytes → PlaysBy (IsDecoded bytes) (DecodeCause bytes) input left (Err failure) old new
+    → RunEnds name held claimed input left (Err failure) old new
+run_broken name held claimed bytes input left failure old new same front plays =
+    after_claim name held claimed claimed input left (Err failure) old new same (inl (inr (plays_front (claimed name) bytes front input left (Err failure) old new plays), refl))
+
+-- nor does one of which the image is not read
+pub run_unread : (name : List ℕ) (held claimed : Held) (input : Option (List ℕ)) (failure : Failure) (old : Option (List ℕ))
+    → claimed ≡ held → IsUnread (claimed name) failure → RunEnds name held claimed input input (Err failure) old old
+run_unread name held claimed input failure old same unread =
+    after_claim name held claimed claimed input input (Err failure) old old same (inl (inr (inl (cause_unread (claimed name) failure unread, refl, refl)), refl))
 
 pub check_said : (held : Option (List ℕ)) (start end : SimFlash) (system : System) (result : Result (Unit {0}) Failure) (old new : Option (List ℕ))
     → IsLoaded held start → IsMountOf (device_of start) (device_of end) system → OnOk result (Appends old new (codes "ok\n"))
@@ -47,3 +120,7 @@ pub check_said : (held : Option (List ℕ)) (start end : SimFlash) (system : Sys
     → CheckEnds held result old new
 check_said held start end system (Ok done) old new loaded mounted ok err = (start, end, system, loaded, mounted, ok)
 check_said held start end system (Err failure) old new loaded mounted ok err = inr (inr (err.1.0, err.0, err.1.1))
+
+-- reads alone leave the image of a flash as it was
+pub image_read : (d e : Device) → OnlyReads d e → image_of e ≡ image_of d
+image_read d e reads = λ i. image_of (record d { geometry = reads.geometry i; pages = λ p. reads.pages p i; worn = λ b. reads.worn b i })

@@ -1,5 +1,6 @@
 -- Files by their names.
-use Rattle.std.specs.Prelude.{◌≡◌, ◌≢◌, ℕ, Option, List, ◌++◌, codes}
+use Rattle.std.specs.Prelude.{◌≡◌, ◌≢◌, ℕ, Option, IfSome, List, ◌++◌, codes}
+use Rattle.shell.specs.declared.files.FileFault.{FileFault}
 
 -- the bytes of each file by its name, where they are known
 abbrev pub Held : Type 0
@@ -12,3 +13,8 @@ new_name name = name ++ codes ".new"
 -- every file but the one of a name, and the new one beside it, holds what it held
 abbrev pub KeepsOthers : List ℕ → Held → Held → Type 0
 KeepsOthers name held saved = (other : List ℕ) → other ≢ name → other ≢ new_name name → saved other ≡ held other
+
+-- what a file holds where it was not replaced by one of these bytes, or not for good
+abbrev pub LeavesFile : Option (List ℕ) → Option (List ℕ) → List ℕ → FileFault → Type 0
+LeavesFile was now bytes FileFault.Unsynced = IfSome now (λ all. all ≡ bytes)
+LeavesFile was now bytes _ = now ≡ was

@@ -27,6 +27,28 @@ use Rattle.shell.specs.declared.files.TheConstants.{MOST_BYTES}
 use Rattle.shell.specs.declared.failures.Failure.{Failure}
 use Rattle.shell.specs.declared.scripts.ScriptFault.{ScriptFault}
 
+-- the bytes of a file that are read, where those of the file are known
+abbrev pub IsFront : Option (List ℕ) → List ℕ → Type 0
+IsFront held bytes = IfSome held (λ all. bytes ≡ take MOST_BYTES all)
+
+-- why the bytes of a file are not had: it is not read, and then they are not known; or for want of memory
+abbrev pub IsUnread : Option (List ℕ) → Failure → Type 0
+IsUnread held Failure.CannotRead = held ≡ None
+IsUnread held Failure.Memory = Unit {0}
+IsUnread held _ = ⊥
+
+-- the flash that bytes spell, with its power on and no fault planned
+pub record IsDecoded (bytes : List ℕ) (flash : SimFlash) : Type 0 where
+  pub spelled : bytes ≡ image_of (device_of flash)
+  pub ready : IsReady (device_of flash)
+  pub plan : plan_of flash ≡ plan_of_entries []
+
+-- why bytes give no flash: for want of memory, or by their fault
+abbrev pub DecodeCause : List ℕ → Failure → Type 0
+DecodeCause bytes Failure.Memory = Unit {0}
+DecodeCause bytes (Failure.Image fault) = IsFault fault bytes
+DecodeCause bytes _ = ⊥
+
 -- the flash that a file spells, with its power on and no fault planned
 pub record IsLoaded (held : Option (List ℕ)) (flash : SimFlash) : Type 0 where
   pub spelled : IfSome held (λ bytes. take MOST_BYTES bytes ≡ image_of (device_of flash))
@@ -41,15 +63,30 @@ LoadCause held Failure.Memory = Unit {0}
 LoadCause held (Failure.Image fault) = IfSome held (λ bytes. IsFault fault (take MOST_BYTES bytes))
 LoadCause held _ = ⊥
 
+-- why a file is not claimed: it is no plain file, or another program has it; or for want of memory
+abbrev pub IsUnclaimed : Failure → Type 0
+IsUnclaimed Failure.Unavailable = Unit {0}
+IsUnclaimed Failure.Memory = Unit {0}
+IsUnclaimed _ = ⊥
+
 -- a file is the image of a flash
 abbrev pub IsSaved : Option (List ℕ) → SimFlash → Type 0
 IsSaved held flash = IfSome held (λ bytes. bytes ≡ image_of (device_of flash))
 
--- why a flash is not saved
-abbrev pub IsSaveFailure : Failure → Type 0
-IsSaveFailure Failure.CannotWrite = Unit {0}
-IsSaveFailure Failure.Memory = Unit {0}
-IsSaveFailure _ = ⊥
+-- what a file holds where an image is not written, or not for good: it is not brought to the disk
+abbrev pub Unsaved : Option (List ℕ) → Option (List ℕ) → List ℕ → Failure → Type 0
+Unsaved held left image Failure.CannotWrite = left ≡ held
+Unsaved held left image Failure.Memory = left ≡ held
+Unsaved held left image Failure.Unsynced = IfSome left (λ bytes. bytes ≡ image)
+Unsaved held left image _ = ⊥
+
+-- a file of these bytes is to be an image: no file changes where it is that image, else it is written
+abbrev pub SavesChange : List ℕ → Held → Held → List ℕ → List ℕ → Type 0
+SavesChange name held saved was image = ((image ≡ was) × (saved ≡ held)) ⊎ ((image ≢ was) × IfSome (saved name) (λ bytes. bytes ≡ image))
+
+-- why it is not, or not for good: where it is that image already, for want of memory alone
+abbrev pub ChangeUnsaved : List ℕ → Held → Held → List ℕ → List ℕ → Failure → Type 0
+ChangeUnsaved name held saved was image failure = ((failure ≡ Failure.Memory) ⊎ (image ≢ was)) × Unsaved (held name) (saved name) image failure
 
 -- sizes and a limit that a format takes
 pub record AreLawful (sizes : Geometry) (limit : ℕ) : Type 0 where
@@ -57,31 +94,50 @@ pub record AreLawful (sizes : Geometry) (limit : ℕ) : Type 0 where
   pub least : 2 ≤ limit
   pub most : limit ≤ 64
 
--- why no image is made: it is not written, or for want of memory; or the sizes or the limit are refused, or a format is
+-- why no image is made: its name is not claimed, or for want of memory; or the sizes or the limit are refused, or a format is
 abbrev pub FormatFailure : Geometry → ℕ → Failure → Type 0
-FormatFailure sizes limit Failure.CannotWrite = AreLawful sizes limit
+FormatFailure sizes limit Failure.Unavailable = Unit {0}
 FormatFailure sizes limit Failure.Memory = Unit {0}
 FormatFailure sizes limit (Failure.System fault) = ((fault ≡ Fault.BadGeometry) × (IsGeometry sizes → ⊥))
     ⊎ ((start : SimFlash) × (end : SimFlash) × IsNewFlash sizes start × FormatCause (device_of start) limit fault (device_of end))
 FormatFailure sizes limit _ = ⊥
 
--- a file is the image of a new flash of these sizes that was formatted, else it is as it was
+-- a new flash of lawful sizes that was formatted for a lawful limit
+abbrev pub IsMade : Geometry → ℕ → SimFlash → Type 0
+IsMade sizes limit flash = (start : SimFlash) × AreLawful sizes limit × IsNewFlash sizes start × IsFormatOf limit start flash
+
+-- a file is the image of a new flash of these sizes that was formatted; else no image is made and it is as it was, or one is
+-- made and not written, or not for good
 abbrev pub FormatEnds : Geometry → ℕ → Option (List ℕ) → Option (List ℕ) → Result (Unit {0}) Failure → Type 0
-FormatEnds sizes limit held left (Ok done) = (start : SimFlash) × (flash : SimFlash) × AreLawful sizes limit × IsNewFlash sizes start × IsFormatOf limit start flash × IsSaved left flash
-FormatEnds sizes limit held left (Err failure) = FormatFailure sizes limit failure × (left ≡ held)
+FormatEnds sizes limit held left (Ok done) = (flash : SimFlash) × IsMade sizes limit flash × IsSaved left flash
+FormatEnds sizes limit held left (Err failure) = (FormatFailure sizes limit failure × (left ≡ held))
+    ⊎ ((flash : SimFlash) × IsMade sizes limit flash × Unsaved held left (image_of (device_of flash)) failure)
 
--- a script is run on the flash of a file, which gives the flash as it is left; or the file gives no flash, and nothing is read
--- or written; or the script does not run to its end
+-- a script is run on a flash that is found so, which gives the flash as it is left; or there is none for its cause, and nothing
+-- is read or written; or the script does not run to its end
+abbrev pub PlaysBy : (SimFlash → Type 0) → (Failure → Type 0) → Option (List ℕ) → Option (List ℕ) → Result SimFlash Failure → Option (List ℕ) → Option (List ℕ) → Type 0
+PlaysBy Found Cause input left (Ok end) old new = (start : SimFlash) × Found start × Ends start end input left (Ok tt) old new
+PlaysBy Found Cause input left (Err failure) old new = (Cause failure × (left ≡ input) × (new ≡ old))
+    ⊎ ((start : SimFlash) × (end : SimFlash) × (fault : ScriptFault) × Found start × Ends start end input left (Err fault) old new × (failure ≡ of_script fault))
+
+-- a script is run on the flash of a file
 abbrev pub Plays : Option (List ℕ) → Option (List ℕ) → Option (List ℕ) → Result SimFlash Failure → Option (List ℕ) → Option (List ℕ) → Type 0
-Plays held input left (Ok end) old new = (start : SimFlash) × IsLoaded held start × Ends start end input left (Ok tt) old new
-Plays held input left (Err failure) old new = (LoadCause held failure × (left ≡ input) × (new ≡ old))
-    ⊎ ((start : SimFlash) × (end : SimFlash) × (fault : ScriptFault) × IsLoaded held start × Ends start end input left (Err fault) old new × (failure ≡ of_script fault))
+Plays held = PlaysBy (IsLoaded held) (LoadCause held)
 
--- a script is run on an image: at its end the file is the image of the flash that is left, else it is as it was
-abbrev pub RunEnds : Option (List ℕ) → Option (List ℕ) → Option (List ℕ) → Option (List ℕ) → Result (Unit {0}) Failure → Option (List ℕ) → Option (List ℕ) → Type 0
-RunEnds held saved input left (Ok done) old new = (end : SimFlash) × Plays held input left (Ok end) old new × IsSaved saved end
-RunEnds held saved input left (Err failure) old new = (saved ≡ held)
-    × (Plays held input left (Err failure) old new ⊎ ((end : SimFlash) × Plays held input left (Ok end) old new × IsSaveFailure failure))
+-- a script is not run to its end on the flash of a file: the file is not claimed, and nothing is read or written, or the script
+-- does not run to its end
+abbrev pub BreaksOff : Option (List ℕ) → Option (List ℕ) → Option (List ℕ) → Failure → Option (List ℕ) → Option (List ℕ) → Type 0
+BreaksOff held input left failure old new = (IsUnclaimed failure × (left ≡ input) × (new ≡ old)) ⊎ Plays held input left (Err failure) old new
+
+-- a script is run on the image of a name: at its end the file is the image of the flash that is left, and no file changes where
+-- it was that before, as after a script that programmed and erased nothing. Else no file changes, or the image that is left is not
+-- written, or not for good
+abbrev pub RunEnds : List ℕ → Held → Held → Option (List ℕ) → Option (List ℕ) → Result (Unit {0}) Failure → Option (List ℕ) → Option (List ℕ) → Type 0
+RunEnds name held saved input left (Ok done) old new = (start : SimFlash) × (end : SimFlash) × IsLoaded (held name) start × Ends start end input left (Ok tt) old new
+    × SavesChange name held saved (image_of (device_of start)) (image_of (device_of end))
+RunEnds name held saved input left (Err failure) old new = (BreaksOff (held name) input left failure old new × (saved ≡ held))
+    ⊎ ((start : SimFlash) × (end : SimFlash) × IsLoaded (held name) start × Ends start end input left (Ok tt) old new
+    × ChangeUnsaved name held saved (image_of (device_of start)) (image_of (device_of end)) failure)
 
 -- the replies to a script on an image are written
 abbrev pub LookEnds : List ℕ → Option (List ℕ) → Result (Unit {0}) Failure → Option (List ℕ) → Option (List ℕ) → Type 0
@@ -113,7 +169,7 @@ pub record OnlyLooks (held saved : Held) (input left : Option (List ℕ)) : Type
 -- how a task ends that is done on a file of this name
 abbrev pub EndsOn : Task → Job → List ℕ → Held → Held → Option (List ℕ) → Option (List ℕ) → Result (Unit {0}) Failure → Option (List ℕ) → Option (List ℕ) → Type 0
 EndsOn Task.Format job name held saved input left result old new = FormatEnds (sizes_of job) job.history (held name) (saved name) result × KeepsOthers name held saved × (left ≡ input) × (new ≡ old)
-EndsOn Task.Run job name held saved input left result old new = RunEnds (held name) (saved name) input left result old new × KeepsOthers name held saved
+EndsOn Task.Run job name held saved input left result old new = RunEnds name held saved input left result old new × KeepsOthers name held saved
 EndsOn Task.Check job name held saved input left result old new = CheckEnds (held name) result old new × OnlyLooks held saved input left
 EndsOn Task.Log job name held saved input left result old new = LookEnds (codes "log\n") (held name) result old new × OnlyLooks held saved input left
 EndsOn Task.Df job name held saved input left result old new = LookEnds (codes "df\n") (held name) result old new × OnlyLooks held saved input left

@@ -12,9 +12,15 @@ pub enum Failure {
     /// The file of the image could not be read.
     #[error("the image cannot be read")]
     CannotRead,
-    /// The file of the image could not be written.
+    /// The file of the image is no plain file, or another program has it. Nothing was done.
+    #[error("the image is not to be had")]
+    Unavailable,
+    /// The file of the image could not be written. It is as it was.
     #[error("the image cannot be written")]
     CannotWrite,
+    /// The file of the image is the new one, but was not brought to the disk.
+    #[error("the image was not brought to the disk")]
+    Unsynced,
     /// The input failed.
     #[error("input failed")]
     Input,
@@ -82,7 +88,9 @@ impl Failure {
     pub(crate) fn explain<E: Write>(self, name: &str, err: &mut E) {
         let _ = match self {
             Failure::CannotRead => writeln!(err, "uffs: cannot read {name}"),
-            Failure::CannotWrite => writeln!(err, "uffs: cannot write {name}"),
+            Failure::Unavailable | Failure::CannotWrite | Failure::Unsynced => {
+                writeln!(err, "uffs: cannot write {name}")
+            }
             Failure::Input => writeln!(err, "uffs: input"),
             Failure::Output => writeln!(err, "uffs: output"),
             Failure::Memory => writeln!(err, "uffs: ENOMEM 25"),

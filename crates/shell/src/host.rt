@@ -1,36 +1,64 @@
 //! The files of the host.
 ghost use Rattle.std.specs.Prelude.{◌≡◌, take, IfSome, IfOk};
 
+mod claims;
+mod replacing;
+
 use crate::files::{FileFault, ImageFiles, MOST_BYTES};
+use claims::Claim;
+use replacing::replace_file;
 use std::alloc::Global;
-use std::fs::OpenFile;
-use std::io::{ErrorKind, Read, Write};
+use std::fs::{File, OpenFile};
+use std::io::{ErrorKind, Read};
 use std::rt::Files;
 use std::{fs, io};
 
 /// The files of the host, of whose bytes no contract speaks.
 ///
-/// A file is replaced by one that is written beside it under its name with `.new` after it, brought
-/// to the disk, and renamed. Where that fails, the new file is removed again, if it was made.
+/// A name is claimed by a lock on the file that it leads to, through links: so two programs that claim
+/// one file are kept apart, and any other program is not. A file is replaced by a new one that is
+/// written beside it under its name with `.new` after it, has its mode, is brought to the disk and
+/// renamed; then the folder is brought to the disk. Where that fails, the new file is removed again.
 #[derive(Drop)]
 pub struct HostFiles<'a, R> {
     rt: &'a R,
+    claim: Option<Claim>,
 }
 
-impl<'a, R: Files> HostFiles<'a, R> {
-    /// The files that a runtime reaches.
+impl<'a, R: Files<File = File>> HostFiles<'a, R> {
+    /// The files that a runtime reaches. No name is claimed.
     pub fn new(rt: &'a R) -> HostFiles<'a, R> {
-        HostFiles { rt }
+        HostFiles { rt, claim: None }
     }
 }
 
-impl<R: Files> ImageFiles for HostFiles<'_, R> {
+impl<R: Files<File = File>> ImageFiles for HostFiles<'_, R> {
+    fn claim(&mut self, alloc: Global, name: &str) -> Result<(), FileFault> {
+        self.claim = None;
+        match Claim::of(self.rt, alloc, name) {
+            Ok(claim) => {
+                self.claim = Some(claim);
+                Ok(())
+            }
+            Err(error) => Err(fault_of(&error)),
+        }
+    }
+
     fn read(&self, alloc: Global, name: &str) -> Result<Vec<u8>, FileFault> {
         read_file(self.rt, alloc, name).map_err(|error| fault_of(&error))
     }
 
     fn replace(&mut self, alloc: Global, name: &str, bytes: &[u8]) -> Result<(), FileFault> {
-        replace_file(self.rt, alloc, name, bytes).map_err(|error| fault_of(&error))
+        let Some(claim) = self.claim.take() else {
+            return Err(FileFault::Failed);
+        };
+        if claim.name() != name {
+            return Err(FileFault::Failed);
+        }
+        match replace_file(self.rt, alloc, &claim, bytes) {
+            Ok(folder) => folder.sync_all().map_err(|_| FileFault::Unsynced),
+            Err(error) => Err(fault_of(&error)),
+        }
     }
 }
 
@@ -41,7 +69,11 @@ fn fault_of(error: &io::Error) -> FileFault {
     }
 }
 
+/// The bytes of a plain file. Any other is refused before it is opened.
 fn read_file<R: Files>(rt: &R, alloc: Global, name: &str) -> io::Result<Vec<u8>> {
+    if !fs::metadata(rt, name)?.is_file() {
+        return Err(io::Error::from(ErrorKind::InvalidInput));
+    }
     let file = fs::open(rt, name)?;
     let len = file.metadata()?.len();
     read_front(alloc, file, len)
@@ -60,30 +92,4 @@ fn read_front<R: Read + Drop>(alloc: Global, reader: R, len: u64) -> io::Result<
     let mut bytes = Vec::with_capacity(alloc, room as usize)?;
     reader.take(MOST_BYTES).read_to_end(&mut bytes)?;
     Ok(bytes)
-}
-
-fn replace_file<R: Files>(rt: &R, alloc: Global, name: &str, bytes: &[u8]) -> io::Result<()> {
-    let new_name = format!(in alloc; "{name}.new")?;
-    let file = fs::create(rt, new_name.as_str())?;
-    match fill_and_rename(rt, file, bytes, new_name.as_str(), name) {
-        Ok(()) => Ok(()),
-        Err(error) => {
-            let _ = fs::remove_file(rt, new_name.as_str());
-            Err(error)
-        }
-    }
-}
-
-/// Writes the bytes to a new file, brings them to the disk, and gives the file its name.
-fn fill_and_rename<R: Files>(
-    rt: &R,
-    file: R::File,
-    bytes: &[u8],
-    new_name: &str,
-    name: &str,
-) -> io::Result<()> {
-    let mut file = file;
-    file.write_all(bytes)?;
-    file.sync_all()?;
-    fs::rename(rt, new_name, name)
 }

@@ -1,8 +1,10 @@
 //! What is done with the file of an image.
-ghost use Rattle.std.specs.Prelude.{◌≡◌, ℕ, IfOk, OnOk, IfErr, OnErr, take, codes};
+ghost use Rattle.std.specs.Prelude.{◌≡◌, ℕ, IfOk, OnOk, IfErr, IfSome, take, codes};
 ghost use Rattle.std.specs.Io.KnownBytes.{Appends};
+ghost use Rattle.flash_model.specs.Simulation.{device_of};
+ghost use Rattle.flash_image.specs.Images.{image_of};
 ghost use Rattle.shell.specs.Files.{KeepsOthers};
-ghost use Rattle.shell.specs.Tools.{IsLoaded, LoadCause, IsSaved, IsSaveFailure, FormatEnds, Plays, RunEnds, CheckEnds, LookEnds};
+ghost use Rattle.shell.specs.Tools.{IsFront, IsDecoded, DecodeCause, IsUnclaimed, IsUnread, IsLoaded, LoadCause, IsSaved, Unsaved, SavesChange, ChangeUnsaved, FormatEnds, PlaysBy, RunEnds, CheckEnds, LookEnds};
 
 use crate::failures::Failure;
 use crate::files::{FileFault, ImageFiles};
@@ -15,7 +17,7 @@ use std::io::{Read, Write};
 use undofs::{format, mount};
 
 /// Makes an image of a flash of these sizes with an empty file system that keeps so many versions,
-/// in the place of what has the name.
+/// in the place of what has the name, which is claimed first.
 pub(crate) fn format_image<F: ImageFiles>(
     files: &mut F,
     alloc: Global,
@@ -23,6 +25,24 @@ pub(crate) fn format_image<F: ImageFiles>(
     sizes: Geometry,
     history: u32,
 ) -> Result<(), Failure>
+    ensures ends { FormatEnds sizes history (F.held files.old name.now) (F.held files.new name.now) result }
+    ensures others { KeepsOthers name.now (F.held files.old) (F.held files.new) }
+{
+    match claim(files, alloc, name) {
+        Ok(()) => make_image(files, alloc, name, sizes, history),
+        Err(failure) => Err(failure),
+    }
+}
+
+/// Makes an image in the place of what has a claimed name.
+fn make_image<F: ImageFiles>(
+    files: &mut F,
+    alloc: Global,
+    name: &str,
+    sizes: Geometry,
+    history: u32,
+) -> Result<(), Failure>
+    requires { F.claims files.old name.now }
     ensures ends { FormatEnds sizes history (F.held files.old name.now) (F.held files.new name.now) result }
     ensures others { KeepsOthers name.now (F.held files.old) (F.held files.new) }
 {
@@ -36,7 +56,8 @@ pub(crate) fn format_image<F: ImageFiles>(
     }
 }
 
-/// Runs a script on an image, which is written back where the script ran to its end.
+/// Runs a script on an image, which is claimed first. It is written back where the script ran to its
+/// end, unless it is as it was.
 pub(crate) fn run_image<F: ImageFiles, R: Read, W: Write>(
     files: &mut F,
     alloc: Global,
@@ -45,10 +66,18 @@ pub(crate) fn run_image<F: ImageFiles, R: Read, W: Write>(
     out: &mut W,
 ) -> Result<(), Failure>
     ensures others { KeepsOthers name.now (F.held files.old) (F.held files.new) }
-    ensures ends { RunEnds (F.held files.old name.now) (F.held files.new name.now) (R.remaining reader.old) (R.remaining reader.new) result (W.contents out.old) (W.contents out.new) }
+    ensures ends { RunEnds name.now (F.held files.old) (F.held files.new) (R.remaining reader.old) (R.remaining reader.new) result (W.contents out.old) (W.contents out.new) }
 {
-    match play(files, alloc, name, reader, out) {
-        Ok(flash) => save(files, alloc, name, &flash),
+    match claim(files, alloc, name) {
+        Ok(()) => {}
+        Err(failure) => return Err(failure),
+    }
+    let bytes = match read_image(files, alloc, name) {
+        Ok(bytes) => bytes,
+        Err(failure) => return Err(failure),
+    };
+    match play(alloc, &bytes, reader, out) {
+        Ok(flash) => save_changed(files, alloc, name, &bytes, &flash),
         Err(failure) => Err(failure),
     }
 }
@@ -82,26 +111,27 @@ pub(crate) fn look_at_image<F: ImageFiles, W: Write>(
 ) -> Result<(), Failure>
     ensures { LookEnds script.now (F.held files.now name.now) result (W.contents out.old) (W.contents out.new) }
 {
-    let mut reader = script;
-    let flash = match play(files, alloc, name, &mut reader, out) {
-        Ok(flash) => flash,
+    let bytes = match read_image(files, alloc, name) {
+        Ok(bytes) => bytes,
         Err(failure) => return Err(failure),
     };
-    drop(flash);
-    Ok(())
+    let mut reader = script;
+    match play(alloc, &bytes, &mut reader, out) {
+        Ok(_) => Ok(()),
+        Err(failure) => Err(failure),
+    }
 }
 
-/// Runs a script on the flash of an image, and gives the flash as it is left.
-fn play<F: ImageFiles, R: Read, W: Write>(
-    files: &F,
+/// Runs a script on the flash that bytes spell, and gives the flash as it is left.
+fn play<R: Read, W: Write>(
     alloc: Global,
-    name: &str,
+    bytes: &[u8],
     reader: &mut R,
     out: &mut W,
 ) -> Result<SimFlash, Failure>
-    ensures { Plays (F.held files.now name.now) (R.remaining reader.old) (R.remaining reader.new) result (W.contents out.old) (W.contents out.new) }
+    ensures { PlaysBy (IsDecoded bytes.now) (DecodeCause bytes.now) (R.remaining reader.old) (R.remaining reader.new) result (W.contents out.old) (W.contents out.new) }
 {
-    let mut flash = match load(files, alloc, name) {
+    let mut flash = match flash_of(alloc, bytes) {
         Ok(flash) => flash,
         Err(failure) => return Err(failure),
     };
@@ -111,41 +141,111 @@ fn play<F: ImageFiles, R: Read, W: Write>(
     }
 }
 
+/// Claims a name for reading and writing together.
+fn claim<F: ImageFiles>(files: &mut F, alloc: Global, name: &str) -> Result<(), Failure>
+    ensures ok { OnOk result (F.claims files.new name.now) }
+    ensures why { IfErr result IsUnclaimed }
+    ensures same { F.held files.new ≡ F.held files.old }
+{
+    match files.claim(alloc, name) {
+        Ok(()) => Ok(()),
+        Err(FileFault::Memory) => Err(Failure::Memory),
+        Err(_) => Err(Failure::Unavailable),
+    }
+}
+
 /// The flash of an image.
 fn load<F: ImageFiles>(files: &F, alloc: Global, name: &str) -> Result<SimFlash, Failure>
     ensures ok { IfOk result (IsLoaded (F.held files.now name.now)) }
     ensures err { IfErr result (LoadCause (F.held files.now name.now)) }
 {
-    let bytes = match files.read(alloc, name) {
-        Ok(bytes) => bytes,
-        Err(FileFault::Memory) => return Err(Failure::Memory),
-        Err(FileFault::Failed) => return Err(Failure::CannotRead),
-    };
-    match decode(alloc, &bytes) {
+    match read_image(files, alloc, name) {
+        Ok(bytes) => flash_of(alloc, &bytes),
+        Err(failure) => Err(failure),
+    }
+}
+
+/// The bytes of an image.
+fn read_image<F: ImageFiles>(files: &F, alloc: Global, name: &str) -> Result<Vec<u8>, Failure>
+    ensures ok { IfOk result (λ bytes. IsFront (F.held files.now name.now) bytes.items) }
+    ensures err { IfErr result (IsUnread (F.held files.now name.now)) }
+{
+    match files.read(alloc, name) {
+        Ok(bytes) => Ok(bytes),
+        Err(FileFault::Memory) => Err(Failure::Memory),
+        Err(_) => Err(Failure::CannotRead),
+    }
+}
+
+/// The flash that bytes spell.
+fn flash_of(alloc: Global, bytes: &[u8]) -> Result<SimFlash, Failure>
+    ensures ok { IfOk result (IsDecoded bytes.now) }
+    ensures err { IfErr result (DecodeCause bytes.now) }
+{
+    match decode(alloc, bytes) {
         Ok(flash) => Ok(flash),
         Err(fault) => Err(Failure::of_image(fault)),
     }
 }
 
-/// Puts the image of a flash in the place of what has the name.
+/// Puts the image of a flash in the place of what has a claimed name.
 fn save<F: ImageFiles>(
     files: &mut F,
     alloc: Global,
     name: &str,
     flash: &SimFlash,
 ) -> Result<(), Failure>
+    requires { F.claims files.old name.now }
     ensures ok { OnOk result (IsSaved (F.held files.new name.now) flash.now) }
-    ensures why { IfErr result IsSaveFailure }
-    ensures err { OnErr result (F.held files.new name.now ≡ F.held files.old name.now) }
+    ensures err { IfErr result (Unsaved (F.held files.old name.now) (F.held files.new name.now) (image_of (device_of flash.now))) }
     ensures others { KeepsOthers name.now (F.held files.old) (F.held files.new) }
 {
-    let bytes = match encode(alloc, flash) {
-        Ok(bytes) => bytes,
+    match encode(alloc, flash) {
+        Ok(image) => write_image(files, alloc, name, &image),
+        Err(_) => Err(Failure::Memory),
+    }
+}
+
+/// Puts the image of a flash in the place of a claimed one of these bytes, unless it is the same.
+fn save_changed<F: ImageFiles>(
+    files: &mut F,
+    alloc: Global,
+    name: &str,
+    bytes: &[u8],
+    flash: &SimFlash,
+) -> Result<(), Failure>
+    requires { F.claims files.old name.now }
+    ensures ok { OnOk result (SavesChange name.now (F.held files.old) (F.held files.new) bytes.now (image_of (device_of flash.now))) }
+    ensures err { IfErr result (ChangeUnsaved name.now (F.held files.old) (F.held files.new) bytes.now (image_of (device_of flash.now))) }
+    ensures others { KeepsOthers name.now (F.held files.old) (F.held files.new) }
+{
+    let image = match encode(alloc, flash) {
+        Ok(image) => image,
         Err(_) => return Err(Failure::Memory),
     };
-    match files.replace(alloc, name, &bytes) {
+    let is_same = image.as_slice() == bytes;
+    if is_same {
+        return Ok(());
+    }
+    write_image(files, alloc, name, &image)
+}
+
+/// Puts an image in the place of what has a claimed name.
+fn write_image<F: ImageFiles>(
+    files: &mut F,
+    alloc: Global,
+    name: &str,
+    image: &[u8],
+) -> Result<(), Failure>
+    requires { F.claims files.old name.now }
+    ensures ok { OnOk result (IfSome (F.held files.new name.now) (λ all. all ≡ image.now)) }
+    ensures err { IfErr result (Unsaved (F.held files.old name.now) (F.held files.new name.now) image.now) }
+    ensures others { KeepsOthers name.now (F.held files.old) (F.held files.new) }
+{
+    match files.replace(alloc, name, image) {
         Ok(()) => Ok(()),
         Err(FileFault::Memory) => Err(Failure::Memory),
+        Err(FileFault::Unsynced) => Err(Failure::Unsynced),
         Err(FileFault::Failed) => Err(Failure::CannotWrite),
     }
 }

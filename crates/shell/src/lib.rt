@@ -14,7 +14,7 @@ pub use failures::Failure;
 pub use files::{FileFault, ImageFiles, MOST_BYTES};
 pub use host::HostFiles;
 pub use jobs::{Job, Task, job};
-pub use laws::script_laws;
+pub use laws::{image_laws, script_laws};
 pub use program::tool;
 pub use script::{Line, LineAnswer, print_answer, read_line};
 pub use scripts::{ScriptFault, carry_out, run_script};

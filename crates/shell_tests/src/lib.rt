@@ -2,6 +2,8 @@
 #![tactic(auto)]
 
 #[cfg(test)]
+mod host_files;
+#[cfg(test)]
 mod images;
 #[cfg(test)]
 mod programs;

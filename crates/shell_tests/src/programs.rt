@@ -5,26 +5,35 @@ ghost use Rattle.std.specs.Str.{bytes_eq};
 
 use crate::images::{erased_image, fresh_image};
 use crate::scripts::{Broken, Full};
-use shell::{FileFault, HostFiles, ImageFiles, MOST_BYTES, tool};
+use shell::{FileFault, ImageFiles, MOST_BYTES, tool};
 use std::alloc::{AllocError, Global};
 use std::io::{Read, Write};
 use std::process::Abort;
-use std::rt::Files;
 use std::test::Fail;
-use std::{env, fs, process};
+
+/// What is wrong with a file in memory.
+#[derive(Clone, Copy, Debug, PartialEq, Eq)]
+enum Trouble {
+    /// Another program has it.
+    Taken,
+    /// It cannot be written.
+    Full,
+    /// It is written, and not brought to the disk.
+    Unsynced,
+}
 
 /// A file in memory, whose name is `x`: there is no other.
 #[derive(Drop)]
 struct OneFile {
     bytes: Vec<u8>,
-    is_full: bool,
+    trouble: Option<Trouble>,
 }
 
 impl OneFile {
     fn new(alloc: Global) -> OneFile {
         OneFile {
             bytes: Vec::new(alloc),
-            is_full: false,
+            trouble: None,
         }
     }
 }
@@ -42,6 +51,13 @@ impl ImageFiles for OneFile {
 
     ghost held = { λ file name. if bytes_eq name (codes "x") then Some file.bytes.items else None };
 
+    fn claim(&mut self, _alloc: Global, _name: &str) -> Result<(), FileFault> {
+        if self.trouble == Some(Trouble::Taken) {
+            return Err(FileFault::Failed);
+        }
+        Ok(())
+    }
+
     fn read(&self, alloc: Global, name: &str) -> Result<Vec<u8>, FileFault> {
         if !is_x(name) {
             return Err(FileFault::Failed);
@@ -57,16 +73,17 @@ impl ImageFiles for OneFile {
         if !is_x(name) {
             return Err(FileFault::Failed);
         }
-        if self.is_full {
+        if self.trouble == Some(Trouble::Full) {
             return Err(FileFault::Failed);
         }
         match Vec::from_slice(alloc, bytes) {
-            Ok(copy) => {
-                self.bytes = copy;
-                Ok(())
-            }
-            Err(_) => Err(FileFault::Memory),
+            Ok(copy) => self.bytes = copy,
+            Err(_) => return Err(FileFault::Memory),
         }
+        if self.trouble == Some(Trouble::Unsynced) {
+            return Err(FileFault::Unsynced);
+        }
+        Ok(())
     }
 }
 
@@ -106,10 +123,10 @@ fn call<F: ImageFiles>(
 
 /// A call of the program that is tried: its words, its input, and the status, output and messages that
 /// are wanted.
-type Wanted<'a> = (&'a [&'a str], &'a str, (u8, &'a str, &'a str));
+pub(crate) type Wanted<'a> = (&'a [&'a str], &'a str, (u8, &'a str, &'a str));
 
 /// Asserts what calls of the program give, one after the other.
-fn assert_calls<R: Abort, F: ImageFiles>(
+pub(crate) fn assert_calls<R: Abort, F: ImageFiles>(
     rt: &R,
     files: &mut F,
     alloc: Global,
@@ -171,28 +188,30 @@ fn a_refused_format_leaves_the_image(rt: HostRuntime) -> Result<(), Fail> {
     files.bytes = fresh_image(alloc)?;
     let sizes = (3, "", "uffs: BADGEOMETRY 28\n");
     let limit = (3, "", "uffs: EINVAL 7\n");
-    let calls: [Wanted<'_>; 2] = [
+    let calls: [Wanted<'_>; 4] = [
         (&["format", "x", "--blocks", "15"], "", sizes),
+        (&["format", "x", "--pages", "4294967295"], "", sizes),
         (&["format", "x", "--history", "1"], "", limit),
+        (&["format", "x", "--history", "4294967295"], "", limit),
     ];
     assert_calls(&rt, &mut files, alloc, &calls)?;
-    files.is_full = true;
+    files.trouble = Some(Trouble::Full);
     assert_unwritten(&rt, &mut files, alloc, "x")?;
     assert_eq!(rt; files.bytes.as_slice(), fresh_image(alloc)?.as_slice());
     Ok(())
 }
 
 /// The status and the message of a run of a script on a fresh image, and whether the image stays as it
-/// was; it may be one that cannot be written.
+/// was; something may be wrong with it.
 fn run_on<R: Read, W: Write>(
     alloc: Global,
-    is_full: bool,
+    trouble: Option<Trouble>,
     reader: &mut R,
     out: &mut W,
 ) -> Result<(u8, String, bool), Fail> {
     let mut files = OneFile::new(alloc);
     files.bytes = fresh_image(alloc)?;
-    files.is_full = is_full;
+    files.trouble = trouble;
     run_on_file(alloc, &mut files, reader, out)
 }
 
@@ -220,7 +239,7 @@ fn a_script_that_breaks_off_leaves_the_image(rt: HostRuntime) -> Result<(), Fail
         bytes: b"mkdir /a\nsync\n",
     };
     let mut out: Vec<u8> = Vec::new(rt.alloc());
-    let (status, err, is_same) = run_on(rt.alloc(), false, &mut reader, &mut out)?;
+    let (status, err, is_same) = run_on(rt.alloc(), None, &mut reader, &mut out)?;
     assert_eq!(rt; (status, err.as_str(), is_same), (1, "uffs: input\n", true));
     assert_eq!(rt; out.as_slice(), &b"ok\nok\n"[..]);
     Ok(())
@@ -233,7 +252,7 @@ fn an_output_that_breaks_off_leaves_the_image(rt: HostRuntime) -> Result<(), Fai
         bytes: Vec::new(rt.alloc()),
         room: 4,
     };
-    let (status, err, is_same) = run_on(rt.alloc(), false, &mut script, &mut out)?;
+    let (status, err, is_same) = run_on(rt.alloc(), None, &mut script, &mut out)?;
     assert_eq!(rt;
         (status, err.as_str(), is_same),
         (1, "uffs: output\n", true)
@@ -245,12 +264,57 @@ fn an_output_that_breaks_off_leaves_the_image(rt: HostRuntime) -> Result<(), Fai
 fn an_image_that_cannot_be_written_is_told(rt: HostRuntime) -> Result<(), Fail> {
     let mut script: &[u8] = b"mkdir /a\nsync\n";
     let mut out: Vec<u8> = Vec::new(rt.alloc());
-    let (status, err, is_same) = run_on(rt.alloc(), true, &mut script, &mut out)?;
+    let full = Some(Trouble::Full);
+    let (status, err, is_same) = run_on(rt.alloc(), full, &mut script, &mut out)?;
     assert_eq!(rt;
         (status, err.as_str(), is_same),
         (1, "uffs: cannot write x\n", true)
     );
     assert_eq!(rt; out.as_slice(), &b"ok\nok\n"[..]);
+    Ok(())
+}
+
+#[test]
+fn an_image_in_use_is_told_before_the_script_is_read(rt: HostRuntime) -> Result<(), Fail> {
+    let mut script: &[u8] = b"mkdir /a\nsync\n";
+    let mut out: Vec<u8> = Vec::new(rt.alloc());
+    let taken = Some(Trouble::Taken);
+    let (status, err, is_same) = run_on(rt.alloc(), taken, &mut script, &mut out)?;
+    assert_eq!(rt;
+        (status, err.as_str(), is_same),
+        (1, "uffs: cannot write x\n", true)
+    );
+    assert_eq!(rt; (script.len(), out.len()), (14, 0));
+    let mut files = OneFile::new(rt.alloc());
+    files.trouble = taken;
+    assert_unwritten(&rt, &mut files, rt.alloc(), "x")
+}
+
+#[test]
+fn an_image_that_is_not_brought_to_the_disk_is_told(rt: HostRuntime) -> Result<(), Fail> {
+    let mut files = OneFile::new(rt.alloc());
+    files.bytes = fresh_image(rt.alloc())?;
+    files.trouble = Some(Trouble::Unsynced);
+    let told = "uffs: cannot write x\n";
+    let calls: [Wanted<'_>; 3] = [
+        (&["run", "x"], "ls /\n", (0, "entries 0\n", "")),
+        (&["run", "x"], "mkdir /a\nsync\n", (1, "ok\nok\n", told)),
+        (&["run", "x"], "ls /\n", (0, "entries 1 a/\n", "")),
+    ];
+    assert_calls(&rt, &mut files, rt.alloc(), &calls)
+}
+
+#[test]
+fn a_run_that_changes_nothing_writes_nothing(rt: HostRuntime) -> Result<(), Fail> {
+    let mut script: &[u8] = b"ls /\nfault 1 program-fail\nundo\n";
+    let mut out: Vec<u8> = Vec::new(rt.alloc());
+    let full = Some(Trouble::Full);
+    let (status, err, is_same) = run_on(rt.alloc(), full, &mut script, &mut out)?;
+    assert_eq!(rt; (status, err.as_str(), is_same), (0, "", true));
+    assert_eq!(rt;
+        out.as_slice(),
+        &b"entries 0\nok\nerr NOTHINGTOUNDO 17\n"[..]
+    );
     Ok(())
 }
 
@@ -311,6 +375,14 @@ fn words_that_ask_for_no_job_are_told(rt: HostRuntime) -> Result<(), Fail> {
             &["format", "x", "--blocks", "1e"],
             "error: invalid value '1e' for '--blocks <N>'",
         ),
+        (
+            &["format", "x", "--history", "4294967296"],
+            "error: invalid value '4294967296' for '--history <H>'",
+        ),
+        (
+            &["format", "x", "--page=-1"],
+            "error: invalid value '-1' for '--page <P>'",
+        ),
     ];
     for (words, text) in all {
         let given = call(&mut files, alloc, words, "ls /\n")?;
@@ -321,16 +393,9 @@ fn words_that_ask_for_no_job_are_told(rt: HostRuntime) -> Result<(), Fail> {
     Ok(())
 }
 
-/// A folder of this process alone, by its name.
-fn folder_of<R: Files>(rt: &R, alloc: Global, top: &str, id: u32) -> Result<String, Fail> {
-    let name = format!(in alloc; "{top}/uffs-tests-{id}")?;
-    fs::create_dir(rt, name.as_str())?;
-    Ok(name)
-}
-
 /// Asserts that the words that ask something of an image have it told as one that cannot be read, or
 /// cannot be written.
-fn assert_cannot<R: Abort, F: ImageFiles>(
+pub(crate) fn assert_cannot<R: Abort, F: ImageFiles>(
     rt: &R,
     files: &mut F,
     alloc: Global,
@@ -344,88 +409,11 @@ fn assert_cannot<R: Abort, F: ImageFiles>(
 }
 
 /// Asserts that an image is told as one that cannot be written.
-fn assert_unwritten<R: Abort, F: ImageFiles>(
+pub(crate) fn assert_unwritten<R: Abort, F: ImageFiles>(
     rt: &R,
     files: &mut F,
     alloc: Global,
     name: &str,
 ) -> Result<(), Fail> {
     assert_cannot(rt, files, alloc, "write", "format", name)
-}
-
-/// Asserts what comes of an image that is written and looked at.
-fn assert_kept<R: Abort, F: ImageFiles>(
-    rt: &R,
-    files: &mut F,
-    alloc: Global,
-    name: &str,
-) -> Result<(), Fail> {
-    let run = ["run", name];
-    let calls: [Wanted<'_>; 2] = [
-        (&run, "mkdir /a\nsync\n", (0, "ok\nok\n", "")),
-        (&run, "ls /\n", (0, "entries 1 a/\n", "")),
-    ];
-    assert_calls(rt, files, alloc, &calls)
-}
-
-/// Asserts that a file of the host is made and replaced, with no other left behind.
-fn assert_replaced<R: Abort + Files + AllocGlobal>(
-    rt: &R,
-    alloc: Global,
-    name: &str,
-) -> Result<(), Fail> {
-    let mut files = HostFiles::new(rt);
-    assert_cannot(rt, &mut files, alloc, "read", "run", name)?;
-    assert_calls(
-        rt,
-        &mut files,
-        alloc,
-        &[(&["format", name], "", (0, "", ""))],
-    )?;
-    let fresh = fresh_image(alloc)?;
-    assert_eq!(rt; fs::read(rt, name)?.as_slice(), fresh.as_slice());
-    assert_kept(rt, &mut files, alloc, name)?;
-    let new_name = format!(in alloc; "{name}.new")?;
-    assert!(rt; !fs::exists(rt, new_name.as_str())?);
-    Ok(())
-}
-
-#[test]
-fn files_of_the_host_are_replaced_whole(rt: HostRuntime) -> Result<(), Fail> {
-    let top = env::temp_dir(&rt)?;
-    let id = process::id(rt.process());
-    let folder = folder_of(&rt, rt.alloc(), top.as_str(), id)?;
-    let name = format!(in rt.alloc(); "{folder}/x")?;
-    assert_replaced(&rt, rt.alloc(), name.as_str())?;
-    fs::remove_dir_all(&rt, folder.as_str())?;
-    Ok(())
-}
-
-/// Asserts that a folder is never replaced, nor the one that stands at the new file's name.
-fn assert_folders_stay<R: Abort + Files + AllocGlobal>(
-    rt: &R,
-    alloc: Global,
-    folder: &str,
-) -> Result<(), Fail> {
-    let mut files = HostFiles::new(rt);
-    let new_folder = format!(in alloc; "{folder}.new")?;
-    assert_unwritten(rt, &mut files, alloc, folder)?;
-    assert!(rt; !fs::exists(rt, new_folder.as_str())?);
-    fs::create_dir(rt, new_folder.as_str())?;
-    assert_unwritten(rt, &mut files, alloc, folder)?;
-    assert!(rt; fs::exists(rt, new_folder.as_str())?);
-    fs::remove_dir_all(rt, new_folder.as_str())?;
-    Ok(())
-}
-
-#[test]
-fn files_that_cannot_be_written_are_told(rt: HostRuntime) -> Result<(), Fail> {
-    let top = env::temp_dir(&rt)?;
-    let id = process::id(rt.process());
-    let folder = folder_of(&rt, rt.alloc(), top.as_str(), id)?;
-    let missing = format!(in rt.alloc(); "{folder}/none/x")?;
-    assert_unwritten(&rt, &mut HostFiles::new(&rt), rt.alloc(), missing.as_str())?;
-    assert_folders_stay(&rt, rt.alloc(), folder.as_str())?;
-    fs::remove_dir_all(&rt, folder.as_str())?;
-    Ok(())
 }

@@ -2,7 +2,7 @@ use Rattle.std.proofs.Common.{◌<◌, inl, inr, refl, sym, subst}
 use Rattle.shell.specs.Memory.{IsNewFlash, IsFormatOf}
 use Rattle.shell.specs.Tools.{FormatFailure}
 use Rattle.shell.proofs.ImageLemmas.{lawful_limit, format_saved, format_refused}
-use Rattle.shell.proofs.images.format_image.Goals as goal
+use Rattle.shell.proofs.images.make_image.Goals as goal
 
 pub returns-in-Ok-format : goal.returns-in-Ok-format
 returns-in-Ok-format g c =
@@ -12,8 +12,8 @@ returns-in-Ok-format g c =
     let holds = c.in-Ok-format.ensures in
     let done : IsFormatOf c.args.history c.in-Ok.flash c.format.new.flash = record { formatted = holds.ok; sizes = holds.stay; listed = holds.listed; numbered = holds.numbered } in
     record {
-      ends = format_saved c.args.sizes c.args.history c.in-Ok.flash c.format.new.flash (g.F.ImageFiles.held c.args.files.now c.args.name.now) (g.F.ImageFiles.held c.save.new.files c.args.name.now) c.save.result
-          (lawful_limit c.args.sizes c.args.history c.in-Ok.ensures.lawful low high) made done c.save.ensures.ok c.save.ensures.why c.save.ensures.err;
+      ends = format_saved c.args.sizes c.args.history c.format.new.flash (g.F.ImageFiles.held c.args.files.now c.args.name.now) (g.F.ImageFiles.held c.save.new.files c.args.name.now) c.save.result
+          (c.in-Ok.flash, lawful_limit c.args.sizes c.args.history c.in-Ok.ensures.lawful low high, made, done) c.save.ensures.ok c.save.ensures.err;
       others = c.save.ensures.others;
     }
 
@@ -22,4 +22,4 @@ returns g c =
     let made : IsNewFlash c.args.sizes c.in-Ok.flash = record { new = c.in-Ok.ensures.new; plan = c.in-Ok.ensures.plan } in
     let why : FormatFailure c.args.sizes c.args.history c.of_system-in-Err-format.result = subst (FormatFailure c.args.sizes c.args.history) (sym c.of_system-in-Err-format.ensures)
     (format_refused c.args.sizes c.args.history c.in-Ok.flash c.format.new.flash c.in-Err-format.fault made c.in-Err-format.ensures.why) in
-    record { ends = (why, refl); others = λ other one another. refl }
+    record { ends = inl (why, refl); others = λ other one another. refl }

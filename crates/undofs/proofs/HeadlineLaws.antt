@@ -75,6 +75,7 @@ accepted_rollback space m name none = rw none refl
 pub no_space : Space
 no_space = record { blocks = 0; bad = 0; free = 0; anchors = 0 }
 
+-- where undo is accepted, no group and no file is open
 none_open : (m : Machine) → refusal m Call.Undo ≡ None → (m.group ≡ None) × (any_open m.descriptors ≡ false)
 none_open m none =
     let alone = outside m (travel_refusal m (undo_refusal m.history)) none in

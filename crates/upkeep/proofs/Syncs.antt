@@ -61,6 +61,10 @@ pub record IsSyncing (m : Machine) (call : Call) : Type 0 where
 outside : (m : Machine) → m.group ≡ None → outside_refusal m None ≡ None
 outside m none = ap (λ (g : Option (Group Tree)). if is_some g then Some InGroup else None) none
 
+-- nor is one on the machine of a state in which none is
+pub ungrouped_on : (d : Device) (m : System) → m.state.group ≡ None → (machine_on d m.state).group ≡ None
+ungrouped_on d m none = ap (λ (g : Option (Group ℕ)). map_group (tree_on d) g) none
+
 pub sync_syncs : (m : Machine) → m.group ≡ None → IsSyncing m Call.Sync
 sync_syncs m none =
     let accepted : refusal m Call.Sync ≡ None = outside m none in
@@ -89,9 +93,6 @@ fsync_syncs m descriptor accepted = record {
 pub is_open_there : (m : Machine) (descriptor : ℕ) → m.group ≡ None → (o : Option Descriptor) → o ≡ descriptor_at m.descriptors descriptor → is_some o ≡ true → refusal m (Call.Fsync descriptor) ≡ None
 is_open_there m descriptor none None is some = absurd (true≢false (sym some))
 is_open_there m descriptor none (Some x) is some = ap (λ (p : Option Descriptor). option_map_or (λ (y : Descriptor). outside_refusal m None) p (Some BadDescriptor)) (sym is) ∙ outside m none
-  where
-    no_fault : Option Fault
-    no_fault = None
 
 pub copied_some : {X : Type 0} (o : Option (Bor X)) → is_some o ≡ true → is_some (option_copied o) ≡ true
 copied_some None some = some
@@ -379,8 +380,8 @@ map_grouped : (f : ℕ → Tree) (g : Option (Group ℕ)) → is_some g ≡ true
 map_grouped f None some = some
 map_grouped f (Some g) some = refl
 
-pub in_group : (d : Device) (m : System) → is_some m.state.group ≡ true → outside_refusal (machine_on d m.state) None ≡ Some InGroup
-in_group d m some = ap (λ b. if b then Some InGroup else None) (map_grouped (tree_on d) m.state.group some)
+pub refused_in_group : (d : Device) (m : System) → is_some m.state.group ≡ true → outside_refusal (machine_on d m.state) None ≡ Some InGroup
+refused_in_group d m some = ap (λ b. if b then Some InGroup else None) (map_grouped (tree_on d) m.state.group some)
 
 -- an fsync of an open file, in a group
 pub fsync_grouped : (m : Machine) (descriptor : ℕ) (o : Option Descriptor) → o ≡ descriptor_at m.descriptors descriptor → is_some o ≡ true → outside_refusal m None ≡ Some InGroup → refusal m (Call.Fsync descriptor) ≡ Some InGroup

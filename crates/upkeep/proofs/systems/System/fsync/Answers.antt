@@ -1,25 +1,21 @@
+use Rattle.std.proofs.Common.{Err, refl, sym, subst}
 use Rattle.std.proofs.lemmas.Result.{err_from_is_err_and}
-use Rattle.fs_types.specs.declared.faults.Fault.{Fault}
-use Rattle.upkeep.specs.Commits.{TriesOnce}
-use Rattle.std.proofs.Common.{sym, subst, Err}
-use Rattle.std.proofs.Common.{ap, ℕ, Option, refl}
-use Rattle.history_machine.specs.History.{map_group}
-use Rattle.working_state.specs.Seen.{tree_on}
-use Rattle.fs_types.specs.declared.calls.Group.{Group}
 use Rattle.std.specs.Option.{option_copied}
-use Rattle.upkeep.proofs.Syncs.{grouped_step, in_group, fsync_grouped, fsync_syncs, committed, is_open_there, copied_some}
 use Rattle.fs_types.specs.declared.calls.Call.{Call}
+use Rattle.fs_types.specs.declared.faults.Fault.{Fault}
 use Rattle.working_state.specs.Seen.{machine_on}
+use Rattle.upkeep.specs.Commits.{TriesOnce}
+use Rattle.upkeep.proofs.Syncs.{ungrouped_on, refused_in_group, grouped_step, fsync_grouped, fsync_syncs, committed, is_open_there, copied_some}
 use Rattle.upkeep.proofs.systems.System.fsync.Goals as goal
 
 pub returns-clause-step : goal.returns-clause-step
 returns-clause-step g c =
     let d = g.F.Flash.device c.args.flash.now in
     let e = g.F.Flash.device c.commit.new.flash in
-    committed d e c.args.self.now c.commit.new.self c.commit.result c.requires c.in_ok-check_power.ensures.ok c.commit.ensures.saves (Call.Fsync c.args.descriptor) (fsync_syncs (machine_on d c.args.self.now.state) c.args.descriptor (is_open_there (machine_on d c.args.self.now.state) c.args.descriptor (ap (λ (g : Option (Group ℕ)). map_group (tree_on d) g) c.in_ok-check_outside.ensures.ok) (option_copied c.get.result) c.get.ensures (copied_some c.get.result c.if-is_none.ensures))) c.commit.ensures.why c.commit.ensures.pass c.commit.ensures.last
+    committed d e c.args.self.now c.commit.new.self c.commit.result c.requires c.in_ok-check_power.ensures.ok c.commit.ensures.saves (Call.Fsync c.args.descriptor) (fsync_syncs (machine_on d c.args.self.now.state) c.args.descriptor (is_open_there (machine_on d c.args.self.now.state) c.args.descriptor (ungrouped_on d c.args.self.now c.in_ok-check_outside.ensures.ok) (option_copied c.get.result) c.get.ensures (copied_some c.get.result c.if-is_none.ensures))) c.commit.ensures.why c.commit.ensures.pass c.commit.ensures.last
 
 pub returns-in_err-check_outside-clause-step : goal.returns-in_err-check_outside-clause-step
 returns-in_err-check_outside-clause-step g c =
     let d = g.F.Flash.device c.args.flash.now in
     let p = err_from_is_err_and c.from_residual-in_err-check_outside.result c.from_residual-in_err-check_outside.ensures.1 in
-    rw (p.1, p.2) (subst (λ (fault : Fault). TriesOnce d c.args.self.now (Call.Fsync c.args.descriptor) (Err fault) d c.args.self.now) (sym c.in_err-check_outside.ensures.err.0) (grouped_step d c.args.self.now (Call.Fsync c.args.descriptor) refl c.in_ok-check_power.ensures.ok (fsync_grouped (machine_on d c.args.self.now.state) c.args.descriptor (option_copied c.get.result) c.get.ensures (copied_some c.get.result c.if-is_none.ensures) (in_group d c.args.self.now c.in_err-check_outside.ensures.err.1))))
+    rw (p.1, p.2) (subst (λ (fault : Fault). TriesOnce d c.args.self.now (Call.Fsync c.args.descriptor) (Err fault) d c.args.self.now) (sym c.in_err-check_outside.ensures.err.0) (grouped_step d c.args.self.now (Call.Fsync c.args.descriptor) refl c.in_ok-check_power.ensures.ok (fsync_grouped (machine_on d c.args.self.now.state) c.args.descriptor (option_copied c.get.result) c.get.ensures (copied_some c.get.result c.if-is_none.ensures) (refused_in_group d c.args.self.now c.in_err-check_outside.ensures.err.1))))

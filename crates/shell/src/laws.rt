@@ -1,8 +1,11 @@
-//! The law of scripts. The function does nothing: its contract is the law.
+//! The laws of scripts. The function does nothing: its contract is the laws.
+ghost use Rattle.shell.specs.Plans.{EntriesLaw};
 ghost use Rattle.shell.specs.Scripts.{ScriptLaw};
 
 /// What lines do that are carried out: their calls are the events of a run, and are answered as
-/// there.
+/// there. Of the faults that are planned, those that wait after an event are some of those that waited
+/// before it, in order.
 pub fn script_laws()
-    ensures { ScriptLaw }
+    ensures session { ScriptLaw }
+    ensures entries { EntriesLaw }
 {}

@@ -12,7 +12,7 @@ line_more : (e : Option Event) (line : Line) (s : Scene) (answer : LineAnswer) (
     → RepliesBy e line s answer between → Run between.world events answers v
     → Run s.world (with_first e events) (with_told e answer answers) v
 line_more None line s answer between events answers v h rest = subst (λ (x : World). Run x events answers v) h.0 rest
-line_more (Some event) line s (LineAnswer.Told answer) between events answers v h rest = (between.world, h, rest)
+line_more (Some event) line s (LineAnswer.Told answer) between events answers v h rest = (between.world, h.0, rest)
 line_more (Some event) line s LineAnswer.Syntax between events answers v h rest = absurd h
 
 runs : (s t : Scene) (lines : List (List ℕ)) (answers : List LineAnswer) → CarriesOut s lines answers t → Run s.world (events_of lines) (event_answers lines answers) t.world

@@ -17,7 +17,8 @@ use Rattle.upkeep.specs.Systems.{IsSystem}
 use Rattle.upkeep.specs.declared.systems.System.{System}
 use Rattle.undofs.specs.Sessions.{Stands, world}
 use Rattle.undofs.proofs.SessionSteps.{mount_begins, serve_law}
-use Rattle.shell.specs.Scripts.{Scene, event_of, RepliesBy, Replies, CarriesOut, IsUnmounted, LineSession, answer_text, answer_texts, HasTaken, EndsBy, Ends}
+use Rattle.shell.specs.Plans.{FollowsPlan}
+use Rattle.shell.specs.Scripts.{Scene, event_of, RepliesBy, Replies, CarriesOut, IsRefused, LineSession, answer_text, answer_texts, HasTaken, EndsBy, Ends}
 use Rattle.shell.specs.Turns.{Gets, Seat, seat, world_at, scene_at, DoesBy, Does, Writes, Carried, LinesEnd}
 use Rattle.shell.specs.declared.scripts.ScriptFault.{ScriptFault}
 use Rattle.shell.proofs.TakenLines.{taken_all, taken_more}
@@ -28,7 +29,9 @@ replies_by : (e : Option Event) (line : Line) (s : Seat) (answer : LineAnswer) (
 replies_by None line s answer t (device, system, told) found stands =
     let same : world_at t found ≡ world_at s found = λ i. world (device i) (system i) found in
     (found, (same, told), subst Stands (sym same) stands)
-replies_by (Some event) line s (LineAnswer.Told answer) t serves found stands = serve_law s.device t.device s.system t.system event answer found serves stands
+replies_by (Some event) line s (LineAnswer.Told answer) t (serves, plan) found stands =
+    let so = serve_law s.device t.device s.system t.system event answer found serves stands in
+    (so.0, (so.1, plan), so.2)
 replies_by (Some event) line s LineAnswer.Syntax t none found stands = absurd none
 
 carries_more : (s : Scene) (lines : List (List ℕ)) (answers : List LineAnswer) (t : Scene) (line : List ℕ) (answer : LineAnswer) (u : Scene)
@@ -144,10 +147,10 @@ ends_map P Q C D f g input left (Err ScriptFault.Memory) old new (inr h) = inr (
 
 -- the lines of a reader on what was mounted on a flash
 pub script_ends : (start mid end : SimFlash) (m : System) (s : Option System) (input left : Option (List ℕ)) (result : Result (Unit {0}) ScriptFault) (old new : Option (List ℕ))
-    → OnlyReads (device_of start) (device_of mid) → IsMountOf (device_of start) (device_of mid) m → IsSystem (device_of mid) m
+    → OnlyReads (device_of start) (device_of mid) → IsMountOf (device_of start) (device_of mid) m → IsSystem (device_of mid) m → FollowsPlan start mid
     → LinesEnd (seat mid (Some m)) input left result old new (seat end s) → Ends start end input left result old new
-script_ends start mid end m s input left result old new reads begins system h =
-    ends_map (Carried (seat mid (Some m)) (seat end s)) (LineSession start end) (λ fault. ⊥) (IsUnmounted start end) session (λ fault none. absurd none) input left result old new h
+script_ends start mid end m s input left result old new reads begins system plan h =
+    ends_map (Carried (seat mid (Some m)) (seat end s)) (LineSession start end) (λ fault. ⊥) (IsRefused start end) session (λ fault none. absurd none) input left result old new h
   where
     session : (lines : List (List ℕ)) (answers : List LineAnswer) → Carried (seat mid (Some m)) (seat end s) lines answers → LineSession start end lines answers
     session lines answers carried =
@@ -159,6 +162,7 @@ script_ends start mid end m s input left result old new reads begins system h =
           last = scene_at (seat end s) all.0;
           saved = first.1;
           mounts = first.2;
+          begins = plan;
           carried = all.1;
           ends = refl;
           plan = refl;

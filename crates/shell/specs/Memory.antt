@@ -6,6 +6,7 @@ use Rattle.flash_model.specs.Plan.{plan_of_entries}
 use Rattle.flash_model.specs.declared.simulation.SimFlash.{SimFlash}
 use Rattle.flash_model.specs.declared.sizes.Geometry.{Geometry}
 use Rattle.upkeep.specs.Formats.{IsFormatted, ListsFailed, IsNumbered, FormatCause}
+use Rattle.shell.specs.Plans.{FollowsPlan}
 use Rattle.shell.specs.Scripts.{EndsBy, IsUnmounted, LineSession}
 use Rattle.script.specs.declared.answers.LineAnswer.{LineAnswer}
 use Rattle.shell.specs.declared.scripts.ScriptFault.{ScriptFault}
@@ -41,10 +42,10 @@ pub record IsFormatOf (limit : ℕ) (start end : SimFlash) : Type 0 where
   pub listed : ListsFailed (device_of start) (device_of end)
   pub numbered : IsNumbered (device_of start) (device_of end)
 
--- lines that were carried out on a new flash, once it was formatted
+-- lines that were carried out on a new flash, once it was formatted, with what that left of its plan
 abbrev pub NewSession : Geometry → List (List ℕ) → List LineAnswer → Type 0
 NewSession sizes lines answers =
-    (start : SimFlash) × (formatted : SimFlash) × (end : SimFlash) × IsNewFlash sizes start × IsFormatOf kept_versions start formatted × LineSession formatted end lines answers
+    (start : SimFlash) × (formatted : SimFlash) × (end : SimFlash) × IsNewFlash sizes start × IsFormatOf kept_versions start formatted × FollowsPlan start formatted × LineSession formatted end lines answers
 
 -- why no system was made: for want of memory for the flash; or since it was not formatted, or not mounted then
 abbrev pub NewCause : Geometry → Fault → Type 0

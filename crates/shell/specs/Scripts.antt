@@ -22,6 +22,7 @@ use Rattle.upkeep.specs.Mounts.{MountCause}
 use Rattle.upkeep.specs.Saved.{saved_trees}
 use Rattle.undofs.specs.Runs.{World, Mounts, Happens}
 use Rattle.undofs.specs.Sessions.{Session}
+use Rattle.shell.specs.Plans.{GoesOn, FollowsPlan}
 use Rattle.shell.specs.declared.scripts.ScriptFault.{ScriptFault}
 
 -- the event that a line asks for: a call, a step of reclaiming, or a restart
@@ -49,10 +50,10 @@ IsStillAnswer (Line.Refused fault) old answer new = (answer ≡ LineAnswer.Told 
 IsStillAnswer (Line.PlanFault (suc k) kind) old answer new = Plans old (suc k) kind answer new
 IsStillAnswer _ old answer new = (answer ≡ LineAnswer.Syntax) × (new ≡ old)
 
--- by the event that a line asks for, if any: the line is told the answer to the event, and without one the world stays. Of
--- the plan nothing is said where an event is carried out: its operations take from it what has come due
+-- by the event that a line asks for, if any: the line is told the answer to the event, whose operations take from the plan
+-- what comes due, and without one the world stays
 abbrev pub RepliesBy : Option Event → Line → Scene → LineAnswer → Scene → Type 0
-RepliesBy (Some event) line s (LineAnswer.Told answer) t = Happens s.world event answer t.world
+RepliesBy (Some event) line s (LineAnswer.Told answer) t = Happens s.world event answer t.world × GoesOn s.world.device.operations s.plan t.world.device.operations t.plan
 RepliesBy (Some event) line s LineAnswer.Syntax t = ⊥
 RepliesBy None line s answer t = (t.world ≡ s.world) × IsStillAnswer line s.plan answer t.plan
 
@@ -103,14 +104,15 @@ EndsBy Session Cause input left (Err ScriptFault.Memory) old new =
     ⊎ ((lines : List (List ℕ)) × (earlier : List LineAnswer) × (last : LineAnswer) × Session lines (earlier ++ last ∷ []) × HasTaken input lines left × Appends old new (answer_texts earlier))
 EndsBy Session Cause input left (Err (ScriptFault.Mount fault)) old new = Cause fault × (left ≡ input) × (new ≡ old)
 
--- lines that were carried out on what was mounted on a flash: the first world is that of the mount, and the last one stands
--- on the flash at the end
+-- lines that were carried out on what was mounted on a flash: the first world is that of the mount, with what its operations
+-- left of the plan of the flash, and the last one stands on the flash at the end, with its plan
 pub record LineSession (start end : SimFlash) (lines : List (List ℕ)) (answers : List LineAnswer) : Type 0 where
   pub history : Past Tree
   pub first : Scene
   pub last : Scene
   pub saved : saved_trees (device_of start) ≡ Some history
   pub mounts : Mounts (device_of start) (history ∷ []) Answer.Mounted first.world
+  pub begins : GoesOn (device_of start).operations (plan_of start) first.world.device.operations first.plan
   pub carried : CarriesOut first lines answers last
   pub ends : last.world.device ≡ device_of end
   pub plan : last.plan ≡ plan_of end
@@ -120,9 +122,13 @@ pub record IsUnmounted (start end : SimFlash) (fault : Fault) : Type 0 where
   pub cause : MountCause (device_of start) (device_of end) fault
   pub reads : OnlyReads (device_of start) (device_of end)
 
+-- a mount was refused for a cause, the flash was only read, and its plan went on by these reads
+abbrev pub IsRefused : SimFlash → SimFlash → Fault → Type 0
+IsRefused start end fault = IsUnmounted start end fault × FollowsPlan start end
+
 -- how a script ends that found and leaves these flashes
 abbrev pub Ends : SimFlash → SimFlash → Option (List ℕ) → Option (List ℕ) → Result (Unit {0}) ScriptFault → Option (List ℕ) → Option (List ℕ) → Type 0
-Ends start end input left result old new = EndsBy (LineSession start end) (IsUnmounted start end) input left result old new
+Ends start end input left result old new = EndsBy (LineSession start end) (IsRefused start end) input left result old new
 
 -- the events that lines ask for
 abbrev pub with_first : {A : Type 0} → Option A → List A → List A

@@ -15,6 +15,7 @@ use Rattle.script.specs.declared.answers.LineAnswer.{LineAnswer}
 use Rattle.upkeep.specs.declared.systems.System.{System}
 use Rattle.undofs.specs.Runs.{World}
 use Rattle.undofs.specs.Sessions.{Stands, world, Serves}
+use Rattle.shell.specs.Plans.{GoesOn}
 use Rattle.shell.specs.Scripts.{Scene, event_of, IsStillAnswer, CarriesOut, EndsBy, answer_text}
 use Rattle.shell.specs.declared.scripts.ScriptFault.{ScriptFault}
 
@@ -43,7 +44,7 @@ abbrev pub scene_at : Seat → List (Past Tree) → Scene
 scene_at s found = record { world = world_at s found; plan = s.plan }
 
 abbrev pub DoesBy : Option Event → Line → Seat → LineAnswer → Seat → Type 0
-DoesBy (Some event) line s (LineAnswer.Told answer) t = Serves s.device s.system event answer t.device t.system
+DoesBy (Some event) line s (LineAnswer.Told answer) t = Serves s.device s.system event answer t.device t.system × GoesOn s.device.operations s.plan t.device.operations t.plan
 DoesBy (Some event) line s LineAnswer.Syntax t = ⊥
 DoesBy None line s answer t = (t.device ≡ s.device) × (t.system ≡ s.system) × IsStillAnswer line s.plan answer t.plan
 

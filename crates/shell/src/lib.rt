@@ -3,6 +3,7 @@
 
 mod failures;
 mod files;
+mod following;
 mod host;
 mod images;
 mod laws;

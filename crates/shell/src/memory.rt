@@ -1,11 +1,11 @@
 //! A script run on a flash of its own, with no image.
 ghost use Rattle.shell.specs.Memory.{EndsInMemory, memory_sizes};
 
+use crate::following::format_as_planned;
 use crate::scripts::{ScriptFault, run_script};
 use flash_model::{Geometry, SimFlash};
 use std::alloc::Global;
 use std::io::{Read, Write};
-use undofs::format;
 
 /// The flash of `uffs memory`: 32 blocks of 16 pages of 256 bytes.
 pub const MEMORY_SIZES: Geometry = Geometry {
@@ -29,7 +29,7 @@ pub(crate) fn run_in_memory<R: Read, W: Write>(
         Ok(flash) => flash,
         Err(fault) => return Err(ScriptFault::Mount(fault)),
     };
-    match format(alloc, &mut flash, MEMORY_HISTORY) {
+    match format_as_planned(alloc, &mut flash, MEMORY_HISTORY) {
         Ok(()) => run_script(alloc, reader, out, &mut flash),
         Err(fault) => Err(ScriptFault::Mount(fault)),
     }

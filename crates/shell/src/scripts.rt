@@ -6,13 +6,14 @@ ghost use Rattle.upkeep.specs.Systems.{IsSystem};
 ghost use Rattle.shell.specs.Scripts.{Ends, IsStillAnswer};
 ghost use Rattle.shell.specs.Turns.{Gets, seat, Does, Writes, LinesEnd};
 
+use crate::following::{mount_as_planned, serve_as_planned};
 use flash_model::{FaultKind, Planned, SimFlash};
 use fs_types::{Answer, Event, Fault, Reply};
 use script::{Line, LineAnswer, LineReader, Taken, print_answer, read_line, write_out};
 use std::alloc::Global;
 use std::io::{Read, Write};
 use thiserror::Error;
-use undofs::{System, mount, serve};
+use undofs::System;
 
 /// Why a script did not run to its end.
 #[derive(Clone, Copy, Debug, PartialEq, Eq, Error)]
@@ -44,7 +45,7 @@ pub fn run_script<R: Read, W: Write>(
 ) -> Result<(), ScriptFault>
     ensures ends { Ends flash.old flash.new (R.remaining reader.old) (R.remaining reader.new) result (W.contents writer.old) (W.contents writer.new) }
 {
-    let mut system = match mount(alloc, flash) {
+    let mut system = match mount_as_planned(alloc, flash) {
         Ok(mounted) => Some(mounted),
         Err(fault) => return Err(ScriptFault::Mount(fault)),
     };
@@ -115,11 +116,16 @@ pub fn carry_out(
     ensures does { Does line (seat flash.old system.old) result (seat flash.new system.new) }
 {
     match line {
-        Line::Call(call) => LineAnswer::Told(serve(alloc, flash, system, &Event::Call(call))),
+        Line::Call(call) => LineAnswer::Told(serve_as_planned(
+            alloc,
+            flash,
+            system,
+            &Event::Call(call),
+        )),
         Line::ReclaimStep(budget) => {
-            LineAnswer::Told(serve(alloc, flash, system, &Event::ReclaimStep(budget)))
+            LineAnswer::Told(serve_as_planned(alloc, flash, system, &Event::ReclaimStep(budget)))
         }
-        Line::Restart => LineAnswer::Told(serve(alloc, flash, system, &Event::Restart)),
+        Line::Restart => LineAnswer::Told(serve_as_planned(alloc, flash, system, &Event::Restart)),
         Line::Refused(fault) => LineAnswer::Told(Answer::Refused(fault)),
         Line::PlanFault { k, kind } => plan_fault(flash, k, kind),
         Line::Syntax => LineAnswer::Syntax,

@@ -5,7 +5,7 @@ pub returns : goal.returns
 returns g c =
     let mounted = c.in-Ok.ensures in
     record {
-      ends = script_ends c.args.flash.now c.mount.new.flash c.run_lines.new.flash c.in-Ok.mounted c.run_lines.new.system
+      ends = script_ends c.args.flash.now c.mount_as_planned.new.flash c.run_lines.new.flash c.in-Ok.mounted c.run_lines.new.system
           (g.R.Read.remaining c.args.reader.now) (g.R.Read.remaining c.run_lines.new.reader) c.run_lines.result (g.W.Write.contents c.args.writer.now) (g.W.Write.contents c.run_lines.new.writer)
-          c.mount.ensures.only_reads mounted.ok mounted.system c.run_lines.ensures.ends;
+          c.mount_as_planned.ensures.only_reads mounted.ok mounted.system c.mount_as_planned.ensures.plan c.run_lines.ensures.ends;
     }

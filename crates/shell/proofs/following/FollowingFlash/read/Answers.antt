@@ -1,0 +1,7 @@
+use Rattle.flash_model.specs.declared.plans.Operation.{Operation}
+use Rattle.shell.proofs.PlanLemmas.{goes_on_more}
+use Rattle.shell.proofs.following.FollowingFlash.read.Goals as goal
+
+pub invariant_of-self-clause-goes_on : goal.invariant_of-self-clause-goes_on
+invariant_of-self-clause-goes_on g c =
+    goes_on_more g.S.Start.done g.S.Start.plan c.args.self.now.flash.now c.read.new.self Operation.Read c.args.self.now.goes_on c.read.ensures.plan c.read.ensures.reads.operates.operations

@@ -4,7 +4,7 @@ use crate::servers::Server;
 use crate::sessions::Session;
 use crate::trials::Trial;
 use flash_model::Counters;
-use fs_types::{Answer, Event, Fault};
+use fs_types::{Answer, Call, Event, Fault};
 use session_oracle::{Causes, Oracle, has_fewer_free, need, show};
 use std::alloc::Global;
 
@@ -106,14 +106,18 @@ impl<'a> Run<'a> {
 
     /// Carries out an event.
     fn turn(&mut self, alloc: Global, event: &'a Event) -> Result<Went, Fault> {
+        let before = self.session.counts();
         let answer = self.server.serve(alloc, &mut self.session, event);
-        let is_cut = self.is_cut();
+        let is_quiet = self.session.counts() == before;
+        if !self.is_told(&answer) || asks_nothing(event) && !is_quiet {
+            return Ok(Went::Wrong);
+        }
+        let is_off = is_power_cut(&answer);
         let causes = Causes {
-            cut: is_cut,
+            cut: is_off,
             full: self.is_full(alloc, event, &answer)?,
             ..Causes::default()
         };
-        let is_off = is_power_cut(&answer);
         if !self.oracle.judge(alloc, event, answer, causes)? {
             return Ok(Went::Wrong);
         }
@@ -123,14 +127,15 @@ impl<'a> Run<'a> {
     /// Mounts for the first time.
     fn mount(&mut self, alloc: Global) -> Went {
         let answer = self.server.serve(alloc, &mut self.session, &Event::Restart);
+        let is_off = is_power_cut(&answer);
         let causes = Causes {
-            cut: self.is_cut(),
+            cut: is_off,
             ..Causes::default()
         };
-        if !self.oracle.judge_mount(&answer, causes) {
+        if !self.is_told(&answer) || !self.oracle.judge_mount(&answer, causes) {
             return Went::Wrong;
         }
-        self.went(is_power_cut(&answer))
+        self.went(is_off)
     }
 
     fn went(&mut self, is_off: bool) -> Went {
@@ -158,7 +163,10 @@ impl<'a> Run<'a> {
     fn restart(&mut self, alloc: Global) -> Result<bool, Fault> {
         self.take_cut();
         let mut answer = self.server.serve(alloc, &mut self.session, &Event::Restart);
-        if is_power_cut(&answer) && self.take_cut() {
+        if !self.is_told(&answer) {
+            return Ok(false);
+        }
+        if self.take_cut() {
             answer = self.server.serve(alloc, &mut self.session, &Event::Restart);
         }
         self.mounted_after = self.session.counts();
@@ -170,6 +178,11 @@ impl<'a> Run<'a> {
             Err(Fault::NoMemory) => Err(Fault::NoMemory),
             Err(_) => Ok(false),
         }
+    }
+
+    /// Whether an answer tells that power went, if the planned cut has come, and only then.
+    fn is_told(&self, answer: &Answer) -> bool {
+        is_power_cut(answer) == self.is_cut()
     }
 
     /// Whether the planned cut has come.
@@ -189,6 +202,14 @@ impl<'a> Run<'a> {
         }
         is_cut
     }
+}
+
+/// Whether an event asks nothing of the flash.
+fn asks_nothing(event: &Event) -> bool {
+    matches!(
+        event,
+        Event::Call(Call::Undo | Call::Redo | Call::Goto { .. } | Call::Close { .. })
+    )
 }
 
 fn is_power_cut(answer: &Answer) -> bool {

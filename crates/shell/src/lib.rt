@@ -8,6 +8,7 @@ mod host;
 mod images;
 mod laws;
 mod memory;
+mod process;
 mod program;
 mod scripts;
 
@@ -16,6 +17,7 @@ pub use files::{FileFault, ImageFiles, MOST_BYTES};
 pub use host::HostFiles;
 pub use jobs::{Job, Task, job};
 pub use laws::{image_laws, script_laws};
+pub use process::run_process;
 pub use program::tool;
 pub use script::{Line, LineAnswer, print_answer, read_line};
 pub use scripts::{ScriptFault, carry_out, run_script};

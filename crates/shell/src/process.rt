@@ -1,0 +1,51 @@
+//! The program as a process of the host.
+use crate::host::HostFiles;
+use crate::program::tool;
+use std::fs::File;
+use std::io::{BufReader, Error, ErrorKind, Write};
+use std::rt::Files;
+use std::{env, io};
+
+/// Carries out the words of the process, with the files of the host, its input and its output, and
+/// answers the status, as [`tool`] does. 2 where a word is not UTF-8, and 1 for memory, each with its
+/// line.
+pub fn run_process<R, E>(rt: &R, err: &mut E) -> u8
+where
+    R: Files<File = File> + Env + Input + Print + AllocGlobal,
+    E: Write,
+{
+    match carry_out_words(rt, err) {
+        Ok(status) => status,
+        Err(error) => refuse(&error, err),
+    }
+}
+
+/// Refused where a word is not UTF-8, and for memory.
+fn carry_out_words<R, E>(rt: &R, err: &mut E) -> io::Result<u8>
+where
+    R: Files<File = File> + Env + Input + Print + AllocGlobal,
+    E: Write,
+{
+    let words: Vec<String> = env::args(rt)?.skip(1).collect(rt.alloc())?;
+    let mut files = HostFiles::new(rt);
+    let mut reader = BufReader::new(rt.alloc(), rt.reader())?;
+    let mut out = io::writer(rt);
+    Ok(tool(
+        &mut files,
+        rt.alloc(),
+        words.as_slice(),
+        &mut reader,
+        &mut out,
+        err,
+    ))
+}
+
+/// Says why nothing was carried out, and answers the status.
+fn refuse<E: Write>(error: &Error, err: &mut E) -> u8 {
+    if error.kind() == ErrorKind::OutOfMemory {
+        let _ = writeln!(err, "uffs: ENOMEM 25");
+        return 1;
+    }
+    let _ = writeln!(err, "error: a word is not UTF-8\n\nUsage: uffs <COMMAND>");
+    2
+}

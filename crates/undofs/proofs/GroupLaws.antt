@@ -1,5 +1,5 @@
 -- What a change group leaves over the worlds of a run.
-use Rattle.std.proofs.Common.{◌≡◌, List, [], ◌∷◌, ap, subst, ◌∙◌}
+use Rattle.std.proofs.Common.{List, [], ◌∷◌, ap, subst, ◌∙◌}
 use Rattle.history_machine.specs.History.{IsLawful}
 use Rattle.history_machine.specs.Laws.{GroupLaw, in_group}
 use Rattle.history_machine.specs.Machine.{Machine, next, present_tree, working_tree}

@@ -1,5 +1,5 @@
 -- What is shown after a session on a flash that was formatted, and what is given back from there.
-use Rattle.std.proofs.Common.{◌≡◌, ℕ, zero, suc, Bool, true, false, Some, None, Result, Ok, Err, List, [], ◌∷◌, refl, sym, ap, subst, ◌∙◌, arith}
+use Rattle.std.proofs.Common.{◌≡◌, ℕ, zero, suc, Bool, false, Some, None, Result, Ok, Err, List, [], ◌∷◌, refl, sym, ap, subst, ◌∙◌, arith}
 use Rattle.std.specs.Prelude.{Contains, IsOk}
 use Rattle.std.specs.Option.{option_map}
 use Rattle.history_machine.specs.Descriptors.{any_open}

@@ -1,5 +1,4 @@
 -- What a mount has found: the working state that it makes, and why it makes none.
-use Rattle.plain_trees.proofs.Beneath.{None≢Some}
 use Rattle.std.proofs.Common.{◌≡◌, ◌≢◌, replicate, inl, inr, ℕ, zero, suc, ◌-◌, ◌/◌, ◌<◌, Bool, true, false, ◌||◌, Option, Some, None, Result, Ok, Err, List, [], ◌∷◌, ◌++◌, length, map, refl, sym, ap, subst, ◌∙◌, arith}
 use Rattle.std.proofs.lemmas.Bool.{true≢false}
 use Rattle.std.proofs.lemmas.List.Elements.{All-map, Contains-append_left, Contains-append_right}
@@ -18,6 +17,7 @@ use Rattle.history_machine.specs.Descriptors.{Descriptor, Descriptors, none_open
 use Rattle.history_machine.specs.History.{Past, IsLawful, map_roots, map_group}
 use Rattle.history_machine.specs.HistoryMaps.{lawful-map}
 use Rattle.history_machine.specs.Machine.{IsMachine, machine_with}
+use Rattle.plain_trees.proofs.Beneath.{None≢Some}
 use Rattle.plain_trees.specs.Trees.{Tree, IsFileTree}
 use Rattle.flash_model.specs.declared.sizes.Geometry.{Geometry}
 use Rattle.flash_model.specs.Device.{Device, Page}

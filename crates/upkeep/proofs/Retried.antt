@@ -26,7 +26,7 @@ use Rattle.block_trees.specs.Reached.{Reached}
 use Rattle.reclaim.proofs.Marking.{reached_same, reached_back}
 use Rattle.read_only.specs.Modes.{is_read_only}
 use Rattle.working_state.specs.Mounted.{KeepsPages}
-use Rattle.working_state.specs.Roots.{HasRoot, IsReached, IsSpace}
+use Rattle.working_state.specs.Roots.{IsReached, IsSpace}
 use Rattle.working_state.specs.Seen.{Seen, capacity_of, seen_on, machine_on}
 use Rattle.working_state.specs.Steps.{last_serial, is_sync, is_light, begins_work, is_cut, is_cut_answer, is_writing, tells_space, MayRefuse, Refuses, IsDone, IsLater}
 use Rattle.working_state.specs.Steps as once_only

@@ -1,6 +1,7 @@
 //! The program as a process of the host.
 use crate::host::HostFiles;
 use crate::program::tool;
+use std::env::Env;
 use std::fs::File;
 use std::io::{BufReader, Error, ErrorKind, Write};
 use std::rt::Files;

@@ -11,29 +11,20 @@ use std::io::{Read, Write};
 use std::process::Abort;
 use std::test::Fail;
 
-/// What is wrong with a file in memory.
-#[derive(Clone, Copy, Debug, PartialEq, Eq)]
-enum Trouble {
-    /// Another program has it.
-    Taken,
-    /// It cannot be written.
-    Full,
-    /// It is written, and not brought to the disk.
-    Unsynced,
-}
-
 /// A file in memory, whose name is `x`: there is no other.
 #[derive(Drop)]
 struct OneFile {
     bytes: Vec<u8>,
-    trouble: Option<Trouble>,
+    is_taken: bool,
+    is_full: bool,
 }
 
 impl OneFile {
     fn new(alloc: Global) -> OneFile {
         OneFile {
             bytes: Vec::new(alloc),
-            trouble: None,
+            is_taken: false,
+            is_full: false,
         }
     }
 }
@@ -52,7 +43,7 @@ impl ImageFiles for OneFile {
     ghost held = { λ file name. if bytes_eq name (codes "x") then Some file.bytes.items else None };
 
     fn claim(&mut self, _alloc: Global, _name: &str) -> Result<(), FileFault> {
-        if self.trouble == Some(Trouble::Taken) {
+        if self.is_taken {
             return Err(FileFault::Failed);
         }
         Ok(())
@@ -73,17 +64,16 @@ impl ImageFiles for OneFile {
         if !is_x(name) {
             return Err(FileFault::Failed);
         }
-        if self.trouble == Some(Trouble::Full) {
+        if self.is_full {
             return Err(FileFault::Failed);
         }
         match Vec::from_slice(alloc, bytes) {
-            Ok(copy) => self.bytes = copy,
-            Err(_) => return Err(FileFault::Memory),
+            Ok(copy) => {
+                self.bytes = copy;
+                Ok(())
+            }
+            Err(_) => Err(FileFault::Memory),
         }
-        if self.trouble == Some(Trouble::Unsynced) {
-            return Err(FileFault::Unsynced);
-        }
-        Ok(())
     }
 }
 
@@ -195,23 +185,23 @@ fn a_refused_format_leaves_the_image(rt: HostRuntime) -> Result<(), Fail> {
         (&["format", "x", "--history", "4294967295"], "", limit),
     ];
     assert_calls(&rt, &mut files, alloc, &calls)?;
-    files.trouble = Some(Trouble::Full);
+    files.is_full = true;
     assert_unwritten(&rt, &mut files, alloc, "x")?;
     assert_eq!(rt; files.bytes.as_slice(), fresh_image(alloc)?.as_slice());
     Ok(())
 }
 
 /// The status and the message of a run of a script on a fresh image, and whether the image stays as it
-/// was; something may be wrong with it.
+/// was; it may be one that cannot be written.
 fn run_on<R: Read, W: Write>(
     alloc: Global,
-    trouble: Option<Trouble>,
+    is_full: bool,
     reader: &mut R,
     out: &mut W,
 ) -> Result<(u8, String, bool), Fail> {
     let mut files = OneFile::new(alloc);
     files.bytes = fresh_image(alloc)?;
-    files.trouble = trouble;
+    files.is_full = is_full;
     run_on_file(alloc, &mut files, reader, out)
 }
 
@@ -239,7 +229,7 @@ fn a_script_that_breaks_off_leaves_the_image(rt: HostRuntime) -> Result<(), Fail
         bytes: b"mkdir /a\nsync\n",
     };
     let mut out: Vec<u8> = Vec::new(rt.alloc());
-    let (status, err, is_same) = run_on(rt.alloc(), None, &mut reader, &mut out)?;
+    let (status, err, is_same) = run_on(rt.alloc(), false, &mut reader, &mut out)?;
     assert_eq!(rt; (status, err.as_str(), is_same), (1, "uffs: input\n", true));
     assert_eq!(rt; out.as_slice(), &b"ok\nok\n"[..]);
     Ok(())
@@ -252,7 +242,7 @@ fn an_output_that_breaks_off_leaves_the_image(rt: HostRuntime) -> Result<(), Fai
         bytes: Vec::new(rt.alloc()),
         room: 4,
     };
-    let (status, err, is_same) = run_on(rt.alloc(), None, &mut script, &mut out)?;
+    let (status, err, is_same) = run_on(rt.alloc(), false, &mut script, &mut out)?;
     assert_eq!(rt;
         (status, err.as_str(), is_same),
         (1, "uffs: output\n", true)
@@ -264,8 +254,7 @@ fn an_output_that_breaks_off_leaves_the_image(rt: HostRuntime) -> Result<(), Fai
 fn an_image_that_cannot_be_written_is_told(rt: HostRuntime) -> Result<(), Fail> {
     let mut script: &[u8] = b"mkdir /a\nsync\n";
     let mut out: Vec<u8> = Vec::new(rt.alloc());
-    let full = Some(Trouble::Full);
-    let (status, err, is_same) = run_on(rt.alloc(), full, &mut script, &mut out)?;
+    let (status, err, is_same) = run_on(rt.alloc(), true, &mut script, &mut out)?;
     assert_eq!(rt;
         (status, err.as_str(), is_same),
         (1, "uffs: cannot write x\n", true)
@@ -278,38 +267,23 @@ fn an_image_that_cannot_be_written_is_told(rt: HostRuntime) -> Result<(), Fail> 
 fn an_image_in_use_is_told_before_the_script_is_read(rt: HostRuntime) -> Result<(), Fail> {
     let mut script: &[u8] = b"mkdir /a\nsync\n";
     let mut out: Vec<u8> = Vec::new(rt.alloc());
-    let taken = Some(Trouble::Taken);
-    let (status, err, is_same) = run_on(rt.alloc(), taken, &mut script, &mut out)?;
+    let mut files = OneFile::new(rt.alloc());
+    files.bytes = fresh_image(rt.alloc())?;
+    files.is_taken = true;
+    let (status, err, is_same) = run_on_file(rt.alloc(), &mut files, &mut script, &mut out)?;
     assert_eq!(rt;
         (status, err.as_str(), is_same),
         (1, "uffs: cannot write x\n", true)
     );
     assert_eq!(rt; (script.len(), out.len()), (14, 0));
-    let mut files = OneFile::new(rt.alloc());
-    files.trouble = taken;
     assert_unwritten(&rt, &mut files, rt.alloc(), "x")
-}
-
-#[test]
-fn an_image_that_is_not_brought_to_the_disk_is_told(rt: HostRuntime) -> Result<(), Fail> {
-    let mut files = OneFile::new(rt.alloc());
-    files.bytes = fresh_image(rt.alloc())?;
-    files.trouble = Some(Trouble::Unsynced);
-    let told = "uffs: cannot write x\n";
-    let calls: [Wanted<'_>; 3] = [
-        (&["run", "x"], "ls /\n", (0, "entries 0\n", "")),
-        (&["run", "x"], "mkdir /a\nsync\n", (1, "ok\nok\n", told)),
-        (&["run", "x"], "ls /\n", (0, "entries 1 a/\n", "")),
-    ];
-    assert_calls(&rt, &mut files, rt.alloc(), &calls)
 }
 
 #[test]
 fn a_run_that_changes_nothing_writes_nothing(rt: HostRuntime) -> Result<(), Fail> {
     let mut script: &[u8] = b"ls /\nfault 1 program-fail\nundo\n";
     let mut out: Vec<u8> = Vec::new(rt.alloc());
-    let full = Some(Trouble::Full);
-    let (status, err, is_same) = run_on(rt.alloc(), full, &mut script, &mut out)?;
+    let (status, err, is_same) = run_on(rt.alloc(), true, &mut script, &mut out)?;
     assert_eq!(rt; (status, err.as_str(), is_same), (0, "", true));
     assert_eq!(rt;
         out.as_slice(),

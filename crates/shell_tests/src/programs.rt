@@ -304,7 +304,9 @@ fn words_that_ask_for_no_job_are_told(rt: HostRuntime) -> Result<(), Fail> {
     let all = [
         (none, "Usage: uffs <COMMAND>"),
         (&["--help"], "Usage: uffs <COMMAND>"),
+        (&["--version"], "uffs 0.1.0\n"),
         (&["help"], "error: unrecognized subcommand 'help'"),
+        (&["mount", "x"], "error: unrecognized subcommand 'mount'"),
         (&["run"], "<IMAGE>"),
         (&["memory", "x"], "error: unexpected argument 'x' found"),
         (
@@ -415,6 +417,39 @@ fn assert_folders_stay<R: Abort + Files + AllocGlobal>(
     assert_unwritten(rt, &mut files, alloc, folder)?;
     assert!(rt; fs::exists(rt, new_folder.as_str())?);
     fs::remove_dir_all(rt, new_folder.as_str())?;
+    Ok(())
+}
+
+/// Asserts that an image stays as it was where a folder stands at the new file's name: the replies are
+/// written, and then it is told as one that cannot be written.
+fn assert_image_stays<R: Abort + Files + AllocGlobal>(
+    rt: &R,
+    alloc: Global,
+    name: &str,
+) -> Result<(), Fail> {
+    let mut files = HostFiles::new(rt);
+    let made: [Wanted<'_>; 1] = [(&["format", name], "", (0, "", ""))];
+    assert_calls(rt, &mut files, alloc, &made)?;
+    let new_folder = format!(in alloc; "{name}.new")?;
+    fs::create_dir(rt, new_folder.as_str())?;
+    let text = format!(in alloc; "uffs: cannot write {name}\n")?;
+    let wanted = (1, "ok\nok\n", text.as_str());
+    let run: [Wanted<'_>; 1] = [(&["run", name], "mkdir /a\nsync\n", wanted)];
+    assert_calls(rt, &mut files, alloc, &run)?;
+    let fresh = fresh_image(alloc)?;
+    assert_eq!(rt; fs::read(rt, name)?.as_slice(), fresh.as_slice());
+    assert!(rt; fs::exists(rt, new_folder.as_str())?);
+    Ok(())
+}
+
+#[test]
+fn a_folder_at_the_new_name_leaves_the_image(rt: HostRuntime) -> Result<(), Fail> {
+    let top = env::temp_dir(&rt)?;
+    let id = process::id(rt.process());
+    let folder = folder_of(&rt, rt.alloc(), top.as_str(), id)?;
+    let name = format!(in rt.alloc(); "{folder}/x")?;
+    assert_image_stays(&rt, rt.alloc(), name.as_str())?;
+    fs::remove_dir_all(&rt, folder.as_str())?;
     Ok(())
 }
 

@@ -342,7 +342,9 @@ fn words_that_ask_for_no_job_are_told(rt: HostRuntime) -> Result<(), Fail> {
     let all = [
         (none, "Usage: uffs <COMMAND>"),
         (&["--help"], "Usage: uffs <COMMAND>"),
+        (&["--version"], "uffs 0.1.0\n"),
         (&["help"], "error: unrecognized subcommand 'help'"),
+        (&["mount", "x"], "error: unrecognized subcommand 'mount'"),
         (&["run"], "<IMAGE>"),
         (&["memory", "x"], "error: unexpected argument 'x' found"),
         (

@@ -18,7 +18,7 @@ enum Seat {
 /// The plain machine beside a system, and the histories that a restart may find.
 ///
 /// These are those after each of the steps from the last accepted sync on, or from the last mount on
-/// where none came since.
+/// where none came since. None of them holds a change group: a restart ends the one that is open.
 #[derive(Drop)]
 pub struct Oracle<'a> {
     history: usize,
@@ -105,7 +105,7 @@ impl<'a> Oracle<'a> {
 
     /// Whether an event may be refused so for a cause that there is. Nothing changes, but for the power.
     /// A full flash, and read-only mode, refuse only what the plain machine accepts, and a full flash
-    /// only what makes a version.
+    /// only what changes the tree.
     fn judge_refusal(
         &mut self,
         alloc: Global,
@@ -127,13 +127,18 @@ impl<'a> Oracle<'a> {
         }
     }
 
+    /// Whether a mounted system may show this, between two events.
+    pub fn judge_shown(&mut self, alloc: Global, shown: &Shown) -> Result<bool, Fault> {
+        Ok(show(alloc, &mut self.machine)?.is_same(shown))
+    }
+
     /// Whether a restart may find a system that shows this. It is mounted then, and what it shows is
-    /// the one history that a restart may find.
+    /// the one history that a restart may find; calls work on its present tree.
     pub fn restart(&mut self, alloc: Global, shown: &Shown) -> Result<bool, Fault> {
         match self.find(alloc, shown)? {
             Some(count) => {
                 self.mount_after(alloc, count)?;
-                Ok(true)
+                self.judge_shown(alloc, shown)
             }
             None => Ok(false),
         }
@@ -167,13 +172,12 @@ impl<'a> Oracle<'a> {
     }
 }
 
-/// Whether a machine shows this.
+/// Whether a machine shows this, but for an open group.
 fn shows(alloc: Global, machine: &mut PlainMachine, shown: &Shown) -> Result<bool, Fault> {
     if log_text(alloc, machine)?.as_slice() != shown.log.as_slice() {
         return Ok(false);
     }
-    let plain = show(alloc, machine)?;
-    Ok(plain.trees.as_slice() == shown.trees.as_slice())
+    Ok(show(alloc, machine)?.has_same_history(shown))
 }
 
 fn is_sync(call: &Call) -> bool {

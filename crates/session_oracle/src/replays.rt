@@ -1,5 +1,5 @@
 //! The plain machine after the calls that it accepted.
-use crate::shows::log_text;
+use crate::shows::{log_text, working_text};
 use fs_types::{Call, Fault, MAX_OPEN_FILES, MAX_VERSIONS, MIN_VERSIONS};
 use plain_machine::{PlainMachine, Space};
 use std::alloc::Global;
@@ -9,7 +9,7 @@ use std::alloc::Global;
 pub enum Step<'a> {
     /// A call that was accepted.
     Call(&'a Call),
-    /// A restart, after which no file is open.
+    /// A restart, after which no file and no change group is open.
     Restart,
 }
 
@@ -35,7 +35,10 @@ pub fn replay(alloc: Global, machine: &mut PlainMachine, step: Step<'_>) -> Resu
             Ok(_) => Ok(()),
             Err(fault) => Err(fault),
         },
-        Step::Restart => close_all(alloc, machine),
+        Step::Restart => {
+            close_all(alloc, machine)?;
+            abandon(alloc, machine)
+        }
     }
 }
 
@@ -48,6 +51,14 @@ fn close_all(alloc: Global, machine: &mut PlainMachine) -> Result<(), Fault> {
         }
     }
     Ok(())
+}
+
+/// Gives up the change group, if one is open.
+fn abandon(alloc: Global, machine: &mut PlainMachine) -> Result<(), Fault> {
+    match machine.step(alloc, NO_SPACE, &Call::Abandon) {
+        Ok(_) | Err(Fault::NoGroup) => Ok(()),
+        Err(fault) => Err(fault),
+    }
 }
 
 /// The machine after these steps.
@@ -63,15 +74,17 @@ pub fn replay_all(
     Ok(machine)
 }
 
-/// Whether a call is accepted by a machine, which is not used any more; and whether its history is
-/// another then.
+/// Whether a call is accepted by a machine, which is not used any more; and whether its history, or the
+/// tree that calls work on, is another then.
 pub fn accepts(
     alloc: Global,
     machine: &mut PlainMachine,
     call: &Call,
 ) -> Result<(bool, bool), Fault> {
-    let before = log_text(alloc, machine)?;
+    let history = log_text(alloc, machine)?;
+    let tree = working_text(alloc, machine)?;
     let is_accepted = machine.step(alloc, NO_SPACE, call).is_ok();
-    let after = log_text(alloc, machine)?;
-    Ok((is_accepted, before.as_slice() != after.as_slice()))
+    let is_change = log_text(alloc, machine)?.as_slice() != history.as_slice()
+        || working_text(alloc, machine)?.as_slice() != tree.as_slice();
+    Ok((is_accepted, is_change))
 }

@@ -1,4 +1,5 @@
-//! All that a system shows: its history, and the tree of each version and checkpoint.
+//! All that a system shows: its history, the tree of each version and checkpoint, and the one that calls
+//! work on.
 use crate::texts::answer_of;
 use crate::trees::{Root, Walk, show_tree};
 use flash_model::{Flash, SimFlash};
@@ -47,11 +48,18 @@ pub struct Shown {
     pub log: Vec<u8>,
     /// What is printed for each path of each version and checkpoint, with the bytes of each file.
     pub trees: Vec<u8>,
+    /// What is printed so for the tree that calls work on: in a change group the group's.
+    pub working: Vec<u8>,
 }
 
 impl Shown {
     /// Whether two systems show the same.
     pub fn is_same(&self, other: &Shown) -> bool {
+        self.has_same_history(other) && self.working.as_slice() == other.working.as_slice()
+    }
+
+    /// Whether two systems show the same but for an open group, which no history holds.
+    pub fn has_same_history(&self, other: &Shown) -> bool {
         self.log.as_slice() == other.log.as_slice()
             && self.trees.as_slice() == other.trees.as_slice()
     }
@@ -77,6 +85,7 @@ pub fn show_some<S: Shows>(alloc: Global, system: &mut S, extent: Extent) -> Res
     let mut shown = Shown {
         log: Vec::new(alloc),
         trees: Vec::new(alloc),
+        working: show_working(alloc, system, extent)?,
     };
     print_answer(&mut shown.log, &answer)?;
     let mut walk = Walk {
@@ -86,6 +95,23 @@ pub fn show_some<S: Shows>(alloc: Global, system: &mut S, extent: Extent) -> Res
     };
     show_trees(alloc, &mut walk, &answer)?;
     Ok(shown)
+}
+
+/// What is printed for the tree that calls work on, so much of it.
+fn show_working<S: Shows>(alloc: Global, system: &mut S, extent: Extent) -> Result<Vec<u8>, Fault> {
+    let mut working = Vec::new(alloc);
+    let mut walk = Walk {
+        system,
+        extent,
+        out: &mut working,
+    };
+    show_tree(alloc, &mut walk, Root::Working)?;
+    Ok(working)
+}
+
+/// What is printed for the tree that calls work on.
+pub fn working_text<S: Shows>(alloc: Global, system: &mut S) -> Result<Vec<u8>, Fault> {
+    show_working(alloc, system, WHOLE)
 }
 
 /// What is printed for the history of a system.

@@ -7,6 +7,8 @@ use std::alloc::{AllocError, Global};
 /// Whose tree is shown.
 #[derive(Clone, Copy)]
 pub enum Root<'a> {
+    /// That which calls work on: the open group's, else the present one.
+    Working,
     /// That of the version with this serial.
     Serial(u64),
     /// That of the checkpoint with this name.
@@ -16,6 +18,7 @@ pub enum Root<'a> {
 impl Root<'_> {
     fn view(self) -> Result<View, AllocError> {
         match self {
+            Root::Working => Ok(View::Present),
             Root::Serial(serial) => Ok(View::Serial(serial)),
             Root::Checkpoint(name) => Ok(View::Checkpoint(name.clone()?)),
         }

@@ -1,6 +1,7 @@
 //! The plain machine after the calls that it accepted.
+use crate::beginnings::Beginning;
 use crate::shows::log_text;
-use fs_types::{Call, Fault, MAX_OPEN_FILES, MAX_VERSIONS, MIN_VERSIONS};
+use fs_types::{Call, Fault, MAX_OPEN_FILES};
 use plain_machine::{PlainMachine, Space};
 use std::alloc::Global;
 
@@ -19,14 +20,6 @@ const NO_SPACE: Space = Space {
     free: 0,
     anchors: 0,
 };
-
-/// A machine that keeps so many versions, 2 to 64.
-pub fn fresh(alloc: Global, history: usize) -> Result<PlainMachine, Fault> {
-    if history < usize::from(MIN_VERSIONS) || usize::from(MAX_VERSIONS) < history {
-        return Err(Fault::Invalid);
-    }
-    PlainMachine::new(alloc, history)
-}
 
 /// Carries out a step on a machine.
 pub fn replay(alloc: Global, machine: &mut PlainMachine, step: Step<'_>) -> Result<(), Fault> {
@@ -53,25 +46,25 @@ fn close_all(alloc: Global, machine: &mut PlainMachine) -> Result<(), Fault> {
 /// The machine after these steps.
 pub fn replay_all(
     alloc: Global,
-    history: usize,
+    beginning: &Beginning,
     steps: &[Step<'_>],
 ) -> Result<PlainMachine, Fault> {
-    let mut machine = fresh(alloc, history)?;
+    let mut machine = beginning.machine(alloc)?;
     for step in steps {
         replay(alloc, &mut machine, *step)?;
     }
     Ok(machine)
 }
 
-/// Whether a call is accepted by a machine, which is not used any more; and whether its history is
-/// another then.
-pub fn accepts(
+/// What a machine, which is not used any more, refuses a call for, if it does; and whether its history
+/// is another after the call.
+pub fn try_call(
     alloc: Global,
     machine: &mut PlainMachine,
     call: &Call,
-) -> Result<(bool, bool), Fault> {
+) -> Result<(Option<Fault>, bool), Fault> {
     let before = log_text(alloc, machine)?;
-    let is_accepted = machine.step(alloc, NO_SPACE, call).is_ok();
+    let refusal = machine.step(alloc, NO_SPACE, call).err();
     let after = log_text(alloc, machine)?;
-    Ok((is_accepted, before.as_slice() != after.as_slice()))
+    Ok((refusal, before.as_slice() != after.as_slice()))
 }

@@ -122,23 +122,21 @@ impl<R: Drop> History<R> {
             None => Err(Fault::NoSuchVersion),
         }
     }
-}
 
-impl<R: Copy> History<R> {
     /// The history of these parts, with room for one version more than `limit`.
     pub fn restore(
         alloc: Global,
-        versions: &[Version<R>],
+        versions: Vec<Version<R>>,
         cursor: usize,
         dropped: bool,
         next: u64,
         checkpoints: BTreeMap<CpName, R>,
         limit: usize,
     ) -> Result<Self, AllocError>
-        requires { IsKept (record { versions = versions.now; cursor = cursor; dropped = dropped; next = next; checkpoints = checkpoints.entries; limit = limit }) }
-        ensures { IfOk result (λ history. history ≡ record { versions = versions.now; cursor = cursor; dropped = dropped; next = next; checkpoints = checkpoints.entries; limit = limit }) }
+        requires { IsKept (record { versions = versions.items; cursor = cursor; dropped = dropped; next = next; checkpoints = checkpoints.entries; limit = limit }) }
+        ensures { IfOk result (λ history. history ≡ record { versions = versions.items; cursor = cursor; dropped = dropped; next = next; checkpoints = checkpoints.entries; limit = limit }) }
     {
-        let versions = copy_versions(alloc, versions, limit)?;
+        let versions = with_room(alloc, versions, limit)?;
         Ok(History {
             versions,
             cursor,
@@ -189,21 +187,21 @@ impl<R> History<R> {
 }
 
 /// These versions, with room for one more than `limit`.
-fn copy_versions<R: Copy>(
+fn with_room<R: Drop>(
     alloc: Global,
-    saved: &[Version<R>],
+    versions: Vec<Version<R>>,
     limit: usize,
 ) -> Result<Vec<Version<R>>, AllocError>
-    requires few { length saved.now ≤ limit }
+    requires few { vec_len versions ≤ limit }
     requires at_most { limit ≤ MAX_VERSIONS }
-    ensures items { IfOk result (λ versions. versions.items ≡ saved.now) }
-    ensures room { IfOk result (λ versions. vec_capacity versions ≡ limit + 1) }
+    ensures items { IfOk result (λ kept. kept.items ≡ versions.items) }
+    ensures room { IfOk result (λ kept. vec_capacity kept ≡ limit + 1) }
 {
-    let mut versions = Vec::with_capacity(alloc, limit + 1)?;
-    for version in saved {
-        versions.push_reserved(*version);
+    let mut kept = Vec::with_capacity(alloc, limit + 1)?;
+    for version in versions {
+        kept.push_reserved(version);
     }
-    Ok(versions)
+    Ok(kept)
 }
 
 fn drop_oldest<R: Drop>(versions: &mut Vec<Version<R>>, count: usize)

@@ -1,3 +1,4 @@
 pub mod Beneath
 pub mod Entries
+pub mod Restored
 pub mod Ways

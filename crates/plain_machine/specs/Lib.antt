@@ -1,3 +1,4 @@
 pub mod Codes
 pub mod Plain
+pub mod Restoring
 pub mod Spaces

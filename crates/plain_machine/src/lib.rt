@@ -7,10 +7,13 @@ mod machines;
 mod maps;
 mod names;
 mod nodes;
+mod parts;
 mod refusals;
 mod replies;
 mod spaces;
 mod trees;
 
 pub use machines::PlainMachine;
+pub use nodes::Node;
 pub use spaces::Space;
+pub use trees::Tree;

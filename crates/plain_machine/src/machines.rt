@@ -1,23 +1,26 @@
 //! The machine, and its step.
-ghost use Rattle.std.specs.Prelude.{◌≡◌, ◌≤◌, Some, None, IfOk, IfErr, OnOk, OnErr};
+ghost use Rattle.std.specs.Prelude.{◌≡◌, ◌≤◌, true, false, Some, None, IfOk, IfErr, IsErrOf, OnOk, OnErr};
 ghost use Rattle.plain_trees.specs.Trees.{bare};
 ghost use Rattle.history_machine.specs.History.{fresh};
 ghost use Rattle.history_machine.specs.Machine as machine;
 ghost use Rattle.fs_types.specs.declared.limits.TheConstants.{MAX_VERSIONS};
 ghost use Rattle.fs_types.specs.declared.faults.Fault.{Fault};
+ghost use Rattle.plain_machine.specs.Restoring.{history_with, is_history};
 ghost use Rattle.plain_machine.specs.Plain.{HasSerial, IsPlainStep};
 ghost use Rattle.plain_machine.specs.Spaces.{space_of};
 ghost use Rattle.history_machine.specs.Machine.{machine_with};
 
 use crate::groups::adopt;
+use crate::parts::history_of;
 use crate::refusals::refusal;
 use crate::spaces::Space;
 use crate::trees::Tree;
 use crate::{effects, replies};
-use fs_types::{Call, Fault, Group, Reply};
+use fs_types::{Call, CpName, Fault, Group, Reply, Version};
 use history::History;
 use open_files::OpenFiles;
 use std::alloc::Global;
+use std::collections::BTreeMap;
 use std::marker::Model;
 
 /// A whole file system in memory: a history of trees, the change group that is open, if one is, and the
@@ -50,6 +53,30 @@ impl PlainMachine {
     {
         Ok(PlainMachine {
             history: History::new(alloc, limit, Tree::bare(alloc)?)?,
+            group: None,
+            files: OpenFiles::new(),
+        })
+    }
+
+    /// A system with a history of these parts, and no open file. [`Fault::Invalid`] where no system
+    /// may keep it: `limit` is 2 to 64, there are no more versions than that, their serials ascend from
+    /// 1 on below the next one, `cursor` is the place of one of them, and there are at most 16
+    /// checkpoints. Else [`Fault::NoMemory`].
+    pub fn restore(
+        alloc: Global,
+        versions: Vec<Version<Tree>>,
+        cursor: usize,
+        dropped: bool,
+        next: u64,
+        checkpoints: BTreeMap<CpName, Tree>,
+        limit: usize,
+    ) -> Result<PlainMachine, Fault>
+        ensures machine { IfOk result (λ m. m ≡ machine.mounted (history_with versions.items cursor dropped next checkpoints.entries limit)) }
+        ensures kept { OnOk result (is_history (history_with versions.items cursor dropped next checkpoints.entries limit) ≡ true) }
+        ensures invalid { IsErrOf result Fault.Invalid → is_history (history_with versions.items cursor dropped next checkpoints.entries limit) ≡ false }
+    {
+        Ok(PlainMachine {
+            history: history_of(alloc, versions, cursor, dropped, next, checkpoints, limit)?,
             group: None,
             files: OpenFiles::new(),
         })

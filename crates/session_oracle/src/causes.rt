@@ -12,6 +12,8 @@ pub struct Causes {
     pub full: bool,
     /// Read-only mode is on.
     pub read_only: bool,
+    /// The newest record may have the greatest sequence.
+    pub no_sequence: bool,
 }
 
 impl Causes {
@@ -22,6 +24,7 @@ impl Causes {
             Fault::ReadFailed => self.read_failure,
             Fault::FlashFull => self.full,
             Fault::ReadOnly => self.read_only,
+            Fault::Overflow => self.no_sequence,
             _ => false,
         }
     }

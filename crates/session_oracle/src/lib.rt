@@ -3,6 +3,7 @@
 //! scripts as files give them, whose lines are the events.
 #![tactic(auto)]
 
+mod beginnings;
 mod causes;
 mod images;
 mod needs;
@@ -13,6 +14,7 @@ mod shows;
 mod texts;
 mod trees;
 
+pub use beginnings::Beginning;
 pub use causes::Causes;
 pub use images::{flash_of, new_image};
 pub use needs::{has_fewer_free, is_full_before, need};

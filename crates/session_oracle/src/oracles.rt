@@ -1,6 +1,7 @@
 //! The oracle of a session.
+use crate::beginnings::Beginning;
 use crate::causes::Causes;
-use crate::replays::{Step, accepts, fresh, replay, replay_all};
+use crate::replays::{Step, replay, replay_all, try_call};
 use crate::shows::{Shown, log_text, show};
 use crate::texts::{answer_of, text_of};
 use fs_types::{Answer, Call, Event, Fault, Reply};
@@ -21,7 +22,7 @@ enum Seat {
 /// where none came since. None of them holds a change group: a restart ends the one that is open.
 #[derive(Drop)]
 pub struct Oracle<'a> {
-    history: usize,
+    beginning: Beginning,
     machine: PlainMachine,
     steps: Vec<Step<'a>>,
     /// How many of the steps every restart keeps.
@@ -33,12 +34,21 @@ impl<'a> Oracle<'a> {
     /// The oracle of a session on a new file system that keeps so many versions. No system is mounted.
     /// [`Fault::Invalid`] for a number of versions that no file system has.
     pub fn new(alloc: Global, history: usize) -> Result<Oracle<'a>, Fault> {
+        Oracle::with(alloc, Beginning::fresh(alloc, history)?, Seat::Unmounted)
+    }
+
+    /// The oracle of a session on a system that is mounted, and shows this.
+    pub fn mounted(alloc: Global, beginning: Beginning) -> Result<Oracle<'a>, Fault> {
+        Oracle::with(alloc, beginning, Seat::Mounted)
+    }
+
+    fn with(alloc: Global, beginning: Beginning, seat: Seat) -> Result<Oracle<'a>, Fault> {
         Ok(Oracle {
-            history,
-            machine: fresh(alloc, history)?,
+            machine: beginning.machine(alloc)?,
+            beginning,
             steps: Vec::new(alloc),
             saved: 0,
-            seat: Seat::Unmounted,
+            seat,
         })
     }
 
@@ -104,8 +114,8 @@ impl<'a> Oracle<'a> {
     }
 
     /// Whether an event may be refused so for a cause that there is. Nothing changes, but for the power.
-    /// A full flash, and read-only mode, refuse only what the plain machine accepts, and a full flash
-    /// only what changes the tree.
+    /// A full flash, read-only mode and the greatest sequence refuse only what the plain machine accepts,
+    /// or finds no serial for, and a full flash only what changes a tree or the history.
     fn judge_refusal(
         &mut self,
         alloc: Global,
@@ -119,9 +129,13 @@ impl<'a> Oracle<'a> {
             }
             (Fault::ReadFailed, _) => Ok(true),
             (_, Event::Call(call)) => {
-                let (is_accepted, is_change) = accepts(alloc, &mut self.machine, call)?;
-                self.machine = replay_all(alloc, self.history, &self.steps)?;
-                Ok(is_accepted && (is_change || !matches!(fault, Fault::FlashFull)))
+                let (refusal, is_change) = try_call(alloc, &mut self.machine, call)?;
+                self.machine = replay_all(alloc, &self.beginning, &self.steps)?;
+                Ok(match refusal {
+                    Some(Fault::Overflow) => fault != Fault::FlashFull,
+                    Some(own) => fault == own,
+                    None => is_change || may_refuse_others(fault, call),
+                })
             }
             _ => Ok(false),
         }
@@ -146,7 +160,7 @@ impl<'a> Oracle<'a> {
 
     /// After how many of the steps, those that every restart keeps among them, this is shown.
     fn find(&self, alloc: Global, shown: &Shown) -> Result<Option<usize>, Fault> {
-        let mut machine = fresh(alloc, self.history)?;
+        let mut machine = self.beginning.machine(alloc)?;
         if self.saved == 0 && shows(alloc, &mut machine, shown)? {
             return Ok(Some(0));
         }
@@ -166,7 +180,7 @@ impl<'a> Oracle<'a> {
         self.steps.truncate(count);
         self.steps.push(Step::Restart)?;
         self.saved = self.steps.len();
-        self.machine = replay_all(alloc, self.history, &self.steps)?;
+        self.machine = replay_all(alloc, &self.beginning, &self.steps)?;
         self.seat = Seat::Mounted;
         Ok(())
     }
@@ -178,6 +192,24 @@ fn shows(alloc: Global, machine: &mut PlainMachine, shown: &Shown) -> Result<boo
         return Ok(false);
     }
     Ok(show(alloc, machine)?.has_same_history(shown))
+}
+
+/// Whether a call that makes no version may be refused so: all that is kept by a record in read-only
+/// mode, and a commit after the greatest sequence.
+fn may_refuse_others(fault: Fault, call: &Call) -> bool {
+    match fault {
+        Fault::ReadOnly => is_sync(call) || keeps(call),
+        Fault::Overflow => is_sync(call),
+        _ => false,
+    }
+}
+
+/// Whether a call makes no version, but changes what is kept.
+fn keeps(call: &Call) -> bool {
+    matches!(
+        call,
+        Call::Forget { .. } | Call::Checkpoint { .. } | Call::RemoveCheckpoint { .. }
+    )
 }
 
 fn is_sync(call: &Call) -> bool {

@@ -1,6 +1,7 @@
 //! The plain machine after the calls that it accepted.
+use crate::beginnings::Beginning;
 use crate::shows::{log_text, working_text};
-use fs_types::{Call, Fault, MAX_OPEN_FILES, MAX_VERSIONS, MIN_VERSIONS};
+use fs_types::{Call, Fault, MAX_OPEN_FILES};
 use plain_machine::{PlainMachine, Space};
 use std::alloc::Global;
 
@@ -19,14 +20,6 @@ const NO_SPACE: Space = Space {
     free: 0,
     anchors: 0,
 };
-
-/// A machine that keeps so many versions, 2 to 64.
-pub fn fresh(alloc: Global, history: usize) -> Result<PlainMachine, Fault> {
-    if history < usize::from(MIN_VERSIONS) || usize::from(MAX_VERSIONS) < history {
-        return Err(Fault::Invalid);
-    }
-    PlainMachine::new(alloc, history)
-}
 
 /// Carries out a step on a machine.
 pub fn replay(alloc: Global, machine: &mut PlainMachine, step: Step<'_>) -> Result<(), Fault> {
@@ -64,27 +57,27 @@ fn abandon(alloc: Global, machine: &mut PlainMachine) -> Result<(), Fault> {
 /// The machine after these steps.
 pub fn replay_all(
     alloc: Global,
-    history: usize,
+    beginning: &Beginning,
     steps: &[Step<'_>],
 ) -> Result<PlainMachine, Fault> {
-    let mut machine = fresh(alloc, history)?;
+    let mut machine = beginning.machine(alloc)?;
     for step in steps {
         replay(alloc, &mut machine, *step)?;
     }
     Ok(machine)
 }
 
-/// Whether a call is accepted by a machine, which is not used any more; and whether its history, or the
-/// tree that calls work on, is another then.
-pub fn accepts(
+/// What a machine, which is not used any more, refuses a call for, if it does; and whether its history,
+/// or the tree that calls work on, is another after the call.
+pub fn try_call(
     alloc: Global,
     machine: &mut PlainMachine,
     call: &Call,
-) -> Result<(bool, bool), Fault> {
+) -> Result<(Option<Fault>, bool), Fault> {
     let history = log_text(alloc, machine)?;
     let tree = working_text(alloc, machine)?;
-    let is_accepted = machine.step(alloc, NO_SPACE, call).is_ok();
+    let refusal = machine.step(alloc, NO_SPACE, call).err();
     let is_change = log_text(alloc, machine)?.as_slice() != history.as_slice()
         || working_text(alloc, machine)?.as_slice() != tree.as_slice();
-    Ok((is_accepted, is_change))
+    Ok((refusal, is_change))
 }

@@ -16,7 +16,7 @@ pub enum Root<'a> {
 }
 
 impl Root<'_> {
-    fn view(self) -> Result<View, AllocError> {
+    pub fn view(self) -> Result<View, AllocError> {
         match self {
             Root::Working => Ok(View::Present),
             Root::Serial(serial) => Ok(View::Serial(serial)),
@@ -112,7 +112,7 @@ fn show_file<S: Shows>(
 }
 
 /// The spelling of an entry of a directory. That of the root is empty here.
-fn below(alloc: Global, directory: &[u8], name: &Name) -> Result<Vec<u8>, AllocError> {
+pub fn below(alloc: Global, directory: &[u8], name: &Name) -> Result<Vec<u8>, AllocError> {
     let mut path = Vec::new(alloc);
     path.extend_from_slice(directory)?;
     path.push(b'/')?;
@@ -120,7 +120,8 @@ fn below(alloc: Global, directory: &[u8], name: &Name) -> Result<Vec<u8>, AllocE
     Ok(path)
 }
 
-fn path_of(alloc: Global, spelling: &[u8]) -> Result<Path, Fault> {
+/// The path of a spelling. That of the root is empty here.
+pub fn path_of(alloc: Global, spelling: &[u8]) -> Result<Path, Fault> {
     if spelling.is_empty() {
         return Ok(Path::root(alloc));
     }

@@ -39,9 +39,10 @@ pub(crate) fn restore_history(alloc: Global, saved: &Record) -> Result<History<u
     ensures named { IfOk result (λ history. IsStrictlySortedBy name_cmp (map (λ e. e.0) history.checkpoints)) }
 {
     let checkpoints = checkpoints_of(alloc, saved.checkpoints.as_slice())?;
+    let versions = saved.versions.as_slice().to_vec(alloc)?;
     History::restore(
         alloc,
-        saved.versions.as_slice(),
+        versions,
         saved.cursor as usize,
         saved.dropped,
         saved.next,

@@ -1,8 +1,9 @@
 //! The load: a system on a flash, and the plain machine beside it.
 use crate::mounted::{HISTORY, Mounted, Taken};
 use anyhow::{Result, bail, ensure};
+use bitflags::Flags;
 use flash_model::FaultKind;
-use fs_types::{Answer, Call, Fault, Path, Reply, Stat, View};
+use fs_types::{Answer, Call, Fault, OpenFlags, Path, Reply, Stat, View};
 use plain_machine::{PlainMachine, Space};
 use script::{Line, LineAnswer, print_answer, read_line};
 use std::alloc::Global;
@@ -116,10 +117,11 @@ impl Load {
         self.ask_with_room(alloc, &call)
     }
 
-    /// Asks a call, and once more after all older versions are forgotten if it finds the flash full.
+    /// Asks a call, and once more after all older versions are forgotten if it finds the flash full. In a
+    /// change group none is forgotten.
     fn ask_with_room(&mut self, alloc: Global, call: &Call) -> Result<()> {
         if !self.ask(alloc, call)? {
-            let (_, older) = self.log(alloc)?;
+            let older = self.older_versions(alloc)?;
             self.forget(alloc, older)?;
             self.ask(alloc, call)?;
         }
@@ -158,32 +160,18 @@ impl Load {
             self.check_full(alloc, need, taken)?;
             return Ok(false);
         }
-        let makes_version = self.compare(alloc, call, answer)?;
-        self.check_taken(if makes_version { need } else { 0 }, taken)?;
+        let is_accepted = answer.is_ok();
+        self.compare(alloc, call, answer)?;
+        self.check_taken(if is_accepted { need } else { 0 }, taken)?;
         Ok(true)
     }
 
-    /// Asks the plain machine too, and compares what is printed for both answers. Whether the call
-    /// made a version.
-    fn compare(
-        &mut self,
-        alloc: Global,
-        call: &Call,
-        answer: Result<Reply, Fault>,
-    ) -> Result<bool> {
+    /// Asks the plain machine too, and compares what is printed for both answers.
+    fn compare(&mut self, alloc: Global, call: &Call, answer: Result<Reply, Fault>) -> Result<()> {
         self.counts.add_answer(answer.is_ok());
         let flash = text_of(alloc, answer)?;
-        self.compare_text(alloc, call, flash.as_str())
-    }
-
-    /// Asks the plain machine, whose answer has to be printed as this text. Whether the call made a
-    /// version.
-    fn compare_text(&mut self, alloc: Global, call: &Call, flash: &str) -> Result<bool> {
-        let (before, _) = self.log(alloc)?;
         let plain = text_of(alloc, self.plain.step(alloc, NO_SPACE, call))?;
-        check_same(flash, plain.as_str())?;
-        let (after, _) = self.log(alloc)?;
-        Ok(before != after)
+        check_same(flash.as_str(), plain.as_str())
     }
 
     /// A full flash has fewer free blocks than the call needs and than went bad in it. It left the
@@ -225,38 +213,69 @@ impl Load {
         Ok(free)
     }
 
-    /// The next serial, and how many versions lie before the present one.
-    fn log(&mut self, alloc: Global) -> Result<(u64, u64)> {
+    /// How many versions lie before the present one.
+    fn older_versions(&mut self, alloc: Global) -> Result<u64> {
         match self.plain.step(alloc, NO_SPACE, &Call::Log)? {
-            Reply::Log { next, cursor, .. } => Ok((next, cursor)),
+            Reply::Log { cursor, .. } => Ok(cursor),
             _ => bail!("no answer to log"),
         }
     }
 
-    /// The nodes that a call writes at most where it makes a version: each directory from the root to
-    /// what changes, the new one of `mkdir`, and of a file those from the first that changes on.
+    /// The nodes that an accepted call writes at most: none where it changes no tree, else one for each
+    /// directory from the root to what changes, the new one of `mkdir`, and of a file those from the
+    /// first that changes on.
     fn need(&mut self, alloc: Global, call: &Call) -> Result<u64> {
         let need = match call {
             Call::Mkdir { path } => depth(path).saturating_add(1),
-            Call::Open { path, .. } | Call::Rmdir { path } | Call::Unlink { path } => depth(path),
-            Call::Rename { old, new } => depth(old).saturating_add(depth(new)),
+            Call::Open { path, flags } => self.open_need(alloc, path, *flags)?,
+            Call::Rmdir { path } | Call::Unlink { path } => depth(path),
+            Call::Rename { old, new } if old != new => depth(old).saturating_add(depth(new)),
             Call::Pwrite {
                 descriptor,
                 offset,
                 bytes,
-            } => {
-                let end = offset.saturating_add(bytes.as_slice().len() as u64);
-                let (depth, old) = self.open_file(alloc, *descriptor)?;
-                body(*offset.min(&old), end.max(old)).saturating_add(depth)
-            }
+            } => self.pwrite_need(alloc, *descriptor, *offset, bytes.as_slice().len() as u64)?,
             Call::Ftruncate { descriptor, length } => {
-                let (depth, old) = self.open_file(alloc, *descriptor)?;
-                let nodes = if old < *length { body(old, *length) } else { 0 };
-                nodes.saturating_add(depth)
+                self.ftruncate_need(alloc, *descriptor, *length)?
             }
             _ => 0,
         };
         Ok(need)
+    }
+
+    /// An open changes what is missing, and a file with bytes that it cuts.
+    fn open_need(&mut self, alloc: Global, path: &Path, flags: OpenFlags) -> Result<u64> {
+        match self.stat(alloc, path.clone()?) {
+            Ok(Reply::Stat(Stat::File(length)))
+                if length == 0 || !flags.contains(OpenFlags::TRUNC) => Ok(0),
+            _ => Ok(depth(path)),
+        }
+    }
+
+    /// The nodes that so many bytes at an offset write.
+    fn pwrite_need(
+        &mut self,
+        alloc: Global,
+        descriptor: u64,
+        offset: u64,
+        count: u64,
+    ) -> Result<u64> {
+        if count == 0 {
+            return Ok(0);
+        }
+        let end = offset.saturating_add(count);
+        let (depth, old) = self.open_file(alloc, descriptor)?;
+        Ok(body(offset.min(old), end.max(old)).saturating_add(depth))
+    }
+
+    /// The nodes that another length writes.
+    fn ftruncate_need(&mut self, alloc: Global, descriptor: u64, length: u64) -> Result<u64> {
+        let (depth, old) = self.open_file(alloc, descriptor)?;
+        if old == length {
+            return Ok(0);
+        }
+        let nodes = if old < length { body(old, length) } else { 0 };
+        Ok(nodes.saturating_add(depth))
     }
 
     /// The depth and the length of an open file; zeros where none is open.

@@ -12,6 +12,9 @@ const WRITING: [&str; 4] = [
     "ftruncate 0 AT",
 ];
 
+/// Lines that end a change group.
+const ENDING: [&str; 3] = ["end", "end", "abandon"];
+
 /// Other lines: `N` stands for the name of a checkpoint.
 const OTHER: [&str; 26] = [
     "mkdir D",
@@ -48,6 +51,9 @@ pub struct Plan {
     state: u64,
     /// How many lines come up to the close of the open file.
     open_lines: u64,
+    /// How many lines come up to the end of the open change group, those in which a file is open at its
+    /// end left out.
+    group_lines: u64,
 }
 
 impl Plan {
@@ -56,6 +62,7 @@ impl Plan {
         Plan {
             state: 2026,
             open_lines: 0,
+            group_lines: 0,
         }
     }
 
@@ -75,8 +82,8 @@ impl Plan {
         Ok(line)
     }
 
-    /// The next form: while a file is open each second one or so writes it. Each thousandth goes back
-    /// to the empty tree, so that the tree does not fill the flash for good; no file is open then.
+    /// The next form. Each thousandth goes back to the empty tree, so that the tree does not fill the
+    /// flash for good; no file and no group is open then.
     fn next_form(&mut self, place: u64) -> &'static str {
         self.open_lines = self.open_lines.saturating_sub(1);
         if place == 0 {
@@ -85,12 +92,34 @@ impl Plan {
         if self.open_lines == 1 {
             return "close 0";
         }
-        if self.open_lines > 1 && self.below(2) == 0 {
+        if self.open_lines > 1 {
+            return self.open_form();
+        }
+        self.closed_form(place)
+    }
+
+    /// The next form while a file is open: each second one or so writes it.
+    fn open_form(&mut self) -> &'static str {
+        if self.below(2) == 0 {
             return self.pick(&WRITING);
         }
-        if self.open_lines == 0 && place < 980 && self.below(6) == 0 {
+        self.pick(&OTHER)
+    }
+
+    /// The next form while no file is open.
+    fn closed_form(&mut self, place: u64) -> &'static str {
+        let in_group = self.group_lines > 0;
+        self.group_lines = self.group_lines.saturating_sub(1);
+        if in_group && self.group_lines == 0 {
+            return self.pick(&ENDING);
+        }
+        if place < 980 && self.below(6) == 0 {
             self.open_lines = self.below(10).saturating_add(2);
             return self.pick(&OPENING);
+        }
+        if !in_group && place < 750 && self.below(30) == 0 {
+            self.group_lines = self.below(20).saturating_add(1);
+            return "begin";
         }
         self.pick(&OTHER)
     }

@@ -15,11 +15,11 @@ const STEP: usize = 16;
 const MOST_BUDGETS: usize = 16_384;
 
 /// The first words of the lines that want none, and are never refused for it.
-const FREE: [&str; 4] = ["undo", "redo", "goto", "close"];
+const FREE: [&str; 7] = ["undo", "redo", "goto", "close", "begin", "end", "abandon"];
 
 /// Scripts, each with the number of blocks of its flash and its lines. The third is cut by no fault here,
-/// the fourth fills its flash, and the last has the calls that the others lack.
-const SCRIPTS: [(u32, &str); 5] = [
+/// the fourth fills its flash, the next has the calls that the others lack, and the last change groups.
+const SCRIPTS: [(u32, &str); 6] = [
     (32, "mkdir /a|undo|ls /|redo|ls /"),
     (32, "open /f 7|pwrite 0 5000 41|stat /f|pread 0 4999 9|df"),
     (32, "mkdir /a|sync|mkdir /b|sync|ls /"),
@@ -30,6 +30,10 @@ const SCRIPTS: [(u32, &str); 5] = [
     (
         64,
         "mkdir /a|open /a/f 7|pwrite 0 0 616263|ftruncate 0 2|fsync 0|close 0|rename /a/f /g|checkpoint v|read /g 0 9|unlink /g|rmdir /a|goto 3|ls /a|reclaim 2|reclaim 99|rollback v|forget 2|rmcheckpoint v|log|df|sync",
+    ),
+    (
+        16,
+        "mkdir /a|begin|mkdir /b|ls /|abandon|begin|open /f 7|pwrite 0 0 61|sync|close 0|ls / @1|mkdir /c|mkdir /d|ls /|end|undo|begin|end|redo|ls /|begin|mkdir /e",
     ),
 ];
 

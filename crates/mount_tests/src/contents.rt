@@ -219,8 +219,13 @@ fn record_with(alloc: Global, anchor: u32, place: usize, byte: u8) -> Result<Sim
     if let Some(changed) = record.get_mut(place) {
         *changed = byte;
     }
+    put_record(alloc, anchor, &record)
+}
+
+/// A formatted flash with this record on an anchor.
+fn put_record(alloc: Global, anchor: u32, record: &[u8]) -> Result<SimFlash, Fault> {
     let mut flash = formatted(alloc, SIZES, 8)?;
-    put(alloc, &mut flash, anchor, &record)?;
+    put(alloc, &mut flash, anchor, record)?;
     Ok(flash)
 }
 
@@ -261,5 +266,25 @@ fn what_is_mounted_of_contents(rt: HostRuntime) -> Result<(), Fail> {
         let replies = told(rt.alloc(), &mut flash, script.as_bytes())?;
         assert_eq!(rt; replies.as_str(), wanted, "{script}");
     }
+    Ok(())
+}
+
+/// A formatted flash where the next serial is the greatest number there is, so that none is left.
+fn without_serials(alloc: Global) -> Result<SimFlash, Fault> {
+    let mut record = FRESH;
+    for byte in record.iter_mut().skip(48).take(8) {
+        *byte = 0xff;
+    }
+    put_record(alloc, 0, &record)
+}
+
+/// Without a serial a change is refused, and in a change group its end.
+#[test]
+fn a_group_wants_a_serial_at_its_end(rt: HostRuntime) -> Result<(), Fail> {
+    let mut flash = without_serials(rt.alloc())?;
+    let script = b"mkdir /a\nbegin\nmkdir /a\nend\nls /\nabandon\nls /\nbegin\nend\n";
+    let wanted =
+        "err EOVERFLOW 22\nok\nok\nerr EOVERFLOW 22\nentries 1 a/\nok\nentries 0\nok\nok\n";
+    assert_eq!(rt; told(rt.alloc(), &mut flash, script)?.as_str(), wanted);
     Ok(())
 }

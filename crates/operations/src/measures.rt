@@ -269,6 +269,24 @@ pub const MEASURES: &[Measure] = &[
         nodes: 0,
     },
     Measure {
+        name: "begin",
+        before: &["deep 4"],
+        call: "begin",
+        nodes: 0,
+    },
+    Measure {
+        name: "end of a group with four changes",
+        before: &["begin", "deep 4"],
+        call: "end",
+        nodes: 0,
+    },
+    Measure {
+        name: "abandon of a group with four changes",
+        before: &["begin", "deep 4"],
+        call: "abandon",
+        nodes: 0,
+    },
+    Measure {
         name: "sync of a record of one page",
         before: &["deep 4"],
         call: "sync",

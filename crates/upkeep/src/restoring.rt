@@ -31,6 +31,12 @@ fn checkpoints_of(alloc: Global, saved: &[Checkpoint]) -> Result<BTreeMap<CpName
     Ok(checkpoints)
 }
 
+fn copy_versions(alloc: Global, saved: &[Version<u32>]) -> Result<Vec<Version<u32>>, AllocError>
+    ensures { IfOk result (λ versions. versions.items ≡ saved.now) }
+{
+    saved.iter().copied().collect(alloc)
+}
+
 /// The history that a record holds.
 pub(crate) fn restore_history(alloc: Global, saved: &Record) -> Result<History<u32>, AllocError>
     requires { is_record saved.now ≡ true }
@@ -39,7 +45,7 @@ pub(crate) fn restore_history(alloc: Global, saved: &Record) -> Result<History<u
     ensures named { IfOk result (λ history. IsStrictlySortedBy name_cmp (map (λ e. e.0) history.checkpoints)) }
 {
     let checkpoints = checkpoints_of(alloc, saved.checkpoints.as_slice())?;
-    let versions = saved.versions.as_slice().to_vec(alloc)?;
+    let versions = copy_versions(alloc, saved.versions.as_slice())?;
     History::restore(
         alloc,
         versions,

@@ -4,7 +4,7 @@ use crate::budget::Budget;
 use flash_model::{Geometry, SimFlash};
 use fs_types::{Answer, Event, Fault};
 use session_oracle::{Causes, Oracle, event_of, is_full_before, serve_call, show_after_restart};
-use std::alloc::Global;
+use std::alloc::{AllocError, Global};
 use std::test::Fail;
 use undofs::{Fs, format, mount};
 
@@ -16,6 +16,29 @@ const MOST_BUDGETS: usize = 16_384;
 
 /// The first words of the lines that want none, and are never refused for it.
 const FREE: [&str; 7] = ["undo", "redo", "goto", "close", "begin", "end", "abandon"];
+
+/// The first words of the lines that take memory, and of what comes before each script: each is refused
+/// for want of it at least once.
+const TAKING: [&str; 18] = [
+    "mount",
+    "open",
+    "pread",
+    "pwrite",
+    "ftruncate",
+    "fsync",
+    "mkdir",
+    "rename",
+    "unlink",
+    "rmdir",
+    "stat",
+    "ls",
+    "read",
+    "checkpoint",
+    "log",
+    "df",
+    "reclaim",
+    "sync",
+];
 
 /// Scripts, each with the number of blocks of its flash and its lines. The third is cut by no fault here,
 /// the fourth fills its flash, the next has the calls that the others lack, and the last change groups.
@@ -29,7 +52,7 @@ const SCRIPTS: [(u32, &str); 6] = [
     ),
     (
         64,
-        "mkdir /a|open /a/f 7|pwrite 0 0 616263|ftruncate 0 2|fsync 0|close 0|rename /a/f /g|checkpoint v|read /g 0 9|unlink /g|rmdir /a|goto 3|ls /a|reclaim 2|reclaim 99|rollback v|forget 2|rmcheckpoint v|log|df|sync",
+        "mkdir /a|open /a/f 7|pwrite 0 0 616263|ftruncate 0 2|fsync 0|close 0|rename /a/f /g|checkpoint v|read /g 0 9|unlink /g|rmdir /a|goto 3|ls /a|stat /a @2|reclaim 2|reclaim 99|rollback v|forget 2|rmcheckpoint v|log|df|sync",
     ),
     (
         16,
@@ -150,6 +173,17 @@ fn ask_in_want<'a>(
     Err(Fault::NoMemory)
 }
 
+/// The words of lines that take memory and were never refused.
+fn never_of(alloc: Global, refused: &[&str]) -> Result<Vec<&'static str>, AllocError> {
+    let mut never = Vec::new(alloc);
+    for word in TAKING {
+        if !refused.contains(&word) {
+            never.push(word)?;
+        }
+    }
+    Ok(never)
+}
+
 #[test]
 fn want_of_memory_changes_nothing(rt: HostRuntime) -> Result<(), Fail> {
     let mut budget = Budget::new(rt.alloc())?;
@@ -162,7 +196,9 @@ fn want_of_memory_changes_nothing(rt: HostRuntime) -> Result<(), Fail> {
     }
     let is_bounded = budget.is_bounded;
     drop(budget);
-    assert!(rt; refused.is_empty() != is_bounded);
+    let never = never_of(rt.alloc(), &refused)?;
+    assert!(rt; never.is_empty() || !is_bounded, "never refused: {never:?}");
+    assert!(rt; refused.is_empty() || is_bounded);
     for word in FREE {
         assert!(rt; !refused.contains(&word), "{word}");
     }

@@ -4,6 +4,8 @@
 #[cfg(test)]
 mod contents;
 #[cfg(test)]
+mod counted;
+#[cfg(test)]
 mod mounts;
 #[cfg(test)]
 mod nodes;

@@ -1,6 +1,7 @@
-//! Verification of roots on a flash in memory: what it answers, what it marks, and how many reads it
-//! asks.
+//! Verification of roots on a flash in memory: what it answers, what it marks, and how many reads of
+//! nodes it asks.
 use crate::contents::ROWS;
+use crate::counted::Counted;
 use crate::nodes::{Content, put_all};
 use allocator::Marks;
 use bad_blocks::BadBlocks;
@@ -12,7 +13,7 @@ use reclaim::verify;
 use std::alloc::Global;
 use std::test::Fail;
 
-/// Blocks of one page, so that each node is one read of the flash.
+/// Blocks of one page, so that each node is one read of the flash where no node is kept.
 const SIZES: Geometry = Geometry {
     page: 4096,
     pages: 1,
@@ -39,14 +40,12 @@ fn told(alloc: Global, flash: &mut SimFlash, roots: &[u32]) -> Result<Outcome, F
     if !sizes.is_lawful() || sizes.blocks != 32 {
         return Err(Fault::BadGeometry);
     }
-    let before = flash.counts().reads;
     let cache = NodeCache::new(alloc, 1)?;
     let mut storage = Storage::unused(alloc, sizes, BadBlocks::new(), 31, cache)?;
-    let answer = {
-        let mut store = Store::new(flash, &mut storage);
-        verify(alloc, 32, &mut store, roots)
-    };
-    let reads = flash.counts().reads.saturating_sub(before);
+    let store = Store::new(flash, &mut storage);
+    let mut nodes = Counted::new(store);
+    let answer = verify(alloc, 32, &mut nodes, roots);
+    let reads = nodes.asked();
     match answer {
         Err(fault) => Ok(Outcome {
             fault: Some(fault),
@@ -127,7 +126,10 @@ fn a_failing_read_is_told_and_the_next_try_is_whole(rt: HostRuntime) -> Result<(
     }];
     let mut flash = flash_with(rt.alloc(), &plan, Content::Names(b"a", b"b"))?;
     let failed = told(rt.alloc(), &mut flash, &[8])?;
-    assert_eq!(rt; (failed.fault, failed.reads), (Some(Fault::ReadFailed), 2));
+    assert_eq!(rt;
+        (failed.fault, flash.counts().reads),
+        (Some(Fault::ReadFailed), 2)
+    );
     let whole = told(rt.alloc(), &mut flash, &[8])?;
     assert_eq!(rt; whole.fault, None);
     assert_eq!(rt; whole.marked.as_slice(), [8, 9, 10].as_slice());

@@ -1,0 +1,117 @@
+//! The calls that are asked of what is mounted.
+use crate::numbers::Numbers;
+use fs_types::{Event, Fault};
+use session_oracle::event_of;
+use std::alloc::{AllocError, Global};
+
+/// How many calls are asked.
+const CALLS: u64 = 20;
+
+/// Lines that ask calls: `D` stands for the path of a directory, `F` for that of a file, `N` for the
+/// name of a checkpoint, `S` for a serial and `AT` for a place in a file.
+const LINES: [&str; 40] = [
+    "mkdir D",
+    "mkdir D",
+    "mkdir D",
+    "mkdir D",
+    "rmdir D",
+    "rmdir D",
+    "unlink F",
+    "unlink F",
+    "rename F F",
+    "rename D D",
+    "open F 7",
+    "open F 7",
+    "open F 23",
+    "pwrite 0 AT 616263",
+    "pwrite 0 AT 00",
+    "pwrite 0 0 7a",
+    "pread 0 AT 9",
+    "ftruncate 0 AT",
+    "ftruncate 0 0",
+    "close 0",
+    "close 0",
+    "close 0",
+    "fsync 0",
+    "sync",
+    "stat D",
+    "stat F @S",
+    "ls D",
+    "ls D =N",
+    "read F AT 9",
+    "read F 0 99 @S",
+    "undo",
+    "undo",
+    "redo",
+    "goto S",
+    "rollback N",
+    "checkpoint N",
+    "rmcheckpoint N",
+    "forget 1",
+    "df",
+    "reclaim 2",
+];
+
+const DIRECTORIES: [&str; 8] = [
+    "/",
+    "/a",
+    "/a",
+    "/b",
+    "/b",
+    "/a/b",
+    "/00/01",
+    "/00/00/00/00/00/00/00/00/00/00/00/00/00/00/00/00",
+];
+
+const FILES: [&str; 6] = ["/f", "/f", "/g", "/g", "/a/g", "/00/f"];
+
+const SERIALS: [&str; 8] = [
+    "1",
+    "3",
+    "4",
+    "5",
+    "6",
+    "18446744073709551613",
+    "18446744073709551614",
+    "18446744073709551615",
+];
+
+const PLACES: [&str; 5] = ["0", "1", "3", "4016", "16777216"];
+
+/// The calls of an image, drawn by numbers.
+pub fn draw_calls(alloc: Global, numbers: &mut Numbers) -> Result<Vec<Event>, Fault> {
+    let mut events = Vec::new(alloc);
+    for _ in 0..CALLS {
+        let line = draw_line(alloc, numbers)?;
+        events.push(event_of(alloc, line.as_str())?.ok_or(Fault::Invalid)?)?;
+    }
+    Ok(events)
+}
+
+fn draw_line(alloc: Global, numbers: &mut Numbers) -> Result<String, AllocError> {
+    let mut line = String::new(alloc);
+    for word in numbers.pick(&LINES, "log").split(' ') {
+        if !line.is_empty() {
+            line.push(' ')?;
+        }
+        push_word(&mut line, word, numbers)?;
+    }
+    Ok(line)
+}
+
+/// Appends a word, or what is drawn in its place.
+fn push_word(line: &mut String, word: &str, numbers: &mut Numbers) -> Result<(), AllocError> {
+    match word {
+        "D" => line.push_str(numbers.pick(&DIRECTORIES, "/")),
+        "F" => line.push_str(numbers.pick(&FILES, "/f")),
+        "N" => line.push_str(numbers.pick(&["v", "w"], "v")),
+        "=N" => line.push_str(numbers.pick(&["=v", "=w"], "=v")),
+        "S" => line.push_str(numbers.pick(&SERIALS, "1")),
+        "@S" => {
+            line.push('@')?;
+            line.push_str(numbers.pick(&SERIALS, "1"))
+        }
+        "AT" => line.push_str(numbers.pick(&PLACES, "0")),
+        _ => line.push_str(word),
+    }
+}

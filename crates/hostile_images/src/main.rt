@@ -1,0 +1,99 @@
+//! Mounts images of flashes that are made by a fixed rule, lawful and not, and asks twenty calls of
+//! each that mounts. A mount is refused only for what the newest record or its trees are; each tree
+//! that is mounted is whole; each answer is what a plain machine says that begins with what the mount
+//! shows, or one of the further refusals with its cause; and what is shown after the calls, and after
+//! a restart then, is what that machine keeps. For each kind of image it prints what became of them. An
+//! image with which something else is met is told, and the status is 1.
+#![tactic(auto)]
+
+mod bad_lists;
+mod contents;
+mod drafts;
+mod facts;
+mod halves;
+mod kinds;
+mod lines;
+mod little_endian;
+mod needs;
+mod nodes;
+mod numbers;
+mod records;
+mod shared;
+mod tallies;
+mod trials;
+mod watches;
+mod wrong;
+
+use anyhow::Result;
+use kinds::{KINDS, Kind};
+use lines::draw_calls;
+use numbers::Numbers;
+use std::alloc::Global;
+use std::process::ExitCode;
+use tallies::{Tally, add};
+use trials::try_image;
+use wrong::Wrong;
+
+/// How many images of each kind are made.
+const IMAGES: u64 = 2_000;
+
+fn main(rt: HostRuntime) -> Result<ExitCode> {
+    let mut total = Tally::default();
+    let mut first = 0u64;
+    for kind in KINDS {
+        let tally = run(&rt, kind, first)?;
+        tell(&rt, kind, &tally)?;
+        total.add_all(&tally);
+        add(&mut first, IMAGES);
+    }
+    tell_calls(&rt, &total)?;
+    let is_right = total.wrong == 0 && total.is_enough();
+    Ok(ExitCode::from(if is_right { 0 } else { 1 }))
+}
+
+/// Tries the images of a kind, by their numbers from one on. The first with which something is wrong is
+/// told.
+fn run<R: AllocGlobal + Print>(rt: &R, kind: Kind, first: u64) -> Result<Tally> {
+    let mut tally = Tally::default();
+    for number in first..first.saturating_add(IMAGES) {
+        if let Err(wrong) = try_number(rt.alloc(), kind, number, &mut tally) {
+            if tally.wrong == 0 {
+                println!(rt; "{} {number}: {wrong:?}", kind.name())?;
+            }
+            add(&mut tally.wrong, 1);
+        }
+    }
+    Ok(tally)
+}
+
+/// Tries the image of a kind with this number.
+fn try_number(alloc: Global, kind: Kind, number: u64, tally: &mut Tally) -> Result<(), Wrong> {
+    let mut numbers = Numbers::of(number);
+    let image = kind.image(alloc, &mut numbers)?;
+    let calls = draw_calls(alloc, &mut numbers)?;
+    try_image(alloc, &image, &calls, tally)
+}
+
+/// Tells what became of the images of a kind.
+fn tell<R: Print>(rt: &R, kind: Kind, tally: &Tally) -> Result<()> {
+    println!(rt;
+        "{}: {} mounted, {} DAMAGED, {} NORECORD, {} BADGEOMETRY, {} no image, {} wrong",
+        kind.name(),
+        tally.mounted,
+        tally.damaged,
+        tally.without_record,
+        tally.of_other_sizes,
+        tally.no_image,
+        tally.wrong
+    )?;
+    Ok(())
+}
+
+/// Tells what became of the calls.
+fn tell_calls<R: Print>(rt: &R, tally: &Tally) -> Result<()> {
+    println!(rt;
+        "calls on {} systems: {} accepted, {} refused, {} without a block, {} in read-only mode, {} without a serial or a sequence",
+        tally.mounted, tally.accepted, tally.refused, tally.full, tally.read_only, tally.exhausted
+    )?;
+    Ok(())
+}

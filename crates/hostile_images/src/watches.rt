@@ -1,0 +1,84 @@
+//! What is known of a system while calls are asked.
+use crate::facts::Facts;
+use fs_types::{Answer, Call, Event, Path, Reply};
+
+/// What the newest record told at the mount, how many calls were asked since, and which of them opened
+/// the file of descriptor 0.
+#[derive(Clone, Copy)]
+pub struct Watch {
+    facts: Facts,
+    asked: usize,
+    opened_by: Option<usize>,
+}
+
+impl Watch {
+    /// No call was asked.
+    pub fn new(facts: Facts) -> Watch {
+        Watch {
+            facts,
+            asked: 0,
+            opened_by: None,
+        }
+    }
+
+    /// How many calls were asked.
+    pub fn asked(self) -> u64 {
+        self.asked as u64
+    }
+
+    pub fn is_read_only(self) -> bool {
+        self.facts.is_read_only()
+    }
+
+    /// Whether the newest record may have the greatest sequence: each call may have written one.
+    pub fn may_lack_a_sequence(self) -> bool {
+        self.facts.sequence.saturating_add(self.asked()) == u64::MAX
+    }
+
+    /// The path of the file of descriptor 0, where these are the calls.
+    pub fn open_path(self, calls: &[Event]) -> Option<&Path> {
+        match calls.get(self.opened_by?)? {
+            Event::Call(Call::Open { path, .. }) => Some(path),
+            _ => None,
+        }
+    }
+
+    /// Notes a call and its answer.
+    pub fn note(&mut self, event: &Event, answer: &Answer) {
+        match (event, answer) {
+            (Event::Call(Call::Open { .. }), Answer::Done(Reply::Fd(0))) => {
+                self.opened_by = Some(self.asked);
+            }
+            (Event::Call(Call::Close { .. }), Answer::Done(_)) => self.opened_by = None,
+            _ => {}
+        }
+        self.asked = self.asked.saturating_add(1);
+    }
+
+    /// Whether this may be an answer, as far as the record lets it: in read-only mode no change and no
+    /// commit is accepted, after the greatest sequence no commit, and `df` tells the bad blocks.
+    pub fn may_answer(self, event: &Event, answer: &Answer) -> bool {
+        match (event, answer) {
+            (Event::Call(call), Answer::Done(reply)) => {
+                !(self.is_read_only() && is_refused_in_read_only_mode(call))
+                    && !(self.facts.sequence == u64::MAX && is_commit(call))
+                    && self.facts.has_space(reply)
+            }
+            _ => true,
+        }
+    }
+}
+
+/// Whether a call that is accepted always makes a version, commits or changes what is kept.
+fn is_refused_in_read_only_mode(call: &Call) -> bool {
+    match call {
+        Call::Mkdir { .. } | Call::Rmdir { .. } | Call::Unlink { .. } | Call::Rollback { .. } =>
+            true,
+        Call::Forget { .. } | Call::Checkpoint { .. } | Call::RemoveCheckpoint { .. } => true,
+        _ => is_commit(call),
+    }
+}
+
+fn is_commit(call: &Call) -> bool {
+    matches!(call, Call::Sync | Call::Fsync { .. })
+}

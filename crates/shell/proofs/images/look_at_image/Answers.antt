@@ -12,7 +12,7 @@ returns-in-Ok-play g c =
       Some c.play.new.reader.now,
       c.in-Ok-play.field-0,
       plays_front held c.deref.result.now front (Some c.args.script.now) (Some c.play.new.reader.now) (Ok c.in-Ok-play.field-0) (g.W.Write.contents c.args.out.now) (g.W.Write.contents c.play.new.out)
-      c.in-Ok-play.ensures,
+          c.in-Ok-play.ensures,
     )
 
 pub returns : goal.returns
@@ -21,5 +21,5 @@ returns g c =
     let front = front_same held c.in-Ok.bytes.items c.deref.result.now c.deref.ensures.value c.in-Ok.ensures.ok in (
       Some c.play.new.reader.now,
       plays_front held c.deref.result.now front (Some c.args.script.now) (Some c.play.new.reader.now) (Err c.in-Err-play.failure) (g.W.Write.contents c.args.out.now) (g.W.Write.contents c.play.new.out)
-      c.in-Err-play.ensures,
+          c.in-Err-play.ensures,
     )

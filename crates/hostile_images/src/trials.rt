@@ -152,7 +152,7 @@ fn check_shown(
     oracle: &mut Oracle<'_>,
 ) -> Result<(), Wrong> {
     let shown = show(alloc, system)?;
-    if oracle.shows(alloc, &shown)? {
+    if oracle.judge_shown(alloc, &shown)? {
         Ok(())
     } else {
         Err(Wrong::Shown)

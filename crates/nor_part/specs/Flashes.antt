@@ -1,0 +1,35 @@
+-- The flash that a serial NOR part is.
+use Rattle.std.specs.Prelude.{◌≡◌, ℕ, List, true, false, slice_index_or}
+use Rattle.flash_model.specs.Device.{Device}
+use Rattle.nor_part.specs.declared.nor.Nor.{Ghosts}
+use Rattle.nor_part.specs.declared.flash.NorFlash.{NorFlash}
+use Rattle.nor_part.specs.Layout.{sizes_of, blocks_of, page_in}
+
+module _ {P : Type 0} {nor : Ghosts P} where
+  -- the device: its pages are those that the part holds
+  abbrev pub device_of : NorFlash P nor → Device
+  device_of flash = record {
+    geometry = sizes_of flash.blocks;
+    pages = page_in (nor.held flash.part);
+    powered = flash.powered;
+    worn = λ block. slice_index_or flash.worn.items block false;
+    failed_reads = 0;
+    failures = flash.failures.n;
+    cuts = flash.cuts.n;
+    operations = flash.operations.n;
+  }
+
+  -- the part
+  abbrev pub part_of : NorFlash P nor → P
+  part_of flash = flash.part
+
+-- a flash that was made over a part which holds these pages: power is on, no block is worn, and nothing happened yet
+pub record IsOver (held : ℕ → List ℕ) (count : ℕ) (d : Device) : Type 0 where
+  pub geometry : d.geometry ≡ sizes_of (blocks_of count)
+  pub pages : d.pages ≡ page_in held
+  pub powered : d.powered ≡ true
+  pub worn : (b : ℕ) → d.worn b ≡ false
+  pub failed_reads : d.failed_reads ≡ 0
+  pub failures : d.failures ≡ 0
+  pub cuts : d.cuts ≡ 0
+  pub operations : d.operations ≡ 0

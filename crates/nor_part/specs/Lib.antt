@@ -1,0 +1,4 @@
+pub mod Part
+pub mod Layout
+pub mod Flashes
+pub mod WholePages

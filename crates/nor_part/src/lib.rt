@@ -1,0 +1,10 @@
+//! A serial NOR part, and a flash over it: what a page is is read off the part alone.
+#![tactic(auto)]
+
+mod flash;
+mod nor;
+mod paging;
+mod sizes;
+
+pub use flash::NorFlash;
+pub use nor::Nor;

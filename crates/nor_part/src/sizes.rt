@@ -1,0 +1,25 @@
+//! Sizes and wear of a flash over a part.
+ghost use Rattle.std.specs.Prelude.{◌≡◌, ◌≢◌, ℕ, ◌<◌, vec_len, slice_index_or, true, false};
+ghost use Rattle.nor_part.specs.Layout.{sizes_of};
+
+use flash_model::Geometry;
+
+pub(crate) fn sizes(blocks: u32) -> Geometry
+    ensures { result ≡ sizes_of blocks }
+{
+    Geometry {
+        page: 256,
+        pages: 16,
+        blocks,
+    }
+}
+
+// A block is worn from now on.
+pub(crate) fn wear(worn: &mut Vec<bool>, block: usize)
+    requires { block < vec_len worn.old }
+    ensures own { slice_index_or worn.new.items block false ≡ true }
+    ensures others { (b : ℕ) → b ≢ block → slice_index_or worn.new.items b false ≡ slice_index_or worn.old.items b false }
+    ensures len { vec_len worn.new ≡ vec_len worn.old }
+{
+    worn[block] = true;
+}

@@ -555,7 +555,7 @@ const COUNTS: [(&[PlannedFault], &[(u64, u8)], Counters); 4] = [
         }],
         &[(1, 2), (1, 1)],
         Counters {
-            reads: 17,
+            reads: 16,
             programs: 3,
             erases: 16,
         },

@@ -2,3 +2,5 @@ pub mod Part
 pub mod Layout
 pub mod Flashes
 pub mod WholePages
+pub mod Memory
+pub mod MemoryParts

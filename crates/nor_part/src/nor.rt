@@ -1,5 +1,5 @@
 //! The trait that a driver of a serial NOR part implements.
-ghost use Rattle.std.specs.Prelude.{◌≡◌, ℕ, ◌*◌, ◌<◌, ◌≤◌, List, length, slice_index};
+ghost use Rattle.std.specs.Prelude.{◌≡◌, ℕ, ◌+◌, ◌*◌, ◌<◌, ◌≤◌, List, length, slice_index};
 ghost use Rattle.nor_part.specs.Part.{ProgramsPage, ErasesSector};
 
 use flash_model::DevFault;
@@ -35,11 +35,11 @@ pub trait Nor {
 
     /// Erases a sector: each of its bits is set.
     fn erase(&mut self, sector: usize) -> Result<(), DevFault>
-        requires { 16 * sector < count self.old }
+        requires { 16 * sector + 16 ≤ count self.old }
         ensures erases { ErasesSector (held self.old) sector (held self.new) result }
         ensures count { count self.new ≡ count self.old };
 
-    /// Puts the power on, and changes nothing.
+    /// Puts the power on, and changes nothing else.
     fn power_on(&mut self)
         ensures held { held self.new ≡ held self.old }
         ensures count { count self.new ≡ count self.old };

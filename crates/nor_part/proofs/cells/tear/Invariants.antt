@@ -1,0 +1,8 @@
+use Rattle.std.proofs.Common.{◌≡◌, ◌≢◌, ◌<◌, ◌≤◌, ℕ, slice_index}
+use Rattle.nor_part.proofs.cells.tear.Given as goal
+
+abbrev pub invariant-loop-i : goal.invariant-loop-i
+invariant-loop-i l =
+    ((k : ℕ) → k < l.i → slice_index l.initial.cells k ≡ 255 → slice_index l.bytes k ≢ 0 → slice_index l.cells k ≢ 0)
+    × ((k : ℕ) → k < l.i → slice_index l.initial.cells k ≡ 255 → slice_index l.bytes k < 16 → (slice_index l.cells k ≢ 255) × (slice_index l.cells k ≢ slice_index l.bytes k))
+    × ((k : ℕ) → l.i ≤ k → slice_index l.cells k ≡ slice_index l.initial.cells k)

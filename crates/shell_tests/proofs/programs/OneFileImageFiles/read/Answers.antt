@@ -1,4 +1,4 @@
-use Rattle.std.proofs.Common.{◌∙◌, ap, sym, take, min, codes}
+use Rattle.std.proofs.Common.{◌∙◌, ap, sym, inr, take, min, codes}
 use Rattle.std.proofs.lemmas.List.{take_min}
 use Rattle.std.specs.Str.{bytes_eq}
 use Rattle.shell.specs.declared.files.TheConstants.{MOST_BYTES}
@@ -13,4 +13,4 @@ returns-in-Ok-clause-ok c =
 
 pub returns-then-not-is_x-clause-failed : goal.returns-then-not-is_x-clause-failed
 returns-then-not-is_x-clause-failed c =
-    λ is. unknown (bytes_eq c.args.name.now (codes "x")) c.args.self.now.bytes.items (sym c.is_x.ensures ∙ c.if-not-is_x.true)
+    inr (unknown (bytes_eq c.args.name.now (codes "x")) c.args.self.now.bytes.items (sym c.is_x.ensures ∙ c.if-not-is_x.true))

@@ -9,8 +9,8 @@ formatted first. For N from --first on, in steps of --step, `rt try --fail-alloc
 allocation of the program fail. What it answers has to be one of these:
 
 - what the row says: no growth was refused of which the run tells;
-- what the row says up to a line that is answered `err ENOMEM 25`, which is none of undo, redo, goto and
-  close, and from then on what the script is answered without that line;
+- what the row says up to a line that is answered `err ENOMEM 25`, which is none of undo, redo, goto, begin, end,
+  abandon and close, and from then on what the script is answered without that line;
 - a beginning of what the row says, with `uffs: ENOMEM 25` on standard error and status 1.
 
 A run takes the better part of a minute, so this is no part of the gate. It prints a line for each run,
@@ -27,7 +27,7 @@ import tempfile
 TOP = os.path.dirname(os.path.dirname(os.path.abspath(__file__)))
 ROWS = ["undo_redo", "gap_in_a_file", "rollback_after_a_hundred", "torn_commit", "full_flash"]
 WANT = "err ENOMEM 25"
-NEVER = ("undo", "redo", "goto", "close")
+NEVER = ("undo", "redo", "goto", "begin", "end", "abandon", "close")
 
 
 def read_row(name):

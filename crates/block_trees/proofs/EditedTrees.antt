@@ -12,14 +12,16 @@ use Rattle.plain_trees.proofs.Grafts.{graft_law, contents_law}
 use Rattle.node_format.specs.Items.{Item, named}
 use Rattle.node_format.specs.declared.places.Place.{Place}
 use Rattle.node_format.specs.declared.places.Place.TheVariants.{Dir}
-use Rattle.block_trees.specs.Bodies.{Blocks, pointer_of}
-use Rattle.block_trees.specs.Trees.{entries_in, items_of, child, leads, entry_at, tree_at, tree, IsWhole, HasTree, IsRoot, root_tree}
+use Rattle.block_trees.specs.Bodies.{Blocks}
+use Rattle.block_trees.specs.Trees.{entries_in, child, leads, entry_at, tree_at, tree, IsWhole, HasTree, IsRoot, root_tree}
 use Rattle.block_trees.specs.Trees as trees
-use Rattle.block_trees.specs.Reached.{IsHeld, Keeps, Reached, Names, BodyNames, PlaceNames}
-use Rattle.block_trees.specs.Rewritten.{IsDirectoryEdit, IsRewritten, AreFresh}
+use Rattle.block_trees.specs.Reached.{IsHeld, Keeps, Reached, PlaceNames}
+use Rattle.block_trees.specs.Rewritten.{IsDirectoryEdit, IsRewritten, IsFreshChain}
 use Rattle.block_trees.specs.Laws.{tree_or_nothing, HasTreeOrNothing, IsHeldOrNothing, AllEdits, MkdirLaw}
-use Rattle.block_trees.proofs.Entries.{some_place, entry_named, directory_no_index, place_is}
-use Rattle.block_trees.proofs.Reaching.{reached_below, child_names, reached_by, IsReachedBy, held_child}
+use Rattle.block_trees.proofs.Entries.{some_place, place_is}
+use Rattle.block_trees.proofs.Chained.{child_names, reached_chain}
+use Rattle.block_trees.specs.ChainLaws.{IsReachedFrom}
+use Rattle.block_trees.proofs.Reaching.{reached_via, reached_from, held_child}
 use Rattle.block_trees.proofs.Frames.{frame_law, reached_before, tree_same}
 use Rattle.block_trees.proofs.RootMaps.{map_law}
 
@@ -40,14 +42,12 @@ edited_here old new from to n at edit =
 abbrev IsNamedBy : Blocks → ℕ → Option Place → ℕ → Type 0
 IsNamedBy old from at next = ((name : Name) × (place : Place) × (child old (Dir from) name ≡ Some place) × PlaceNames place next) ⊎ ((place : Place) × (at ≡ Some place) × PlaceNames place next)
 
-edited_names : (old new : Blocks) (from to next : ℕ) (n : Name) (at : Option Place) → IsDirectoryEdit old new from to n at → Names (new to) next → IsNamedBy old from at next
-edited_names old new from to next n at edit (inl (item, inside, names)) =
-    let is : cond (same_name n item.name) at (child old (Dir from) item.name) ≡ Some item.place = sym (edited_child old new from to n item.name at edit) ∙ entry_named (new to) item inside in
-    by_test (same_name n item.name)
-    (λ same. inr (item.place, sym (ap (λ (test : Bool). cond test at (child old (Dir from) item.name)) same) ∙ is, names))
-    (λ differs. inl (item.name, item.place, sym (ap (λ (test : Bool). cond test at (child old (Dir from) item.name)) differs) ∙ is, names))
-edited_names old new from to next n at edit (inr names) =
-    absurd (subst (λ (index : Option ℕ). BodyNames index (pointer_of (new to)) next) (directory_no_index (new to) edit.0 edit.1) names)
+edited_leads : (old new : Blocks) (from to : ℕ) (n : Name) (at : Option Place) → IsDirectoryEdit old new from to n at → (name : Name) (place : Place) (next : ℕ) → child new (Dir to) name ≡ Some place → PlaceNames place next → IsNamedBy old from at next
+edited_leads old new from to n at edit name place next leads names =
+    let is : cond (same_name n name) at (child old (Dir from) name) ≡ Some place = sym (edited_child old new from to n name at edit) ∙ leads in
+    by_test (same_name n name)
+    (λ same. inr (place, sym (ap (λ (test : Bool). cond test at (child old (Dir from) name)) same) ∙ is, names))
+    (λ differs. inl (name, place, sym (ap (λ (test : Bool). cond test at (child old (Dir from) name)) differs) ∙ is, names))
 
 -- what is below a place with a tree has one, of one name less a path
 pub child_tree : (capacity : ℕ) (f : Blocks) (depth : ℕ) (at : Place) (name : Name) (place : Place) → child f at name ≡ Some place → HasTree capacity f at depth → HasTree capacity f place (depth - 1)
@@ -58,20 +58,20 @@ child_tree capacity f depth at name place is has path there leads =
 module _ (old new : Blocks) (kept kept' : ℕ → Bool) (keeps : Keeps kept old kept' new) where
   -- ---- what is kept
 
-  edit_held : (from to : ℕ) (n : Name) (at : Option Place) → IsHeld old kept (Dir from) → kept' to ≡ true → IsDirectoryEdit old new from to n at → IsHeldOrNothing new kept' at → IsHeld new kept' (Dir to)
+  edit_held : (from to : ℕ) (n : Name) (at : Option Place) → IsHeld old kept (Dir from) → IsFreshChain old new kept kept' from to → IsDirectoryEdit old new from to n at → IsHeldOrNothing new kept' at → IsHeld new kept' (Dir to)
   edit_held from to n at held here edit below root is b reached =
-      subst (λ (r : ℕ). Reached new (r ∷ []) b → kept' b ≡ true) is (λ r. on b (reached_by new to r)) reached
+      subst (λ (r : ℕ). Reached new (r ∷ []) b → kept' b ≡ true) is (λ r. on b (reached_from new to edit.0 b edit.1 r)) reached
     where
       named_held : (b next : ℕ) → IsNamedBy old from at next → Reached new (next ∷ []) b → kept' b ≡ true
       named_held b next (inl (name, place, leads, names)) reached =
           (frame_law old new kept kept' keeps).held place (held_child old kept (Dir from) name place leads held) next names b reached
       named_held b next (inr (place, is, names)) reached = subst (IsHeldOrNothing new kept') is below next names b reached
 
-      on : (b : ℕ) → IsReachedBy new to b → kept' b ≡ true
-      on b (inl own) = subst (λ (r : ℕ). kept' r ≡ true) own here
-      on b (inr (next, names, reached)) = named_held b next (edited_names old new from to next n at edit names) reached
+      on : (b : ℕ) → IsReachedFrom new to b → kept' b ≡ true
+      on b (inl inside) = (here b inside).0
+      on b (inr (name, place, next, leads, names, reached)) = named_held b next (edited_leads old new from to n at edit name place next leads names) reached
 
-  path_held : (path : Path) (from to : ℕ) (at : Option Place) → IsHeld old kept (Dir from) → IsRewritten old kept' new from to path at → IsHeldOrNothing new kept' at → IsHeld new kept' (Dir to)
+  path_held : (path : Path) (from to : ℕ) (at : Option Place) → IsHeld old kept (Dir from) → IsRewritten old new kept kept' from to path at → IsHeldOrNothing new kept' at → IsHeld new kept' (Dir to)
   path_held [] from to at held r below = absurd r
   path_held (n ∷ []) from to at held (here, edit) below = edit_held from to n at held here edit below
   path_held (n ∷ m ∷ path) from to at held (under, next, leads, here, edit, rest) below =
@@ -83,26 +83,25 @@ module _ (old new : Blocks) (kept kept' : ℕ → Bool) (keeps : Keeps kept old 
   abbrev IsFrom : ℕ → Option Place → ℕ → Type 0
   IsFrom from at block = Reached old (from ∷ []) block ⊎ (kept block ≡ false) ⊎ ((root : ℕ) × (place : Place) × (at ≡ Some place) × PlaceNames place root × Reached new (root ∷ []) block)
 
-  edit_reached : (from to : ℕ) (n : Name) (at : Option Place) → IsHeld old kept (Dir from) → kept to ≡ false → IsDirectoryEdit old new from to n at → (block : ℕ) → Reached new (to ∷ []) block → IsFrom from at block
-  edit_reached from to n at held fresh edit block reached = on (reached_by new to reached)
+  edit_reached : (from to : ℕ) (n : Name) (at : Option Place) → IsHeld old kept (Dir from) → IsFreshChain old new kept kept' from to → IsDirectoryEdit old new from to n at → (block : ℕ) → Reached new (to ∷ []) block → IsFrom from at block
+  edit_reached from to n at held fresh edit block reached = on (reached_from new to edit.0 block edit.1 reached)
     where
       named_from : (next : ℕ) → IsNamedBy old from at next → Reached new (next ∷ []) block → IsFrom from at block
       named_from next (inl (name, place, leads, names)) reached =
           let below = held_child old kept (Dir from) name place leads held in
-          inl (reached_below old from next (child_names old from name place next leads names) (reached_before old new kept kept' keeps next (below next names) reached))
+          inl (reached_via old (from ∷ []) next (child_names old from name place next leads names) (reached_before old new kept kept' keeps next (below next names) reached))
       named_from next (inr (place, is, names)) reached = inr (inr (next, place, is, names, reached))
 
-      on : IsReachedBy new to block → IsFrom from at block
-      on (inl own) = inr (inl (subst (λ (r : ℕ). kept r ≡ false) own fresh))
-      on (inr (next, names, reached)) = named_from next (edited_names old new from to next n at edit names) reached
+      on : IsReachedFrom new to block → IsFrom from at block
+      on (inl inside) = elim (fresh block inside).1 [ inl free ↦ inr (inl free) | inr there ↦ inl (reached_chain old from block there) ]
+      on (inr (name, place, next, leads, names, reached)) = named_from next (edited_leads old new from to n at edit name place next leads names) reached
 
-  path_reached : (path : Path) (from to : ℕ) (at : Option Place) → IsHeld old kept (Dir from) → IsRewritten old kept' new from to path at → AreFresh kept kept' new to path
+  path_reached : (path : Path) (from to : ℕ) (at : Option Place) → IsHeld old kept (Dir from) → IsRewritten old new kept kept' from to path at
       → (block : ℕ) → Reached new (to ∷ []) block → IsFrom from at block
-  path_reached [] from to at held r fresh block reached = absurd r
-  path_reached (n ∷ []) from to at held (here, edit) (fresh, was) block reached = edit_reached from to n at held fresh edit block reached
-  path_reached (n ∷ m ∷ path) from to at held (under, next, leads, here, edit, rest) (below, goes, fresh, was, others) block reached =
-      on (edit_reached from to n (Some (Dir next)) held fresh edit block reached) (path_reached (m ∷ path) under next at (held_child old kept (Dir from) n (Dir under) leads held) rest
-      (subst (λ (b : ℕ). AreFresh kept kept' new b (m ∷ path)) (dir_is below next (sym goes ∙ edited_here old new from to n (Some (Dir next)) edit)) others) block)
+  path_reached [] from to at held r block reached = absurd r
+  path_reached (n ∷ []) from to at held (here, edit) block reached = edit_reached from to n at held here edit block reached
+  path_reached (n ∷ m ∷ path) from to at held (under, next, leads, here, edit, rest) block reached =
+      on (edit_reached from to n (Some (Dir next)) held here edit block reached) (path_reached (m ∷ path) under next at (held_child old kept (Dir from) n (Dir under) leads held) rest block)
     where
       dir_is : (a b : ℕ) → some_place (Dir a) ≡ some_place (Dir b) → a ≡ b
       dir_is a b e = cc
@@ -111,7 +110,7 @@ module _ (old new : Blocks) (kept kept' : ℕ → Bool) (keeps : Keeps kept old 
       named_next root place is names = subst (λ (p : Place). PlaceNames p root) (sym (place_is (Dir next) place is)) names
 
       above : IsFrom under at block → IsFrom from at block
-      above (inl reached) = inl (reached_below old from under (child_names old from n (Dir under) under leads refl) reached)
+      above (inl reached) = inl (reached_via old (from ∷ []) under (child_names old from n (Dir under) under leads refl) reached)
       above (inr others) = inr others
 
       on : IsFrom from (Some (Dir next)) block → (Reached new (next ∷ []) block → IsFrom under at block) → IsFrom from at block
@@ -144,7 +143,7 @@ module _ (old new : Blocks) (kept kept' : ℕ → Bool) (keeps : Keeps kept old 
       on true = new_place at
       on false = old_place (child old (Dir from) k) refl
 
-  path_tree : (capacity depth : ℕ) (path : Path) (from to : ℕ) (at : Option Place) → IsHeld old kept (Dir from) → HasTree capacity old (Dir from) depth → IsRewritten old kept' new from to path at
+  path_tree : (capacity depth : ℕ) (path : Path) (from to : ℕ) (at : Option Place) → IsHeld old kept (Dir from) → HasTree capacity old (Dir from) depth → IsRewritten old new kept kept' from to path at
       → (q : Path) → tree capacity new to q ≡ graft (tree capacity old from) path (tree_or_nothing capacity new at) q
   path_tree capacity depth [] from to at held has r q = absurd r
   path_tree capacity depth (n ∷ []) from to at held has r [] = refl
@@ -190,7 +189,7 @@ module _ (old new : Blocks) (kept kept' : ℕ → Bool) (keeps : Keeps kept old 
       on true is = new_place at below is
       on false is = old_place (child old (Dir from) k) refl is
 
-  path_shape : (capacity depth : ℕ) (path : Path) (from to : ℕ) (at : Option Place) → IsHeld old kept (Dir from) → HasTree capacity old (Dir from) depth → IsRewritten old kept' new from to path at
+  path_shape : (capacity depth : ℕ) (path : Path) (from to : ℕ) (at : Option Place) → IsHeld old kept (Dir from) → HasTree capacity old (Dir from) depth → IsRewritten old new kept kept' from to path at
       → length path ≤ depth → HasTreeOrNothing capacity new at (depth - length path) → HasTree capacity new (Dir to) depth
   path_shape capacity depth [] from to at held has r deep below = absurd r
   path_shape capacity depth (n ∷ []) from to at held has (here, edit) deep below = edit_shape capacity depth from to n at deep held has edit below
@@ -205,7 +204,7 @@ edit_law old new kept kept' from to path at keeps held rewritten = record {
   grafted = λ capacity depth has i q. path_tree old new kept kept' keeps capacity depth path from to at held has rewritten q i;
   shape = λ capacity depth has deep below. path_shape old new kept kept' keeps capacity depth path from to at held has rewritten deep below;
   held = path_held old new kept kept' keeps path from to at held rewritten;
-  reached = λ fresh block. path_reached old new kept kept' keeps path from to at held rewritten fresh block;
+  reached = λ block. path_reached old new kept kept' keeps path from to at held rewritten block;
 }
 
 -- ---- a new empty directory

@@ -1,27 +1,32 @@
 -- The finite map of a root is a file tree: lawful names, few entries, short files.
 use Rattle.std.proofs.Common.{◌≡◌, ℕ, zero, suc, ◌≤◌, Bool, true, false, cond, eqb, ltb, Option, Some, None, List, [], ◌∷◌, ◌++◌, length, take, drop, refl, sym, ap, subst, ◌∙◌, arith}
-use Rattle.std.specs.Prelude.{IsSome, unwrap_or, nat_le}
+use Rattle.std.specs.Prelude.{IsSome, nat_le}
 use Rattle.std.specs.Option.{option_map, option_map_or, option_and_then}
 use Rattle.std.specs.List.{list_all}
 use Rattle.std.specs.FinMap.{FinMap, get}
 use Rattle.std.specs.FinMap as map
 use Rattle.std.proofs.lemmas.Bool.{and_from, le-leb, leb-true}
 use Rattle.std.proofs.lemmas.List.{length-map, length-take}
+use Rattle.fs_types.specs.declared.limits.TheConstants.{MAX_ENTRIES}
 use Rattle.fs_types.specs.Names.{Name, Path, is_name, is_path, same_name, name_cmp}
 use Rattle.fs_types.proofs.Orders.{same_name-is}
 use Rattle.plain_trees.specs.Contents.{Entry}
 use Rattle.plain_trees.specs.Trees.{Tree, entry_count, IsFileTree}
 use Rattle.plain_trees.proofs.Counts.{count-within}
-use Rattle.node_format.specs.Headers.{field, directory_magic}
+use Rattle.node_format.specs.Headers.{field}
 use Rattle.node_format.specs.Items.{Item, named, is_dir_place}
-use Rattle.node_format.specs.Directories.{◌>>=◌, byte_at, number_at, name_at, place_at, item_at, items_at, are_filled, entries_at, directory_at}
+use Rattle.node_format.specs.Directories.{◌>>=◌, byte_at, number_at, name_at, place_at, item_at, items_at}
 use Rattle.node_format.specs.declared.places.Place.{Place}
 use Rattle.node_format.specs.declared.places.Place.TheVariants.{Dir, File}
 use Rattle.block_trees.specs.Bodies.{Blocks, body, data_to, head_index}
-use Rattle.block_trees.specs.Trees.{items_of, items_in, child, leads, entry_at, IsRoot, root_tree}
+use Rattle.node_format.specs.Links.{Link}
+use Rattle.node_format.proofs.LinkLaws.{link_items_at}
+use Rattle.block_trees.specs.Chains.{link_of}
+use Rattle.block_trees.proofs.Chained.{child_in_node}
+use Rattle.block_trees.specs.Trees.{items_in, child, leads, entry_at, IsRoot, root_tree}
 use Rattle.block_trees.specs.Laws.{AllFileTrees}
 use Rattle.block_trees.proofs.Entries.{place_is}
-use Rattle.block_trees.proofs.EntryCounts.{most_of}
+use Rattle.block_trees.proofs.ChainCounts.{most_of}
 use Rattle.block_trees.proofs.RootMaps.{get-root_tree, children-root_tree, leads-append}
 
 -- ---- what is read is lawful
@@ -110,29 +115,25 @@ some_items items = Some items
 items_are : (xs ys : List Item) → some_items xs ≡ some_items ys → xs ≡ ys
 items_are xs ys e = cc
 
-read_items : (bytes : List ℕ) (items : List Item) → directory_at bytes ≡ Some items → items_at (field bytes 4) (drop 16 bytes) ≡ items
-unfolding directory_at entries_at
-read_items bytes items e =
-    let rest = drop 16 bytes in
-    let a = not_refused (ltb (length bytes) 16) _ items e in
-    let b = passed (eqb (field bytes 0) directory_magic) _ items a.1 in
-    let c = not_refused (ltb 32 (field bytes 4)) _ items b.1 in
-    let d = passed (eqb (field bytes 8) (length rest)) _ items c.1 in
-    let f = passed (are_filled (field bytes 4) [] rest) (Some (items_at (field bytes 4) rest)) items d.1 in
-    items_are (items_at (field bytes 4) rest) items f.1
-
-named_lawful : (node : Option (List ℕ)) (n : Name) (place : Place) → named (items_of node) n ≡ Some place → (is_name n ≡ true) × IsShort place
-named_lawful None n place e = absurd cc
-named_lawful (Some bytes) n place e = on (directory_at bytes) refl e
+named_lawful : (f : Blocks) (block : ℕ) (n : Name) (place : Place) → child f (Dir block) n ≡ Some place → (is_name n ≡ true) × IsShort place
+named_lawful f block n place e =
+    let found = child_in_node f block n place e in
+    on (f found.0) found.2
   where
-    on : (read : Option (List Item)) → directory_at bytes ≡ read → named (unwrap_or read []) n ≡ Some place → (is_name n ≡ true) × IsShort place
-    on None is e = absurd cc
-    on (Some items) is e = items_lawful (field bytes 4) (drop 16 bytes) n place (ap (λ (items : List Item). named items n) (read_items bytes items is) ∙ e)
+    l : Link
+    l = (child_in_node f block n place e).1
+
+    leads : named l.items n ≡ Some place
+    leads = (child_in_node f block n place e).3
+
+    on : (node : Option (List ℕ)) → link_of node ≡ Some l → (is_name n ≡ true) × IsShort place
+    on None is = absurd cc
+    on (Some bytes) is = items_lawful (field bytes 4) (drop 16 bytes) n place (ap (λ (items : List Item). named items n) (link_items_at bytes l is) ∙ leads)
 
 -- ---- paths
 
 child_lawful : (f : Blocks) (at to : Place) (n : Name) → child f at n ≡ Some to → (is_name n ≡ true) × IsShort to
-child_lawful f (Dir block) to n e = named_lawful (f block) n to e
+child_lawful f (Dir block) to n e = named_lawful f block n to e
 child_lawful f (File head size) to n e = absurd cc
 
 leads_lawful : (f : Blocks) (at to : Place) (p : Path) → IsShort at → leads f at p ≡ Some to → (list_all is_name p ≡ true) × IsShort to
@@ -188,16 +189,16 @@ module _ (capacity : ℕ) (f : Blocks) (root : ℕ) (has : IsRoot capacity f roo
       let before = above p n some in
       stands p ∙ ap (option_map (entry_at capacity f)) before.1 ∙ ap (λ (x : Entry). Some x) before.2
 
-  few : (p : Path) → entry_count map_of p ≤ 32
+  few : (p : Path) → entry_count map_of p ≤ MAX_ENTRIES
   few p = on (leads f (Dir root) p) refl
     where
       bare : FinMap name_cmp Bool
       bare = map.empty
 
-      none : ((n : Name) → IsSome (get map_of (p ++ n ∷ [])) → ⊥) → entry_count map_of p ≤ 32
+      none : ((n : Name) → IsSome (get map_of (p ++ n ∷ [])) → ⊥) → entry_count map_of p ≤ MAX_ENTRIES
       none nothing = let l : entry_count map_of p ≤ map.len bare = count-within map_of p bare (λ n there. absurd (nothing n there)) in omega (arith, map.len-empty name_cmp Bool)
 
-      on : (o : Option Place) → leads f (Dir root) p ≡ o → entry_count map_of p ≤ 32
+      on : (o : Option Place) → leads f (Dir root) p ≡ o → entry_count map_of p ≤ MAX_ENTRIES
       on None is = none (λ n some. let before = above p n some in absurd cc)
       on (Some (File head size)) is = none (λ n some. let before = above p n some in
           let same : File head size ≡ before.0 = place_is (File head size) before.0 (sym is ∙ before.1) in
@@ -206,7 +207,7 @@ module _ (capacity : ℕ) (f : Blocks) (root : ℕ) (has : IsRoot capacity f roo
       on (Some (Dir block)) is =
           let same : entry_count map_of p ≡ length (items_in f block) =
           ap length (children-root_tree capacity f root has p block is) ∙ length-map (items_in f block) (λ (item : Item). (item.name, is_dir_place item.place)) in
-          let l : length (items_in f block) ≤ 32 = most_of (f block) in
+          let l : length (items_in f block) ≤ MAX_ENTRIES = most_of f block in
           omega arith
 
   lawful : (p : Path) → IsSome (get map_of p) → is_path p ≡ true

@@ -1,5 +1,5 @@
 -- Where all that a place reaches is kept, nothing of it changes.
-use Rattle.std.proofs.Common.{◌≡◌, ℕ, zero, suc, ◌*◌, ◌^◌, ◌≤◌, Bool, true, Option, Some, None, List, [], ◌∷◌, ◌++◌, length, map, take, refl, sym, ap, subst, ◌∙◌, arith, suc-mul}
+use Rattle.std.proofs.Common.{◌≡◌, ℕ, zero, suc, ◌*◌, ◌^◌, ◌≤◌, Bool, true, Option, Some, None, unwrap_or, List, [], ◌∷◌, ◌++◌, length, map, take, refl, sym, ap, subst, ◌∙◌, arith, suc-mul}
 use Rattle.std.specs.Prelude.{Contains}
 use Rattle.std.specs.Option.{option_map, option_and_then}
 use Rattle.std.specs.List.{flat_map}
@@ -11,10 +11,12 @@ use Rattle.node_format.specs.declared.places.Place.{Place}
 use Rattle.node_format.specs.declared.places.Place.TheVariants.{Dir, File}
 use Rattle.node_format.specs.BodyNodes.{HasSlot}
 use Rattle.block_trees.specs.Bodies.{Blocks, index_of, pointer_of, data_of, back, data_to, head_index, body, IsChain, IsLinked, IsBody}
-use Rattle.block_trees.specs.Trees.{entries_of, items_of, child, leads, entry_at, tree_at, IsWhole, HasTree, listed, items_in}
+use Rattle.block_trees.specs.Trees.{entries_in, child, leads, entry_at, tree_at, IsWhole, HasTree, listed, items_in}
+use Rattle.block_trees.specs.Chains.{chain}
 use Rattle.block_trees.specs.Reached.{IsHeld, Keeps, Reached, IsFirst, IsNamed, Names}
 use Rattle.block_trees.specs.Laws.{FrameLaw, AllFrames}
-use Rattle.block_trees.proofs.Entries.{entry_named}
+use Rattle.block_trees.proofs.Chains.{chain_frame}
+use Rattle.block_trees.proofs.Chained.{entry_named, reached_chain}
 use Rattle.block_trees.proofs.Reaching.{reached_own, reached_below, before_named, held_child, held_leads}
 
 divides_le : (m power n : ℕ) → suc n ≡ m * power → power ≤ suc n
@@ -36,6 +38,9 @@ module _ (old new : Blocks) (kept kept' : ℕ → Bool) (keeps : Keeps kept old 
 
   same_node : (block : ℕ) → Held block → new block ≡ old block
   same_node block held = keeps.same block (held block (reached_own old block))
+
+  same_chain : (block : ℕ) → Held block → (entries_in new block ≡ entries_in old block) × (chain new block ≡ chain old block)
+  same_chain block held = chain_frame old new block (λ b inside. keeps.same b (held b (reached_chain old block b inside)))
 
   held_before : (i block : ℕ) → index_of (old block) ≡ Some (suc i) → Held block → Held (pointer_of (old block) 0)
   held_before i block is held b reached = held b (reached_below old block (pointer_of (old block) 0) (before_named old i block is) reached)
@@ -77,7 +82,7 @@ module _ (old new : Blocks) (kept kept' : ℕ → Bool) (keeps : Keeps kept old 
   -- ---- places
 
   whole_same : (capacity : ℕ) (at : Place) → IsHeld old kept at → IsWhole capacity old at → IsWhole capacity new at
-  whole_same capacity (Dir block) held (items, is) = (items, ap entries_of (same_node block (held block refl)) ∙ is)
+  whole_same capacity (Dir block) held (items, is) = (items, (same_chain block (held block refl)).0 ∙ is)
   whole_same capacity (File head zero) held is = is
   whole_same capacity (File head (suc n)) held is =
       let below = held head (omega arith, refl) in
@@ -90,7 +95,7 @@ module _ (old new : Blocks) (kept kept' : ℕ → Bool) (keeps : Keeps kept old 
   entry_same capacity (File head size) held is = ap Entry.File (body_same capacity head size is held)
 
   child_same : (at : Place) (name : Name) → IsHeld old kept at → child new at name ≡ child old at name
-  child_same (Dir block) name held = ap (λ (node : Option (List ℕ)). named (items_of node) name) (same_node block (held block refl))
+  child_same (Dir block) name held = ap (λ (o : Option (List Item)). named (unwrap_or o []) name) (same_chain block (held block refl)).0
   child_same (File head size) name held = refl
 
   pub leads_same : (path : Path) (at : Place) → IsHeld old kept at → leads new at path ≡ leads old at path
@@ -135,17 +140,17 @@ module _ (old new : Blocks) (kept kept' : ℕ → Bool) (keeps : Keeps kept old 
 
   whole_item : (capacity block : ℕ) (item : Item) → Contains (items_in old block) item → Whole capacity (Dir block) → Whole capacity item.place
   whole_item capacity block item inside whole path place is =
-      whole (item.name ∷ path) place (ap (option_and_then (λ next. leads old next path)) (entry_named (old block) item inside) ∙ is)
+      whole (item.name ∷ path) place (ap (option_and_then (λ next. leads old next path)) (entry_named old block item inside) ∙ is)
 
   listed_same : (capacity depth : ℕ) (at : Place) → IsHeld old kept at → Whole capacity at → listed capacity new depth at ≡ listed capacity old depth at
   listed_same capacity depth (File head size) held whole = ap (λ (bytes : List ℕ). ([], Entry.File bytes) ∷ []) (body_same capacity head size (whole [] (File head size) refl) held)
   listed_same capacity zero (Dir block) held whole = refl
   listed_same capacity (suc depth) (Dir block) held whole =
-      ap (λ (node : Option (List ℕ)). ([], Entry.Dir) ∷ flat_map (λ item. map (λ e. (item.name ∷ e.0, e.1)) (listed capacity new depth item.place)) (items_of node)) (same_node block (held block refl))
+      ap (λ (o : Option (List Item)). ([], Entry.Dir) ∷ flat_map (λ item. map (λ e. (item.name ∷ e.0, e.1)) (listed capacity new depth item.place)) (unwrap_or o [])) (same_chain block (held block refl)).0
       ∙ ap (λ (es : List (Path × Entry)). ([], Entry.Dir) ∷ es)
       (flat_map-same (λ item. map (λ e. (item.name ∷ e.0, e.1)) (listed capacity new depth item.place)) (λ item. map (λ e. (item.name ∷ e.0, e.1)) (listed capacity old depth item.place)) (items_in old block)
       (λ item inside. ap (map (λ e. (item.name ∷ e.0, e.1)))
-      (listed_same capacity depth item.place (held_child old kept (Dir block) item.name item.place (entry_named (old block) item inside) held) (whole_item capacity block item inside whole))))
+      (listed_same capacity depth item.place (held_child old kept (Dir block) item.name item.place (entry_named old block item inside) held) (whole_item capacity block item inside whole))))
 
   frame : FrameLaw old new kept kept'
   frame = record {

@@ -1,8 +1,10 @@
+pub mod ChainCounts
+pub mod Chained
+pub mod Chains
 pub mod EditedMaps
 pub mod EditedTrees
 pub mod EmptyDirectories
 pub mod Entries
-pub mod EntryCounts
 pub mod FileTrees
 pub mod Frames
 pub mod MovedTrees

@@ -1,6 +1,6 @@
 -- Two paths written anew: the tree that the new root has, and what it reaches.
 use Rattle.std.proofs.Common.{◌≡◌, ℕ, ◌-◌, ◌≤◌, ◌⊎◌, inl, inr, Bool, true, false, cond, Option, Some, None, List, [], ◌∷◌, ◌++◌, length, refl, sym, ap, subst, ◌∙◌, arith, length-append}
-use Rattle.std.specs.Prelude.{unwrap_or}
+use Rattle.std.specs.Prelude.{unwrap_or, Contains}
 use Rattle.std.specs.Option.{is_some, option_map, option_and_then}
 use Rattle.std.specs.FinMap.{get}
 use Rattle.fs_types.specs.Names.{Name, Path, same_name}
@@ -14,14 +14,17 @@ use Rattle.plain_trees.proofs.Grafts.{graft_law, contents_law}
 use Rattle.node_format.specs.Items.{Item, named}
 use Rattle.node_format.specs.declared.places.Place.{Place}
 use Rattle.node_format.specs.declared.places.Place.TheVariants.{Dir, File}
-use Rattle.block_trees.specs.Bodies.{Blocks, pointer_of}
+use Rattle.block_trees.specs.Bodies.{Blocks}
 use Rattle.block_trees.specs.Trees.{entries_in, child, leads, entry_at, tree_at, tree, IsWhole, HasTree, IsRoot, root_tree}
 use Rattle.block_trees.specs.Trees as trees
-use Rattle.block_trees.specs.Reached.{IsHeld, Keeps, Reached, Names, BodyNames, PlaceNames}
-use Rattle.block_trees.specs.Rewritten.{IsDirectoryEdit, IsSecondEdit, IsBranch, IsMoved}
+use Rattle.block_trees.specs.Reached.{IsHeld, Keeps, Reached, PlaceNames}
+use Rattle.block_trees.specs.Rewritten.{IsDirectoryEdit, IsSecondEdit, IsBranch, IsMoved, IsFreshChain}
 use Rattle.block_trees.specs.Laws.{tree_or_nothing, HasTreeOrNothing, IsHeldOrNothing, IsShallow, AllMoves, RenameLaw}
-use Rattle.block_trees.proofs.Entries.{some_place, entry_named, directory_no_index, place_is}
-use Rattle.block_trees.proofs.Reaching.{reached_below, child_names, reached_by, IsReachedBy, held_child, held_leads}
+use Rattle.block_trees.proofs.Entries.{some_place, place_is}
+use Rattle.block_trees.specs.Chains.{chain}
+use Rattle.block_trees.proofs.Chained.{child_names, reached_chain}
+use Rattle.block_trees.specs.ChainLaws.{IsReachedFrom}
+use Rattle.block_trees.proofs.Reaching.{reached_via, reached_from, held_child, held_leads}
 use Rattle.block_trees.proofs.Frames.{frame_law, reached_before, leads_same, tree_same}
 use Rattle.block_trees.proofs.RootMaps.{map_law, leads-append}
 use Rattle.block_trees.proofs.EditedTrees.{by_test, edited_child, child_tree, edit_law}
@@ -53,23 +56,23 @@ module _ (old new : Blocks) (kept kept' : ℕ → Bool) (keeps : Keeps kept old 
   abbrev AllReached : (ℕ → Type 0) → Place → Type 0
   AllReached P place = (root : ℕ) → PlaceNames place root → (b : ℕ) → Reached new (root ∷ []) b → P b
 
-  level_reached : (P : ℕ → Type 0) (from to : ℕ) (items : List Item) → IsHeld old kept (Dir from) → entries_in new to ≡ Some items → P to → ((b : ℕ) → Reached old (from ∷ []) b → P b)
+  level_reached : (P : ℕ → Type 0) (from to : ℕ) (items : List Item) → IsHeld old kept (Dir from) → entries_in new to ≡ Some items → ((b : ℕ) → Contains (chain new to) b → P b) → ((b : ℕ) → Reached old (from ∷ []) b → P b)
       → OldOr from to (AllReached P) → (b : ℕ) → Reached new (to ∷ []) b → P b
-  level_reached P from to items held spelled here before each b reached = on (reached_by new to reached)
+  level_reached P from to items held spelled here before each b reached = on (reached_from new to items b spelled reached)
     where
       below : (next : ℕ) (k : Name) (place : Place) → (child old (Dir from) k ≡ Some place) ⊎ AllReached P place → PlaceNames place next → Reached new (next ∷ []) b → P b
       below next k place (inl leads) names reached =
           let held_next = held_child old kept (Dir from) k place leads held in
-          before b (reached_below old from next (child_names old from k place next leads names) (reached_before old new kept kept' keeps next (held_next next names) reached))
+          before b (reached_via old (from ∷ []) next (child_names old from k place next leads names) (reached_before old new kept kept' keeps next (held_next next names) reached))
       below next k place (inr all) names reached = all next names b reached
 
-      named_next : (next : ℕ) → Names (new to) next → Reached new (next ∷ []) b → P b
-      named_next next (inl (item, inside, names)) reached = below next item.name item.place (each item.name item.place (entry_named (new to) item inside)) names reached
-      named_next next (inr names) reached = absurd (subst (λ (index : Option ℕ). BodyNames index (pointer_of (new to)) next) (directory_no_index (new to) items spelled) names)
+      on : IsReachedFrom new to b → P b
+      on (inl inside) = here b inside
+      on (inr (name, place, next, leads, names, reached)) = below next name place (each name place leads) names reached
 
-      on : IsReachedBy new to b → P b
-      on (inl own) = subst P own here
-      on (inr (next, names, reached)) = named_next next names reached
+  -- the nodes of a new directory were not kept, or the old one reached them
+  fresh_has : (P : ℕ → Type 0) (from to : ℕ) → IsFreshChain old new kept kept' from to → ((b : ℕ) → Reached old (from ∷ []) b → P b) → ((b : ℕ) → kept b ≡ false → P b) → (b : ℕ) → Contains (chain new to) b → P b
+  fresh_has P from to fresh before free b inside = elim (fresh b inside).1 [ inl not_kept ↦ free b not_kept | inr there ↦ before b (reached_chain old from b there) ]
 
   level_shape : (capacity depth from to : ℕ) (items : List Item) → 1 ≤ depth → IsHeld old kept (Dir from) → HasTree capacity old (Dir from) depth → entries_in new to ≡ Some items
       → OldOr from to (λ place. HasTree capacity new place (depth - 1)) → HasTree capacity new (Dir to) depth
@@ -111,24 +114,24 @@ module _ (old new : Blocks) (kept kept' : ℕ → Bool) (keeps : Keeps kept old 
 
   branch_held : (from : ℕ) (n : Name) (p : Path) (at now : Option Place) → IsHeld old kept (Dir from) → IsBranch old new kept kept' from n p at now → IsHeldOrNothing new kept' at → IsHeldOrNothing new kept' now
   branch_held from n [] at now held is below = subst (IsHeldOrNothing new kept') (sym is) below
-  branch_held from n (m ∷ p) at now held (low, next, goes, is, rewritten, fresh) below =
+  branch_held from n (m ∷ p) at now held (low, next, goes, is, rewritten) below =
       subst (IsHeldOrNothing new kept') (sym is) ((edit_law old new kept kept' low next (m ∷ p) at keeps (held_child old kept (Dir from) n (Dir low) goes held) rewritten).held below)
 
   branch_reached : (P : ℕ → Type 0) (from : ℕ) (n : Name) (p : Path) (at now : Option Place) → IsHeld old kept (Dir from) → ((b : ℕ) → Reached old (from ∷ []) b → P b) → ((b : ℕ) → kept b ≡ false → P b)
       → ((place : Place) → at ≡ Some place → AllReached P place) → IsBranch old new kept kept' from n p at now → (place : Place) → now ≡ Some place → AllReached P place
   branch_reached P from n [] at now held before free below is place is_now = below place (sym is ∙ is_now)
-  branch_reached P from n (m ∷ p) at now held before free below (low, next, goes, is, rewritten, fresh) place is_now = λ root names b reached.
-      on b ((edit_law old new kept kept' low next (m ∷ p) at keeps (held_child old kept (Dir from) n (Dir low) goes held) rewritten).reached fresh b (subst (λ (r : ℕ). Reached new (r ∷ []) b) (sym (dir_named next root place (sym is ∙ is_now) names)) reached))
+  branch_reached P from n (m ∷ p) at now held before free below (low, next, goes, is, rewritten) place is_now = λ root names b reached.
+      on b ((edit_law old new kept kept' low next (m ∷ p) at keeps (held_child old kept (Dir from) n (Dir low) goes held) rewritten).reached b (subst (λ (r : ℕ). Reached new (r ∷ []) b) (sym (dir_named next root place (sym is ∙ is_now) names)) reached))
     where
       on : (b : ℕ) → Reached old (low ∷ []) b ⊎ (kept b ≡ false) ⊎ ((root : ℕ) × (place : Place) × (at ≡ Some place) × PlaceNames place root × Reached new (root ∷ []) b) → P b
-      on b (inl reached) = before b (reached_below old from low (child_names old from n (Dir low) low goes refl) reached)
+      on b (inl reached) = before b (reached_via old (from ∷ []) low (child_names old from n (Dir low) low goes refl) reached)
       on b (inr (inl not_kept)) = free b not_kept
       on b (inr (inr (root, place, is, names, reached))) = below place is root names b reached
 
   branch_shape : (capacity depth from : ℕ) (n : Name) (p : Path) (at now : Option Place) → IsHeld old kept (Dir from) → HasTree capacity old (Dir from) depth → length (n ∷ p) ≤ depth
       → IsBranch old new kept kept' from n p at now → HasTreeOrNothing capacity new at (depth - length (n ∷ p)) → HasTreeOrNothing capacity new now (depth - 1)
   branch_shape capacity depth from n [] at now held has deep is below = subst (λ (o : Option Place). HasTreeOrNothing capacity new o (depth - 1)) (sym is) below
-  branch_shape capacity depth from n (m ∷ p) at now held has deep (low, next, goes, is, rewritten, fresh) below =
+  branch_shape capacity depth from n (m ∷ p) at now held has deep (low, next, goes, is, rewritten) below =
       let left : depth - length (n ∷ m ∷ p) ≡ (depth - 1) - length (m ∷ p) = omega arith in
       let law = edit_law old new kept kept' low next (m ∷ p) at keeps (held_child old kept (Dir from) n (Dir low) goes held) rewritten in
       subst (λ (o : Option Place). HasTreeOrNothing capacity new o (depth - 1)) (sym is)
@@ -137,7 +140,7 @@ module _ (old new : Blocks) (kept kept' : ℕ → Bool) (keeps : Keeps kept old 
   branch_tree : (capacity depth from : ℕ) (n : Name) (p : Path) (at now : Option Place) → IsHeld old kept (Dir from) → HasTree capacity old (Dir from) depth → IsBranch old new kept kept' from n p at now
       → (q : Path) → tree_or_nothing capacity new now q ≡ graft (λ r. tree capacity old from (n ∷ r)) p (tree_or_nothing capacity new at) q
   branch_tree capacity depth from n [] at now held has is q = ap (λ (o : Option Place). tree_or_nothing capacity new o q) is
-  branch_tree capacity depth from n (m ∷ p) at now held has (low, next, goes, is, rewritten, fresh) q =
+  branch_tree capacity depth from n (m ∷ p) at now held has (low, next, goes, is, rewritten) q =
       let law = edit_law old new kept kept' low next (m ∷ p) at keeps (held_child old kept (Dir from) n (Dir low) goes held) rewritten in
       let grafted = law.grafted capacity (depth - 1) (child_tree capacity old depth (Dir from) n (Dir low) goes has) in
       let lower : tree capacity old low ≡ (λ r. tree capacity old from (n ∷ r)) = λ i r. below_place capacity old (sym goes i) r in
@@ -178,14 +181,14 @@ module _ (old new : Blocks) (kept kept' : ℕ → Bool) (keeps : Keeps kept old 
   moved_held : (p q : Path) (from to : ℕ) (place : Place) → IsHeld old kept (Dir from) → IsMoved old new kept kept' from to p q place → IsHeld new kept' place → IsHeld new kept' (Dir to)
   moved_held [] q from to place held r below root is = absurd r
   moved_held (n ∷ p) [] from to place held r below root is = absurd r
-  moved_held (n ∷ p) (m ∷ q) from to place held (fresh, here, inl (same, low, next, goes, edit, rest)) below root is =
+  moved_held (n ∷ p) (m ∷ q) from to place held (fresh, inl (same, low, next, goes, edit, rest)) below root is =
       subst (λ (r : ℕ). (b : ℕ) → Reached new (r ∷ []) b → kept' b ≡ true) is
-      (level_reached (λ b. kept' b ≡ true) from to edit.0 held edit.1 here (λ b reached. keeps.stays b (held from refl b reached))
+      (level_reached (λ b. kept' b ≡ true) from to edit.0 held edit.1 (λ b inside. (fresh b inside).0) (λ b reached. keeps.stays b (held from refl b reached))
       (edit_split (IsHeld new kept') from to n (Some (Dir next)) edit
       (λ at is_at. subst (IsHeld new kept') (place_is (Dir next) at is_at) (moved_held p q low next place (held_child old kept (Dir from) n (Dir low) goes held) rest below))))
-  moved_held (n ∷ p) (m ∷ q) from to place held (fresh, here, inr (differs, gone, came, edit, old_branch, new_branch)) below root is =
+  moved_held (n ∷ p) (m ∷ q) from to place held (fresh, inr (differs, gone, came, edit, old_branch, new_branch)) below root is =
       subst (λ (r : ℕ). (b : ℕ) → Reached new (r ∷ []) b → kept' b ≡ true) is
-      (level_reached (λ b. kept' b ≡ true) from to edit.0 held edit.1 here (λ b reached. keeps.stays b (held from refl b reached))
+      (level_reached (λ b. kept' b ≡ true) from to edit.0 held edit.1 (λ b inside. (fresh b inside).0) (λ b reached. keeps.stays b (held from refl b reached))
       (second_split (IsHeld new kept') from to n m gone came edit
       (held_of gone (branch_held from n p None gone held old_branch tt))
       (held_of came (branch_held from m q (Some place) came held new_branch below))))
@@ -194,15 +197,15 @@ module _ (old new : Blocks) (kept kept' : ℕ → Bool) (keeps : Keeps kept old 
       → IsMoved old new kept kept' from to p q place → AllReached P place → (b : ℕ) → Reached new (to ∷ []) b → P b
   moved_reached P [] q from to place held before free r below = absurd r
   moved_reached P (n ∷ p) [] from to place held before free r below = absurd r
-  moved_reached P (n ∷ p) (m ∷ q) from to place held before free (fresh, here, inl (same, low, next, goes, edit, rest)) below =
-      level_reached P from to edit.0 held edit.1 (free to fresh) before
+  moved_reached P (n ∷ p) (m ∷ q) from to place held before free (fresh, inl (same, low, next, goes, edit, rest)) below =
+      level_reached P from to edit.0 held edit.1 (fresh_has P from to fresh before free) before
       (edit_split (AllReached P) from to n (Some (Dir next)) edit
       (λ at is_at. subst (AllReached P) (place_is (Dir next) at is_at)
       (λ root names. subst (λ (r : ℕ). (b : ℕ) → Reached new (r ∷ []) b → P b) names
       (moved_reached P p q low next place (held_child old kept (Dir from) n (Dir low) goes held)
-      (λ b reached. before b (reached_below old from low (child_names old from n (Dir low) low goes refl) reached)) free rest below))))
-  moved_reached P (n ∷ p) (m ∷ q) from to place held before free (fresh, here, inr (differs, gone, came, edit, old_branch, new_branch)) below =
-      level_reached P from to edit.0 held edit.1 (free to fresh) before
+      (λ b reached. before b (reached_via old (from ∷ []) low (child_names old from n (Dir low) low goes refl) reached)) free rest below))))
+  moved_reached P (n ∷ p) (m ∷ q) from to place held before free (fresh, inr (differs, gone, came, edit, old_branch, new_branch)) below =
+      level_reached P from to edit.0 held edit.1 (fresh_has P from to fresh before free) before
       (second_split (AllReached P) from to n m gone came edit
       (branch_reached P from n p None gone held before free (λ at is. absurd (None≢Some is)) old_branch)
       (branch_reached P from m q (Some place) came held before free (λ at is. subst (AllReached P) (place_is place at is) below) new_branch))
@@ -211,14 +214,14 @@ module _ (old new : Blocks) (kept kept' : ℕ → Bool) (keeps : Keeps kept old 
       → IsMoved old new kept kept' from to p q place → HasTree capacity new place (depth - length q) → HasTree capacity new (Dir to) depth
   moved_shape capacity depth [] q from to place held has deep deep' r below = absurd r
   moved_shape capacity depth (n ∷ p) [] from to place held has deep deep' r below = absurd r
-  moved_shape capacity depth (n ∷ p) (m ∷ q) from to place held has deep deep' (fresh, here, inl (same, low, next, goes, edit, rest)) below =
+  moved_shape capacity depth (n ∷ p) (m ∷ q) from to place held has deep deep' (fresh, inl (same, low, next, goes, edit, rest)) below =
       let left : depth - length (m ∷ q) ≡ (depth - 1) - length q = omega arith in
       level_shape capacity depth from to edit.0 (omega arith) held has edit.1
       (edit_split (λ at. HasTree capacity new at (depth - 1)) from to n (Some (Dir next)) edit
       (λ at is_at. subst (λ (x : Place). HasTree capacity new x (depth - 1)) (place_is (Dir next) at is_at)
       (moved_shape capacity (depth - 1) p q low next place (held_child old kept (Dir from) n (Dir low) goes held) (child_tree capacity old depth (Dir from) n (Dir low) goes has) (omega arith) (omega arith) rest
       (subst (HasTree capacity new place) left below))))
-  moved_shape capacity depth (n ∷ p) (m ∷ q) from to place held has deep deep' (fresh, here, inr (differs, gone, came, edit, old_branch, new_branch)) below =
+  moved_shape capacity depth (n ∷ p) (m ∷ q) from to place held has deep deep' (fresh, inr (differs, gone, came, edit, old_branch, new_branch)) below =
       level_shape capacity depth from to edit.0 (omega arith) held has edit.1
       (second_split (λ at. HasTree capacity new at (depth - 1)) from to n m gone came edit
       (tree_of capacity (depth - 1) gone (branch_shape capacity depth from n p None gone held has deep old_branch tt))
@@ -229,7 +232,7 @@ module _ (old new : Blocks) (kept kept' : ℕ → Bool) (keeps : Keeps kept old 
   moved_tree capacity depth [] q from to place held has r x = absurd r
   moved_tree capacity depth (n ∷ p) [] from to place held has r x = absurd r
   moved_tree capacity depth (n ∷ p) (m ∷ q) from to place held has r [] = refl
-  moved_tree capacity depth (n ∷ p) (m ∷ q) from to place held has (fresh, here, inl (same, low, next, goes, edit, rest)) (k ∷ y) =
+  moved_tree capacity depth (n ∷ p) (m ∷ q) from to place held has (fresh, inl (same, low, next, goes, edit, rest)) (k ∷ y) =
       on (moved_tree capacity (depth - 1) p q low next place (held_child old kept (Dir from) n (Dir low) goes held) (child_tree capacity old depth (Dir from) n (Dir low) goes has) rest y)
     where
       t : Contents
@@ -260,7 +263,7 @@ module _ (old new : Blocks) (kept kept' : ℕ → Bool) (keeps : Keeps kept old 
           (λ differs. old_tree capacity depth from to k y held has (led ∙ ap (λ (test : Bool). cond test (Some (Dir next)) (child old (Dir from) k)) differs)
           ∙ sym (graft_aside t nothing n k p y differs)
           ∙ sym (graft_aside u s m k q y (ap (λ (name : Name). same_name name k) (sym (same_name-is n m same)) ∙ differs)))
-  moved_tree capacity depth (n ∷ p) (m ∷ q) from to place held has (fresh, here, inr (differs, gone, came, edit, old_branch, new_branch)) (k ∷ y) =
+  moved_tree capacity depth (n ∷ p) (m ∷ q) from to place held has (fresh, inr (differs, gone, came, edit, old_branch, new_branch)) (k ∷ y) =
       by_test (same_name m k) at_new (λ aside. by_test (same_name n k) (at_old aside) (elsewhere aside))
     where
       t : Contents
@@ -317,7 +320,7 @@ reached_there f (n ∷ path) (Dir block) place is root names b reached = on (chi
     on : (o : Option Place) → child f (Dir block) n ≡ o → option_and_then (λ next. leads f next path) o ≡ Some place
         → ((next : Place) → leads f next path ≡ Some place → (top : ℕ) × PlaceNames next top × Reached f (top ∷ []) b) → (top : ℕ) × PlaceNames (Dir block) top × Reached f (top ∷ []) b
     on None e led again = absurd cc
-    on (Some next) e led again = let found = again next led in (block, refl, reached_below f block found.0 (child_names f block n next found.0 e found.1) found.2)
+    on (Some next) e led again = let found = again next led in (block, refl, reached_via f (block ∷ []) found.0 (child_names f block n next found.0 e found.1) found.2)
 
 module _ (old new : Blocks) (kept kept' : ℕ → Bool) (from to : ℕ) (old_path new_path : Path) (place : Place) (keeps : Keeps kept old kept' new) (held : IsHeld old kept (Dir from))
     (led : leads old (Dir from) old_path ≡ Some place) (moved : IsMoved old new kept kept' from to old_path new_path place) where

@@ -7,6 +7,7 @@ use Rattle.std.specs.List.{flat_map, list_all}
 use Rattle.std.specs.Ordering.{eq_by_cmp}
 use Rattle.std.specs.FinMap.{get, find, is_sorted, get-entries, get-from_entries}
 use Rattle.std.specs.FinMap.Entries.{below_all, same_entries}
+use Rattle.fs_types.specs.declared.limits.TheConstants.{MAX_ENTRIES}
 use Rattle.fs_types.specs.Names.{Name, Path, same_name, name_cmp, path_cmp}
 use Rattle.plain_trees.specs.Contents.{Entry, is_dir, leaf}
 use Rattle.plain_trees.specs.Trees.{bare, children, is_full}
@@ -15,13 +16,13 @@ use Rattle.plain_trees.proofs.Beneath.{None≢Some, same_Some}
 use Rattle.plain_trees.proofs.Listings.{directory, get-directory, entries-directory, children-sorted}
 use Rattle.plain_trees.proofs.Edits.{get-bare, same_tree}
 use Rattle.node_format.specs.Items.{Item, is_before, are_ascending, named}
-use Rattle.node_format.specs.Directories.{directory_at}
-use Rattle.node_format.specs.EntryLaws.{directory_at-ascending, after-differs}
+use Rattle.node_format.specs.EntryLaws.{after-differs}
 use Rattle.node_format.specs.Order.{both_true}
 use Rattle.node_format.specs.declared.places.Place.{Place}
 use Rattle.node_format.specs.declared.places.Place.TheVariants.{Dir, File}
 use Rattle.block_trees.specs.Bodies.{Blocks}
-use Rattle.block_trees.specs.Trees.{items_of, entries_in, child, leads, entry_at, tree_at, tree, IsWhole, HasTree, IsRoot, listed, root_tree, names_of, is_dir_place, items_in}
+use Rattle.block_trees.proofs.Chained.{directory_ascends}
+use Rattle.block_trees.specs.Trees.{entries_in, child, leads, entry_at, tree_at, tree, IsWhole, HasTree, IsRoot, listed, root_tree, names_of, is_dir_place, items_in}
 use Rattle.block_trees.specs.Laws.{AllMaps}
 
 -- ---- the first entry of a path in a list
@@ -59,14 +60,6 @@ first-below m n q (e ∷ es) =
     ∙ elim (same_name m n) as (λ b. cond (b && eq_by_cmp path_cmp q e.0) (Some e.1) (cond b (first q es) None) ≡ cond b (cond (eq_by_cmp path_cmp q e.0) (Some e.1) (first q es)) None) [ true ↦ refl | false ↦ refl ]
 
 -- ---- the entries of a directory
-
-pub ascending-items : (node : Option (List ℕ)) → are_ascending (items_of node) ≡ true
-ascending-items None = refl
-ascending-items (Some bytes) = go (directory_at bytes) refl
-  where
-    go : (read : Option (List Item)) → directory_at bytes ≡ read → are_ascending (unwrap_or read []) ≡ true
-    go None e = refl
-    go (Some items) e = directory_at-ascending bytes items e
 
 -- a name before all the others leads to none of them
 pub not-named : (items : List Item) (n : Name) → list_all (λ other. is_before n other.name) items ≡ true → named items n ≡ None
@@ -123,7 +116,7 @@ module _ (capacity : ℕ) (f : Blocks) where
   first-listed zero (Dir block) has (n ∷ q) = ap (λ o. option_map (entry_at capacity f) (option_and_then (λ next. leads f next q) o)) (sym (no-child block n has))
   first-listed (suc depth) (Dir block) has [] = refl
   first-listed (suc depth) (Dir block) has (n ∷ q) =
-      first-items (listed capacity f depth) (items_in f block) n q (ascending-items (f block))
+      first-items (listed capacity f depth) (items_in f block) n q (directory_ascends f block)
       ∙ go (named (items_in f block) n) refl (λ at tree. first-listed depth at tree q)
     where
       go : (o : Option Place) → named (items_in f block) n ≡ o → ((at : Place) → HasTree capacity f at depth → first q (listed capacity f depth at) ≡ tree_at capacity f at q)
@@ -186,7 +179,7 @@ pub children-root_tree : (capacity : ℕ) (f : Blocks) (root : ℕ) → IsRoot c
 children-root_tree capacity f root has path block is =
     same_entries name_cmp names_total names_exact (children (root_tree capacity f root) path) (names_of (items_in f block))
     (children-sorted (root_tree capacity f root) path)
-    (subst T (sym (sorted-names (items_in f block) ∙ ascending-items (f block))) tt)
+    (subst T (sym (sorted-names (items_in f block) ∙ directory_ascends f block)) tt)
     (find-children capacity f root has path block is)
 
 pub map_law : AllMaps
@@ -197,12 +190,12 @@ map_law capacity f root has = record {
 
 -- ---- what follows
 
--- a directory is full where its node has 32 entries
+-- a directory is full where it has as many entries as it may
 pub full_directory : (capacity : ℕ) (f : Blocks) (root : ℕ) (path : Path) (block : ℕ) → IsRoot capacity f root → leads f (Dir root) path ≡ Some (Dir block)
-    → is_full (root_tree capacity f root) path ≡ nat_le 32 (length (items_in f block))
+    → is_full (root_tree capacity f root) path ≡ nat_le MAX_ENTRIES (length (items_in f block))
 full_directory capacity f root path block has is =
-    ap (λ es. nat_le 32 (length es)) (children-root_tree capacity f root has path block is)
-    ∙ ap (nat_le 32) (length-map (items_in f block) (λ (item : Item). (item.name, is_dir_place item.place)))
+    ap (λ es. nat_le MAX_ENTRIES (length es)) (children-root_tree capacity f root has path block is)
+    ∙ ap (nat_le MAX_ENTRIES) (length-map (items_in f block) (λ (item : Item). (item.name, is_dir_place item.place)))
 
 -- nothing stands below a directory without entries
 empty-child : (f : Blocks) (block : ℕ) → entries_in f block ≡ Some [] → (n : Name) → child f (Dir block) n ≡ None

@@ -1,4 +1,4 @@
--- The bodies of files: chains of nodes, each with pointers to nodes before it. `capacity` is the number of
+-- The bodies of files: lists of nodes, each with pointers to nodes before it. `capacity` is the number of
 -- data bytes that a node has where it is full.
 use Rattle.std.specs.Prelude.{◌≡◌, ℕ, zero, suc, ◌+◌, ◌-◌, ◌*◌, ◌/◌, ◌^◌, ◌≤◌, ◌==◌, Option, Some, None, List, [], ◌++◌, length, take, drop, if◌then◌else◌}
 use Rattle.node_format.specs.Headers.{field, body_header, body_magic}

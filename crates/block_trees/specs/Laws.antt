@@ -11,7 +11,7 @@ use Rattle.node_format.specs.declared.places.Place.TheVariants.{Dir, File}
 use Rattle.block_trees.specs.Bodies.{Blocks, body, IsBody}
 use Rattle.block_trees.specs.Trees.{items_in, entries_in, leads, tree_at, tree, HasTree, IsRoot, root_tree, names_of}
 use Rattle.block_trees.specs.Reached.{Reached, IsHeld, Keeps, PlaceNames}
-use Rattle.block_trees.specs.Rewritten.{IsRewritten, AreFresh, IsMoved}
+use Rattle.block_trees.specs.Rewritten.{IsRewritten, IsMoved}
 
 -- what a place leads to; nothing where there is no place
 abbrev pub tree_or_nothing : ℕ → Blocks → Option Place → Contents
@@ -44,27 +44,27 @@ pub record EditLaw (old new : Blocks) (kept kept' : ℕ → Bool) (from to : ℕ
   pub grafted : (capacity depth : ℕ) → HasTree capacity old (Dir from) depth → tree capacity new to ≡ graft (tree capacity old from) path (tree_or_nothing capacity new at)
   pub shape : (capacity depth : ℕ) → HasTree capacity old (Dir from) depth → length path ≤ depth → HasTreeOrNothing capacity new at (depth - length path) → HasTree capacity new (Dir to) depth
   pub held : IsHeldOrNothing new kept' at → IsHeld new kept' (Dir to)
-  pub reached : AreFresh kept kept' new to path → (block : ℕ) → Reached new (to ∷ []) block → Reached old (from ∷ []) block ⊎ (kept block ≡ false) ⊎ ((root : ℕ) × (place : Place) × (at ≡ Some place) × PlaceNames place root × Reached new (root ∷ []) block)
+  pub reached : (block : ℕ) → Reached new (to ∷ []) block → Reached old (from ∷ []) block ⊎ (kept block ≡ false) ⊎ ((root : ℕ) × (place : Place) × (at ≡ Some place) × PlaceNames place root × Reached new (root ∷ []) block)
 
 abbrev pub AllEdits : Type 0
-AllEdits = (old new : Blocks) (kept kept' : ℕ → Bool) (from to : ℕ) (path : Path) (at : Option Place) → Keeps kept old kept' new → IsHeld old kept (Dir from) → IsRewritten old kept' new from to path at → EditLaw old new kept kept' from to path at
+AllEdits = (old new : Blocks) (kept kept' : ℕ → Bool) (from to : ℕ) (path : Path) (at : Option Place) → Keeps kept old kept' new → IsHeld old kept (Dir from) → IsRewritten old new kept kept' from to path at → EditLaw old new kept kept' from to path at
 
 -- a new empty directory at a path where nothing stood
 abbrev pub MkdirLaw : Type 0
 MkdirLaw = (capacity : ℕ) (old new : Blocks) (kept kept' : ℕ → Bool) (from to block : ℕ) (path : Path) → Keeps kept old kept' new → IsHeld old kept (Dir from) → IsRoot capacity old from
-    → tree capacity old from path ≡ None → length path ≤ MAX_NAMES → entries_in new block ≡ Some [] → IsRewritten old kept' new from to path (Some (Dir block))
+    → tree capacity old from path ≡ None → length path ≤ MAX_NAMES → entries_in new block ≡ Some [] → IsRewritten old new kept kept' from to path (Some (Dir block))
     → IsRoot capacity new to × (root_tree capacity new to ≡ put (root_tree capacity old from) path Entry.Dir)
 
 -- an entry taken out that nothing stands below
 abbrev pub RemoveLaw : Type 0
 RemoveLaw = (capacity : ℕ) (old new : Blocks) (kept kept' : ℕ → Bool) (from to : ℕ) (path : Path) → Keeps kept old kept' new → IsHeld old kept (Dir from) → IsRoot capacity old from
-    → IsLast (tree capacity old from) path → length path ≤ MAX_NAMES → IsRewritten old kept' new from to path None
+    → IsLast (tree capacity old from) path → length path ≤ MAX_NAMES → IsRewritten old new kept kept' from to path None
     → IsRoot capacity new to × (root_tree capacity new to ≡ remove (root_tree capacity old from) path)
 
 -- a file at a path where no directory stood
 abbrev pub PutFileLaw : Type 0
 PutFileLaw = (capacity : ℕ) (old new : Blocks) (kept kept' : ℕ → Bool) (from to head size : ℕ) (path : Path) → Keeps kept old kept' new → IsHeld old kept (Dir from) → IsRoot capacity old from
-    → tree capacity old from path ≢ Some Entry.Dir → length path ≤ MAX_NAMES → IsBody capacity new head size → IsRewritten old kept' new from to path (Some (File head size))
+    → tree capacity old from path ≢ Some Entry.Dir → length path ≤ MAX_NAMES → IsBody capacity new head size → IsRewritten old new kept kept' from to path (Some (File head size))
     → IsRoot capacity new to × (root_tree capacity new to ≡ put (root_tree capacity old from) path (Entry.File (body capacity new head size)))
 
 -- each path below a place has so many names at most

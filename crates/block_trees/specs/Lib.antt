@@ -1,4 +1,6 @@
 pub mod Bodies
+pub mod ChainLaws
+pub mod Chains
 pub mod Laws
 pub mod Reached
 pub mod Rewritten

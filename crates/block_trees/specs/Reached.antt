@@ -5,9 +5,9 @@ use Rattle.node_format.specs.declared.places.Place.{Place}
 use Rattle.node_format.specs.declared.places.Place.TheVariants.{Dir, File}
 use Rattle.node_format.specs.BodyNodes.{HasSlot}
 use Rattle.block_trees.specs.Bodies.{Blocks, index_of, pointer_of}
-use Rattle.block_trees.specs.Trees.{items_of}
+use Rattle.block_trees.specs.Chains.{link_items, next_of}
 
--- a place names a block: a directory its node, a file that is not empty its head
+-- a place names a block: a directory its first node, a file that is not empty its head
 abbrev pub PlaceNames : Place → ℕ → Type 0
 PlaceNames (Dir block) next = block ≡ next
 PlaceNames (File head size) next = (0 < size) × (head ≡ next)
@@ -17,9 +17,13 @@ abbrev pub BodyNames : Option ℕ → (ℕ → ℕ) → ℕ → Type 0
 BodyNames None pointer next = ⊥
 BodyNames (Some index) pointer next = (x : ℕ) × HasSlot index x × (pointer x ≡ next)
 
--- the node in a block names a block, by an entry or by a slot
+-- a node of a directory names the node after it
+abbrev pub NextNames : Option (List ℕ) → ℕ → Type 0
+NextNames node next = (0 < next_of node) × (next_of node ≡ next)
+
+-- the node in a block names a block, by an entry, by a slot, or as the node after it
 abbrev pub Names : Option (List ℕ) → ℕ → Type 0
-Names node next = ((item : Item) × Contains (items_of node) item × PlaceNames item.place next) ⊎ BodyNames (index_of node) (pointer_of node) next
+Names node next = ((item : Item) × Contains (link_items node) item × PlaceNames item.place next) ⊎ (BodyNames (index_of node) (pointer_of node) next ⊎ NextNames node next)
 
 -- the least set that has the roots and all that its members name
 pub data Reached (f : Blocks) (roots : List ℕ) : ℕ → Type 0 where

@@ -1,10 +1,11 @@
 -- A path of directories written anew from a changed entry up to the root.
-use Rattle.std.specs.Prelude.{◌≡◌, ◌⊎◌, ℕ, Bool, true, false, Option, Some, None, List, [], ◌∷◌, if◌then◌else◌}
+use Rattle.std.specs.Prelude.{◌≡◌, ◌⊎◌, ℕ, Bool, true, false, Option, Some, None, List, [], ◌∷◌, Contains, if◌then◌else◌}
 use Rattle.fs_types.specs.Names.{Name, Path, same_name}
 use Rattle.node_format.specs.Items.{Item, named}
 use Rattle.node_format.specs.declared.places.Place.{Place}
 use Rattle.node_format.specs.declared.places.Place.TheVariants.{Dir}
 use Rattle.block_trees.specs.Bodies.{Blocks}
+use Rattle.block_trees.specs.Chains.{chain}
 use Rattle.block_trees.specs.Trees.{entries_in, child}
 
 -- the directory at `to` has the entries of the one at `from`, but that a name leads to this place (None: to nothing)
@@ -12,20 +13,17 @@ abbrev pub IsDirectoryEdit : Blocks → Blocks → ℕ → ℕ → Name → Opti
 IsDirectoryEdit old new from to n at =
     (items : List Item) × (entries_in new to ≡ Some items) × ((m : Name) → named items m ≡ (if same_name n m then at else child old (Dir from) m))
 
--- each directory along the path was written anew, to a kept block, so that the path leads to this place
-abbrev pub IsRewritten : Blocks → (ℕ → Bool) → Blocks → ℕ → ℕ → Path → Option Place → Type 0
-IsRewritten old kept new from to [] at = ⊥
-IsRewritten old kept new from to (n ∷ []) at = (kept to ≡ true) × IsDirectoryEdit old new from to n at
-IsRewritten old kept new from to (n ∷ m ∷ p) at =
-    (below : ℕ) × (next : ℕ) × (child old (Dir from) n ≡ Some (Dir below)) × (kept to ≡ true)
-    × IsDirectoryEdit old new from to n (Some (Dir next)) × IsRewritten old kept new below next (m ∷ p) at
+-- each node of the new directory is kept, in a block that was not kept, or is a node of the old one
+abbrev pub IsFreshChain : Blocks → Blocks → (ℕ → Bool) → (ℕ → Bool) → ℕ → ℕ → Type 0
+IsFreshChain old new kept kept' from to = (b : ℕ) → Contains (chain new to) b → (kept' b ≡ true) × ((kept b ≡ false) ⊎ Contains (chain old from) b)
 
--- the directories of a path that was written anew are kept, in blocks that were not kept before
-abbrev pub AreFresh : (ℕ → Bool) → (ℕ → Bool) → Blocks → ℕ → Path → Type 0
-AreFresh kept kept' new to [] = ⊥
-AreFresh kept kept' new to (name ∷ []) = (kept to ≡ false) × (kept' to ≡ true)
-AreFresh kept kept' new to (name ∷ next ∷ path) =
-    (below : ℕ) × (child new (Dir to) name ≡ Some (Dir below)) × (kept to ≡ false) × (kept' to ≡ true) × AreFresh kept kept' new below (next ∷ path)
+-- each directory along the path was written anew, so that the path leads to this place
+abbrev pub IsRewritten : Blocks → Blocks → (ℕ → Bool) → (ℕ → Bool) → ℕ → ℕ → Path → Option Place → Type 0
+IsRewritten old new kept kept' from to [] at = ⊥
+IsRewritten old new kept kept' from to (n ∷ []) at = IsFreshChain old new kept kept' from to × IsDirectoryEdit old new from to n at
+IsRewritten old new kept kept' from to (n ∷ m ∷ p) at =
+    (below : ℕ) × (next : ℕ) × (child old (Dir from) n ≡ Some (Dir below)) × IsFreshChain old new kept kept' from to
+    × IsDirectoryEdit old new from to n (Some (Dir next)) × IsRewritten old new kept kept' below next (m ∷ p) at
 
 -- in new the directory at `to` has the entries of the one at `from` in old, but that one name leads to one place and another to another (None: to nothing)
 abbrev pub IsSecondEdit : Blocks → Blocks → ℕ → ℕ → Name → Option Place → Name → Option Place → Type 0
@@ -33,19 +31,19 @@ IsSecondEdit old new from to n at m at' =
     (items : List Item) × (entries_in new to ≡ Some items) × ((k : Name) → named items k ≡ (if same_name m k then at' else if same_name n k then at else child old (Dir from) k))
 
 -- what a name of a directory leads to now, so that the names after it lead on to this place: the place itself where
--- none come after it, else the directory below, written anew in blocks that were not kept
+-- none come after it, else the directory below, written anew
 abbrev pub IsBranch : Blocks → Blocks → (ℕ → Bool) → (ℕ → Bool) → ℕ → Name → Path → Option Place → Option Place → Type 0
 IsBranch old new kept kept' from n [] at now = now ≡ at
 IsBranch old new kept kept' from n (m ∷ p) at now =
     (below : ℕ) × (next : ℕ) × (child old (Dir from) n ≡ Some (Dir below)) × (now ≡ Some (Dir next))
-    × IsRewritten old kept' new below next (m ∷ p) at × AreFresh kept kept' new next (m ∷ p)
+    × IsRewritten old new kept kept' below next (m ∷ p) at
 
--- each directory along two paths was written anew, once where both go through it, to a kept block that was not kept
--- before: the first path leads to nothing, the second to this place; neither begins the other
+-- each directory along two paths was written anew, once where both go through it: the first path leads to nothing, the
+-- second to this place; neither begins the other
 abbrev pub IsMoved : Blocks → Blocks → (ℕ → Bool) → (ℕ → Bool) → ℕ → ℕ → Path → Path → Place → Type 0
 IsMoved old new kept kept' from to [] q place = ⊥
 IsMoved old new kept kept' from to (n ∷ p) [] place = ⊥
-IsMoved old new kept kept' from to (n ∷ p) (m ∷ q) place = (kept to ≡ false) × (kept' to ≡ true) × (
+IsMoved old new kept kept' from to (n ∷ p) (m ∷ q) place = IsFreshChain old new kept kept' from to × (
     ((same_name n m ≡ true) × (below : ℕ) × (next : ℕ) × (child old (Dir from) n ≡ Some (Dir below))
     × IsDirectoryEdit old new from to n (Some (Dir next)) × IsMoved old new kept kept' below next p q place)
     ⊎ ((same_name n m ≡ false) × (gone : Option Place) × (here : Option Place) × IsSecondEdit old new from to n gone m here

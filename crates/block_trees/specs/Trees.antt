@@ -1,5 +1,5 @@
--- The tree of a root block: what each path leads to through directory nodes.
-use Rattle.std.specs.Prelude.{◌≡◌, ℕ, zero, suc, ◌≤◌, Bool, true, false, Option, Some, None, unwrap_or, List, [], ◌∷◌, length, map}
+-- The tree of a root block: what each path leads to through directories.
+use Rattle.std.specs.Prelude.{◌≡◌, ℕ, zero, suc, ◌≤◌, Bool, Option, Some, None, List, [], ◌∷◌, length, map}
 use Rattle.std.specs.Option.{option_map, option_and_then}
 use Rattle.std.specs.List.{flat_map}
 use Rattle.std.specs.FinMap.{from_entries}
@@ -9,24 +9,10 @@ use Rattle.plain_trees.specs.Contents.{Contents, Entry}
 use Rattle.plain_trees.specs.Trees.{Tree}
 use Rattle.node_format.specs.Items.{Item, named}
 pub use Rattle.node_format.specs.Items.{is_dir_place}
-use Rattle.node_format.specs.Directories.{directory_at}
+pub use Rattle.block_trees.specs.Chains.{entries_in, items_in}
 use Rattle.node_format.specs.declared.places.Place.{Place}
 use Rattle.node_format.specs.declared.places.Place.TheVariants.{Dir, File}
 use Rattle.block_trees.specs.Bodies.{Blocks, body, IsBody}
-
--- the entries of a directory node; none of any other node
-abbrev pub entries_of : Option (List ℕ) → Option (List Item)
-entries_of node = option_and_then directory_at node
-
-abbrev pub items_of : Option (List ℕ) → List Item
-items_of node = unwrap_or (entries_of node) []
-
--- the entries of the directory in a block; none where it holds no directory
-abbrev pub entries_in : Blocks → ℕ → Option (List Item)
-entries_in f block = entries_of (f block)
-
-abbrev pub items_in : Blocks → ℕ → List Item
-items_in f block = unwrap_or (entries_in f block) []
 
 -- what a name in a directory leads to
 abbrev pub child : Blocks → Place → Name → Option Place
@@ -51,7 +37,7 @@ tree_at capacity f at p = option_map (entry_at capacity f) (leads f at p)
 abbrev pub tree : ℕ → Blocks → ℕ → Contents
 tree capacity f root = tree_at capacity f (Dir root)
 
--- a directory has a directory node, a file has a body
+-- a directory begins in its block, a file has a body
 abbrev pub IsWhole : ℕ → Blocks → Place → Type 0
 IsWhole capacity f (Dir block) = (items : List Item) × (entries_in f block ≡ Some items)
 IsWhole capacity f (File head size) = IsBody capacity f head size

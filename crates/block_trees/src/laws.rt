@@ -1,4 +1,5 @@
 //! The laws of trees of nodes. Each function does nothing: its contract is the law.
+ghost use Rattle.block_trees.specs.ChainLaws.{ChainFrameLaw, CountLaw, EntryLaw, FirstLaw, NamedLaw, ReachedByLaw, ReachedLaw, StepLaw, TailLaw};
 ghost use Rattle.block_trees.specs.Laws.{AllEdits, AllFrames, AllMoves, DepthLaw, MkdirLaw, PutFileLaw, RemoveLaw, RenameLaw};
 
 /// Where all that a place or a root reaches is kept, nothing of it changes.
@@ -21,4 +22,22 @@ pub fn move_laws()
     ensures moves { AllMoves }
     ensures renamed { RenameLaw }
     ensures depth { DepthLaw }
+{}
+
+/// Where the nodes of a directory stay, it stays; one node before others has their entries after its
+/// own; each node of a directory begins one; how many nodes there are for so many entries.
+pub fn chain_laws()
+    ensures frame { ChainFrameLaw }
+    ensures step { StepLaw }
+    ensures first { FirstLaw }
+    ensures tail { TailLaw }
+    ensures count { CountLaw }
+{}
+
+/// What the block of a directory reaches: its nodes, what its entries name, and nothing else.
+pub fn reaching_laws()
+    ensures nodes { ReachedLaw }
+    ensures entries { EntryLaw }
+    ensures named { NamedLaw }
+    ensures only { ReachedByLaw }
 {}

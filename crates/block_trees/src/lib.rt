@@ -6,5 +6,5 @@ ghost use Rattle.std.specs.Prelude.{◌≡◌};
 mod laws;
 mod maps;
 
-pub use laws::{edit_laws, frame_laws, move_laws};
+pub use laws::{chain_laws, edit_laws, frame_laws, move_laws, reaching_laws};
 pub use maps::map_laws;

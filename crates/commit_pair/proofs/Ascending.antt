@@ -7,7 +7,7 @@ use Rattle.std.specs.List.Sorted.{IsStrictlyIncreasing}
 use Rattle.std.proofs.lemmas.Bool.{lt-ltb, le-leb, eq-eqb, or_right}
 use Rattle.std.proofs.lemmas.List.Kept.{AllPairs-from_increasing}
 use Rattle.record_format.specs.declared.records.Record.{Record}
-use Rattle.record_format.specs.Payloads.{numbers_ascend, is_record, Fits, payload_bytes, payload_at}
+use Rattle.record_format.specs.Payloads.{numbers_ascend, is_record, written, Fits, payload_bytes, payload_at}
 use Rattle.record_format.specs.Laws.{WrittenIsRead}
 
 ascend : (least : ℕ) (xs : List ℕ) → ((i j : ℕ) → i < j → j < length xs → get_or xs i 0 < get_or xs j 0) → (0 < length xs → least ≤ get_or xs 0 0) → numbers_ascend least xs ≡ true
@@ -23,8 +23,8 @@ below_all most (x ∷ xs) each =
     rw (lt-ltb x most lt) (below_all most xs (λ b is. each b (or_right (eqb x b) (list_any (λ y. eqb y b) xs) is)))
 
 -- a record is lawful with another list that ascends
-pub lawful_with : (r : Record) (list : List ℕ) (bad : set.FinSet nat_cmp) → is_record (record r { bad = [] }) ≡ true → IsStrictlyIncreasing list → set.from_list list ≡ bad → length list ≤ 256
-    → ((b : ℕ) → set.contains bad b ≡ true → b < r.geometry.blocks) → is_record (record r { bad = list }) ≡ true
+pub lawful_with : (r : Record) (list : List ℕ) (bad : set.FinSet nat_cmp) → is_record (written r []) ≡ true → IsStrictlyIncreasing list → set.from_list list ≡ bad → length list ≤ 256
+    → ((b : ℕ) → set.contains bad b ≡ true → b < r.geometry.blocks) → is_record (written r list) ≡ true
 lawful_with r list bad lawful increasing is short below =
     let pairs = AllPairs-from_increasing list increasing in
     let up : numbers_ascend 0 list ≡ true = ascend 0 list (λ i j lt under. pairs i j 0 lt under) (λ some. omega arith) in
@@ -32,8 +32,8 @@ lawful_with r list bad lawful increasing is short below =
     rw (le-leb (length list) 256 short, up, on) lawful
 
 -- the payload means the record with a sequence
-pub means_with : WrittenIsRead → (r : Record) (list : List ℕ) (sequence : ℕ) (bytes : List ℕ) → is_record (record r { bad = list }) ≡ true → Fits (record r { bad = list }) → bytes ≡ payload_bytes (record r { bad = list })
-    → payload_at r.geometry sequence bytes ≡ Ok (record r { sequence = sequence; bad = list })
+pub means_with : WrittenIsRead → (r : Record) (list : List ℕ) (sequence : ℕ) (bytes : List ℕ) → is_record (written r list) ≡ true → Fits (written r list) → bytes ≡ payload_bytes (written r list)
+    → payload_at r.geometry sequence bytes ≡ Ok (record (written r list) { sequence = sequence })
 means_with law r list sequence bytes lawful fits spelled =
     ap (payload_at r.geometry sequence) spelled
-    ∙ law (record r { sequence = sequence; bad = list }) lawful (record { sizes = fits.sizes; next = fits.next; roots = fits.roots; checkpoints = fits.checkpoints })
+    ∙ law (record (written r list) { sequence = sequence }) lawful (record { sizes = fits.sizes; next = fits.next; roots = fits.roots; checkpoints = fits.checkpoints })

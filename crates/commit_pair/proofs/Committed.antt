@@ -9,7 +9,7 @@ use Rattle.record_format.specs.declared.records.Record.{Record}
 use Rattle.std.proofs.Common.{◌==◌, ltb, length}
 use Rattle.std.specs.Prelude.{◌||◌, not}
 use Rattle.byteorder.specs.Endian.{little_from}
-use Rattle.record_format.specs.Payloads.{format, shortest, longest, tells_sizes, payload_at, meaning_of}
+use Rattle.record_format.specs.Payloads.{is_format, shortest, longest, tells_sizes, payload_at, meaning_of}
 use Rattle.commit_pair.specs.declared.best.Found.{Found}
 use Rattle.commit_pair.specs.declared.best.Best.{Best}
 use Rattle.commit_pair.specs.Parts.{Entry, parts_on, best_on, newest_at, newest_on, payload_of}
@@ -49,7 +49,7 @@ refused_is x y e = cc
 -- a payload is refused as damaged or of another geometry
 payload_refused : (g : Geometry) (sequence : ℕ) (bytes : List ℕ) (fault : Fault) → payload_at g sequence bytes ≡ Err fault → (fault ≡ Damaged) ⊎ (fault ≡ BadGeometry)
 payload_refused g sequence bytes fault e =
-    from (ltb (length bytes) shortest || not (little_from 0 4 bytes == format)) (not (tells_sizes g bytes)) (ltb longest (length bytes)) (meaning_of sequence bytes) e
+    from (ltb (length bytes) shortest || not (is_format (little_from 0 4 bytes))) (not (tells_sizes g bytes)) (ltb longest (length bytes)) (meaning_of sequence bytes) e
   where
     from : (other sizes long : Bool) (meaning : Option Record) → cond other (refused Damaged) (cond sizes (refused BadGeometry) (cond long (refused Damaged) (ok_or meaning Damaged))) ≡ Err fault → (fault ≡ Damaged) ⊎ (fault ≡ BadGeometry)
     from true sizes long meaning e = inl (refused_is Damaged fault e)

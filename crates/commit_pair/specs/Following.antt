@@ -5,6 +5,7 @@ use Rattle.std.specs.Ordering.{nat_cmp}
 use Rattle.std.specs.List.Sorted.{IsStrictlyIncreasing}
 use Rattle.flash_model.specs.Device.{Device, block_of}
 use Rattle.record_format.specs.declared.records.Record.{Record}
+use Rattle.record_format.specs.Payloads.{written}
 use Rattle.commit_pair.specs.declared.anchors.Anchors.{Anchors}
 use Rattle.commit_pair.specs.Parts.{first_data}
 use Rattle.commit_pair.specs.Newest.{committed_on}
@@ -16,7 +17,7 @@ abbrev pub StillMayCommit : Type 0
 StillMayCommit = (old new : Device) (was now : set.FinSet nat_cmp) (anchors : Anchors) → new.geometry ≡ old.geometry → ((p : ℕ) → block_of old p < first_data → new.pages p ≡ old.pages p)
     → ((b : ℕ) → set.contains was b ≡ true → set.contains now b ≡ true) → MayCommit old was anchors → MayCommit new now anchors
 
--- what was committed is what the newest record means: the record with its sequence, and the list in ascending order
+-- what was committed is what the newest record means: the record in the format that is written, with its sequence, and the list in ascending order
 abbrev pub CommittedIsNewest : Type 0
 CommittedIsNewest = (d : Device) (r : Record) (sequence : ℕ) (bad : set.FinSet nat_cmp) → d.geometry ≡ r.geometry → IsCommitted d.pages r sequence bad
-    → (list : List ℕ) × IsStrictlyIncreasing list × (set.from_list list ≡ bad) × (committed_on d ≡ Some (Ok (record r { sequence = sequence; bad = list })))
+    → (list : List ℕ) × IsStrictlyIncreasing list × (set.from_list list ≡ bad) × (committed_on d ≡ Some (Ok (record (written r list) { sequence = sequence })))

@@ -3,7 +3,7 @@ ghost use Rattle.std.specs.Prelude.{◌≡◌, ◌≢◌, ◌⊎◌, ℕ, ◌+�
 ghost use Rattle.std.specs.FinSet as set;
 ghost use Rattle.flash_model.specs.Geometry.{IsGeometry};
 ghost use Rattle.read_only.specs.Modes.{is_read_only};
-ghost use Rattle.record_format.specs.Payloads.{is_record};
+ghost use Rattle.record_format.specs.Payloads.{is_record, written};
 ghost use Rattle.commit_pair.specs.Parts.{first_data, sequence_of, greatest_on};
 ghost use Rattle.commit_pair.specs.Anchored.{OnlyAnchors};
 ghost use Rattle.commit_pair.specs.Keeping.{AreOlder};
@@ -75,7 +75,7 @@ impl Anchors {
     ) -> Result<(), Fault>
         requires same { (F.device flash.old).geometry ≡ saved.now.geometry }
         requires lawful { IsGeometry saved.now.geometry }
-        requires is_lawful { is_record (record saved.now { bad = [] }) ≡ true }
+        requires is_lawful { is_record (written saved.now []) ≡ true }
         requires on_flash { (b : ℕ) → set.contains bad.old b ≡ true → b < saved.now.geometry.blocks }
         requires ready { MayCommit (F.device flash.old) bad.old self.old }
         ensures commits { Commits (F.device flash.old).pages (F.device flash.new).pages saved.now (greatest_on saved.now.geometry (F.device flash.old).pages + 1) bad.new result }
@@ -162,7 +162,7 @@ impl Anchors {
     ) -> Result<(), Fault>
         requires same { (F.device flash.old).geometry ≡ saved.now.geometry }
         requires lawful { IsGeometry saved.now.geometry }
-        requires is_lawful { is_record (record saved.now { bad = [] }) ≡ true }
+        requires is_lawful { is_record (written saved.now []) ≡ true }
         requires on_flash { (b : ℕ) → set.contains bad.old b ≡ true → b < saved.now.geometry.blocks }
         requires ready { MayCommit (F.device flash.old) bad.old self.old }
         requires older { AreOlder saved.now.geometry (F.device flash.old).pages sequence }

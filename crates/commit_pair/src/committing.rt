@@ -4,7 +4,7 @@ ghost use Rattle.std.specs.FinSet as set;
 ghost use Rattle.flash_model.specs.Device.{erased};
 ghost use Rattle.flash_model.specs.Geometry.{IsGeometry};
 ghost use Rattle.read_only.specs.Modes.{is_read_only};
-ghost use Rattle.record_format.specs.Payloads.{is_record};
+ghost use Rattle.record_format.specs.Payloads.{is_record, written, longest};
 ghost use Rattle.commit_pair.specs.Parts.{first_data};
 ghost use Rattle.commit_pair.specs.Anchored.{OnlyAnchors, Asked};
 ghost use Rattle.commit_pair.specs.Keeping.{AreOlder, Spares};
@@ -79,7 +79,7 @@ fn attempt_anew<F: Flash>(
     requires room_in_list { set.len bad.old < MAX_BAD_BLOCKS }
     requires means { Means saved.now sequence bad.old payload.now }
     requires some { 0 < length payload.now }
-    requires short { length payload.now ≤ 2408 }
+    requires short { length payload.now ≤ longest }
     requires room { saved.now.geometry.page ≤ vec_capacity page.old }
     ensures attempted { spec.Attempted (F.device flash.old) bad.old (F.device flash.new) bad.new saved.now sequence anchor 0 1 result }
     ensures room { saved.now.geometry.page ≤ vec_capacity page.new }
@@ -137,7 +137,7 @@ pub(crate) fn commit_anew<F: Flash>(
 ) -> Result<Option<Found>, Fault>
     requires same { (F.device flash.old).geometry ≡ saved.now.geometry }
     requires lawful { IsGeometry saved.now.geometry }
-    requires is_lawful { is_record (record saved.now { bad = [] }) ≡ true }
+    requires is_lawful { is_record (written saved.now []) ≡ true }
     requires on_flash { (b : ℕ) → set.contains bad.old b ≡ true → b < saved.now.geometry.blocks }
     requires anchor { anchor < first_data }
     requires spares { set.contains bad.old anchor ≡ false → Spares saved.now.geometry (F.device flash.old).pages anchor }
@@ -186,7 +186,7 @@ pub(crate) fn commit_after<F: Flash>(
 ) -> Result<Option<Found>, Fault>
     requires same { (F.device flash.old).geometry ≡ saved.now.geometry }
     requires lawful { IsGeometry saved.now.geometry }
-    requires is_lawful { is_record (record saved.now { bad = [] }) ≡ true }
+    requires is_lawful { is_record (written saved.now []) ≡ true }
     requires on_flash { (b : ℕ) → set.contains bad.old b ≡ true → b < saved.now.geometry.blocks }
     requires anchor { anchor < first_data }
     requires in_block { set.contains bad.old anchor ≡ false → place ≤ saved.now.geometry.pages }

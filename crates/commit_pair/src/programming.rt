@@ -3,6 +3,7 @@ ghost use Rattle.std.specs.Prelude.{◌≡◌, ◌≢◌, ℕ, ◌+◌, ◌*◌,
 ghost use Rattle.std.specs.FinSet as set;
 ghost use Rattle.flash_model.specs.Device.{block_of, erased};
 ghost use Rattle.flash_model.specs.Geometry.{IsGeometry};
+ghost use Rattle.record_format.specs.Payloads.{longest};
 ghost use Rattle.commit_pair.specs.Parts.{first_data, room};
 ghost use Rattle.commit_pair.specs.Anchored.{OnlyAnchors, Tries, Touches};
 ghost use Rattle.commit_pair.specs.Keeping.{AreOlder, Placed, Spares};
@@ -20,7 +21,7 @@ use record_format::{HEAD_SIZE, PageHead, page_laws, write_page};
 pub(crate) fn pages_for(geometry: Geometry, payload: &[u8]) -> u16
     requires lawful { IsGeometry geometry }
     requires some { 0 < length payload.now }
-    requires short { length payload.now ≤ 2408 }
+    requires short { length payload.now ≤ longest }
     ensures fills { spec.Fills geometry payload.now result }
     ensures fits { result ≤ geometry.pages }
 {

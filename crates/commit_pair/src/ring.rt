@@ -4,7 +4,7 @@ ghost use Rattle.std.specs.FinSet as set;
 ghost use Rattle.flash_model.specs.Device.{erased};
 ghost use Rattle.flash_model.specs.Geometry.{IsGeometry};
 ghost use Rattle.read_only.specs.Modes as mode;
-ghost use Rattle.record_format.specs.Payloads.{is_record};
+ghost use Rattle.record_format.specs.Payloads.{is_record, written};
 ghost use Rattle.commit_pair.specs.Parts.{first_data};
 ghost use Rattle.commit_pair.specs.Anchored.{OnlyAnchors, Asked};
 ghost use Rattle.commit_pair.specs.Keeping.{AreOlder, Spares};
@@ -33,7 +33,7 @@ pub(crate) fn commit_next<F: Flash>(
 ) -> Result<Found, Fault>
     requires same { (F.device flash.old).geometry ≡ saved.now.geometry }
     requires lawful { IsGeometry saved.now.geometry }
-    requires is_lawful { is_record (record saved.now { bad = [] }) ≡ true }
+    requires is_lawful { is_record (written saved.now []) ≡ true }
     requires on_flash { (b : ℕ) → set.contains bad.old b ≡ true → b < saved.now.geometry.blocks }
     requires home { home < first_data }
     requires spares { (b : ℕ) → b < first_data → b ≢ home → set.contains bad.old b ≡ false → Spares saved.now.geometry (F.device flash.old).pages b }
@@ -77,7 +77,7 @@ pub(crate) fn commit_from<F: Flash>(
 ) -> Result<Found, Fault>
     requires same { (F.device flash.old).geometry ≡ saved.now.geometry }
     requires lawful { IsGeometry saved.now.geometry }
-    requires is_lawful { is_record (record saved.now { bad = [] }) ≡ true }
+    requires is_lawful { is_record (written saved.now []) ≡ true }
     requires on_flash { (b : ℕ) → set.contains bad.old b ≡ true → b < saved.now.geometry.blocks }
     requires home { home < first_data }
     requires in_block { set.contains bad.old home ≡ false → place ≤ saved.now.geometry.pages }

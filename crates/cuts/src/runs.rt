@@ -5,7 +5,7 @@ use crate::sessions::Session;
 use crate::trials::Trial;
 use flash_model::Counters;
 use fs_types::{Answer, Call, Event, Fault};
-use session_oracle::{Causes, Oracle, has_fewer_free, need, show};
+use session_oracle::{Causes, Oracle, has_fewer_free, show};
 use std::alloc::Global;
 
 /// A session that the oracle watches.
@@ -149,10 +149,11 @@ impl<'a> Run<'a> {
     /// Whether a call was answered that the flash is full where fewer blocks are free than it needs.
     /// Power may go where that is asked; the next answer tells it then.
     fn is_full(&mut self, alloc: Global, event: &Event, answer: &Answer) -> Result<bool, Fault> {
-        let (Event::Call(call), Answer::Refused(Fault::FlashFull)) = (event, answer) else {
+        if !matches!(answer, Answer::Refused(Fault::FlashFull)) {
             return Ok(false);
-        };
-        match has_fewer_free(alloc, &mut self.session, need(call)) {
+        }
+        let need = self.oracle.need(alloc, event)?;
+        match has_fewer_free(alloc, &mut self.session, need) {
             Err(Fault::PowerCut) if self.is_cut() => Ok(true),
             is_full => is_full,
         }

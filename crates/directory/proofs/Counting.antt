@@ -1,12 +1,8 @@
 -- How many numbers below a bound pass a test, beside a list that has them all.
-use Rattle.std.proofs.Common.{◌≡◌, ◌≢◌, ℕ, zero, suc, inl, inr, ◌+◌, ◌≤◌, Bool, true, false, cond, ◌&&◌, not, eqb, List, [], ◌∷◌, length, refl, sym, ap, ◌∙◌, arith}
+use Rattle.std.proofs.Common.{◌≡◌, ◌≢◌, ◌⊎◌, ℕ, zero, suc, inl, inr, ◌+◌, ◌≤◌, ◌<◌, Bool, true, false, cond, ◌&&◌, ◌||◌, not, eqb, List, [], ◌∷◌, length, refl, sym, ap, ◌∙◌, arith}
 use Rattle.std.specs.Prelude.{Contains}
 use Rattle.std.proofs.lemmas.Bool.{true≢false, cases_eq, eq-eqb, ne_eqb}
-
--- how many numbers below n pass
-abbrev pub count_below : (ℕ → Bool) → ℕ → ℕ
-count_below p zero = 0
-count_below p (suc n) = count_below p n + cond (p n) 1 0
+use Rattle.directory.specs.Depths.{count_below}
 
 pub one_more : (p : ℕ → Bool) (n : ℕ) → count_below p (n + 1) ≡ count_below p n + cond (p n) 1 0
 one_more p n = let next : n + 1 ≡ suc n = omega arith in ap (count_below p) next
@@ -14,7 +10,7 @@ one_more p n = let next : n + 1 ≡ suc n = omega arith in ap (count_below p) ne
 pub one_here : (p : ℕ → Bool) (n : ℕ) → p n ≡ true → count_below p (n + 1) ≡ count_below p n + 1
 one_here p n is = one_more p n ∙ ap (λ (t : Bool). count_below p n + cond t 1 0) is
 
-count_none : (p : ℕ → Bool) (n : ℕ) → ((b : ℕ) → p b ≡ true → ⊥) → count_below p n ≡ 0
+pub count_none : (p : ℕ → Bool) (n : ℕ) → ((b : ℕ) → p b ≡ true → ⊥) → count_below p n ≡ 0
 count_none p zero none = refl
 count_none p (suc n) none = on (p n) refl (count_none p n none)
   where
@@ -74,3 +70,35 @@ count_few p (x ∷ list) n within = omega (arith, count_but p x n, count_few (bu
     rest b here =
         let both = parts (p b) (eqb b x) here in
         tail b (within b both.0) (λ same. true≢false (sym (eq-eqb b x same) ∙ both.1))
+
+-- no more than there are numbers
+pub count_most : (p : ℕ → Bool) (n : ℕ) → count_below p n ≤ n
+count_most p zero = omega arith
+count_most p (suc n) = omega (arith, count_most p n, at_most_one (p n))
+
+-- what a number counts
+abbrev bit : Bool → ℕ
+bit t = cond t 1 0
+
+-- one number passes that did not
+pub count_put : (p q : ℕ → Bool) (x : ℕ) → ((b : ℕ) → q b ≡ (eqb b x || p b)) → p x ≡ false → (n : ℕ) → (n ≤ x → count_below q n ≡ count_below p n) × (x < n → count_below q n ≡ count_below p n + 1)
+count_put p q x put was zero = (λ le. refl, λ less. absurd (omega arith))
+count_put p q x put was (suc n) = on (cases_eq n x) (count_put p q x put was n)
+  where
+    other : n ≢ x → q n ≡ p n
+    other apart = put n ∙ ap (λ (t : Bool). t || p n) (ne_eqb n x apart)
+
+    on : (n ≡ x) ⊎ (n ≢ x) → (n ≤ x → count_below q n ≡ count_below p n) × (x < n → count_below q n ≡ count_below p n + 1)
+        → (suc n ≤ x → count_below q (suc n) ≡ count_below p (suc n)) × (x < suc n → count_below q (suc n) ≡ count_below p (suc n) + 1)
+    on (inl same) (before, past) =
+        let here : q n ≡ true = put n ∙ ap (λ (t : Bool). t || p n) (eq-eqb n x same) in
+        let none : p n ≡ false = ap p same ∙ was in
+        let one : bit (q n) ≡ 1 = ap bit here in
+        let zero_is : bit (p n) ≡ 0 = ap bit none in
+        (λ le. absurd (omega (arith, same)), λ less. let b = before (omega (arith, same)) in omega (arith, b, one, zero_is))
+    on (inr apart) (before, past) =
+        let here : bit (q n) ≡ bit (p n) = ap bit (other apart) in
+        (λ le. let b = before (omega arith) in omega (arith, b, here), λ less. let b = past (apart_less n x apart less) in omega (arith, b, here))
+      where
+        apart_less : (n x : ℕ) → n ≢ x → x < suc n → x < n
+        apart_less n x apart less = grind arith

@@ -7,7 +7,7 @@ use Rattle.node_format.specs.declared.places.Place.{Place}
 use Rattle.node_format.specs.declared.places.Place.TheVariants.{Dir}
 use Rattle.block_trees.specs.Bodies.{Blocks}
 use Rattle.block_trees.specs.Reached.{IsHeld, Keeps, Reached, PlaceNames}
-use Rattle.block_trees.specs.Rewritten.{IsRewritten, AreFresh}
+use Rattle.block_trees.specs.Rewritten.{IsRewritten}
 use Rattle.block_trees.proofs.EditedTrees.{edit_law}
 use Rattle.block_trees.proofs.EmptyDirectories.{reaches_itself}
 use Rattle.block_trees.proofs.Entries.{place_is}
@@ -15,15 +15,15 @@ use Rattle.directory.specs.Edits.{OnlyReaches}
 use Rattle.directory.specs.Making.{IsMade}
 
 pub only_reaches : (old new : Blocks) (kept kept' : ℕ → Bool) (from : ℕ) (path : Path) (at : Option Place) (result : Result ℕ Fault) → Keeps kept old kept' new → IsHeld old kept (Dir from)
-    → IfOk result (λ to. IsRewritten old kept' new from to path at) → IfOk result (λ to. AreFresh kept kept' new to path) → IfOk result (λ to. OnlyReaches old new kept from to at)
-only_reaches old new kept kept' from path at (Ok to) keeps held rewritten fresh = (edit_law old new kept kept' from to path at keeps held rewritten).reached fresh
-only_reaches old new kept kept' from path at (Err fault) keeps held rewritten fresh = tt
+    → IfOk result (λ to. IsRewritten old new kept kept' from to path at) → IfOk result (λ to. OnlyReaches old new kept from to at)
+only_reaches old new kept kept' from path at (Ok to) keeps held rewritten = (edit_law old new kept kept' from to path at keeps held rewritten).reached
+only_reaches old new kept kept' from path at (Err fault) keeps held rewritten = tt
 
 -- ---- a new empty directory
 
 pub made_reaches : (old new : Blocks) (kept kept' : ℕ → Bool) (from to : ℕ) (path : Path) → Keeps kept old kept' new → IsHeld old kept (Dir from) → IsMade old new kept kept' from to path → OnlyReaches old new kept from to None
 made_reaches old new kept kept' from to path keeps held made b reached =
-    on ((edit_law old new kept kept' from to path (Some (Dir made.block)) keeps held made.rewritten).reached made.fresh b reached)
+    on ((edit_law old new kept kept' from to path (Some (Dir made.block)) keeps held made.rewritten).reached b reached)
   where
     entry : Option Place
     entry = Some (Dir made.block)

@@ -1,21 +1,20 @@
 -- Two paths that part, and the directory where they do.
-use Rattle.std.proofs.Common.{◌≡◌, ℕ, zero, suc, ◌+◌, ◌-◌, ◌<◌, ◌⊎◌, inl, inr, Bool, true, false, cond, ◌&&◌, Option, Some, None, List, [], ◌∷◌, length, take, drop, get_or, refl, sym, ap, subst, ◌∙◌, arith}
-use Rattle.std.specs.Prelude.{not, ◌||◌, nat_le, unwrap_or, slice_index, IsSome}
+use Rattle.std.proofs.Common.{◌≡◌, ℕ, zero, suc, ◌+◌, ◌-◌, ◌<◌, ◌≤◌, ◌⊎◌, inl, inr, Bool, true, false, cond, ◌&&◌, Option, Some, None, List, [], ◌∷◌, length, take, drop, get_or, refl, sym, ap, ◌∙◌, arith}
+use Rattle.std.specs.Prelude.{not, ◌||◌, nat_le, slice_index, IsSome}
 use Rattle.std.specs.Option.{is_none, is_some}
 use Rattle.std.proofs.lemmas.Bool.{true≢false, lt-leb}
 use Rattle.std.proofs.Math.Seq.{drop-cons}
+use Rattle.fs_types.specs.declared.limits.TheConstants.{MAX_ENTRIES}
 use Rattle.fs_types.specs.Names.{Name, Path, same_name, same_path}
 use Rattle.plain_trees.specs.Contents.{Apart, parent_of}
 use Rattle.fs_types.proofs.Orders.{same_name-is, same_name-own}
-use Rattle.node_format.specs.Items.{Item, are_ascending, named}
-use Rattle.node_format.specs.Edits.{IsEdited}
+use Rattle.node_format.specs.Items.{Item, named}
+use Rattle.node_format.specs.Edits.{edited_count, IsEdited}
 use Rattle.node_format.specs.declared.places.Place.{Place}
 use Rattle.node_format.specs.declared.places.Place.TheVariants.{Dir}
 use Rattle.block_trees.specs.Bodies.{Blocks}
-use Rattle.block_trees.specs.Trees.{entries_of, items_of, child, leads}
+use Rattle.block_trees.specs.Trees.{child, leads}
 use Rattle.block_trees.specs.Reached.{IsHeld}
-use Rattle.block_trees.proofs.RootMaps.{ascending-items}
-use Rattle.block_trees.proofs.EntryCounts.{most_of, one_fewer}
 use Rattle.directory.specs.Lookups.{look_up}
 use Rattle.directory.specs.Trails.{IsTrail, has_room, takes}
 use Rattle.directory.specs.Moves.{common, IsFork}
@@ -25,43 +24,42 @@ use Rattle.directory.proofs.TrailEdits.{level_child, leads_last, room_taken, sta
 -- ---- a directory edited twice
 
 -- a name taken out makes room
-pub takes_made : (bytes without : List ℕ) (name other : Name) (here : Option Place) → IsSome (named (items_of (Some bytes)) name) → IsEdited (items_of (Some bytes)) name None without
-    → takes (entries_of (Some without)) other here ≡ true
-takes_made bytes without name other here some edited =
-    ap (λ (entries : Option (List Item)). takes entries other here) edited.spelled ∙ on here
+pub takes_made : (items without : List Item) (name other : Name) (here : Option Place) → length items ≤ MAX_ENTRIES → IsSome (named items name) → IsEdited items name None without → takes (Some without) other here ≡ true
+takes_made items without name other here most some edited = on here
   where
-    order : items_of (Some without) ≡ edited.items
-    order = ap (λ (entries : Option (List Item)). unwrap_or entries []) edited.spelled
+    fewer : (was : Option Place) → named items name ≡ was → length without < MAX_ENTRIES
+    fewer None is = absurd (true≢false (sym some ∙ ap is_some is))
+    fewer (Some was) is = omega (arith, some_there items name some, most, edited.counted ∙ ap (λ (o : Option Place). edited_count o None (length items)) is)
+      where
+        some_there : (items : List Item) (name : Name) → IsSome (named items name) → 0 < length items
+        some_there [] name some = absurd cc
+        some_there (item ∷ items) name some = omega arith
 
-    fewer : suc (length edited.items) ≡ length (items_of (Some bytes))
-    fewer = one_fewer (items_of (Some bytes)) edited.items name (ascending-items (Some bytes)) (subst (λ (items : List Item). are_ascending items ≡ true) order (ascending-items (Some without))) some edited.leads
+    few : nat_le MAX_ENTRIES (length without) ≡ false
+    few = lt-leb MAX_ENTRIES (length without) (fewer (named items name) refl)
 
-    few : nat_le 32 (length edited.items) ≡ false
-    few = lt-leb 32 (length edited.items) (omega (arith, fewer, most_of (Some bytes)))
-
-    either : (there : Bool) → (there || not (nat_le 32 (length edited.items))) ≡ true
+    either : (there : Bool) → (there || not (nat_le MAX_ENTRIES (length without))) ≡ true
     either true = refl
     either false = ap not few
 
-    on : (here : Option Place) → takes (Some edited.items) other here ≡ true
+    on : (here : Option Place) → takes (Some without) other here ≡ true
     on None = refl
-    on (Some place) = either (is_some (named edited.items other))
+    on (Some place) = either (is_some (named without other))
 
 -- a name that is there is so still once another was edited
-pub takes_still : (bytes with : List ℕ) (name other : Name) (gone here : Option Place) → same_name name other ≡ false → IsSome (named (items_of (Some bytes)) name) → IsEdited (items_of (Some bytes)) other here with
-    → takes (entries_of (Some with)) name gone ≡ true
-takes_still bytes with name other gone here apart some edited = ap (λ (entries : Option (List Item)). takes entries name gone) edited.spelled ∙ on gone
+pub takes_still : (items with : List Item) (name other : Name) (gone here : Option Place) → same_name name other ≡ false → IsSome (named items name) → IsEdited items other here with → takes (Some with) name gone ≡ true
+takes_still items with name other gone here apart some edited = on gone
   where
-    differs : (b : Bool) → same_name other name ≡ b → cond b here (named (items_of (Some bytes)) name) ≡ named (items_of (Some bytes)) name
+    differs : (b : Bool) → same_name other name ≡ b → cond b here (named items name) ≡ named items name
     differs true same = absurd (true≢false (sym (ap (same_name name) (same_name-is other name same) ∙ same_name-own name) ∙ apart))
     differs false other = refl
 
-    still : named edited.items name ≡ named (items_of (Some bytes)) name
+    still : named with name ≡ named items name
     still = edited.leads name ∙ differs (same_name other name) refl
 
-    on : (gone : Option Place) → takes (Some edited.items) name gone ≡ true
+    on : (gone : Option Place) → takes (Some with) name gone ≡ true
     on None = refl
-    on (Some place) = ap (λ (o : Option Place). is_some o || not (nat_le 32 (length edited.items))) still ∙ ap (λ (b : Bool). b || not (nat_le 32 (length edited.items))) some
+    on (Some place) = ap (λ (o : Option Place). is_some o || not (nat_le MAX_ENTRIES (length with))) still ∙ ap (λ (b : Bool). b || not (nat_le MAX_ENTRIES (length with))) some
 
 pub none_is : (o : Option Place) → is_none o ≡ true → o ≡ None
 none_is None none = refl

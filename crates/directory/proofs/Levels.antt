@@ -1,6 +1,6 @@
 -- Levels of directories: those that paths of so many names lead to.
 use Rattle.std.proofs.Common.{◌≡◌, ℕ, zero, suc, ◌⊎◌, inl, inr, ◌+◌, ◌*◌, ◌<◌, ◌≤◌, Bool, true, false, cond, ◌&&◌, ◌||◌, eqb, Option, Some, None, List, [], ◌∷◌, ◌++◌, length, take, refl, sym, ap, subst, ◌∙◌, arith, rules, length-append}
-use Rattle.std.specs.Prelude.{nat_lt, nat_le, IsSome, Contains}
+use Rattle.std.specs.Prelude.{nat_lt, nat_le, IsSome, Contains, unwrap_or}
 use Rattle.std.specs.Option.{is_some, option_and_then}
 use Rattle.std.specs.List.{list_any, range_with_len}
 use Rattle.std.specs.FinSet.{FinSet, contains, insert, empty, members, contains-empty}
@@ -12,15 +12,17 @@ use Rattle.std.proofs.lemmas.List.FromFn.{length-range_with_len, get_or-range_wi
 use Rattle.fs_types.specs.Names.{Name, Path, same_name}
 use Rattle.fs_types.proofs.Orders.{same_name-own}
 use Rattle.node_format.specs.Items.{Item, named}
-use Rattle.node_format.specs.Order.{both_true, and_true}
 use Rattle.node_format.specs.declared.places.Place.{Place}
 use Rattle.node_format.specs.declared.places.Place.TheVariants.{Dir, File}
 use Rattle.block_trees.specs.Bodies.{Blocks}
-use Rattle.block_trees.specs.Trees.{items_of, child, leads, items_in}
+use Rattle.block_trees.specs.Chains.{link_of, link_items, next_of, and_after, after, most_after, in_order}
+use Rattle.block_trees.specs.Trees.{child, leads, entries_in, items_in}
 use Rattle.block_trees.specs.Laws.{IsShallow}
-use Rattle.block_trees.proofs.Entries.{entry_named}
-use Rattle.block_trees.proofs.EditedTrees.{by_test}
+use Rattle.block_trees.proofs.Chains.{by_test}
+use Rattle.block_trees.proofs.Chained.{entry_named}
 use Rattle.block_trees.proofs.RootMaps.{leads-append}
+use Rattle.directory.specs.Lookups.{LeadsToDirectories}
+use Rattle.directory.proofs.Directories.{empty_first}
 use Rattle.directory.specs.Depths.{IsDeeper, is_directory_at, names_directory, AreNamedBy, HasBlocks, HasDirectories}
 
 -- ---- the directories that entries name
@@ -40,7 +42,7 @@ directory_is (File head size) b is = absurd cc
 named_child : (f : Blocks) (parent b : ℕ) → names_directory (items_in f parent) b ≡ true → (n : Name) × (child f (Dir parent) n ≡ Some (Dir b))
 named_child f parent b names =
     let found = any_contains (λ item. is_directory_at item.place b) (items_in f parent) names in
-    (found.0.name, entry_named (f parent) found.0 found.1 ∙ ap (λ (place : Place). Some place) (directory_is found.0.place b found.2))
+    (found.0.name, entry_named f parent found.0 found.1 ∙ ap (λ (place : Place). Some place) (directory_is found.0.place b found.2))
 
 abbrev some_place : Place → Option Place
 some_place place = Some place
@@ -62,13 +64,17 @@ child_named (item ∷ items) n b is = on (same_name item.name n) is (child_named
 
 -- ---- levels
 
+-- each directory that paths below the roots lead to begins one
+abbrev pub AreDirectories : Blocks → List ℕ → Type 0
+AreDirectories f roots = (root : ℕ) → Contains roots root → LeadsToDirectories f root
+
 -- the set has just the directories that paths of k names below the roots lead to, as far as paths of more than `most` names go
 pub record IsLevel (f : Blocks) (roots : List ℕ) (most k blocks : ℕ) (level : FinSet nat_cmp) : Type 0 where
   pub within : (b : ℕ) → contains level b ≡ true → b < blocks
-  pub reached : (b : ℕ) → contains level b ≡ true → (root : ℕ) × Contains roots root × (p : Path) × (leads f (Dir root) p ≡ Some (Dir b)) × (length p ≡ k)
+  pub reached : AreDirectories f roots → (b : ℕ) → contains level b ≡ true → (root : ℕ) × Contains roots root × (p : Path) × (leads f (Dir root) p ≡ Some (Dir b)) × (length p ≡ k)
   pub covers : (root : ℕ) → Contains roots root → (p : Path) → IsSome (leads f (Dir root) p) → length p ≡ suc most → (b : ℕ) × (q : Path) × (contains level b ≡ true) × IsSome (leads f (Dir b) q) × (k + length q ≡ suc most)
 
-contains_insert : (s : FinSet nat_cmp) (x b : ℕ) → contains (insert s x) b ≡ (eqb b x || contains s b)
+pub contains_insert : (s : FinSet nat_cmp) (x b : ℕ) → contains (insert s x) b ≡ (eqb b x || contains s b)
 contains_insert s x b = search (members, rules)
 
 -- a path of two names or more goes on through a directory of the next level
@@ -85,20 +91,23 @@ some_leads f at path n p is led = on (child f at n) (subst (λ (q : Path). IsSom
     on None led = absurd cc
     on (Some next) led = refl
 
+pub no_entries : (f : Blocks) (block : ℕ) → f block ≡ None → entries_in f block ≡ None
+no_entries f block none = ap (λ (node : Option (List ℕ)). option_and_then in_order (option_and_then (and_after (after most_after f)) (link_of node))) none
+
 -- a directory with a path below it is in a block
 led_below : (f : Blocks) (blocks root : ℕ) (p : Path) → ((b : ℕ) → blocks ≤ b → f b ≡ None) → IsSome (leads f (Dir root) p) → 0 < length p → root < blocks
 led_below f blocks root [] beyond led some = absurd (omega arith)
 led_below f blocks root (n ∷ p) beyond led some = by_test (nat_lt root blocks) (λ less. ltb-true root blocks less) (λ not_less. absurd (none (ltb-false root blocks not_less)))
   where
     none : blocks ≤ root → ⊥
-    none past = let no_child : child f (Dir root) n ≡ None = ap (λ (node : Option (List ℕ)). named (items_of node) n) (beyond root past) in
+    none past = let no_child : child f (Dir root) n ≡ None = ap (λ (o : Option (List Item)). named (unwrap_or o []) n) (no_entries f root (beyond root past)) in
         true≢false (sym (some_leads f (Dir root) (n ∷ p) n p refl led) ∙ ap is_some no_child)
 
 pub first_level : (f : Blocks) (roots : List ℕ) (most blocks : ℕ) (level : FinSet nat_cmp) → ((b : ℕ) → blocks ≤ b → f b ≡ None) → HasBlocks blocks roots level
     → IsLevel f roots most 0 blocks level
 first_level f roots most blocks level beyond has = record {
   within = has.within;
-  reached = λ b here. (b, has.listed b here, [], refl, refl);
+  reached = λ whole b here. (b, has.listed b here, [], refl, refl);
   covers = λ root rooted p led long.
       (root, p, has.all root rooted (led_below f blocks root p beyond led (omega (arith, long))), led, omega (arith, long));
 }
@@ -121,10 +130,12 @@ pub next_is_level : (f : Blocks) (roots : List ℕ) (most k blocks : ℕ) (level
     → IsLevel f roots most (k + 1) blocks next
 next_is_level f roots most k blocks level next more beyond is names = record {
   within = names.within;
-  reached = λ b here.
+  reached = λ whole b here.
       let parent = names.named b here in
-      let before = is.reached parent.0 parent.1 in
-      let goes = named_child f parent.0 b parent.2 in (
+      let before = is.reached whole parent.0 parent.1 in
+      let begins = whole before.0 before.1 before.2 parent.0 before.3 in
+      let names_it : names_directory (items_in f parent.0) b ≡ true = ap (λ (o : Option (List Item)). names_directory (unwrap_or o []) b) begins.1 ∙ parent.2 begins.0 begins.1 in
+      let goes = named_child f parent.0 b names_it in (
         before.0,
         before.1,
         before.2 ++ goes.0 ∷ [],
@@ -167,10 +178,30 @@ first_named : (items : List Item) → 0 < length items → (n : Name) × IsSome 
 first_named [] some = absurd (omega arith)
 first_named (item ∷ items) some = (item.name, ap (λ (t : Bool). is_some (cond t (Some item.place) (named items item.name))) (same_name-own item.name))
 
-pub last_deeper : (f : Blocks) (roots : List ℕ) (most blocks b : ℕ) (level : FinSet nat_cmp) → IsLevel f roots most most blocks level → contains level b ≡ true → 0 < length (items_in f b)
+-- a directory has entries where its first node has
+some_items : (f : Blocks) (b : ℕ) (items : List Item) → entries_in f b ≡ Some items → 0 < length (link_items (f b)) → 0 < length (items_in f b)
+some_items f b items e some =
+    let size : length (items_in f b) ≡ length items = ap (λ (o : Option (List Item)). length (unwrap_or o [])) e in
+    by_test (eqb (length items) 0)
+    (λ none. absurd (let no = eqb-true (length (link_items (f b))) 0 (empty_first f b items e ∙ none) in omega (arith, no, some)))
+    (λ more. let positive : 0 < length items = not_zero (length items) more in omega (arith, size, positive))
+  where
+    not_zero : (n : ℕ) → eqb n 0 ≡ false → 0 < n
+    not_zero n more = grind arith
+
+pub no_first_items : (f : Blocks) (b : ℕ) → length (link_items (f b)) ≡ 0 → length (items_in f b) ≡ 0
+no_first_items f b none = on (entries_in f b) refl
+  where
+    on : (o : Option (List Item)) → entries_in f b ≡ o → length (unwrap_or o []) ≡ 0
+    on None e = refl
+    on (Some items) e = eqb-true (length items) 0 (sym (empty_first f b items e) ∙ eq-eqb (length (link_items (f b))) 0 none)
+
+pub last_deeper : (f : Blocks) (roots : List ℕ) (most blocks b : ℕ) (level : FinSet nat_cmp) → AreDirectories f roots → IsLevel f roots most most blocks level → contains level b ≡ true → 0 < length (link_items (f b))
     → (root : ℕ) × Contains roots root × IsDeeper f (Dir root) most
-last_deeper f roots most blocks b level is here some =
-    let before = is.reached b here in
+last_deeper f roots most blocks b level whole is here node_some =
+    let before = is.reached whole b here in
+    let begins = whole before.0 before.1 before.2 b before.3 in
+    let some = some_items f b begins.0 begins.1 node_some in
     let entry = first_named (items_in f b) some in (
       before.0,
       before.1,
@@ -214,68 +245,6 @@ added_past blocks x b c rest past = on (nat_lt b blocks) refl
     on : (t : Bool) → nat_lt b blocks ≡ t → (c || (t && rest)) ≡ (c || (t && (eqb x b || rest)))
     on true less = ap (λ (e : Bool). c || (e || rest)) (sym (differs less))
     on false not_less = refl
-
--- ---- the next level, block by block
-
-or_true : (x y z w : Bool) → (x || (y && (z && w))) ≡ true → (x ≡ true) ⊎ ((y ≡ true) × (z ≡ true) × (w ≡ true))
-or_true true y z w e = inl refl
-or_true false true true true e = inr (refl, refl, refl)
-or_true false true true false e = absurd cc
-or_true false true false w e = absurd cc
-or_true false false z w e = absurd cc
-
-or_left : (x y : Bool) → x ≡ true → (x || y) ≡ true
-or_left x y e = ap (λ (t : Bool). t || y) e
-
-or_right : (x y z w : Bool) → y ≡ true → z ≡ true → w ≡ true → (x || (y && (z && w))) ≡ true
-or_right true y z w a b c = refl
-or_right false y z w a b c = λ i. a i && (b i && c i)
-
-pub none_named : (f : Blocks) (blocks : ℕ) (level next : FinSet nat_cmp) → next ≡ empty → AreNamedBy f blocks (λ b. nat_lt b 0 && contains level b) next
-none_named f blocks level next none = record {
-  within = λ b here. absurd (true≢false (sym here ∙ ap (λ (s : FinSet nat_cmp). contains s b) none ∙ contains-empty nat_cmp b));
-  named = λ b here. absurd (true≢false (sym here ∙ ap (λ (s : FinSet nat_cmp). contains s b) none ∙ contains-empty nat_cmp b));
-  all = λ parent b in_level below names. absurd (let less = ltb-true parent 0 (both_true (nat_lt parent 0) (contains level parent) in_level).0 in omega arith);
-}
-
-pub one_named : (f : Blocks) (blocks i : ℕ) (level next next' : FinSet nat_cmp) → AreNamedBy f blocks (λ b. nat_lt b i && contains level b) next
-    → ((b : ℕ) → contains next' b ≡ (contains next b || (contains level i && (nat_lt b blocks && names_directory (items_in f i) b))))
-    → AreNamedBy f blocks (λ b. nat_lt b (i + 1) && contains level b) next'
-one_named f blocks i level next next' before added = record { within = within_now; named = named_now; all = all_now }
-  where
-    split : (b : ℕ) → contains next' b ≡ true → (contains next b ≡ true) ⊎ ((contains level i ≡ true) × (nat_lt b blocks ≡ true) × (names_directory (items_in f i) b ≡ true))
-    split b here = or_true (contains next b) (contains level i) (nat_lt b blocks) (names_directory (items_in f i) b) (sym (added b) ∙ here)
-
-    within_now : (b : ℕ) → contains next' b ≡ true → b < blocks
-    within_now b here = elim (split b here) [ inl was ↦ before.within b was | inr new ↦ ltb-true b blocks new.1 ]
-
-    named_now : (b : ℕ) → contains next' b ≡ true → (parent : ℕ) × ((nat_lt parent (i + 1) && contains level parent) ≡ true) × (names_directory (items_in f parent) b ≡ true)
-    named_now b here = elim (split b here) [
-      | inl was ↦
-          let parent = before.named b was in
-          let both = both_true (nat_lt parent.0 i) (contains level parent.0) parent.1 in
-          let less = ltb-true parent.0 i both.0 in
-          (parent.0, and_true _ _ (lt-ltb parent.0 (i + 1) (omega arith)) both.1, parent.2)
-      | inr new ↦ (i, and_true _ _ (lt-ltb i (i + 1) (omega arith)) new.0, new.2)
-    ]
-
-    all_now : (parent b : ℕ) → (nat_lt parent (i + 1) && contains level parent) ≡ true → b < blocks → names_directory (items_in f parent) b ≡ true → contains next' b ≡ true
-    all_now parent b in_level below names =
-        let both = both_true (nat_lt parent (i + 1)) (contains level parent) in_level in
-        let less = ltb-true parent (i + 1) both.0 in
-        added b ∙ by_test (nat_lt parent i)
-        (λ earlier. or_left (contains next b) _ (before.all parent b (and_true _ _ earlier both.1) below names))
-        (λ not_earlier.
-        let past = ltb-false parent i not_earlier in
-        let same : parent ≡ i = omega arith in
-        or_right (contains next b) _ _ _ (ap (contains level) (sym same) ∙ both.1) (lt-ltb b blocks below) (ap (λ (k : ℕ). names_directory (items_in f k) b) (sym same) ∙ names))
-
-pub all_named : (f : Blocks) (blocks n : ℕ) (level next : FinSet nat_cmp) → ((b : ℕ) → contains level b ≡ true → b < n) → AreNamedBy f blocks (λ b. nat_lt b n && contains level b) next → AreNamedBy f blocks (contains level) next
-all_named f blocks n level next within names = record {
-  within = names.within;
-  named = λ b here. let parent = names.named b here in (parent.0, (both_true (nat_lt parent.0 n) (contains level parent.0) parent.1).1, parent.2);
-  all = λ parent b in_level below. names.all parent b (and_true _ _ (lt-ltb parent n (within parent in_level)) in_level) below;
-}
 
 -- ---- the first level, block by block
 
@@ -333,16 +302,9 @@ block_past blocks x list level has past = record {
 
 -- ---- the directories of a list
 
--- the next level is among the list too
-pub next_listed : (f : Blocks) (blocks : ℕ) (roots list : List ℕ) (level next : FinSet nat_cmp) → HasDirectories f blocks roots list → ((b : ℕ) → contains level b ≡ true → Contains list b)
-    → AreNamedBy f blocks (contains level) next → (b : ℕ) → contains next b ≡ true → Contains list b
-next_listed f blocks roots list level next has among names b here =
-    let parent = names.named b here in
-    has.next parent.0 b (among parent.0 parent.1) (names.within b here) parent.2
-
 -- all blocks have all directories
 pub range_has : (f : Blocks) (blocks : ℕ) (roots : List ℕ) → HasDirectories f blocks roots (range_with_len 0 blocks)
-range_has f blocks roots = record { first = λ b rooted below. at b below; next = λ parent b within below names. at b below }
+range_has f blocks roots = record { first = λ b rooted below. at b below; next = λ parent b within below names. at b below; on = λ b within some below. at (next_of (f b)) below }
   where
     at : (b : ℕ) → b < blocks → Contains (range_with_len 0 blocks) b
     at b below = (b, omega (arith, length-range_with_len 0 blocks), get_or-range_with_len 0 blocks b b below ∙ omega arith)

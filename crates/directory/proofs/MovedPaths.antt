@@ -1,23 +1,24 @@
 -- Two paths rewritten, each directory once.
-use Rattle.std.proofs.Common.{◌≡◌, ℕ, ◌⊎◌, inl, inr, Bool, true, false, cond, Option, Some, None, Result, Ok, Err, List, [], ◌∷◌, sym, ap, ◌∙◌}
+use Rattle.std.proofs.Common.{◌≡◌, ℕ, ◌⊎◌, inl, inr, Bool, true, false, cond, Option, Some, None, Result, Ok, Err, [], ◌∷◌, sym, ap, ◌∙◌}
 use Rattle.std.specs.Prelude.{IfOk}
 use Rattle.std.specs.Option.{is_some}
 use Rattle.fs_types.specs.Names.{Name, Path, same_name}
 use Rattle.plain_trees.specs.Contents.{Apart, beneath}
 use Rattle.fs_types.specs.declared.faults.Fault.{Fault}
 use Rattle.fs_types.proofs.Orders.{same_name-is, same_name-own}
-use Rattle.node_format.specs.Items.{named}
 use Rattle.node_format.specs.declared.places.Place.{Place}
 use Rattle.node_format.specs.declared.places.Place.TheVariants.{Dir}
 use Rattle.block_trees.specs.Bodies.{Blocks}
-use Rattle.block_trees.specs.Trees.{entries_of, items_of, child, leads}
+use Rattle.block_trees.specs.Chains.{entries_in, chain}
+use Rattle.block_trees.specs.Trees.{child, leads}
 use Rattle.block_trees.specs.Reached.{IsHeld, Keeps, Reached, PlaceNames}
-use Rattle.block_trees.specs.Rewritten.{IsSecondEdit, IsBranch, IsMoved}
+use Rattle.block_trees.specs.Rewritten.{IsFreshChain, IsSecondEdit, IsBranch, IsMoved}
 use Rattle.block_trees.proofs.Reaching.{held_child}
 use Rattle.block_trees.proofs.MovedTrees.{move_law}
 use Rattle.directory.specs.Edits.{OnlyReaches}
-use Rattle.directory.proofs.Rewrites.{edit_later, rewritten_later, fresh_later, if_ok_three}
-use Rattle.directory.proofs.NewDirectories.{held_later, same_held, rewritten_before, fresh_before}
+use Rattle.directory.proofs.Held.{held_later, same_held}
+use Rattle.directory.proofs.NewDirectories.{child_is, fresh_before, rewritten_before}
+use Rattle.directory.proofs.Rewrites.{edit_later, written_later, fresh_later, rewritten_later}
 
 -- ---- paths apart
 
@@ -29,38 +30,46 @@ apart_down n m p q same (first, second) = (
 
 -- ---- edits seen from a later state, and from an earlier one
 
-second_later : (f0 f1 f2 : Blocks) (from to : ℕ) (n m : Name) (at at' : Option Place) → f2 to ≡ f1 to → IsSecondEdit f0 f1 from to n at m at' → IsSecondEdit f0 f2 from to n at m at'
-second_later f0 f1 f2 from to n m at at' same (items, spelled, led) = (items, ap entries_of same ∙ spelled, led)
+second_later : (f0 f1 f2 : Blocks) (from to : ℕ) (n m : Name) (at at' : Option Place) → entries_in f2 to ≡ entries_in f1 to → IsSecondEdit f0 f1 from to n at m at' → IsSecondEdit f0 f2 from to n at m at'
+second_later f0 f1 f2 from to n m at at' same (items, spelled, led) = (items, same ∙ spelled, led)
 
-pub second_before : (f g h : Blocks) (from to : ℕ) (n m : Name) (at at' : Option Place) → g from ≡ f from → IsSecondEdit g h from to n at m at' → IsSecondEdit f h from to n at m at'
+pub second_before : (f g h : Blocks) (from to : ℕ) (n m : Name) (at at' : Option Place) → entries_in g from ≡ entries_in f from → IsSecondEdit g h from to n at m at' → IsSecondEdit f h from to n at m at'
 second_before f g h from to n m at at' same (items, spelled, led) =
-    (items, spelled, λ k. led k ∙ ap (λ (node : Option (List ℕ)). cond (same_name m k) at' (cond (same_name n k) at (named (items_of node) k))) same)
+    (items, spelled, λ k. led k ∙ ap (λ (o : Option Place). cond (same_name m k) at' (cond (same_name n k) at o)) (child_is f g from k same))
 
 pub branch_later : (f0 f1 f2 : Blocks) (k0 k1 k2 : ℕ → Bool) → Keeps k1 f1 k2 f2 → (from : ℕ) (n : Name) (p : Path) (at now : Option Place) → IsBranch f0 f1 k0 k1 from n p at now → IsBranch f0 f2 k0 k2 from n p at now
 branch_later f0 f1 f2 k0 k1 k2 keeps from n [] at now is = is
-branch_later f0 f1 f2 k0 k1 k2 keeps from n (m ∷ p) at now (below, next, goes, is, rewritten, fresh) =
-    (below, next, goes, is, rewritten_later f0 f1 f2 k1 k2 keeps (m ∷ p) below next at rewritten, fresh_later k0 f1 f2 k1 k2 keeps (m ∷ p) next fresh)
+branch_later f0 f1 f2 k0 k1 k2 keeps from n (m ∷ p) at now (below, next, goes, is, rewritten) =
+    (below, next, goes, is, rewritten_later f0 f1 f2 k0 k1 k2 keeps (m ∷ p) below next at rewritten)
 
 pub branch_before : (f g h : Blocks) (k l kept : ℕ → Bool) → Keeps k f l g → ((b : ℕ) → l b ≡ false → k b ≡ false) → (from : ℕ) (n : Name) (p : Path) (at now : Option Place) → IsHeld f k (Dir from)
     → IsBranch g h l kept from n p at now → IsBranch f h k kept from n p at now
 branch_before f g h k l kept keeps was from n [] at now held is = is
-branch_before f g h k l kept keeps was from n (m ∷ p) at now held (below, next, goes, is, rewritten, fresh) =
-    let before : child f (Dir from) n ≡ Some (Dir below) = ap (λ (node : Option (List ℕ)). named (items_of node) n) (sym (same_held f g k l keeps from held)) ∙ goes in
-    (below, next, before, is, rewritten_before f g h k l kept keeps (m ∷ p) below next at (held_child f k (Dir from) n (Dir below) before held) rewritten, fresh_before k l kept h was (m ∷ p) next fresh)
+branch_before f g h k l kept keeps was from n (m ∷ p) at now held (below, next, goes, is, rewritten) =
+    let before : child f (Dir from) n ≡ Some (Dir below) = sym (child_is f g from n (same_held f g k l keeps from held).0) ∙ goes in
+    (below, next, before, is, rewritten_before f g h k l kept keeps was (m ∷ p) below next at (held_child f k (Dir from) n (Dir below) before held) rewritten)
 
 pub moved_later : (f0 f1 f2 : Blocks) (k0 k1 k2 : ℕ → Bool) → Keeps k1 f1 k2 f2 → (p q : Path) (from to : ℕ) (place : Place) → IsMoved f0 f1 k0 k1 from to p q place → IsMoved f0 f2 k0 k2 from to p q place
 moved_later f0 f1 f2 k0 k1 k2 keeps [] q from to place r = absurd r
 moved_later f0 f1 f2 k0 k1 k2 keeps (n ∷ p) [] from to place r = absurd r
-moved_later f0 f1 f2 k0 k1 k2 keeps (n ∷ p) (m ∷ q) from to place (fresh, here, inl (same, below, next, goes, edit, rest)) =
-    (fresh, keeps.stays to here, inl (same, below, next, goes, edit_later f0 f1 f2 from to n (Some (Dir next)) (keeps.same to here) edit, moved_later f0 f1 f2 k0 k1 k2 keeps p q below next place rest))
-moved_later f0 f1 f2 k0 k1 k2 keeps (n ∷ p) (m ∷ q) from to place (fresh, here, inr (differs, gone, came, edit, old_branch, new_branch)) = (
-  fresh,
-  keeps.stays to here,
+moved_later f0 f1 f2 k0 k1 k2 keeps (n ∷ p) (m ∷ q) from to place (fresh, inl (same, below, next, goes, edit, rest)) = (
+  fresh_later f0 f1 f2 k0 k1 k2 keeps from to fresh,
+  inl (
+    same,
+    below,
+    next,
+    goes,
+    edit_later f0 f1 f2 from to n (Some (Dir next)) (written_later f0 f1 f2 k0 k1 k2 keeps from to fresh).0 edit,
+    moved_later f0 f1 f2 k0 k1 k2 keeps p q below next place rest,
+  ),
+)
+moved_later f0 f1 f2 k0 k1 k2 keeps (n ∷ p) (m ∷ q) from to place (fresh, inr (differs, gone, came, edit, old_branch, new_branch)) = (
+  fresh_later f0 f1 f2 k0 k1 k2 keeps from to fresh,
   inr (
     differs,
     gone,
     came,
-    second_later f0 f1 f2 from to n m gone came (keeps.same to here) edit,
+    second_later f0 f1 f2 from to n m gone came (written_later f0 f1 f2 k0 k1 k2 keeps from to fresh).0 edit,
     branch_later f0 f1 f2 k0 k1 k2 keeps from n p None gone old_branch,
     branch_later f0 f1 f2 k0 k1 k2 keeps from m q (Some place) came new_branch,
   ),
@@ -85,27 +94,30 @@ pub record Parts (f0 f1 f2 : Blocks) (k0 k1 k2 : ℕ → Bool) (block : ℕ) (n 
   pub old_branch : IsBranch f0 f1 k0 k1 block n p None former
   pub new_branch : IsBranch f1 f2 k1 k2 block m q (Some place) here
 
--- the directory where the paths part is the same in all of them
-pub same_parted : (f0 f1 f2 : Blocks) (k0 k1 k2 : ℕ → Bool) (block : ℕ) → Keeps k0 f0 k1 f1 → Keeps k1 f1 k2 f2 → IsHeld f0 k0 (Dir block) → f2 block ≡ f0 block
+-- the directory where the paths part is the same in all of them, and so are its blocks
+pub same_parted : (f0 f1 f2 : Blocks) (k0 k1 k2 : ℕ → Bool) (block : ℕ) → Keeps k0 f0 k1 f1 → Keeps k1 f1 k2 f2 → IsHeld f0 k0 (Dir block) → (entries_in f2 block ≡ entries_in f0 block) × (chain f2 block ≡ chain f0 block)
 same_parted f0 f1 f2 k0 k1 k2 block first second held =
-    same_held f1 f2 k1 k2 second block (held_later f0 f1 k0 k1 first block held) ∙ same_held f0 f1 k0 k1 first block held
+    let here = same_held f0 f1 k0 k1 first block held in
+    let later = same_held f1 f2 k1 k2 second block (held_later f0 f1 k0 k1 first block held) in
+    (later.0 ∙ here.0, later.1 ∙ here.1)
 
 pub path_parted : (f0 f1 f2 f3 : Blocks) (k0 k1 k2 k3 : ℕ → Bool) (block : ℕ) (n m : Name) (p q : Path) (place : Place) (former here : Option Place) (r : Result ℕ Fault) → Parts f0 f1 f2 k0 k1 k2 block n m p q place former here → Keeps k2 f2 k3 f3
-    → IfOk r (λ to. IsSecondEdit f2 f3 block to n former m here) → IfOk r (λ to. k2 to ≡ false) → IfOk r (λ to. k3 to ≡ true) → IfOk r (λ to. IsMoved f0 f3 k0 k3 block to (n ∷ p) (m ∷ q) place)
-path_parted f0 f1 f2 f3 k0 k1 k2 k3 block n m p q place former here r parts third edited fresh kept =
-    if_ok_three (λ to. IsSecondEdit f2 f3 block to n former m here) (λ to. k2 to ≡ false) (λ to. k3 to ≡ true) (λ to. IsMoved f0 f3 k0 k3 block to (n ∷ p) (m ∷ q) place) r edited fresh kept
-    (λ to e f k. (
-      parts.was_fresh to (parts.was_fresh_too to f),
-      k,
+    → IfOk r (λ to. IsSecondEdit f2 f3 block to n former m here) → IfOk r (λ to. IsFreshChain f2 f3 k2 k3 block to) → IfOk r (λ to. IsMoved f0 f3 k0 k3 block to (n ∷ p) (m ∷ q) place)
+path_parted f0 f1 f2 f3 k0 k1 k2 k3 block n m p q place former here (Err fault) parts third edited fresh = tt
+path_parted f0 f1 f2 f3 k0 k1 k2 k3 block n m p q place former here (Ok to) parts third edited fresh =
+    let first = parts.first in
+    let later = held_later f0 f1 k0 k1 first block parts.held in
+    let fresh_one = fresh_before f1 f2 f3 k1 k2 k3 parts.second parts.was_fresh_too block to later fresh in (
+      fresh_before f0 f1 f3 k0 k1 k3 first parts.was_fresh block to parts.held fresh_one,
       inr (
         parts.differs,
         former,
         here,
-        second_before f0 f2 f3 block to n m former here (same_parted f0 f1 f2 k0 k1 k2 block parts.first parts.second parts.held) e,
+        second_before f0 f2 f3 block to n m former here (same_parted f0 f1 f2 k0 k1 k2 block first parts.second parts.held).0 edited,
         branch_later f0 f2 f3 k0 k2 k3 third block n p None former (branch_later f0 f1 f2 k0 k1 k2 parts.second block n p None former parts.old_branch),
-        branch_later f0 f2 f3 k0 k2 k3 third block m q (Some place) here (branch_before f0 f1 f2 k0 k1 k2 parts.first parts.was_fresh block m q (Some place) here parts.held parts.new_branch),
+        branch_later f0 f2 f3 k0 k2 k3 third block m q (Some place) here (branch_before f0 f1 f2 k0 k1 k2 first parts.was_fresh block m q (Some place) here parts.held parts.new_branch),
       ),
-    ))
+    )
 
 -- ---- what the new root reaches
 

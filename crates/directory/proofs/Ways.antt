@@ -9,9 +9,9 @@ use Rattle.fs_types.specs.declared.faults.Fault.{Fault}
 use Rattle.node_format.specs.declared.places.Place.{Place}
 use Rattle.node_format.specs.declared.places.Place.TheVariants.{Dir}
 use Rattle.block_trees.specs.Bodies.{Blocks}
-use Rattle.block_trees.specs.Trees.{entries_in, child, leads}
+use Rattle.block_trees.specs.Trees.{child, leads}
 use Rattle.block_trees.proofs.RootMaps.{leads-append}
-use Rattle.directory.specs.Lookups.{below_in, look_up, ◌>>=◌}
+use Rattle.directory.specs.Lookups.{below_in, look_up, LeadsToDirectories, ◌>>=◌}
 use Rattle.directory.specs.Trails.{IsTrail}
 
 -- ---- names of a path
@@ -68,20 +68,22 @@ goes_on f root path i trail trail' block below goes is less led = record {
   here = leads_more f root block i path less goes.here ∙ led;
 }
 
-pub ends : (f : Blocks) (root : ℕ) (path : Path) (i : ℕ) (trail trail' : List ℕ) (block : ℕ) → Goes f root path i trail block → trail' ≡ trail ++ block ∷ [] → i + 1 ≡ length path → IsTrail f root path trail'
-ends f root path i trail trail' block goes is last = record {
+pub ends : (f : Blocks) (root : ℕ) (path : Path) (i : ℕ) (trail trail' : List ℕ) (block : ℕ) → LeadsToDirectories f root → Goes f root path i trail block → trail' ≡ trail ++ block ∷ [] → i + 1 ≡ length path → IsTrail f root path trail'
+ends f root path i trail trail' block leads_to goes is last = record {
   counted = let counted = goes.counted in omega (arith, ap length is, length-append trail (block ∷ []));
   through = λ k less. with_here f root path i trail trail' block goes is k (omega arith);
+  begins = λ k less. leads_to (take k path) (slice_index trail' k) (with_here f root path i trail trail' block goes is k (omega arith));
 }
 
-pub whole : (f : Blocks) (root : ℕ) (path : Path) (i : ℕ) (trail : List ℕ) (block : ℕ) → Goes f root path i trail block → i ≡ length path → IsTrail f root path trail
-whole f root path i trail block goes last = record {
+pub whole : (f : Blocks) (root : ℕ) (path : Path) (i : ℕ) (trail : List ℕ) (block : ℕ) → LeadsToDirectories f root → Goes f root path i trail block → i ≡ length path → IsTrail f root path trail
+whole f root path i trail block leads_to goes last = record {
   counted = let counted = goes.counted in omega arith;
   through = λ k less. goes.through k (omega arith);
+  begins = λ k less. leads_to (take k path) (slice_index trail k) (goes.through k (omega arith));
 }
 
 -- a look up of the names from one on goes on at the directory that the name leads to
-pub looks_on : (f : Blocks) (block below i : ℕ) (path : Path) → i + 1 < length path → below_in (entries_in f block) (get_or path i []) ≡ Ok below → look_up f block (drop i path) ≡ look_up f below (drop (i + 1) path)
+pub looks_on : (f : Blocks) (block below i : ℕ) (path : Path) → i + 1 < length path → below_in f (get_or path i []) block ≡ Ok below → look_up f block (drop i path) ≡ look_up f below (drop (i + 1) path)
 looks_on f block below i path less is =
     let first = drop-cons path i [] (omega arith) in
     let second = drop-cons path (suc i) [] (omega arith) in

@@ -1,6 +1,10 @@
+pub mod Seeking
 pub mod Lookups
 pub mod Trails
+pub mod Counts
 pub mod Edits
 pub mod Making
 pub mod Moves
 pub mod Depths
+pub mod Reads
+pub mod Written

@@ -1,8 +1,9 @@
 -- Looking up a path: what it leads to, or why it is refused (POSIX.1-2017, pathname resolution).
-use Rattle.std.specs.Prelude.{◌≡◌, ℕ, nat_le, Bool, true, false, IsTrue, Option, Some, None, Result, Ok, Err, List, [], ◌∷◌, length}
-use Rattle.fs_types.specs.declared.limits.TheConstants.{MAX_ENTRIES}
+use Rattle.std.specs.Prelude.{◌≡◌, ℕ, ◌+◌, ◌*◌, ◌≤◌, nat_le, Bool, true, false, IsTrue, Option, Some, None, Result, Ok, Err, List, [], ◌∷◌, length}
+use Rattle.fs_types.specs.declared.limits.TheConstants.{MAX_ENTRIES, CHAIN_NODES}
 use Rattle.fs_types.specs.Names.{Name, Path}
 use Rattle.plain_trees.specs.Contents.{Entry, Contents, lookup_refusal}
+use Rattle.plain_trees.specs.Trees.{path_need}
 use Rattle.fs_types.specs.declared.faults.Fault.{Fault}
 use Rattle.fs_types.specs.declared.faults.Fault.TheVariants.{NoEntry, NotDirectory, Damaged}
 use Rattle.node_store.specs.Faults.{is_read_fault}
@@ -10,7 +11,10 @@ use Rattle.node_format.specs.Items.{Item, named}
 use Rattle.node_format.specs.declared.places.Place.{Place}
 use Rattle.node_format.specs.declared.places.Place.TheVariants.{Dir, File}
 use Rattle.block_trees.specs.Bodies.{Blocks, body}
-use Rattle.block_trees.specs.Trees.{entries_in, tree, IsRoot}
+use Rattle.block_trees.specs.Chains.{chain}
+use Rattle.block_trees.specs.Trees.{entries_in, leads, tree, root_tree, IsRoot}
+use Rattle.directory.specs.Seeking.{chain_items}
+pub use Rattle.directory.specs.Seeking.{place_in}
 use Rattle.directory.specs.declared.lookups.Found.{Found}
 use Rattle.directory.specs.declared.lookups.Found.TheVariants as found
 
@@ -20,11 +24,6 @@ abbrev pub ◌>>=◌ : {A B : Type 0} → Result A Fault → (A → Result B Fau
 (Err fault) >>= f = Err fault
 (Ok x) >>= f = f x
 
--- what a name leads to in a directory's entries; a block without a directory node is damaged
-abbrev pub place_in : Option (List Item) → Name → Result (Option Place) Fault
-place_in None name = Err Damaged
-place_in (Some items) name = Ok (named items name)
-
 -- the directory that a place is, for a component that is not the last
 abbrev pub directory_at : Option Place → Result ℕ Fault
 directory_at None = Err NoEntry
@@ -32,8 +31,8 @@ directory_at (Some (File head size)) = Err NotDirectory
 directory_at (Some (Dir block)) = Ok block
 
 -- the directory that a component but the last leads to, or its refusal
-abbrev pub below_in : Option (List Item) → Name → Result ℕ Fault
-below_in items name = place_in items name >>= directory_at
+abbrev pub below_in : Blocks → Name → ℕ → Result ℕ Fault
+below_in f name block = place_in f name block >>= directory_at
 
 -- what a place is to a look up; where there is none, its directory may be full
 abbrev pub found_of : Option Place → Bool → Found
@@ -41,16 +40,28 @@ found_of None is_full = found.Missing is_full
 found_of (Some (File head size)) is_full = found.File head size
 found_of (Some (Dir block)) is_full = found.Dir block
 
--- what the last component leads to in a directory's entries; a directory with as many as it may have is full
-abbrev pub found_in : Option (List Item) → Name → Result Found Fault
-found_in None name = Err Damaged
-found_in (Some items) name = Ok (found_of (named items name) (nat_le MAX_ENTRIES (length items)))
+-- what the last component leads to in a directory; one with as many entries as it may have is full
+abbrev pub found_in : Blocks → Name → ℕ → Result Found Fault
+found_in f name block = place_in f name block >>= λ place. Ok (found_of place (nat_le MAX_ENTRIES (length (chain_items f block))))
 
 -- what a path below a directory leads to, or the refusal of its first component that is missing, a file or damaged
 abbrev pub look_up : Blocks → ℕ → Path → Result Found Fault
 look_up f block [] = Ok (found.Dir block)
-look_up f block (name ∷ []) = found_in (entries_in f block) name
-look_up f block (name ∷ next ∷ path) = below_in (entries_in f block) name >>= λ below. look_up f below (next ∷ path)
+look_up f block (name ∷ []) = found_in f name block
+look_up f block (name ∷ next ∷ path) = below_in f name block >>= λ below. look_up f below (next ∷ path)
+
+-- how many nodes the directories have that a look up goes through
+abbrev pub nodes_from : (ℕ → ℕ) → Result ℕ Fault → ℕ
+nodes_from nodes (Err fault) = 0
+nodes_from nodes (Ok below) = nodes below
+
+abbrev pub way_nodes : Blocks → ℕ → Path → ℕ
+way_nodes f block [] = 0
+way_nodes f block (name ∷ path) = length (chain f block) + nodes_from (λ below. way_nodes f below path) (below_in f name block)
+
+-- each directory that paths below a root lead to begins in its block, as in a tree
+abbrev pub LeadsToDirectories : Blocks → ℕ → Type 0
+LeadsToDirectories f root = (path : Path) (block : ℕ) → leads f (Dir root) path ≡ Some (Dir block) → (items : List Item) × (entries_in f block ≡ Some items)
 
 -- what was found, as a place
 abbrev pub place_of : Found → Option Place
@@ -72,6 +83,17 @@ Tells capacity f t path (Err fault) = lookup_refusal t path ≡ Some fault
 -- a look up tells of each path in the tree of a root
 abbrev pub LookupLaw : Type 0
 LookupLaw = (capacity : ℕ) (f : Blocks) (root : ℕ) (path : Path) → IsRoot capacity f root → Tells capacity f (tree capacity f root) path (look_up f root path)
+
+-- a name found node by node is the one of the whole directory
+abbrev pub SeekLaw : Type 0
+SeekLaw = (f : Blocks) (block : ℕ) (name : Name) (items : List Item) → entries_in f block ≡ Some items → (place_in f name block ≡ Ok (named items name)) × (chain_items f block ≡ items)
+
+-- a look up of a path goes through at most 32 nodes for each name; in a tree through no more than its directories have for their entries
+abbrev pub MostNodesLaw : Type 0
+MostNodesLaw = (f : Blocks) (root : ℕ) (path : Path) → way_nodes f root path ≤ CHAIN_NODES * length path
+
+abbrev pub TreeNodesLaw : Type 0
+TreeNodesLaw = (capacity : ℕ) (f : Blocks) (root : ℕ) (path : Path) → IsRoot capacity f root → way_nodes f root path ≤ path_need (root_tree capacity f root) (root_tree capacity f root) path
 
 -- the refusals that say what the nodes hold
 abbrev pub is_path_fault : Fault → Bool

@@ -4,7 +4,7 @@ use Rattle.fs_types.specs.Names.{Path}
 use Rattle.node_format.specs.declared.places.Place.TheVariants.{Dir}
 use Rattle.block_trees.specs.Bodies.{Blocks}
 use Rattle.block_trees.specs.Trees.{entries_in}
-use Rattle.block_trees.specs.Rewritten.{IsRewritten, AreFresh}
+use Rattle.block_trees.specs.Rewritten.{IsRewritten}
 
 -- the path leads to a new empty directory, kept in a block that was not kept, and each directory along it was written anew
 pub record IsMade (old new : Blocks) (kept kept' : ℕ → Bool) (from to : ℕ) (path : Path) : Type 0 where
@@ -12,5 +12,4 @@ pub record IsMade (old new : Blocks) (kept kept' : ℕ → Bool) (from to : ℕ)
   pub empty : entries_in new block ≡ Some []
   pub was_free : kept block ≡ false
   pub is_kept : kept' block ≡ true
-  pub rewritten : IsRewritten old kept' new from to path (Some (Dir block))
-  pub fresh : AreFresh kept kept' new to path
+  pub rewritten : IsRewritten old new kept kept' from to path (Some (Dir block))

@@ -1,8 +1,8 @@
 -- What stands at a path of directories moved to another.
-use Rattle.std.specs.Prelude.{◌≡◌, ℕ, suc, ◌+◌, ◌-◌, ◌<◌, Bool, false, Option, Some, None, IsSome, List, [], ◌∷◌, length, slice_index, slice_index_or, if◌then◌else◌}
+use Rattle.std.specs.Prelude.{◌≡◌, ℕ, suc, ◌+◌, ◌-◌, ◌<◌, Bool, true, false, Option, Some, None, IsSome, List, [], ◌∷◌, length, slice_index, slice_index_or, if◌then◌else◌}
 use Rattle.fs_types.specs.Names.{Name, Path, same_name}
-use Rattle.node_format.specs.Items.{Item, named}
-use Rattle.node_format.specs.Directories.{directory_at}
+use Rattle.node_format.specs.Items.{Item, are_entries, named}
+use Rattle.node_format.specs.Edits.{edited_count}
 use Rattle.node_format.specs.declared.places.Place.{Place}
 use Rattle.node_format.specs.declared.places.Place.TheVariants.{Dir}
 use Rattle.block_trees.specs.Bodies.{Blocks}
@@ -19,11 +19,15 @@ common (n ∷ p) (m ∷ q) = if same_name n m then suc (common p q) else 0
 abbrev pub directories_along : Path → Path → ℕ
 directories_along old new = length old + length new - (common old new + 1)
 
--- the bytes are a directory in which one name leads to one place and another to another, or to nothing, and all others lead where they did
-pub record IsEditedTwice (old : List Item) (name : Name) (gone : Option Place) (other : Name) (here : Option Place) (bytes : List ℕ) : Type 0 where
-  pub items : List Item
-  pub spelled : directory_at bytes ≡ Some items
-  pub leads : (k : Name) → named items k ≡ (if same_name other k then here else if same_name name k then gone else named old k)
+-- how many entries there are once one name leads to one place, or to nothing, and then another name to another
+abbrev pub edited_twice_count : List Item → Name → Option Place → Name → Option Place → ℕ
+edited_twice_count items name gone other here = edited_count (named items other) here (edited_count (named items name) gone (length items))
+
+-- the new entries are a directory's; one name leads to one place and another to another, or to nothing, and all others lead where they did
+pub record IsEditedTwice (old : List Item) (name : Name) (gone : Option Place) (other : Name) (here : Option Place) (new : List Item) : Type 0 where
+  pub lawful : are_entries new ≡ true
+  pub counted : length new ≡ edited_twice_count old name gone other here
+  pub leads : (k : Name) → named new k ≡ (if same_name other k then here else if same_name name k then gone else named old k)
 
 -- the directory where two paths part, `fork` names down, and what can be done there and below: what stands at the
 -- first is taken out, this place is put at the second

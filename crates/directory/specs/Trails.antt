@@ -16,10 +16,11 @@ use Rattle.directory.specs.declared.lookups.Found.{Found}
 use Rattle.directory.specs.declared.lookups.Found.TheVariants as found
 
 -- the blocks of the directories that a path below a root goes through, one for each name: that at i is what the first i
--- names lead to, so the first is the root
+-- names lead to, so the first is the root; each begins a directory
 pub record IsTrail (f : Blocks) (root : ℕ) (path : Path) (trail : List ℕ) : Type 0 where
   pub counted : length trail ≡ length path
   pub through : (i : ℕ) → i < length path → leads f (Dir root) (take i path) ≡ Some (Dir (slice_index trail i))
+  pub begins : (i : ℕ) → i < length path → (items : List Item) × (entries_in f (slice_index trail i) ≡ Some items)
 
 -- a name can be put where a look up found this: it stands there, or is missing from a directory that is not full
 abbrev pub has_room : Result Found Fault → Bool

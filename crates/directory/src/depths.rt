@@ -1,16 +1,17 @@
 //! How many names the paths below a directory have.
-ghost use Rattle.std.specs.Prelude.{◌≡◌, ℕ, ◌+◌, ◌*◌, ◌≤◌, ◌<◌, true, false, ◌||◌, ◌&&◌, nat_lt, List, Contains, length, if◌then◌else◌, Some, None, OnOk, IfOk, IfErr};
+ghost use Rattle.std.specs.Prelude.{◌≡◌, ℕ, ◌+◌, ◌*◌, ◌≤◌, ◌<◌, true, false, ◌||◌, ◌&&◌, nat_lt, List, Contains, length, Some, None, OnOk, OnErr, IfOk, IfErr};
 ghost use Rattle.std.specs.FinSet as set;
 ghost use Rattle.node_format.specs.declared.places.Place.TheVariants.{Dir};
-ghost use Rattle.block_trees.specs.Trees.{items_in};
+ghost use Rattle.block_trees.specs.Chains.{link_items, next_of};
 ghost use Rattle.block_trees.specs.Laws.{IsShallow};
+ghost use Rattle.directory.specs.Lookups.{LeadsToDirectories};
 ghost use Rattle.directory.specs.Depths as spec;
 ghost use Rattle.node_store.specs.Frames.{OnlyLooks};
 ghost use Rattle.fs_types.specs.declared.limits.TheConstants.{MAX_NAMES};
 
 use allocator::BlockSet;
 use fs_types::Fault;
-use node_format::{Entries, Place};
+use node_format::{Entries, EntryList, Place};
 use node_store::Nodes;
 use std::alloc::Global;
 
@@ -33,11 +34,11 @@ fn brings<N: Nodes>(nodes: &mut N, block: u32) -> Result<bool, Fault>
 }
 
 /// Puts the blocks of the directories among entries into a set, but those past its last block.
-fn add_directories(entries: Entries<'_>, found: &mut BlockSet)
-    ensures added { (b : ℕ) → set.contains found.new.members b ≡ (set.contains found.old.members b || (nat_lt b found.old.blocks && spec.names_directory entries.entry b)) }
+fn add_directories(list: EntryList<'_>, found: &mut BlockSet)
+    ensures added { (b : ℕ) → set.contains found.new.members b ≡ (set.contains found.old.members b || (nat_lt b found.old.blocks && spec.names_directory list.entry b)) }
     ensures size { found.new.blocks ≡ found.old.blocks }
 {
-    for entry in entries {
+    for entry in list {
         if let Place::Dir { block } = entry.place() {
             if block < found.blocks() {
                 found.insert(block);
@@ -46,40 +47,76 @@ fn add_directories(entries: Entries<'_>, found: &mut BlockSet)
     }
 }
 
-/// Puts the blocks of the directories that the directory of a block names into a set, but those
-/// past its last block, where a level has the block. A block without a directory node names none.
-fn add_named<N: Nodes>(
-    nodes: &mut N,
-    level: &BlockSet,
-    block: u32,
-    found: &mut BlockSet,
-) -> Result<(), Fault>
+/// Puts the blocks of the directories that the node in a block names into a set, but those past its
+/// last block. Answers the block of the node after it, 0 where none comes; a block without a
+/// directory node names none.
+fn add_named<N: Nodes>(nodes: &mut N, block: u32, found: &mut BlockSet) -> Result<u32, Fault>
     requires { N.is_sound nodes.old }
-    ensures added { OnOk result ((b : ℕ) → set.contains found.new.members b ≡ (set.contains found.old.members b || (set.contains level.now.members block && (nat_lt b found.old.blocks && spec.names_directory (items_in (N.node nodes.old) block) b)))) }
+    ensures added { OnOk result ((b : ℕ) → set.contains found.new.members b ≡ (set.contains found.old.members b || (nat_lt b found.old.blocks && spec.names_directory (link_items (N.node nodes.old block)) b))) }
+    ensures next { IfOk result (λ next. next_of (N.node nodes.old block) ≡ next) }
+    ensures same { OnErr result (found.new ≡ found.old) }
     ensures size { found.new.blocks ≡ found.old.blocks }
     ensures why { IfErr result (λ fault. N.causes nodes.old nodes.new fault) }
     ensures faults { IfErr result spec.IsDepthFault }
     ensures looks { OnlyLooks N.node N.kept N.writes N.follows N.is_sound N.limit N.blocks nodes.old nodes.new }
-    ensures reads { N.reads nodes.new ≤ N.reads nodes.old + (if set.contains level.now.members block then 1 else 0) }
+    ensures reads { N.reads nodes.new ≡ N.reads nodes.old + 1 }
 {
-    if !level.contains(block) {
-        return Ok(());
-    }
     let brought = brings(nodes, block)?;
     if !brought {
-        return Ok(());
+        return Ok(0);
     }
-    let Some(entries) = Entries::of(nodes.lent()) else {
-        return Ok(());
+    let Some(node) = Entries::of(nodes.lent()) else {
+        return Ok(0);
     };
-    add_directories(entries, found);
+    let next = node.next();
+    add_directories(node.list(), found);
+    Ok(next)
+}
+
+/// Whether a block is one to be read: 0 names none, and none is read twice.
+fn is_left(seen: &BlockSet, block: u32) -> bool
+    ensures { result ≡ spec.is_left seen.now.blocks seen.now.members block }
+{
+    block != 0 && block < seen.blocks() && !seen.contains(block)
+}
+
+/// Reads the nodes that follow one another from a block on, to the last or to one that was seen:
+/// puts them into the set of those seen, and the directories that they name into a set.
+fn add_chain<N: Nodes>(
+    nodes: &mut N,
+    block: u32,
+    seen: &mut BlockSet,
+    found: &mut BlockSet,
+) -> Result<(), Fault>
+    requires sound { N.is_sound nodes.old }
+    requires size { (seen.old.blocks ≡ N.blocks nodes.old) × (found.old.blocks ≡ N.blocks nodes.old) }
+    ensures read { OnOk result (spec.IsRead (N.node nodes.old) (N.blocks nodes.old) seen.old.members found.old.members → spec.IsRead (N.node nodes.old) (N.blocks nodes.old) seen.new.members found.new.members) }
+    ensures here { OnOk result (spec.IsSeen (N.node nodes.old) seen.new.members block) }
+    ensures named { OnOk result (spec.AreOf (N.node nodes.old) (N.blocks nodes.old) block found.old.members found.new.members) }
+
+    // Whatever is answered, those seen stay so, and more are among any list that has the block and all that it names.
+    ensures stays { (b : ℕ) → set.contains seen.old.members b ≡ true → set.contains seen.new.members b ≡ true }
+    ensures among { (roots list : List ℕ) → spec.HasDirectories (N.node nodes.old) (N.blocks nodes.old) roots list → Contains list block → spec.AreAmong list seen.old.members seen.new.members × spec.AreAmong list found.old.members found.new.members }
+    ensures size { (seen.new.blocks ≡ seen.old.blocks) × (found.new.blocks ≡ found.old.blocks) }
+    ensures why { IfErr result (λ fault. N.causes nodes.old nodes.new fault) }
+    ensures faults { IfErr result spec.IsDepthFault }
+    ensures looks { OnlyLooks N.node N.kept N.writes N.follows N.is_sound N.limit N.blocks nodes.old nodes.new }
+
+    // Each read is of a block that was not seen.
+    ensures reads { N.reads nodes.new + spec.count_below (set.contains seen.old.members) seen.old.blocks ≡ N.reads nodes.old + spec.count_below (set.contains seen.new.members) seen.old.blocks }
+{
+    let mut at = block;
+    'chain: while is_left(seen, at) {
+        seen.insert(at);
+        at = add_named(nodes, at, found)?;
+    }
     Ok(())
 }
 
-/// Whether the directory of a block has entries. A block without a directory node has none.
+/// Whether the node in a block has entries. A block without a directory node has none.
 fn has_entries<N: Nodes>(nodes: &mut N, block: u32) -> Result<bool, Fault>
     requires { N.is_sound nodes.old }
-    ensures value { IfOk result (λ some. some ≡ nat_lt 0 (length (items_in (N.node nodes.old) block))) }
+    ensures value { IfOk result (λ some. some ≡ nat_lt 0 (length (link_items (N.node nodes.old block)))) }
     ensures why { IfErr result (λ fault. N.causes nodes.old nodes.new fault) }
     ensures faults { IfErr result spec.IsDepthFault }
     ensures looks { OnlyLooks N.node N.kept N.writes N.follows N.is_sound N.limit N.blocks nodes.old nodes.new }
@@ -89,36 +126,44 @@ fn has_entries<N: Nodes>(nodes: &mut N, block: u32) -> Result<bool, Fault>
     if !brought {
         return Ok(false);
     }
-    let Some(entries) = Entries::of(nodes.lent()) else {
+    let Some(node) = Entries::of(nodes.lent()) else {
         return Ok(false);
     };
-    Ok(entries.len() > 0)
+    Ok(node.list().len() > 0)
 }
 
-/// The blocks of the directories that the directories of a set of blocks name.
+/// The blocks of the directories that the directories of a set of blocks name. Each of their nodes
+/// is read once, also where directories share it.
 fn next_level<N: Nodes>(alloc: Global, nodes: &mut N, level: &BlockSet) -> Result<BlockSet, Fault>
     requires sound { N.is_sound nodes.old }
     requires within { (b : ℕ) → set.contains level.now.members b ≡ true → b < level.now.blocks }
+    requires size { level.now.blocks ≡ N.blocks nodes.old }
     ensures named { IfOk result (λ next. spec.AreNamedBy (N.node nodes.old) level.now.blocks (set.contains level.now.members) next.members) }
     ensures size { IfOk result (λ next. next.blocks ≡ level.now.blocks) }
     ensures why { IfErr result (λ fault. N.causes nodes.old nodes.new fault) }
     ensures faults { IfErr result spec.IsDepthFault }
     ensures looks { OnlyLooks N.node N.kept N.writes N.follows N.is_sound N.limit N.blocks nodes.old nodes.new }
-    ensures reads { (list : List ℕ) → ((b : ℕ) → set.contains level.now.members b ≡ true → Contains list b) → N.reads nodes.new ≤ N.reads nodes.old + length list }
+
+    // What is read and found is among any list that has the level and all that it names.
+    ensures among { IfOk result (λ next. (roots list : List ℕ) → spec.HasDirectories (N.node nodes.old) (N.blocks nodes.old) roots list → ((b : ℕ) → set.contains level.now.members b ≡ true → Contains list b) → (b : ℕ) → set.contains next.members b ≡ true → Contains list b) }
+    ensures reads { (roots list : List ℕ) → spec.HasDirectories (N.node nodes.old) (N.blocks nodes.old) roots list → ((b : ℕ) → set.contains level.now.members b ≡ true → Contains list b) → N.reads nodes.new ≤ N.reads nodes.old + length list }
 {
     let mut next = BlockSet::new(alloc, level.blocks())?;
+    let mut seen = BlockSet::new(alloc, level.blocks())?;
     for block in 0..level.blocks() {
-        add_named(nodes, level, block, &mut next)?;
+        if level.contains(block) {
+            add_chain(nodes, block, &mut seen, &mut next)?;
+        }
     }
     Ok(next)
 }
 
-/// Whether a directory of a set of blocks has entries.
+/// Whether the first node of a directory of a set of blocks has entries.
 fn any_has_entries<N: Nodes>(nodes: &mut N, level: &BlockSet) -> Result<bool, Fault>
     requires sound { N.is_sound nodes.old }
     requires within { (b : ℕ) → set.contains level.now.members b ≡ true → b < level.now.blocks }
-    ensures some { IfOk result (λ some. some ≡ true → (b : ℕ) × (set.contains level.now.members b ≡ true) × (0 < length (items_in (N.node nodes.old) b))) }
-    ensures none { IfOk result (λ some. some ≡ false → (b : ℕ) → set.contains level.now.members b ≡ true → length (items_in (N.node nodes.old) b) ≡ 0) }
+    ensures some { IfOk result (λ some. some ≡ true → (b : ℕ) × (set.contains level.now.members b ≡ true) × (0 < length (link_items (N.node nodes.old b)))) }
+    ensures none { IfOk result (λ some. some ≡ false → (b : ℕ) → set.contains level.now.members b ≡ true → length (link_items (N.node nodes.old b)) ≡ 0) }
     ensures why { IfErr result (λ fault. N.causes nodes.old nodes.new fault) }
     ensures faults { IfErr result spec.IsDepthFault }
     ensures looks { OnlyLooks N.node N.kept N.writes N.follows N.is_sound N.limit N.blocks nodes.old nodes.new }
@@ -151,9 +196,10 @@ fn first_level(alloc: Global, blocks: u32, list: &[u32]) -> Result<BlockSet, Fau
 }
 
 /// Whether some path below one of the directories in some blocks has more than `most` names. Any
-/// content of the nodes is looked at, directories that reach themselves too; a block without a
-/// directory node leads nowhere. No path is walked: of each level of directories a set of blocks is
-/// kept, at most `most + 1` levels are read, and each block at most once a level.
+/// content of the nodes is looked at, directories that reach themselves too; where not each directory
+/// on the way begins one, paths may be told to be longer than they are. No path is walked: of each
+/// level of directories a set of blocks is kept, at most `most + 1` levels are read, and each block at
+/// most once a level.
 ///
 /// Refused with `NoMemory` and with what a read is refused with, but never with `Damaged`.
 pub fn any_is_deeper<N: Nodes>(
@@ -164,13 +210,13 @@ pub fn any_is_deeper<N: Nodes>(
 ) -> Result<bool, Fault>
     requires sound { N.is_sound nodes.old }
     requires most { most ≤ MAX_NAMES }
-    ensures deeper { IfOk result (λ deep. deep ≡ true → (root : ℕ) × Contains roots.now root × spec.IsDeeper (N.node nodes.old) (Dir root) most) }
+    ensures deeper { ((root : ℕ) → Contains roots.now root → LeadsToDirectories (N.node nodes.old) root) → IfOk result (λ deep. deep ≡ true → (root : ℕ) × Contains roots.now root × spec.IsDeeper (N.node nodes.old) (Dir root) most) }
     ensures shallow { IfOk result (λ deep. deep ≡ false → (root : ℕ) → Contains roots.now root → IsShallow (N.node nodes.old) (Dir root) most) }
     ensures why { IfErr result (λ fault. N.causes nodes.old nodes.new fault) }
     ensures faults { IfErr result spec.IsDepthFault }
     ensures looks { OnlyLooks N.node N.kept N.writes N.follows N.is_sound N.limit N.blocks nodes.old nodes.new }
 
-    // A level reads its directories alone: they are among any list that has the roots and all that it names.
+    // A level reads the nodes of its directories alone: they are among any list that has the roots and all that it names.
     ensures reads { (list : List ℕ) → spec.HasDirectories (N.node nodes.old) (N.blocks nodes.old) roots.now list → N.reads nodes.new ≤ N.reads nodes.old + (most + 1) * length list }
 {
     let blocks = nodes.block_count();
@@ -190,7 +236,7 @@ pub fn is_deeper<N: Nodes>(
 ) -> Result<bool, Fault>
     requires sound { N.is_sound nodes.old }
     requires most { most ≤ MAX_NAMES }
-    ensures deeper { IfOk result (λ deep. deep ≡ true → spec.IsDeeper (N.node nodes.old) (Dir block) most) }
+    ensures deeper { LeadsToDirectories (N.node nodes.old) block → IfOk result (λ deep. deep ≡ true → spec.IsDeeper (N.node nodes.old) (Dir block) most) }
     ensures shallow { IfOk result (λ deep. deep ≡ false → IsShallow (N.node nodes.old) (Dir block) most) }
     ensures why { IfErr result (λ fault. N.causes nodes.old nodes.new fault) }
     ensures faults { IfErr result spec.IsDepthFault }

@@ -1,34 +1,66 @@
-//! The names in a directory, and how many they are.
-ghost use Rattle.std.specs.Prelude.{◌≡◌, ℕ, ◌+◌, Bool, true, false, List, length, Some, None, IfOk, IfErr, IsErrOf};
+//! The names in a directory, how many they are, and whether there are any.
+ghost use Rattle.std.specs.Prelude.{◌≡◌, ℕ, ◌+◌, ◌≤◌, ◌==◌, ◌++◌, Bool, true, false, List, length, Some, None, OnOk, IfOk, IfErr, IsErrOf};
 ghost use Rattle.fs_types.specs.declared.faults.Fault.TheVariants.{NoMemory, Damaged};
+ghost use Rattle.fs_types.specs.declared.limits.TheConstants.{NODE_ENTRIES};
 ghost use Rattle.node_store.specs.Faults.{IsReadFault};
 ghost use Rattle.node_store.specs.Frames.{OnlyLooks};
 ghost use Rattle.node_format.specs.Items.{Item};
+ghost use Rattle.block_trees.specs.Chains.{link_of, link_items, next_of, chain};
 ghost use Rattle.block_trees.specs.Trees.{entries_in, names_of};
 ghost use Rattle.directory.specs.Lookups.{is_path_fault};
 
+use crate::lookups::MOST_AFTER;
 use fs_types::{Fault, Name, Sequence};
-use node_format::Entries;
+use node_format::{Entries, EntryList};
 use node_store::Nodes;
-use std::alloc::{AllocError, Global};
+use std::alloc::Global;
 
-/// The names of entries, each with whether it is a directory.
-fn names_in(alloc: Global, entries: Entries<'_>) -> Result<Sequence<(Name, bool)>, Fault>
-    ensures names { IfOk result (λ names. names ≡ names_of entries.entry) }
+/// Adds the names of entries, each with whether it is a directory.
+fn push_names(
+    alloc: Global,
+    list: EntryList<'_>,
+    names: &mut Sequence<(Name, bool)>,
+) -> Result<(), Fault>
+    ensures names { OnOk result (names.new ≡ names.old ++ names_of list.entry) }
     ensures memory { IfErr result (λ fault. fault ≡ NoMemory) }
 {
-    let mut names = Sequence::new(alloc);
-    for entry in entries {
+    for entry in list {
         let name = Name::new(alloc, entry.name())?;
         names.push((name, entry.place().is_dir()))?;
     }
-    Ok(names)
+    Ok(())
 }
 
-/// The names in the directory of a block, in byte order, each with whether it is a directory. One
-/// node is read.
+/// Adds the names of the entries of the node in a block. Answers the block of the node after it, 0
+/// where none comes.
+fn add_names<N: Nodes>(
+    alloc: Global,
+    nodes: &mut N,
+    block: u32,
+    names: &mut Sequence<(Name, bool)>,
+) -> Result<u32, Fault>
+    requires { N.is_sound nodes.old }
+    ensures names { OnOk result (names.new ≡ names.old ++ names_of (link_items (N.node nodes.old block))) }
+    ensures next { IfOk result (λ next. next_of (N.node nodes.old block) ≡ next) }
+    ensures damaged { IsErrOf result Damaged → link_of (N.node nodes.old block) ≡ None }
+    ensures why { IfErr result (λ fault. is_path_fault fault ≡ false → N.causes nodes.old nodes.new fault) }
+    ensures faults { IfErr result IsReadFault }
+    ensures looks { OnlyLooks N.node N.kept N.writes N.follows N.is_sound N.limit N.blocks nodes.old nodes.new }
+    ensures reads { N.reads nodes.new ≡ N.reads nodes.old + 1 }
+{
+    nodes.read(block)?;
+    let Some(node) = Entries::of(nodes.lent()) else {
+        return Err(Fault::Damaged);
+    };
+    let next = node.next();
+    push_names(alloc, node.list(), names)?;
+    Ok(next)
+}
+
+/// The names in the directory that begins in a block, in byte order, each with whether it is a
+/// directory. Its nodes are read once each.
 ///
-/// Refused with `Damaged` where the block holds no directory node, with `NoMemory`, and with what a
+/// Refused with `Damaged` only where no directory begins there, with `NoMemory`, and with what a
 /// read is refused with.
 pub fn names<N: Nodes>(
     alloc: Global,
@@ -36,37 +68,84 @@ pub fn names<N: Nodes>(
     block: u32,
 ) -> Result<Sequence<(Name, bool)>, Fault>
     requires { N.is_sound nodes.old }
-    ensures names { IfOk result (λ names. (items : List Item) × (entries_in (N.node nodes.old) block ≡ Some items) × (names ≡ names_of items)) }
+    ensures names { IfOk result (λ names. (items : List Item) → entries_in (N.node nodes.old) block ≡ Some items → names ≡ names_of items) }
     ensures damaged { IsErrOf result Damaged → entries_in (N.node nodes.old) block ≡ None }
     ensures why { IfErr result (λ fault. is_path_fault fault ≡ false → N.causes nodes.old nodes.new fault) }
     ensures faults { IfErr result IsReadFault }
     ensures looks { OnlyLooks N.node N.kept N.writes N.follows N.is_sound N.limit N.blocks nodes.old nodes.new }
-    ensures reads { N.reads nodes.new ≡ N.reads nodes.old + 1 }
+    ensures reads { N.reads nodes.new ≤ N.reads nodes.old + length (chain (N.node nodes.old) block) }
 {
-    nodes.read(block)?;
-    let Some(entries) = Entries::of(nodes.lent()) else {
-        return Err(Fault::Damaged);
-    };
-    let names = names_in(alloc, entries)?;
+    let mut names = Sequence::new(alloc);
+    let mut next = add_names(alloc, nodes, block, &mut names)?;
+    for _ in 0..MOST_AFTER {
+        if next == 0 {
+            return Ok(names);
+        }
+        next = add_names(alloc, nodes, next, &mut names)?;
+    }
     Ok(names)
 }
 
-/// The number of entries in the directory of a block. One node is read.
-///
-/// Refused with `Damaged` where the block holds no directory node, and with what a read is refused
-/// with.
-pub fn entry_count<N: Nodes>(nodes: &mut N, block: u32) -> Result<usize, Fault>
+/// How many entries the node in a block has, at most 32, and the block of the node after it, 0 where
+/// none comes.
+fn count_at<N: Nodes>(nodes: &mut N, block: u32) -> Result<(usize, u32), Fault>
     requires { N.is_sound nodes.old }
-    ensures count { IfOk result (λ count. (items : List Item) × (entries_in (N.node nodes.old) block ≡ Some items) × (count ≡ length items)) }
-    ensures damaged { IsErrOf result Damaged → entries_in (N.node nodes.old) block ≡ None }
+    ensures count { IfOk result (λ c. length (link_items (N.node nodes.old block)) ≡ c.0) }
+    ensures few { IfOk result (λ c. c.0 ≤ NODE_ENTRIES) }
+    ensures next { IfOk result (λ c. next_of (N.node nodes.old block) ≡ c.1) }
+    ensures damaged { IsErrOf result Damaged → link_of (N.node nodes.old block) ≡ None }
     ensures why { IfErr result (λ fault. is_path_fault fault ≡ false → N.causes nodes.old nodes.new fault) }
     ensures faults { IfErr result IsReadFault }
     ensures looks { OnlyLooks N.node N.kept N.writes N.follows N.is_sound N.limit N.blocks nodes.old nodes.new }
     ensures reads { N.reads nodes.new ≡ N.reads nodes.old + 1 }
 {
     nodes.read(block)?;
-    let Some(entries) = Entries::of(nodes.lent()) else {
+    let Some(node) = Entries::of(nodes.lent()) else {
         return Err(Fault::Damaged);
     };
-    Ok(entries.len())
+    let count = node.list().len();
+    Ok((count, node.next()))
+}
+
+/// The number of entries in the directory that begins in a block. Its nodes are read once each.
+///
+/// Refused with `Damaged` only where no directory begins there, and with what a read is refused
+/// with.
+pub fn entry_count<N: Nodes>(nodes: &mut N, block: u32) -> Result<usize, Fault>
+    requires { N.is_sound nodes.old }
+    ensures count { IfOk result (λ count. (items : List Item) → entries_in (N.node nodes.old) block ≡ Some items → count ≡ length items) }
+    ensures damaged { IsErrOf result Damaged → entries_in (N.node nodes.old) block ≡ None }
+    ensures why { IfErr result (λ fault. is_path_fault fault ≡ false → N.causes nodes.old nodes.new fault) }
+    ensures faults { IfErr result IsReadFault }
+    ensures looks { OnlyLooks N.node N.kept N.writes N.follows N.is_sound N.limit N.blocks nodes.old nodes.new }
+    ensures reads { N.reads nodes.new ≤ N.reads nodes.old + length (chain (N.node nodes.old) block) }
+{
+    let (mut count, mut next) = count_at(nodes, block)?;
+    for _ in 0..MOST_AFTER {
+        if next == 0 {
+            return Ok(count);
+        }
+        let (more, after) = count_at(nodes, next)?;
+        count += more;
+        next = after;
+    }
+    Ok(count)
+}
+
+/// Whether the directory that begins in a block has no entries. One node is read: only a directory of
+/// one node has none.
+///
+/// Refused with `Damaged` only where no directory begins there, and with what a read is refused
+/// with.
+pub fn is_empty<N: Nodes>(nodes: &mut N, block: u32) -> Result<bool, Fault>
+    requires { N.is_sound nodes.old }
+    ensures value { IfOk result (λ empty. (items : List Item) → entries_in (N.node nodes.old) block ≡ Some items → empty ≡ (length items == 0)) }
+    ensures damaged { IsErrOf result Damaged → entries_in (N.node nodes.old) block ≡ None }
+    ensures why { IfErr result (λ fault. is_path_fault fault ≡ false → N.causes nodes.old nodes.new fault) }
+    ensures faults { IfErr result IsReadFault }
+    ensures looks { OnlyLooks N.node N.kept N.writes N.follows N.is_sound N.limit N.blocks nodes.old nodes.new }
+    ensures reads { N.reads nodes.new ≡ N.reads nodes.old + 1 }
+{
+    let (count, _next) = count_at(nodes, block)?;
+    Ok(count == 0)
 }

@@ -1,25 +1,29 @@
 //! What stands at one path moved to another, by the directories that a look up of each went through.
-ghost use Rattle.std.specs.Prelude.{◌≡◌, ℕ, ◌+◌, ◌*◌, ◌≤◌, ◌<◌, true, false, length, drop, slice_index, slice_index_or, [], Some, None, IsSome, IfOk, IfErr, IfSome};
+ghost use Rattle.std.specs.Prelude.{◌≡◌, ℕ, ◌+◌, ◌≤◌, ◌<◌, true, false, length, drop, slice_index, slice_index_or, [], Some, None, IsSome, IfOk, IfErr, IfSome};
+ghost use Rattle.std.specs.Option.{is_some};
 ghost use Rattle.fs_types.specs.Names.{same_name, same_path};
 ghost use Rattle.plain_trees.specs.Contents.{Apart, parent_of};
-ghost use Rattle.node_format.specs.Items.{is_place, named};
-ghost use Rattle.node_format.specs.Headers.{IsNode};
+ghost use Rattle.plain_trees.specs.Trees.{nodes_for};
+ghost use Rattle.node_format.specs.Items.{is_place};
 ghost use Rattle.node_format.specs.declared.places.Place.TheVariants.{Dir};
-ghost use Rattle.block_trees.specs.Trees.{entries_of, items_of, child, leads, entries_in};
+ghost use Rattle.block_trees.specs.Trees.{child, leads, entries_in, items_in};
 ghost use Rattle.block_trees.specs.Reached.{IsHeld, Keeps};
-ghost use Rattle.block_trees.specs.Rewritten.{IsSecondEdit, IsBranch, IsMoved};
+ghost use Rattle.block_trees.specs.Rewritten.{IsSecondEdit, IsFreshChain, IsBranch, IsMoved};
+ghost use Rattle.directory.specs.Counts.{nodes_in, edit_nodes, path_nodes, fork_nodes, move_nodes};
 ghost use Rattle.directory.specs.Lookups.{look_up};
 ghost use Rattle.directory.specs.Edits.{OnlyReaches};
 ghost use Rattle.directory.specs.Trails.{IsTrail, IsHeldTrail, IsTaken, IsChangeFault, has_room, takes};
 ghost use Rattle.directory.specs.Moves as spec;
 ghost use Rattle.node_store.specs.Frames.{Works};
 
-use crate::rewriting::{edit_bytes, edit_directory, rewrite_from};
+use crate::lists::{edit_list_twice, read_list};
+use crate::rewriting::{edit_directory, rewrite_from};
 use crate::trails::Trail;
+use crate::writing::write_list;
 use fs_types::{Fault, Name, Path};
 use node_format::Place;
 use node_store::Nodes;
-use std::alloc::{AllocError, Global};
+use std::alloc::Global;
 
 /// How many names two paths begin with in common.
 fn common_names(old: &[Name], new: &[Name]) -> usize
@@ -36,35 +40,8 @@ fn common_names(old: &[Name], new: &[Name]) -> usize
     old.len()
 }
 
-/// The bytes of a directory with one of its names leading to a place, or to nothing, and another
-/// name to another place. A name that is taken out is so first, and makes room.
-fn edit_bytes_twice(
-    alloc: Global,
-    bytes: &[u8],
-    name: &Name,
-    gone: Option<Place>,
-    other: &Name,
-    here: Option<Place>,
-) -> Result<Vec<u8>, AllocError>
-    requires gone { IfSome gone (λ p. is_place p ≡ true) }
-    requires here { IfSome here (λ p. is_place p ≡ true) }
-    requires apart { same_name name.now other.now ≡ false }
-    requires named { IsSome (named (items_of (Some bytes.now)) name.now) }
-    requires room { IsSome gone → takes (entries_of (Some bytes.now)) other.now here ≡ true }
-    ensures edited { IfOk result (λ new. spec.IsEditedTwice (items_of (Some bytes.now)) name.now gone other.now here new.items) }
-    ensures node { IfOk result (λ new. (block : ℕ) → 4096 ≤ block → IsNode block new.items) }
-    ensures size { IfOk result (λ new. length new.items ≤ 4096) }
-{
-    if gone.is_none() {
-        let without = edit_bytes(alloc, bytes, name, gone)?;
-        return edit_bytes(alloc, &without, other, here);
-    }
-    let with = edit_bytes(alloc, bytes, other, here)?;
-    edit_bytes(alloc, &with, name, gone)
-}
-
-/// Writes the directory of a block anew, with one of its names leading to a place, or to nothing,
-/// and another name to another place.
+/// Writes the directory that begins in a block anew, with one of its names leading to a place, or to
+/// nothing, and another name to another place. Answers the block of its first node.
 fn edit_directory_twice<N: Nodes>(
     alloc: Global,
     nodes: &mut N,
@@ -81,21 +58,17 @@ fn edit_directory_twice<N: Nodes>(
     requires named { IsSome (child (N.node nodes.old) (Dir block) name.now) }
     requires room { IsSome gone → takes (entries_in (N.node nodes.old) block) other.now here ≡ true }
     ensures edited { IfOk result (λ to. IsSecondEdit (N.node nodes.old) (N.node nodes.new) block to name.now gone other.now here) }
-    ensures fresh { IfOk result (λ to. N.kept nodes.old to ≡ false) }
-    ensures kept { IfOk result (λ to. N.kept nodes.new to ≡ true) }
+    ensures chain { IfOk result (λ to. IsFreshChain (N.node nodes.old) (N.node nodes.new) (N.kept nodes.old) (N.kept nodes.new) block to) }
     ensures why { IfErr result (λ fault. N.causes nodes.old nodes.new fault) }
     ensures faults { IfErr result IsChangeFault }
-    ensures one { IfOk result (λ _. N.writes nodes.new ≡ N.writes nodes.old + 1) }
-    ensures writes { N.writes nodes.new ≤ N.writes nodes.old + 1 }
-    ensures reads { N.reads nodes.new ≡ N.reads nodes.old + 1 }
+    ensures written { IfOk result (λ _. N.writes nodes.new ≡ N.writes nodes.old + nodes_for (spec.edited_twice_count (items_in (N.node nodes.old) block) name.now gone other.now here)) }
+    ensures writes { N.writes nodes.new ≤ N.writes nodes.old + edit_nodes (items_in (N.node nodes.old) block) other.now (is_some gone) }
+    ensures reads { N.reads nodes.new ≤ N.reads nodes.old + nodes_in (N.node nodes.old) block }
     ensures works { Works N.follows N.is_sound N.limit N.blocks nodes.old nodes.new }
 {
-    nodes.read(block)?;
-    let bytes = edit_bytes_twice(alloc, nodes.lent(), name, gone, other, here)?;
-    let node = bytes.as_slice();
-    let fits = node.len() <= nodes.block_bytes() as usize;
-    prove!(fits);
-    nodes.write(node)
+    let (read, tail) = read_list(alloc, nodes, block, name, None)?;
+    let edited = edit_list_twice(alloc, &read.list(), name, gone, other, here)?;
+    write_list(alloc, nodes, &edited.list(), tail)
 }
 
 /// What a name of a trail leads to once the directories below it are written anew, so that the last
@@ -117,9 +90,8 @@ fn rewrite_branch<N: Nodes>(
     ensures lawful { IfOk result (λ now. IfSome now (λ p. is_place p ≡ true)) }
     ensures why { IfErr result (λ fault. N.causes nodes.old nodes.new fault) }
     ensures faults { IfErr result IsChangeFault }
-    ensures written { IfOk result (λ _. N.writes nodes.new + (fork + 1) ≡ N.writes nodes.old + length names.now) }
-    ensures writes { N.writes nodes.new + (fork + 1) ≤ N.writes nodes.old + length names.now }
-    ensures reads { N.reads nodes.new + (fork + 1) ≤ N.reads nodes.old + length names.now }
+    ensures writes { N.writes nodes.new ≤ N.writes nodes.old + path_nodes (N.node nodes.old) trail.now names.now (is_some place) (fork + 1) }
+    ensures reads { N.reads nodes.new ≤ N.reads nodes.old + path_nodes (N.node nodes.old) trail.now names.now false (fork + 1) }
     ensures works { Works N.follows N.is_sound N.limit N.blocks nodes.old nodes.new }
 {
     if fork + 1 == names.len() {
@@ -148,9 +120,8 @@ fn rewrite_fork<N: Nodes>(
     ensures moved { IfOk result (λ to. IsMoved (N.node nodes.old) (N.node nodes.new) (N.kept nodes.old) (N.kept nodes.new) (slice_index old_trail.now fork) to (drop fork old.now) (drop fork new.now) place) }
     ensures why { IfErr result (λ fault. N.causes nodes.old nodes.new fault) }
     ensures faults { IfErr result IsChangeFault }
-    ensures written { IfOk result (λ _. N.writes nodes.new + (2 * fork + 1) ≡ N.writes nodes.old + (length old.now + length new.now)) }
-    ensures writes { N.writes nodes.new + (2 * fork + 1) ≤ N.writes nodes.old + (length old.now + length new.now) }
-    ensures reads { N.reads nodes.new + (2 * fork + 1) ≤ N.reads nodes.old + (length old.now + length new.now) }
+    ensures writes { N.writes nodes.new ≤ N.writes nodes.old + fork_nodes (N.node nodes.old) old_trail.now old.now new_trail.now new.now fork }
+    ensures reads { N.reads nodes.new ≤ N.reads nodes.old + fork_nodes (N.node nodes.old) old_trail.now old.now new_trail.now new.now fork }
     ensures works { Works N.follows N.is_sound N.limit N.blocks nodes.old nodes.new }
 {
     let gone = rewrite_branch(alloc, nodes, old_trail, old, fork, None)?;
@@ -198,9 +169,8 @@ pub fn move_entry<N: Nodes>(
     ensures keeps { Keeps (N.kept nodes.old) (N.node nodes.old) (N.kept nodes.new) (N.node nodes.new) }
     ensures why { IfErr result (λ fault. N.causes nodes.old nodes.new fault) }
     ensures faults { IfErr result IsChangeFault }
-    ensures written { IfOk result (λ _. N.writes nodes.new ≡ N.writes nodes.old + spec.directories_along old.now new.now) }
-    ensures writes { N.writes nodes.new ≤ N.writes nodes.old + spec.directories_along old.now new.now }
-    ensures reads { N.reads nodes.new ≤ N.reads nodes.old + spec.directories_along old.now new.now }
+    ensures writes { N.writes nodes.new ≤ N.writes nodes.old + move_nodes (N.node nodes.old) old_trail.now old.now new_trail.now new.now }
+    ensures reads { N.reads nodes.new ≤ N.reads nodes.old + move_nodes (N.node nodes.old) old_trail.now old.now new_trail.now new.now }
     ensures works { Works N.follows N.is_sound N.limit N.blocks nodes.old nodes.new }
 {
     let blocks = old_trail.blocks();

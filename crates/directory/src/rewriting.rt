@@ -1,13 +1,13 @@
 //! Entries put and taken out: the directories that a look up went through written anew, from the
 //! deepest up.
-ghost use Rattle.std.specs.Prelude.{◌≡◌, ℕ, ◌+◌, ◌-◌, ◌≤◌, ◌<◌, true, false, length, drop, slice_index, Some, None, IsSome, Ok, IfOk, IfErr, IfSome};
+ghost use Rattle.std.specs.Prelude.{◌≡◌, ℕ, ◌+◌, ◌≤◌, ◌<◌, true, false, length, drop, slice_index, Some, None, IsSome, Ok, IfOk, IfErr, IfSome};
+ghost use Rattle.std.specs.Option.{is_some};
 ghost use Rattle.node_format.specs.Items.{is_place};
-ghost use Rattle.node_format.specs.Edits.{IsEdited};
-ghost use Rattle.node_format.specs.Headers.{IsNode};
 ghost use Rattle.node_format.specs.declared.places.Place.TheVariants.{Dir};
-ghost use Rattle.block_trees.specs.Trees.{entries_of, items_of, leads, entries_in};
+ghost use Rattle.block_trees.specs.Trees.{leads, entries_in, items_in};
 ghost use Rattle.block_trees.specs.Reached.{IsHeld, Keeps};
-ghost use Rattle.block_trees.specs.Rewritten.{IsDirectoryEdit, IsRewritten, AreFresh};
+ghost use Rattle.block_trees.specs.Rewritten.{IsDirectoryEdit, IsFreshChain, IsRewritten};
+ghost use Rattle.directory.specs.Counts.{edit_nodes, read_nodes, written_nodes, path_nodes};
 ghost use Rattle.directory.specs.Lookups.{look_up};
 ghost use Rattle.directory.specs.declared.lookups.Found.TheVariants.{Missing};
 ghost use Rattle.directory.specs.Edits.{OnlyReaches};
@@ -15,35 +15,17 @@ ghost use Rattle.directory.specs.Making.{IsMade};
 ghost use Rattle.directory.specs.Trails as spec;
 ghost use Rattle.node_store.specs.Frames.{Works};
 
+use crate::lists::{edit_list, read_list};
 use crate::trails::Trail;
+use crate::writing::write_list;
 use fs_types::{Fault, Name, Path};
-use node_format::{Entries, Place, empty_directory};
+use node_format::{Place, empty_directory};
 use node_store::Nodes;
-use std::alloc::{AllocError, Global};
+use std::alloc::Global;
 
-/// The bytes of a directory with a name leading to a place, or to nothing.
-pub(crate) fn edit_bytes(
-    alloc: Global,
-    bytes: &[u8],
-    name: &Name,
-    place: Option<Place>,
-) -> Result<Vec<u8>, AllocError>
-    requires place { IfSome place (λ p. is_place p ≡ true) }
-    requires takes { spec.takes (entries_of (Some bytes.now)) name.now place ≡ true }
-    ensures edited { IfOk result (λ new. IsEdited (items_of (Some bytes.now)) name.now place new.items) }
-    ensures node { IfOk result (λ new. (block : ℕ) → 4096 ≤ block → IsNode block new.items) }
-    ensures size { IfOk result (λ new. length new.items ≤ 4096) }
-{
-    let Some(entries) = Entries::of(bytes) else {
-        unreachable!()
-    };
-    match place {
-        Some(place) => entries.with_entry(alloc, name.as_bytes(), place),
-        None => entries.without_entry(alloc, name.as_bytes()),
-    }
-}
-
-/// Writes the directory of a block anew, with a name leading to a place, or to nothing.
+/// Writes the directory that begins in a block anew, with a name leading to a place, or to nothing.
+/// Where a name that is there leads to another place, the nodes after the one with the name stay as
+/// they are, and are neither read nor written. Answers the block of its first node.
 pub(crate) fn edit_directory<N: Nodes>(
     alloc: Global,
     nodes: &mut N,
@@ -54,22 +36,23 @@ pub(crate) fn edit_directory<N: Nodes>(
     requires sound { N.is_sound nodes.old }
     requires place { IfSome place (λ p. is_place p ≡ true) }
     requires takes { spec.takes (entries_in (N.node nodes.old) block) name.now place ≡ true }
+    requires held { IsHeld (N.node nodes.old) (N.kept nodes.old) (Dir block) }
+
+    // The new directory.
     ensures edited { IfOk result (λ to. IsDirectoryEdit (N.node nodes.old) (N.node nodes.new) block to name.now place) }
-    ensures fresh { IfOk result (λ to. N.kept nodes.old to ≡ false) }
-    ensures kept { IfOk result (λ to. N.kept nodes.new to ≡ true) }
+    ensures chain { IfOk result (λ to. IsFreshChain (N.node nodes.old) (N.node nodes.new) (N.kept nodes.old) (N.kept nodes.new) block to) }
+
+    // What it is refused with, and what it asks for.
     ensures why { IfErr result (λ fault. N.causes nodes.old nodes.new fault) }
     ensures faults { IfErr result spec.IsChangeFault }
-    ensures one { IfOk result (λ _. N.writes nodes.new ≡ N.writes nodes.old + 1) }
-    ensures writes { N.writes nodes.new ≤ N.writes nodes.old + 1 }
-    ensures reads { N.reads nodes.new ≡ N.reads nodes.old + 1 }
+    ensures written { IfOk result (λ _. N.writes nodes.new ≡ N.writes nodes.old + written_nodes (items_in (N.node nodes.old) block) name.now place) }
+    ensures writes { N.writes nodes.new ≤ N.writes nodes.old + edit_nodes (items_in (N.node nodes.old) block) name.now (is_some place) }
+    ensures reads { N.reads nodes.new ≤ N.reads nodes.old + read_nodes (items_in (N.node nodes.old) block) name.now (is_some place) }
     ensures works { Works N.follows N.is_sound N.limit N.blocks nodes.old nodes.new }
 {
-    nodes.read(block)?;
-    let bytes = edit_bytes(alloc, nodes.lent(), name, place)?;
-    let node = bytes.as_slice();
-    let fits = node.len() <= nodes.block_bytes() as usize;
-    prove!(fits);
-    nodes.write(node)
+    let (read, tail) = read_list(alloc, nodes, block, name, place)?;
+    let edited = edit_list(alloc, &read.list(), name, place)?;
+    write_list(alloc, nodes, &edited.list(), tail)
 }
 
 /// Writes the directories of a trail anew from one level down, the deepest first, so that the last
@@ -87,13 +70,11 @@ pub(crate) fn rewrite_from<N: Nodes>(
     requires place { IfSome place (λ p. is_place p ≡ true) }
     requires way { spec.IsHeldTrail (N.node nodes.old) (N.kept nodes.old) names.now trail.now }
     requires taken { spec.IsTaken (N.node nodes.old) trail.now names.now place }
-    ensures rewritten { IfOk result (λ to. IsRewritten (N.node nodes.old) (N.kept nodes.new) (N.node nodes.new) (slice_index trail.now level) to (drop level names.now) place) }
-    ensures fresh { IfOk result (λ to. AreFresh (N.kept nodes.old) (N.kept nodes.new) (N.node nodes.new) to (drop level names.now)) }
+    ensures rewritten { IfOk result (λ to. IsRewritten (N.node nodes.old) (N.node nodes.new) (N.kept nodes.old) (N.kept nodes.new) (slice_index trail.now level) to (drop level names.now) place) }
     ensures why { IfErr result (λ fault. N.causes nodes.old nodes.new fault) }
     ensures faults { IfErr result spec.IsChangeFault }
-    ensures written { IfOk result (λ _. N.writes nodes.new + level ≡ N.writes nodes.old + length names.now) }
-    ensures writes { N.writes nodes.new + level ≤ N.writes nodes.old + length names.now }
-    ensures reads { N.reads nodes.new + level ≤ N.reads nodes.old + length names.now }
+    ensures writes { N.writes nodes.new ≤ N.writes nodes.old + path_nodes (N.node nodes.old) trail.now names.now (is_some place) level }
+    ensures reads { N.reads nodes.new ≤ N.reads nodes.old + path_nodes (N.node nodes.old) trail.now names.now false level }
     ensures works { Works N.follows N.is_sound N.limit N.blocks nodes.old nodes.new }
 {
     let last = names.len() - 1;
@@ -125,15 +106,13 @@ pub fn put_entry<N: Nodes>(
     requires held { IsHeld (N.node nodes.old) (N.kept nodes.old) (Dir root) }
     requires way { spec.IsTrail (N.node nodes.old) root path.now trail.now }
     requires room { spec.has_room (look_up (N.node nodes.old) root path.now) ≡ true }
-    ensures rewritten { IfOk result (λ to. IsRewritten (N.node nodes.old) (N.kept nodes.new) (N.node nodes.new) root to path.now (Some place)) }
-    ensures fresh { IfOk result (λ to. AreFresh (N.kept nodes.old) (N.kept nodes.new) (N.node nodes.new) to path.now) }
+    ensures rewritten { IfOk result (λ to. IsRewritten (N.node nodes.old) (N.node nodes.new) (N.kept nodes.old) (N.kept nodes.new) root to path.now (Some place)) }
     ensures reaches { IfOk result (λ to. OnlyReaches (N.node nodes.old) (N.node nodes.new) (N.kept nodes.old) root to (Some place)) }
     ensures keeps { Keeps (N.kept nodes.old) (N.node nodes.old) (N.kept nodes.new) (N.node nodes.new) }
     ensures why { IfErr result (λ fault. N.causes nodes.old nodes.new fault) }
     ensures faults { IfErr result spec.IsChangeFault }
-    ensures written { IfOk result (λ _. N.writes nodes.new ≡ N.writes nodes.old + length path.now) }
-    ensures writes { N.writes nodes.new ≤ N.writes nodes.old + length path.now }
-    ensures reads { N.reads nodes.new ≤ N.reads nodes.old + length path.now }
+    ensures writes { N.writes nodes.new ≤ N.writes nodes.old + path_nodes (N.node nodes.old) trail.now path.now true 0 }
+    ensures reads { N.reads nodes.new ≤ N.reads nodes.old + path_nodes (N.node nodes.old) trail.now path.now false 0 }
     ensures works { Works N.follows N.is_sound N.limit N.blocks nodes.old nodes.new }
 {
     let blocks = trail.blocks();
@@ -157,15 +136,13 @@ pub fn remove_entry<N: Nodes>(
     requires held { IsHeld (N.node nodes.old) (N.kept nodes.old) (Dir root) }
     requires way { spec.IsTrail (N.node nodes.old) root path.now trail.now }
     requires stands { IsSome (leads (N.node nodes.old) (Dir root) path.now) }
-    ensures rewritten { IfOk result (λ to. IsRewritten (N.node nodes.old) (N.kept nodes.new) (N.node nodes.new) root to path.now None) }
-    ensures fresh { IfOk result (λ to. AreFresh (N.kept nodes.old) (N.kept nodes.new) (N.node nodes.new) to path.now) }
+    ensures rewritten { IfOk result (λ to. IsRewritten (N.node nodes.old) (N.node nodes.new) (N.kept nodes.old) (N.kept nodes.new) root to path.now None) }
     ensures reaches { IfOk result (λ to. OnlyReaches (N.node nodes.old) (N.node nodes.new) (N.kept nodes.old) root to None) }
     ensures keeps { Keeps (N.kept nodes.old) (N.node nodes.old) (N.kept nodes.new) (N.node nodes.new) }
     ensures why { IfErr result (λ fault. N.causes nodes.old nodes.new fault) }
     ensures faults { IfErr result spec.IsChangeFault }
-    ensures written { IfOk result (λ _. N.writes nodes.new ≡ N.writes nodes.old + length path.now) }
-    ensures writes { N.writes nodes.new ≤ N.writes nodes.old + length path.now }
-    ensures reads { N.reads nodes.new ≤ N.reads nodes.old + length path.now }
+    ensures writes { N.writes nodes.new ≤ N.writes nodes.old + path_nodes (N.node nodes.old) trail.now path.now false 0 }
+    ensures reads { N.reads nodes.new ≤ N.reads nodes.old + path_nodes (N.node nodes.old) trail.now path.now false 0 }
     ensures works { Works N.follows N.is_sound N.limit N.blocks nodes.old nodes.new }
 {
     let blocks = trail.blocks();
@@ -196,9 +173,8 @@ pub fn put_directory<N: Nodes>(
     ensures keeps { Keeps (N.kept nodes.old) (N.node nodes.old) (N.kept nodes.new) (N.node nodes.new) }
     ensures why { IfErr result (λ fault. N.causes nodes.old nodes.new fault) }
     ensures faults { IfErr result spec.IsChangeFault }
-    ensures written { IfOk result (λ _. N.writes nodes.new ≡ N.writes nodes.old + (length path.now + 1)) }
-    ensures writes { N.writes nodes.new ≤ N.writes nodes.old + (length path.now + 1) }
-    ensures reads { N.reads nodes.new ≤ N.reads nodes.old + length path.now }
+    ensures writes { N.writes nodes.new ≤ N.writes nodes.old + (path_nodes (N.node nodes.old) trail.now path.now true 0 + 1) }
+    ensures reads { N.reads nodes.new ≤ N.reads nodes.old + path_nodes (N.node nodes.old) trail.now path.now false 0 }
     ensures works { Works N.follows N.is_sound N.limit N.blocks nodes.old nodes.new }
 {
     let fits = nodes.block_bytes() >= 4096;

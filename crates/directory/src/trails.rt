@@ -51,20 +51,21 @@ impl Trail {
 }
 
 /// What a path below a root leads to, and the directories that it goes through. Any content of the
-/// nodes is looked up, directories that reach themselves too: one node is read for each component.
+/// nodes is looked up, directories that reach themselves too: of each directory on the way its nodes
+/// are read once, at most 32, and none after the one that has the name.
 ///
 /// Refused with `NoEntry` where a component but the last is missing, with `NotDirectory` where one
-/// but the last is a file, with `Damaged` where the block of a directory holds no directory node,
+/// but the last is a file, with `Damaged` where the nodes that are read are those of no directory,
 /// and with what a read is refused with.
 pub fn find<N: Nodes>(nodes: &mut N, root: u32, path: &Path) -> Result<(Found, Trail), Fault>
     requires { N.is_sound nodes.old }
     ensures found { IfOk result (λ r. spec.look_up (N.node nodes.old) root path.now ≡ Ok r.0) }
-    ensures trail { IfOk result (λ r. IsTrail (N.node nodes.old) root path.now r.1) }
+    ensures trail { spec.LeadsToDirectories (N.node nodes.old) root → IfOk result (λ r. IsTrail (N.node nodes.old) root path.now r.1) }
     ensures refused { IfErr result (λ fault. spec.is_path_fault fault ≡ true → spec.look_up (N.node nodes.old) root path.now ≡ Err fault) }
     ensures why { IfErr result (λ fault. spec.is_path_fault fault ≡ false → N.causes nodes.old nodes.new fault) }
     ensures faults { IfErr result spec.IsLookupFault }
     ensures looks { OnlyLooks N.node N.kept N.writes N.follows N.is_sound N.limit N.blocks nodes.old nodes.new }
-    ensures reads { N.reads nodes.new ≤ N.reads nodes.old + length path.now }
+    ensures reads { N.reads nodes.new ≤ N.reads nodes.old + spec.way_nodes (N.node nodes.old) root path.now }
 {
     let names = path.names();
     let mut trail = Trail::new();

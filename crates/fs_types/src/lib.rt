@@ -17,8 +17,9 @@ pub use events::{Answer, Event};
 pub use faults::Fault;
 pub use flags::OpenFlags;
 pub use limits::{
-    MAX_BAD_BLOCKS, MAX_CHECKPOINT_BYTES, MAX_CHECKPOINTS, MAX_ENTRIES, MAX_FILE_BYTES,
-    MAX_NAME_BYTES, MAX_NAMES, MAX_OPEN_FILES, MAX_VERSIONS, MIN_VERSIONS,
+    CHAIN_NODES, MAX_BAD_BLOCKS, MAX_CHECKPOINT_BYTES, MAX_CHECKPOINTS, MAX_ENTRIES,
+    MAX_FILE_BYTES, MAX_NAME_BYTES, MAX_NAMES, MAX_OPEN_FILES, MAX_VERSIONS, MIN_VERSIONS,
+    NODE_ENTRIES,
 };
 pub use names::Name;
 pub use paths::{Path, is_lawful_name};

@@ -9,8 +9,14 @@ pub const MAX_NAMES: usize = 16;
 /// The most bytes in a name of a checkpoint.
 pub const MAX_CHECKPOINT_BYTES: usize = 31;
 
+/// The most entries in one node of a directory.
+pub const NODE_ENTRIES: usize = 32;
+
+/// The most nodes of a directory.
+pub const CHAIN_NODES: usize = 32;
+
 /// The most entries in a directory.
-pub const MAX_ENTRIES: usize = 32;
+pub const MAX_ENTRIES: usize = NODE_ENTRIES * CHAIN_NODES;
 
 /// The most bytes in a file.
 pub const MAX_FILE_BYTES: u32 = 16_777_216;
@@ -19,7 +25,7 @@ pub const MAX_FILE_BYTES: u32 = 16_777_216;
 pub const MIN_VERSIONS: u16 = 2;
 
 /// The most versions that a system may keep.
-pub const MAX_VERSIONS: u16 = 64;
+pub const MAX_VERSIONS: u16 = 128;
 
 /// The most checkpoints.
 pub const MAX_CHECKPOINTS: usize = 16;

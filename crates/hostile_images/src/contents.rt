@@ -27,7 +27,7 @@ impl Contents {
         Ok(contents)
     }
 
-    /// A file system with a few versions, drawn by numbers.
+    /// A file system with a few versions, drawn by numbers. Its record is of either format.
     pub fn drawn(alloc: Global, numbers: &mut Numbers) -> Result<Contents, AllocError> {
         let mut contents = Contents::fresh(alloc, SIZES)?;
         contents.add_small_files(alloc)?;
@@ -43,6 +43,9 @@ impl Contents {
                 .record
                 .bad
                 .push(numbers.below(16).saturating_add(16))?;
+        }
+        if numbers.hits(2) {
+            contents.record.format = 1;
         }
         let versions = contents.record.versions.len();
         contents.record.cursor = numbers.below(versions as u64);

@@ -1,5 +1,6 @@
 //! The kinds of images, and the image of a number.
 use crate::bad_lists::bad_blocks;
+use crate::chains::chains;
 use crate::contents::{Contents, SIZES};
 use crate::halves::half_record;
 use crate::numbers::Numbers;
@@ -29,10 +30,12 @@ pub enum Kind {
     GreatestNumbers,
     /// The record tells other sizes.
     OtherSizes,
+    /// A root of several nodes, which two versions share.
+    Chains,
 }
 
 /// Each kind.
-pub const KINDS: [Kind; 10] = [
+pub const KINDS: [Kind; 11] = [
     Kind::RecordBytes,
     Kind::NodeBytes,
     Kind::ImageBytes,
@@ -43,6 +46,7 @@ pub const KINDS: [Kind; 10] = [
     Kind::BadBlocks,
     Kind::GreatestNumbers,
     Kind::OtherSizes,
+    Kind::Chains,
 ];
 
 impl Kind {
@@ -59,6 +63,7 @@ impl Kind {
             Kind::BadBlocks => "bad blocks",
             Kind::GreatestNumbers => "greatest numbers",
             Kind::OtherSizes => "other sizes",
+            Kind::Chains => "chains of nodes",
         }
     }
 
@@ -75,6 +80,7 @@ impl Kind {
             Kind::BadBlocks => bad_blocks(alloc, numbers),
             Kind::GreatestNumbers => greatest_numbers(alloc, numbers),
             Kind::OtherSizes => other_sizes(alloc, numbers),
+            Kind::Chains => chains(alloc, numbers),
         }
     }
 }

@@ -7,6 +7,7 @@
 #![tactic(auto)]
 
 mod bad_lists;
+mod chains;
 mod contents;
 mod drafts;
 mod facts;
@@ -14,7 +15,6 @@ mod halves;
 mod kinds;
 mod lines;
 mod little_endian;
-mod needs;
 mod nodes;
 mod numbers;
 mod records;

@@ -42,6 +42,18 @@ pub enum Node {
     Directory(Vec<Entry>),
     /// A part of a file.
     Body(Body),
+    /// A node of a directory of several.
+    Chained(Chained),
+}
+
+/// A node of a directory of several: empty files that are named by numbers of four digits, so many from
+/// one on, and the block of the node after it; as a node that stands alone where it is not chained.
+#[derive(Clone, Copy)]
+pub struct Chained {
+    pub is_chained: bool,
+    pub from: u64,
+    pub count: u64,
+    pub next: u64,
 }
 
 /// A part of a file: its index, its first pointers and how many bytes it has.
@@ -75,6 +87,7 @@ impl Node {
         match self {
             Node::Directory(entries) => directory_bytes(alloc, entries),
             Node::Body(body) => body_bytes(alloc, body),
+            Node::Chained(node) => chained_bytes(alloc, node),
         }
     }
 
@@ -83,6 +96,7 @@ impl Node {
         match self {
             Node::Directory(entries) => change_entries(entries, numbers),
             Node::Body(body) => change_body(body, numbers),
+            Node::Chained(node) => node.next = numbers.odd(),
         }
     }
 }
@@ -98,6 +112,29 @@ fn directory_bytes(alloc: Global, entries: &[Entry]) -> Result<Vec<u8>, AllocErr
     push_word(&mut out, 0)?;
     out.extend_from_slice(&used)?;
     Ok(out)
+}
+
+fn chained_bytes(alloc: Global, node: &Chained) -> Result<Vec<u8>, AllocError> {
+    let mut used = Vec::new(alloc);
+    for number in node.from..node.from.saturating_add(node.count) {
+        push_numbered(&mut used, number)?;
+    }
+    let mut out = Vec::from_slice(alloc, if node.is_chained { b"UFNE" } else { b"UFND" })?;
+    push_word(&mut out, node.count)?;
+    push_word(&mut out, used.len() as u64)?;
+    push_word(&mut out, node.next)?;
+    out.extend_from_slice(&used)?;
+    Ok(out)
+}
+
+/// The entry of an empty file that is named by a number below 10,000, of four digits.
+fn push_numbered(out: &mut Vec<u8>, number: u64) -> Result<(), AllocError> {
+    out.extend_from_slice(&[1, 4])?;
+    for place in [1_000, 100, 10, 1] {
+        out.push(b'0'.saturating_add((number / place % 10) as u8))?;
+    }
+    push_word(out, 0)?;
+    push_word(out, 0)
 }
 
 fn push_entry(out: &mut Vec<u8>, entry: &Entry) -> Result<(), AllocError> {

@@ -59,7 +59,7 @@ impl Numbers {
 }
 
 /// Numbers near the limits of fields.
-const ODD: [u64; 24] = [
+const ODD: [u64; 27] = [
     0,
     1,
     2,
@@ -79,6 +79,9 @@ const ODD: [u64; 24] = [
     63,
     64,
     65,
+    127,
+    128,
+    129,
     256,
     65_535,
     65_536,

@@ -27,7 +27,7 @@ impl Record {
     pub fn new(alloc: Global, sizes: [u64; 3]) -> Record {
         Record {
             sequence: 1,
-            format: 1,
+            format: 2,
             sizes,
             limit: 8,
             cursor: 0,

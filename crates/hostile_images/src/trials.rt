@@ -1,6 +1,5 @@
 //! An image that is mounted, and the calls on what is mounted.
 use crate::facts::{Facts, may_refuse};
-use crate::needs::need_of;
 use crate::tallies::{Tally, add};
 use crate::watches::Watch;
 use crate::wrong::Wrong;
@@ -112,10 +111,10 @@ fn ask_all<'a>(
 ) -> Result<(), Wrong> {
     let mut watch = Watch::new(facts);
     for event in calls {
-        let causes = causes_of(alloc, system, watch, event, calls)?;
+        let causes = causes_of(alloc, system, oracle, watch, event)?;
         let answer = serve_call(alloc, system, event);
         tally.add_answer(&answer);
-        watch.note(event, &answer);
+        watch.note();
         let may_be = watch.may_answer(event, &answer);
         let is_judged = oracle.judge(alloc, event, answer, causes)?;
         if !(may_be && is_judged) {
@@ -129,14 +128,11 @@ fn ask_all<'a>(
 fn causes_of(
     alloc: Global,
     system: &mut Fs<'_, SimFlash>,
+    oracle: &Oracle<'_>,
     watch: Watch,
     event: &Event,
-    calls: &[Event],
 ) -> Result<Causes, Fault> {
-    let need = match event {
-        Event::Call(call) => need_of(alloc, system, call, watch.open_path(calls))?,
-        _ => 0,
-    };
+    let need = oracle.need(alloc, event)?;
     Ok(Causes {
         full: has_fewer_free(alloc, system, need)?,
         read_only: watch.is_read_only(),

@@ -1,29 +1,23 @@
 //! What is known of a system while calls are asked.
 use crate::facts::Facts;
-use fs_types::{Answer, Call, Event, Path, Reply};
+use fs_types::{Answer, Call, Event};
 
-/// What the newest record told at the mount, how many calls were asked since, and which of them opened
-/// the file of descriptor 0.
+/// What the newest record told at the mount, and how many calls were asked since.
 #[derive(Clone, Copy)]
 pub struct Watch {
     facts: Facts,
-    asked: usize,
-    opened_by: Option<usize>,
+    asked: u64,
 }
 
 impl Watch {
     /// No call was asked.
     pub fn new(facts: Facts) -> Watch {
-        Watch {
-            facts,
-            asked: 0,
-            opened_by: None,
-        }
+        Watch { facts, asked: 0 }
     }
 
     /// How many calls were asked.
     pub fn asked(self) -> u64 {
-        self.asked as u64
+        self.asked
     }
 
     pub fn is_read_only(self) -> bool {
@@ -35,23 +29,8 @@ impl Watch {
         self.facts.sequence.saturating_add(self.asked()) == u64::MAX
     }
 
-    /// The path of the file of descriptor 0, where these are the calls.
-    pub fn open_path(self, calls: &[Event]) -> Option<&Path> {
-        match calls.get(self.opened_by?)? {
-            Event::Call(Call::Open { path, .. }) => Some(path),
-            _ => None,
-        }
-    }
-
-    /// Notes a call and its answer.
-    pub fn note(&mut self, event: &Event, answer: &Answer) {
-        match (event, answer) {
-            (Event::Call(Call::Open { .. }), Answer::Done(Reply::Fd(0))) => {
-                self.opened_by = Some(self.asked);
-            }
-            (Event::Call(Call::Close { .. }), Answer::Done(_)) => self.opened_by = None,
-            _ => {}
-        }
+    /// Notes that a call was asked.
+    pub fn note(&mut self) {
         self.asked = self.asked.saturating_add(1);
     }
 

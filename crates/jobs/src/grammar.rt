@@ -180,7 +180,7 @@ fn format_command<'a>(alloc: Global) -> Result<Command<'a>, AllocError>
         command,
         "history",
         "H",
-        "Versions that are kept, 2 to 64 [default: 8]",
+        "Versions that are kept, 2 to 128 [default: 8]",
     )
 }
 

@@ -1,9 +1,8 @@
 //! The load: a system on a flash, and the plain machine beside it.
 use crate::mounted::{HISTORY, Mounted, Taken};
 use anyhow::{Result, bail, ensure};
-use bitflags::Flags;
 use flash_model::FaultKind;
-use fs_types::{Answer, Call, Fault, OpenFlags, Path, Reply, Stat, View};
+use fs_types::{Answer, Call, Fault, Reply};
 use plain_machine::{PlainMachine, Space};
 use script::{Line, LineAnswer, print_answer, read_line};
 use std::alloc::Global;
@@ -154,7 +153,7 @@ impl Load {
     /// Asks a call of both sides, and checks the answer and what it took. Whether the flash had room
     /// for it; else the plain machine is not asked.
     fn ask(&mut self, alloc: Global, call: &Call) -> Result<bool> {
-        let need = self.need(alloc, call)?;
+        let need = self.plain.need(alloc, CAPACITY, call)?;
         let (answer, taken) = self.mounted.measure(alloc, call);
         if let Err(Fault::FlashFull) = answer {
             self.check_full(alloc, need, taken)?;
@@ -220,87 +219,6 @@ impl Load {
             _ => bail!("no answer to log"),
         }
     }
-
-    /// The nodes that an accepted call writes at most: none where it changes no tree, else one for each
-    /// directory from the root to what changes, the new one of `mkdir`, and of a file those from the
-    /// first that changes on.
-    fn need(&mut self, alloc: Global, call: &Call) -> Result<u64> {
-        let need = match call {
-            Call::Mkdir { path } => depth(path).saturating_add(1),
-            Call::Open { path, flags } => self.open_need(alloc, path, *flags)?,
-            Call::Rmdir { path } | Call::Unlink { path } => depth(path),
-            Call::Rename { old, new } if old != new => depth(old).saturating_add(depth(new)),
-            Call::Pwrite {
-                descriptor,
-                offset,
-                bytes,
-            } => self.pwrite_need(alloc, *descriptor, *offset, bytes.as_slice().len() as u64)?,
-            Call::Ftruncate { descriptor, length } => {
-                self.ftruncate_need(alloc, *descriptor, *length)?
-            }
-            _ => 0,
-        };
-        Ok(need)
-    }
-
-    /// An open changes what is missing, and a file with bytes that it cuts.
-    fn open_need(&mut self, alloc: Global, path: &Path, flags: OpenFlags) -> Result<u64> {
-        match self.stat(alloc, path.clone()?) {
-            Ok(Reply::Stat(Stat::File(length)))
-                if length == 0 || !flags.contains(OpenFlags::TRUNC) => Ok(0),
-            _ => Ok(depth(path)),
-        }
-    }
-
-    /// The nodes that so many bytes at an offset write.
-    fn pwrite_need(
-        &mut self,
-        alloc: Global,
-        descriptor: u64,
-        offset: u64,
-        count: u64,
-    ) -> Result<u64> {
-        if count == 0 {
-            return Ok(0);
-        }
-        let end = offset.saturating_add(count);
-        let (depth, old) = self.open_file(alloc, descriptor)?;
-        Ok(body(offset.min(old), end.max(old)).saturating_add(depth))
-    }
-
-    /// The nodes that another length writes.
-    fn ftruncate_need(&mut self, alloc: Global, descriptor: u64, length: u64) -> Result<u64> {
-        let (depth, old) = self.open_file(alloc, descriptor)?;
-        if old == length {
-            return Ok(0);
-        }
-        let nodes = if old < length { body(old, length) } else { 0 };
-        Ok(nodes.saturating_add(depth))
-    }
-
-    /// The depth and the length of an open file; zeros where none is open.
-    fn open_file(&mut self, alloc: Global, descriptor: u64) -> Result<(u64, u64)> {
-        let Some(path) = self.mounted.path_of(descriptor) else {
-            return Ok((0, 0));
-        };
-        let depth = depth(path);
-        let path = path.clone()?;
-        Ok((depth, self.length_of(alloc, path)?))
-    }
-
-    /// The length of the file at a path.
-    fn length_of(&mut self, alloc: Global, path: Path) -> Result<u64> {
-        match self.stat(alloc, path)? {
-            Reply::Stat(Stat::File(length)) => Ok(length),
-            _ => bail!("no file is open"),
-        }
-    }
-
-    /// What stands at a path.
-    fn stat(&mut self, alloc: Global, path: Path) -> Result<Reply, Fault> {
-        let view = View::Present;
-        self.plain.step(alloc, NO_SPACE, &Call::Stat { view, path })
-    }
 }
 
 /// The call that a line asks.
@@ -320,16 +238,6 @@ fn check_same(flash: &str, plain: &str) -> Result<()> {
         plain.trim_end()
     );
     Ok(())
-}
-
-fn depth(path: &Path) -> u64 {
-    path.names().len() as u64
-}
-
-/// The nodes of a file from the one that has the byte at `from` up to its last.
-fn body(from: u64, length: u64) -> u64 {
-    let last = length.saturating_sub(1) / CAPACITY;
-    last.saturating_sub(from / CAPACITY).saturating_add(1)
 }
 
 fn add(count: &mut u64, more: u64) {

@@ -4,7 +4,7 @@ ghost use Rattle.upkeep.specs.Props.{system-prop};
 ghost use Rattle.upkeep.specs.Systems.{IsSystem};
 
 use flash_model::{FaultKind, Geometry, Planned, SimFlash};
-use fs_types::{Call, Fault, Path, Reply};
+use fs_types::{Call, Fault, Reply};
 use std::alloc::Global;
 use undofs::{System, format, mount};
 
@@ -72,15 +72,6 @@ impl Mounted {
     /// Plans that the next operation of the kind's class fails.
     pub fn plan_fault(&mut self, kind: FaultKind) -> Result<(), Fault> {
         self.flash.plan_fault(1, kind)
-    }
-
-    /// The path of an open file.
-    pub fn path_of(&self, descriptor: u64) -> Option<&Path> {
-        self.system
-            .state
-            .files
-            .get(descriptor)
-            .map(|file| file.path())
     }
 
     fn at_hand(&self) -> u64 {

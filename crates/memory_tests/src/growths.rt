@@ -3,7 +3,7 @@
 use crate::budget::Budget;
 use flash_model::{Geometry, SimFlash};
 use fs_types::{Answer, Event, Fault};
-use session_oracle::{Causes, Oracle, event_of, is_full_before, serve_call, show_after_restart};
+use session_oracle::{Causes, Oracle, event_of, has_fewer_free, serve_call, show_after_restart};
 use std::alloc::{AllocError, Global};
 use std::test::Fail;
 use undofs::{Fs, format, mount};
@@ -120,8 +120,9 @@ fn is_run<'a, 'e>(
         return Ok(false);
     }
     for Asked { word, event } in asked {
+        let need = oracle.need(alloc, event)?;
         let causes = Causes {
-            full: is_full_before(alloc, &mut system, event)?,
+            full: has_fewer_free(alloc, &mut system, need)?,
             ..Causes::default()
         };
         let answer = ask_in_want(alloc, budget, &mut system, event, word, refused)?;

@@ -202,22 +202,63 @@ fn trees_are_looked_at_whole(rt: HostRuntime) -> Result<(), Fail> {
     Ok(())
 }
 
-/// The record of a formatted flash on an anchor, with another byte at a place of its page, and what a
+/// The record of a formatted flash on an anchor, with other bytes at places of its page, and what a
 /// mount refuses it for. Where it is on anchor 1 it is there twice.
-const RECORDS: [(&str, u32, usize, u8, Option<Fault>); 6] = [
-    ("the record twice", 1, 0, b'U', Some(Fault::Damaged)),
-    ("1 version kept at most", 0, 36, 1, Some(Fault::Damaged)),
-    ("2 versions kept at most", 0, 36, 2, None),
-    ("a cursor past the versions", 0, 38, 1, Some(Fault::Damaged)),
-    ("format 3", 0, 20, 3, Some(Fault::Damaged)),
-    ("pages of 512 bytes", 0, 25, 2, Some(Fault::BadGeometry)),
+type Changed = (&'static str, u32, &'static [(usize, u8)], Option<Fault>);
+
+const RECORDS: [Changed; 13] = [
+    ("the record twice", 1, &[], Some(Fault::Damaged)),
+    (
+        "1 version kept at most",
+        0,
+        &[(36, 1)],
+        Some(Fault::Damaged),
+    ),
+    ("2 versions kept at most", 0, &[(36, 2)], None),
+    ("128 versions kept at most", 0, &[(36, 128)], None),
+    (
+        "129 versions kept at most",
+        0,
+        &[(36, 129)],
+        Some(Fault::Damaged),
+    ),
+    (
+        "a cursor past the versions",
+        0,
+        &[(38, 1)],
+        Some(Fault::Damaged),
+    ),
+    ("format 0", 0, &[(20, 0)], Some(Fault::Damaged)),
+    ("format 1", 0, &[(20, 1)], None),
+    ("format 1, 64 versions", 0, &[(20, 1), (36, 64)], None),
+    (
+        "format 1, 65 versions",
+        0,
+        &[(20, 1), (36, 65)],
+        Some(Fault::Damaged),
+    ),
+    ("format 3", 0, &[(20, 3)], Some(Fault::Damaged)),
+    (
+        "format 3, pages of 512 bytes",
+        0,
+        &[(20, 3), (25, 2)],
+        Some(Fault::Damaged),
+    ),
+    (
+        "pages of 512 bytes",
+        0,
+        &[(25, 2)],
+        Some(Fault::BadGeometry),
+    ),
 ];
 
-/// A formatted flash with the record on an anchor, with another byte at a place.
-fn record_with(alloc: Global, anchor: u32, place: usize, byte: u8) -> Result<SimFlash, Fault> {
+/// A formatted flash with the record on an anchor, with other bytes at places.
+fn record_with(alloc: Global, anchor: u32, changes: &[(usize, u8)]) -> Result<SimFlash, Fault> {
     let mut record = FRESH;
-    if let Some(changed) = record.get_mut(place) {
-        *changed = byte;
+    for (place, byte) in changes {
+        if let Some(changed) = record.get_mut(*place) {
+            *changed = *byte;
+        }
     }
     put_record(alloc, anchor, &record)
 }
@@ -231,8 +272,8 @@ fn put_record(alloc: Global, anchor: u32, record: &[u8]) -> Result<SimFlash, Fau
 
 #[test]
 fn the_newest_record_has_to_be_lawful(rt: HostRuntime) -> Result<(), Fail> {
-    for (name, anchor, place, byte, wanted) in RECORDS {
-        let mut flash = record_with(rt.alloc(), anchor, place, byte)?;
+    for (name, anchor, changes, wanted) in RECORDS {
+        let mut flash = record_with(rt.alloc(), anchor, changes)?;
         assert_eq!(rt; Fs::mount(rt.alloc(), &mut flash).err(), wanted, "{name}");
     }
     Ok(())

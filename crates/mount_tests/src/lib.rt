@@ -2,6 +2,8 @@
 #![tactic(auto)]
 
 #[cfg(test)]
+mod chains;
+#[cfg(test)]
 mod contents;
 #[cfg(test)]
 mod counted;
@@ -9,6 +11,8 @@ mod counted;
 mod mounts;
 #[cfg(test)]
 mod nodes;
+#[cfg(test)]
+mod older_format;
 #[cfg(test)]
 mod reclaiming;
 #[cfg(test)]

@@ -48,11 +48,11 @@ fn format_with(alloc: Global, blocks: u32, count: u64, kind: FaultKind) -> Resul
 #[test]
 fn a_limit_out_of_range_is_refused(rt: HostRuntime) -> Result<(), Fail> {
     let mut flash = SimFlash::new(rt.alloc(), SIZES, &[])?;
-    for limit in [0, 1, 65] {
+    for limit in [0, 1, 129] {
         assert_eq!(rt; format(rt.alloc(), &mut flash, limit), Err(Fault::Invalid));
     }
     assert_eq!(rt; flash.counts().erases, 0);
-    for limit in [2, 64] {
+    for limit in [2, 128] {
         assert_eq!(rt; format(rt.alloc(), &mut flash, limit), Ok(()));
     }
     Ok(())

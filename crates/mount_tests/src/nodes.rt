@@ -96,7 +96,7 @@ pub(crate) fn put(
     Ok(())
 }
 
-fn put_page(flash: &mut SimFlash, number: usize, page: &[u8]) -> Result<(), Fault> {
+pub(crate) fn put_page(flash: &mut SimFlash, number: usize, page: &[u8]) -> Result<(), Fault> {
     let sizes = flash.geometry();
     let number = u32::try_from(number).map_err(|_| Fault::BadGeometry)?;
     if sizes.page_count() <= number as usize || sizes.page as usize != page.len() {

@@ -17,8 +17,10 @@ use std::test::Fail;
 const SIZES: Geometry = Geometry {
     page: 4096,
     pages: 1,
-    blocks: 32,
+    blocks: BLOCKS,
 };
+
+const BLOCKS: u32 = 128;
 
 /// A flash with this content and plan.
 fn flash_with(alloc: Global, plan: &[PlannedFault], content: Content) -> Result<SimFlash, Fault> {
@@ -29,22 +31,22 @@ fn flash_with(alloc: Global, plan: &[PlannedFault], content: Content) -> Result<
 
 /// What verification told: its refusal, the blocks that the pass marked, and how many reads came.
 #[derive(Drop)]
-struct Outcome {
-    fault: Option<Fault>,
+pub(crate) struct Outcome {
+    pub(crate) fault: Option<Fault>,
     marked: Vec<u32>,
     reads: u64,
 }
 
-fn told(alloc: Global, flash: &mut SimFlash, roots: &[u32]) -> Result<Outcome, Fault> {
+fn told(alloc: Global, flash: &mut SimFlash, roots: &[u32], plain: bool) -> Result<Outcome, Fault> {
     let sizes = flash.geometry();
-    if !sizes.is_lawful() || sizes.blocks != 32 {
+    if !sizes.is_lawful() || sizes.blocks != BLOCKS {
         return Err(Fault::BadGeometry);
     }
     let cache = NodeCache::new(alloc, 1)?;
-    let mut storage = Storage::unused(alloc, sizes, BadBlocks::new(), 31, cache)?;
+    let mut storage = Storage::unused(alloc, sizes, BadBlocks::new(), BLOCKS - 1, cache)?;
     let store = Store::new(flash, &mut storage);
     let mut nodes = Counted::new(store);
-    let answer = verify(alloc, 32, &mut nodes, roots);
+    let answer = verify(alloc, BLOCKS, &mut nodes, roots, plain);
     let reads = nodes.asked();
     match answer {
         Err(fault) => Ok(Outcome {
@@ -63,7 +65,7 @@ fn told(alloc: Global, flash: &mut SimFlash, roots: &[u32]) -> Result<Outcome, F
 /// The blocks that are marked.
 fn marked_in(alloc: Global, marks: &Marks) -> Result<Vec<u32>, Fault> {
     let mut marked = Vec::new(alloc);
-    for block in 0..32 {
+    for block in 0..BLOCKS {
         if marks.contains(block) {
             marked.push(block)?;
         }
@@ -73,12 +75,18 @@ fn marked_in(alloc: Global, marks: &Marks) -> Result<Vec<u32>, Fault> {
 
 /// What verification of the root in block 8 tells of a content.
 fn told_of(alloc: Global, content: Content) -> Result<Outcome, Fault> {
-    let mut flash = flash_with(alloc, &[], content)?;
-    told(alloc, &mut flash, &[8])
+    told_on(alloc, &content.nodes(alloc)?, false)
+}
+
+/// The same, of nodes in the blocks from 8 on, where only plain directories may be allowed.
+pub(crate) fn told_on(alloc: Global, nodes: &[Vec<u8>], plain: bool) -> Result<Outcome, Fault> {
+    let mut flash = SimFlash::new(alloc, SIZES, &[])?;
+    put_all(alloc, &mut flash, nodes)?;
+    told(alloc, &mut flash, &[8], plain)
 }
 
 /// Whether this was told, with so many reads at most.
-fn is_told(told: &Outcome, wanted: Result<&[u32], Fault>, most_reads: u64) -> bool {
+pub(crate) fn is_told(told: &Outcome, wanted: Result<&[u32], Fault>, most_reads: u64) -> bool {
     let is_same = match wanted {
         Ok(marked) => told.fault.is_none() && told.marked.as_slice() == marked,
         Err(fault) => told.fault == Some(fault) && told.marked.is_empty(),
@@ -100,7 +108,7 @@ fn trees_are_verified_in_few_reads(rt: HostRuntime) -> Result<(), Fail> {
 const ROOTS: [(&[u32], Result<&[u32], Fault>, u64); 8] = [
     (&[9, 0], Err(Fault::Damaged), 0),
     (&[9, 7], Err(Fault::Damaged), 0),
-    (&[9, 32], Err(Fault::Damaged), 0),
+    (&[9, BLOCKS], Err(Fault::Damaged), 0),
     (&[9, u32::MAX], Err(Fault::Damaged), 0),
     (&[9, 9, 9, 9, 9, 9], Ok(&[9]), 20),
     (&[8, 9, 8], Ok(&[8, 9, 10]), 64),
@@ -112,7 +120,7 @@ const ROOTS: [(&[u32], Result<&[u32], Fault>, u64); 8] = [
 fn roots_are_data_blocks_and_count_once(rt: HostRuntime) -> Result<(), Fail> {
     let mut flash = flash_with(rt.alloc(), &[], Content::Names(b"a", b"b"))?;
     for (roots, wanted, most_reads) in ROOTS {
-        let told = told(rt.alloc(), &mut flash, roots)?;
+        let told = told(rt.alloc(), &mut flash, roots, false)?;
         assert!(rt; is_told(&told, wanted, most_reads), "{roots:?}");
     }
     Ok(())
@@ -125,12 +133,12 @@ fn a_failing_read_is_told_and_the_next_try_is_whole(rt: HostRuntime) -> Result<(
         kind: FaultKind::ReadFail,
     }];
     let mut flash = flash_with(rt.alloc(), &plan, Content::Names(b"a", b"b"))?;
-    let failed = told(rt.alloc(), &mut flash, &[8])?;
+    let failed = told(rt.alloc(), &mut flash, &[8], false)?;
     assert_eq!(rt;
         (failed.fault, flash.counts().reads),
         (Some(Fault::ReadFailed), 2)
     );
-    let whole = told(rt.alloc(), &mut flash, &[8])?;
+    let whole = told(rt.alloc(), &mut flash, &[8], false)?;
     assert_eq!(rt; whole.fault, None);
     assert_eq!(rt; whole.marked.as_slice(), [8, 9, 10].as_slice());
     Ok(())

@@ -1,20 +1,18 @@
--- What is read as a directory is spelled so, and what is spelled so is read.
-use Rattle.std.proofs.Common.{◌≡◌, ℕ, zero, suc, ◌+◌, ◌^◌, ◌<◌, ◌≤◌, ◌⊎◌, Bool, true, false, cond, eqb, ltb, leb, ◌*◌, List, [], ◌∷◌, ◌++◌, length, get_or, take, drop, Option, Some, None, refl, sym, ap, subst, ◌∙◌, append_assoc, arith, inl, inr}
+-- Entries that are read are spelled so, and what is spelled so is read.
+use Rattle.std.proofs.Common.{◌≡◌, ℕ, zero, suc, ◌+◌, ◌≤◌, Bool, true, false, cond, eqb, ltb, leb, ◌*◌, List, [], ◌∷◌, ◌++◌, length, Option, Some, None, refl, sym, ap, subst, ◌∙◌, append_assoc, arith}
 use Rattle.std.specs.Option.{option_map_or}
-use Rattle.std.specs.List.{flat_map, list_all}
-use Rattle.std.proofs.lemmas.Bool.{eqb-true, le-leb, ltb-false, le-ltb, leb-true, eq-eqb}
-use Rattle.byteorder.specs.Numbers.{little_number-reads_back}
-use Rattle.std.specs.Prelude.{codes, ◌&&◌, IfSome}
-use Rattle.std.proofs.lemmas.List.{append-nil, nil_from_length, length-append, length-take, length-drop, get_or-drop, take-append-drop, drop-drop, drop_at}
+use Rattle.std.specs.List.{list_all}
+use Rattle.std.proofs.lemmas.Bool.{eqb-true, le-leb, le-ltb, leb-true, eq-eqb}
+use Rattle.std.specs.Prelude.{◌&&◌}
+use Rattle.std.proofs.lemmas.List.{append-nil, nil_from_length, length-append}
 use Rattle.std.proofs.lemmas.List.Concat.{flat_map-cons}
-use Rattle.byteorder.specs.Endian.{little_number, little_bytes}
+use Rattle.byteorder.specs.Endian.{little_bytes}
+use Rattle.fs_types.specs.declared.limits.TheConstants.{NODE_ENTRIES, MAX_ENTRIES}
 use Rattle.fs_types.specs.Names.{Name, is_name, is_lawful}
 use Rattle.node_format.specs.Items.{Item, is_place, is_item, is_before, are_ascending, are_entries}
-use Rattle.node_format.specs.Directories.{◌>>=◌, byte_at, number_at, name_at, place_at, kind_of, head_of, size_of, item_bytes, items_bytes, item_at, items_at, are_filled, entries_at, directory_at, directory_bytes, AreSpelled, IsDirectory}
-use Rattle.node_format.specs.Headers.{field, directory_magic, node_size, IsNode}
-use Rattle.node_format.specs.declared.places.Place.{Place}
+use Rattle.node_format.specs.Directories.{byte_at, number_at, name_at, place_at, kind_of, head_of, size_of, item_bytes, items_bytes, item_at, items_at, are_filled, entries_at, AreSpelled}
 use Rattle.node_format.specs.Order.{both_true, and_true, all_after}
-use Rattle.node_format.proofs.Fields.{IsBytes, IsBytes-drop, bind_some, not_refused, little_bytes-little_number, passed, found, some_is, Takes, Takes-then, byte_takes, number_takes, number_again, name_takes, name_again, place_takes, place_again, head_fits, size_fits}
+use Rattle.node_format.proofs.Fields.{IsBytes, bind_some, some_is, Takes, Takes-then, byte_takes, number_takes, number_again, name_takes, name_again, place_takes, place_again, head_fits, size_fits}
 
 -- ---- one entry
 
@@ -70,7 +68,7 @@ after_nothing (item ∷ items) each =
     let name = both_true (is_name item.name) (is_place item.place) parts.0 in
     and_true _ _ (named_after item.name name.0) (after_nothing items parts.1)
 
-kept_true : (b c : Bool) → cond b c false ≡ true → (b ≡ true) × (c ≡ true)
+pub kept_true : (b c : Bool) → cond b c false ≡ true → (b ≡ true) × (c ≡ true)
 kept_true true c e = (refl, e)
 kept_true false c e = absurd cc
 
@@ -125,92 +123,39 @@ filled_again before (item ∷ items) each after ascending =
     ap (are_filled (suc (length items)) before) (flat_map-cons item_bytes item items)
     ∙ rw (item_again item (items_bytes items) parts.0, first.0, filled_again item.name items parts.1 order.0 order.1) refl
 
--- entries that fill the bytes, at most 32, are those of a directory
-pub are_spelled : (count : ℕ) (bytes : List ℕ) → IsBytes bytes → count ≤ 32 → are_filled count [] bytes ≡ true → AreSpelled count bytes (items_at count bytes)
+-- entries that fill the bytes, at most as many as a node has, are those of a directory
+pub are_spelled : (count : ℕ) (bytes : List ℕ) → IsBytes bytes → count ≤ NODE_ENTRIES → are_filled count [] bytes ≡ true → AreSpelled count bytes (items_at count bytes)
 are_spelled count bytes fits few filled =
     let h = filled_takes count [] bytes fits filled in
     record {
-      lawful = and_true _ _ (le-leb (length (items_at count bytes)) 32 (omega (arith, h.counted))) (and_true _ _ h.each h.ascending);
+      lawful = and_true _ _ (le-leb (length (items_at count bytes)) MAX_ENTRIES (omega (arith, h.counted))) (and_true _ _ h.each h.ascending);
       counted = h.counted;
       spelled = h.spelled;
     }
 
--- ---- a directory
+-- what is known of the entries of a directory
+pub record AreLawful (items : List Item) : Type 0 where
+  pub few : length items ≤ MAX_ENTRIES
+  pub each : list_all is_item items ≡ true
+  pub ascending : are_ascending items ≡ true
 
--- the number of four bytes at a place is spelled by these four bytes
-pub field_takes : (bytes : List ℕ) (place : ℕ) → IsBytes bytes → place + 4 ≤ length bytes → little_bytes 4 (field bytes place) ≡ take 4 (drop place bytes)
-field_takes bytes place fits le =
-    let at : (i j : ℕ) → place + i ≡ j → get_or (drop place bytes) i 0 ≡ get_or bytes j 0 = λ i j e. get_or-drop place bytes i 0 ∙ ap (λ (k : ℕ). get_or bytes k 0) e in
-    let e0 = at 0 place (omega arith) in
-    let e1 = at 1 (suc place) (omega arith) in
-    let e2 = at 2 (suc (suc place)) (omega arith) in
-    let e3 = at 3 (suc (suc (suc place))) (omega arith) in
-    let same : field bytes place ≡ little_number 4 (drop place bytes) = omega (arith, e0, e1, e2, e3) in
-    ap (little_bytes 4) same ∙ little_bytes-little_number (drop place bytes) (IsBytes-drop place bytes fits) (omega (arith, length-drop place bytes))
-
--- bytes are their first 16, by fours, and the others
-by_fours : (bytes : List ℕ) → bytes ≡ take 4 bytes ++ (take 4 (drop 4 bytes) ++ (take 4 (drop 8 bytes) ++ (take 4 (drop 12 bytes) ++ drop 16 bytes)))
-by_fours bytes =
-    let four : (place next : ℕ) → place + 4 ≡ next → drop place bytes ≡ take 4 (drop place bytes) ++ drop next bytes =
-    λ place next e. sym (take-append-drop 4 (drop place bytes)) ∙ ap (λ (rest : List ℕ). take 4 (drop place bytes) ++ rest) (drop-drop 4 place bytes ∙ ap (λ (k : ℕ). drop k bytes) e) in
-    sym (take-append-drop 4 bytes)
-    ∙ ap (λ (rest : List ℕ). take 4 bytes ++ rest)
-    (four 4 8 refl ∙ ap (λ (rest : List ℕ). take 4 (drop 4 bytes) ++ rest)
-    (four 8 12 refl ∙ ap (λ (rest : List ℕ). take 4 (drop 8 bytes) ++ rest) (four 12 16 refl)))
-
-pub directory_takes : (bytes : List ℕ) (items : List Item) → IsBytes bytes → directory_at bytes ≡ Some items → IsDirectory bytes items
-unfolding directory_at entries_at
-directory_takes bytes items fits e =
-    let count = field bytes 4 in
-    let used = field bytes 8 in
-    let rest = drop 16 bytes in
-    let a = not_refused (ltb (length bytes) 16) _ items e in
-    let b = passed (eqb (field bytes 0) directory_magic) _ items a.1 in
-    let c = not_refused (ltb 32 count) _ items b.1 in
-    let d = passed (eqb used (length rest)) _ items c.1 in
-    let f = passed (are_filled count [] rest) (Some (items_at count rest)) items d.1 in
-    let long : 16 ≤ length bytes = ltb-false _ _ a.0 in
-    let few : count ≤ 32 = ltb-false _ _ c.0 in
-    let h = are_spelled count rest (IsBytes-drop 16 bytes fits) few f.0 in
-    let is_count : count ≡ length (items_at count rest) = sym h.counted in
-    let is_used : used ≡ length (items_bytes (items_at count rest)) = eqb-true _ _ d.0 ∙ ap length h.spelled in
-    let magic : take 4 bytes ≡ codes "UFND" = sym (field_takes bytes 0 fits (omega arith)) ∙ ap (little_bytes 4) (eqb-true _ _ b.0) in
-    let counted : take 4 (drop 4 bytes) ≡ little_bytes 4 (length (items_at count rest)) = sym (field_takes bytes 4 fits (omega arith)) ∙ ap (little_bytes 4) is_count in
-    let used_is : take 4 (drop 8 bytes) ≡ little_bytes 4 (length (items_bytes (items_at count rest))) = sym (field_takes bytes 8 fits (omega arith)) ∙ ap (little_bytes 4) is_used in
-    let unread = take 4 (drop 12 bytes) in
-    let spelled : bytes ≡ directory_bytes unread (items_at count rest) = by_fours bytes ∙ λ i. magic i ++ (counted i ++ (used_is i ++ (unread ++ h.spelled i))) in
-    subst (IsDirectory bytes) (some_is (items_at count rest) items f.1)
-    (record { lawful = h.lawful; unread = unread; four = omega (arith, length-take 4 (drop 12 bytes), length-drop 12 bytes); spelling = spelled })
-
--- the fields of a directory's spelling
-pub record HasHeader (bytes : List ℕ) (count used : ℕ) : Type 0 where
-  pub magic : field bytes 0 ≡ directory_magic
-  pub count_is : field bytes 4 ≡ count
-  pub used_is : field bytes 8 ≡ used
-
-header_again : (count used : ℕ) (rest : List ℕ) → count < 2 ^ 32 → used < 2 ^ 32 → HasHeader (codes "UFND" ++ (little_bytes 4 count ++ (little_bytes 4 used ++ rest))) count used
-header_again count used rest lc lu = record {
-  magic = refl;
-  count_is = little_number-reads_back 4 count (little_bytes 4 used ++ rest) (omega arith);
-  used_is = little_number-reads_back 4 used rest (omega arith);
-}
-
--- a directory is read off its header and the entries after it
-read_back : (bytes rest : List ℕ) (count used : ℕ) → HasHeader bytes count used → 16 ≤ length bytes → drop 16 bytes ≡ rest → directory_at bytes ≡ entries_at count used rest
-unfolding directory_at
-read_back bytes rest count used header long after =
-    let enough : ltb (length bytes) 16 ≡ false = le-ltb _ _ long in
-    rw (enough, header.magic, header.count_is, header.used_is, after) refl
-
-entries_again : (items : List Item) → are_entries items ≡ true → entries_at (length items) (length (items_bytes items)) (items_bytes items) ≡ Some items
-unfolding entries_at
-entries_again items lawful =
-    let outer = both_true (leb (length items) 32) (list_all is_item items && are_ascending items) lawful in
+pub lawful_parts : (items : List Item) → are_entries items ≡ true → AreLawful items
+lawful_parts items lawful =
+    let outer = both_true (leb (length items) MAX_ENTRIES) (list_all is_item items && are_ascending items) lawful in
     let inner = both_true (list_all is_item items) (are_ascending items) outer.1 in
-    let few : ltb 32 (length items) ≡ false = le-ltb _ _ (leb-true _ _ outer.0) in
+    record { few = leb-true _ _ outer.0; each = inner.0; ascending = inner.1 }
+
+pub lawful_from : (items : List Item) → AreLawful items → are_entries items ≡ true
+lawful_from items l = and_true _ _ (le-leb (length items) MAX_ENTRIES l.few) (and_true _ _ l.each l.ascending)
+
+pub entries_again : (items : List Item) → are_entries items ≡ true → length items ≤ NODE_ENTRIES → entries_at (length items) (length (items_bytes items)) (items_bytes items) ≡ Some items
+unfolding entries_at
+entries_again items lawful le =
+    let l = lawful_parts items lawful in
+    let few : ltb NODE_ENTRIES (length items) ≡ false = le-ltb _ _ le in
     let same : eqb (length (items_bytes items)) (length (items_bytes items)) ≡ true = eq-eqb _ _ refl in
-    let filled = filled_again [] items inner.0 (after_nothing items inner.0) inner.1 in
-    let read : items_at (length items) (items_bytes items) ≡ items = ap (items_at (length items)) (sym (append-nil (items_bytes items))) ∙ items_again items [] inner.0 in
+    let filled = filled_again [] items l.each (after_nothing items l.each) l.ascending in
+    let read : items_at (length items) (items_bytes items) ≡ items = ap (items_at (length items)) (sym (append-nil (items_bytes items))) ∙ items_again items [] l.each in
     rw (few, same, filled, read) refl
 
 -- an entry has at most 74 bytes
@@ -225,46 +170,12 @@ items_bytes-most (item ∷ items) each =
     let one : length (item_bytes item) ≡ suc (suc (length item.name + 8)) = ap (λ (k : ℕ). suc (suc k)) (length-append item.name (little_bytes 4 (head_of item.place) ++ little_bytes 4 (size_of item.place))) in
     omega (arith, whole, one, others, short)
 
--- the entries of a directory have at most 2,368 bytes
-pub used_most : (items : List Item) → are_entries items ≡ true → length (items_bytes items) ≤ 2368
-used_most items lawful =
-    let outer = both_true (leb (length items) 32) (list_all is_item items && are_ascending items) lawful in
-    let inner = both_true (list_all is_item items) (are_ascending items) outer.1 in
-    omega (arith, items_bytes-most items inner.0, leb-true _ _ outer.0)
+-- the entries of a node have at most 2,368 bytes
+pub used_most : (items : List Item) → are_entries items ≡ true → length items ≤ NODE_ENTRIES → length (items_bytes items) ≤ 2368
+used_most items lawful few = omega (arith, items_bytes-most items (lawful_parts items lawful).each, few)
 
-pub few_entries : (items : List Item) → are_entries items ≡ true → length items ≤ 32
-few_entries items lawful = leb-true _ _ (both_true (leb (length items) 32) (list_all is_item items && are_ascending items) lawful).0
-
--- the header, length and entries of a spelling
-pub record HasParts (bytes : List ℕ) (items : List Item) : Type 0 where
-  pub header : HasHeader bytes (length items) (length (items_bytes items))
-  pub size : length bytes ≡ 16 + length (items_bytes items)
-  pub rest : drop 16 bytes ≡ items_bytes items
-
-pub spelled_parts : (unread : List ℕ) (items : List Item) → are_entries items ≡ true → length unread ≡ 4 → HasParts (directory_bytes unread items) items
-spelled_parts unread items lawful four = record {
-  header = header_again (length items) (length (items_bytes items)) (unread ++ items_bytes items) (omega (arith, few_entries items lawful)) (omega (arith, used_most items lawful));
-  size = omega (arith, length-append unread (items_bytes items));
-  rest = drop_at unread (items_bytes items) 4 four;
-}
-
-pub directory_parts : (bytes : List ℕ) (items : List Item) → IsDirectory bytes items → HasParts bytes items
-directory_parts bytes items d = subst (λ (b : List ℕ). HasParts b items) (sym d.spelling) (spelled_parts d.unread items d.lawful d.four)
-
--- what is spelled so is read
-pub directory_again : (bytes : List ℕ) (items : List Item) → IsDirectory bytes items → directory_at bytes ≡ Some items
-directory_again bytes items d =
-    let parts = directory_parts bytes items d in
-    read_back bytes (items_bytes items) (length items) (length (items_bytes items)) parts.header (omega (arith, parts.size)) parts.rest ∙ entries_again items d.lawful
-
--- a directory is a node
-pub directory_is_node : (block : ℕ) (bytes : List ℕ) (items : List Item) → 4096 ≤ block → IsDirectory bytes items → IsNode block bytes
-directory_is_node block bytes items capacity d =
-    let parts = directory_parts bytes items d in
-    let few : leb (length items) 32 ≡ true = le-leb _ _ (few_entries items d.lawful) in
-    let fits : leb (16 + length (items_bytes items)) block ≡ true = le-leb _ _ (omega (arith, used_most items d.lawful)) in
-    rw (parts.header.magic, parts.header.count_is, parts.header.used_is, few, fits) (ap (λ (k : ℕ). Some k) (sym parts.size))
-
-pub is_found : (bytes : List ℕ) (read : Option (List Item)) → IsBytes bytes → read ≡ directory_at bytes → IfSome read (λ items. IsDirectory bytes items)
-is_found bytes None fits e = tt
-is_found bytes (Some items) fits e = directory_takes bytes items fits (sym e)
+-- and those of a directory at most 75,776
+pub list_most : (items : List Item) → are_entries items ≡ true → length (items_bytes items) ≤ 75776
+list_most items lawful =
+    let l = lawful_parts items lawful in
+    omega (arith, items_bytes-most items l.each, l.few)

@@ -1,24 +1,20 @@
--- A directory with one name changed.
-use Rattle.std.proofs.Common.{◌≡◌, ℕ, zero, suc, ◌+◌, ◌-◌, ◌*◌, ◌^◌, ◌<◌, ◌≤◌, Bool, true, false, cond, List, [], ◌∷◌, ◌++◌, length, take, drop, Option, Some, None, refl, sym, ap, subst, ◌∙◌, append_assoc, arith}
-use Rattle.std.specs.Prelude.{◌&&◌, nat_le, codes, replicate, nat_eq}
-use Rattle.std.specs.List.{list_all, flat_map}
-use Rattle.std.specs.Ordering.{is_lt}
-use Rattle.std.specs.declared.cmp.Ordering.TheVariants.{Less, Equal, Greater}
-use Rattle.std.proofs.lemmas.Bool.{le-leb, leb-true, eqb-true, eq-eqb}
+-- Entries with one name changed.
+use Rattle.std.proofs.Common.{◌≡◌, ℕ, ◌+◌, ◌^◌, ◌<◌, ◌≤◌, Bool, true, false, cond, List, [], ◌∷◌, ◌++◌, length, Option, Some, None, refl, sym, ap, subst, ◌∙◌, arith}
+use Rattle.std.specs.Prelude.{◌&&◌}
+use Rattle.std.specs.List.{list_all}
 use Rattle.std.proofs.lemmas.List.{append-nil, length-append}
 use Rattle.std.proofs.lemmas.List.Folds.{list_all-append}
-use Rattle.std.proofs.lemmas.List.Concat.{flat_map-cons, flat_map-append}
-use Rattle.std.proofs.lemmas.Cmp.{nat_list_cmp_total, nat_list_eq_equiv, tied_itself}
-use Rattle.byteorder.specs.Endian.{little_bytes}
-use Rattle.fs_types.specs.Names.{Name, same_name, name_cmp, is_name}
+use Rattle.std.proofs.lemmas.List.Concat.{flat_map-append}
+use Rattle.fs_types.specs.declared.limits.TheConstants.{MAX_ENTRIES}
+use Rattle.fs_types.specs.Names.{Name, same_name, is_name}
 use Rattle.node_format.specs.declared.places.Place.{Place}
 use Rattle.node_format.specs.Items.{Item, is_item, is_place, is_before, are_ascending, are_entries, named}
-use Rattle.node_format.specs.Directories.{item_bytes, items_bytes, directory_at, IsDirectory, directory_bytes, AreSpelled}
-use Rattle.node_format.specs.Headers.{IsNode}
-use Rattle.node_format.specs.Edits.{IsSplit, IsEdited, entry_to}
+use Rattle.node_format.specs.Directories.{item_bytes, items_bytes, items_at, AreSpelled}
+use Rattle.node_format.specs.Edits.{IsSplit, IsEdited, entry_to, edited_count}
 use Rattle.node_format.specs.EntryLaws.{same_name-true, same_name-self, before-differs, after-differs}
-use Rattle.node_format.specs.Order.{both_true, and_true, all_after, AreParts, ascending_parts}
-use Rattle.node_format.proofs.DirectoryLaws.{directory_again, directory_is_node, used_most, items_bytes-most}
+use Rattle.node_format.specs.Order.{both_true, and_true, all_after}
+use Rattle.node_format.proofs.DirectoryLaws.{list_most, items_bytes-most, lawful_parts, lawful_from}
+use Rattle.node_format.proofs.Parts.{extended}
 
 -- ---- what names lead to
 
@@ -101,25 +97,14 @@ each_around front back name None f b lawful = list_all-append is_item front back
 each_around front back name (Some place) f b lawful =
     list_all-append is_item front ((record { name = name; place = place }) ∷ back) ∙ and_true _ _ f (and_true _ _ lawful b)
 
--- what is known of entries
-record AreLawful (items : List Item) : Type 0 where
-  few : length items ≤ 32
-  each : list_all is_item items ≡ true
-  ascending : are_ascending items ≡ true
-
-lawful_parts : (items : List Item) → are_entries items ≡ true → AreLawful items
-lawful_parts items lawful =
-    let outer = both_true (nat_le (length items) 32) (list_all is_item items && are_ascending items) lawful in
-    let inner = both_true (list_all is_item items) (are_ascending items) outer.1 in
-    record { few = leb-true _ _ outer.0; each = inner.0; ascending = inner.1 }
-
 pub entries_around : (front back : List Item) (name : Name) (place : Option Place) → are_entries front ≡ true → are_entries back ≡ true → is_lawful_entry name place ≡ true
     → list_all (λ item. is_before item.name name) front ≡ true → list_all (λ item. is_before name item.name) back ≡ true
-    → length (front ++ (entry_to name place ++ back)) ≤ 32 → are_entries (front ++ (entry_to name place ++ back)) ≡ true
+    → length (front ++ (entry_to name place ++ back)) ≤ MAX_ENTRIES → are_entries (front ++ (entry_to name place ++ back)) ≡ true
 entries_around front back name place f b lawful before after few =
     let pf = lawful_parts front f in
     let pb = lawful_parts back b in
-    and_true _ _ (le-leb (length (front ++ (entry_to name place ++ back))) 32 few) (and_true _ _ (each_around front back name place pf.each pb.each lawful) (ascending_around front back name place pf.ascending pb.ascending before after))
+    lawful_from (front ++ (entry_to name place ++ back))
+    (record { few = few; each = each_around front back name place pf.each pb.each lawful; ascending = ascending_around front back name place pf.ascending pb.ascending before after })
 
 -- ---- the bytes
 
@@ -128,93 +113,77 @@ items_bytes-around : (front back : List Item) (name : Name) (place : Option Plac
 items_bytes-around front back name place =
     flat_map-append item_bytes front (entry_to name place ++ back) ∙ ap (λ (x : List ℕ). items_bytes front ++ x) (flat_map-append item_bytes (entry_to name place) back)
 
--- the bytes of a directory in three parts: the entries before a name, its entry or none, and those after it
-pub record IsMade (front back : List Item) (name : Name) (place : Option Place) (bytes : List ℕ) : Type 0 where
-  pub count : ℕ
-  pub counted : count ≡ length front + (length (entry_to name place) + length back)
-  pub made : bytes ≡ codes "UFND" ++ (little_bytes 4 count ++ (little_bytes 4 (length (items_bytes front) + (length (items_bytes (entry_to name place)) + length (items_bytes back))) ++ (replicate 4 0 ++ (items_bytes front ++ (items_bytes (entry_to name place) ++ items_bytes back)))))
+-- ---- how many entries there are
 
-made_spelling : (front back : List Item) (name : Name) (place : Option Place) (bytes : List ℕ) → IsMade front back name place bytes
-    → bytes ≡ directory_bytes (replicate 4 0) (front ++ (entry_to name place ++ back))
-made_spelling front back name place bytes m =
-    let items = front ++ (entry_to name place ++ back) in
-    let text = items_bytes-around front back name place in
-    let count : m.count ≡ length items = m.counted ∙ ap (λ (k : ℕ). length front + k) (sym (length-append (entry_to name place) back)) ∙ sym (length-append front (entry_to name place ++ back)) in
-    let used : length (items_bytes front) + (length (items_bytes (entry_to name place)) + length (items_bytes back)) ≡ length (items_bytes items) =
-    ap (λ (k : ℕ). length (items_bytes front) + k) (sym (length-append (items_bytes (entry_to name place)) (items_bytes back)))
-    ∙ sym (length-append (items_bytes front) (items_bytes (entry_to name place) ++ items_bytes back)) ∙ ap length (sym text) in
-    m.made ∙ λ i. codes "UFND" ++ (little_bytes 4 (count i) ++ (little_bytes 4 (used i) ++ (replicate 4 0 ++ sym text i)))
-
-pub made_directory : (front back : List Item) (name : Name) (place : Option Place) (bytes : List ℕ) → are_entries (front ++ (entry_to name place ++ back)) ≡ true → IsMade front back name place bytes
-    → IsDirectory bytes (front ++ (entry_to name place ++ back))
-made_directory front back name place bytes lawful m = record { lawful = lawful; unread = replicate 4 0; four = refl; spelling = made_spelling front back name place bytes m }
-
-pub edited : (items front back : List Item) (name : Name) (place found : Option Place) (bytes : List ℕ) → IsSplit items name front found back → IsDirectory bytes (front ++ (entry_to name place ++ back)) → bytes ≡ directory_bytes (replicate 4 0) (front ++ (entry_to name place ++ back)) → IsEdited items name place bytes
-edited items front back name place found bytes split d spells = record {
-  items = front ++ (entry_to name place ++ back);
-  written = spells;
-  spelled = directory_again bytes (front ++ (entry_to name place ++ back)) d;
-  leads = λ other. named_around front back name place found split.before split.after other
-      ∙ ap (λ (x : List Item). cond (same_name name other) place (named x other)) (sym split.parts);
-}
+count_around : (items front back : List Item) (name : Name) (place found : Option Place) → IsSplit items name front found back → length (front ++ (entry_to name place ++ back)) ≡ edited_count found place (length items)
+count_around items front back name None None split = ap length (sym split.parts)
+count_around items front back name (Some place) None split =
+    omega (arith, ap length split.parts, length-append front back, length-append front ((record { name = name; place = place }) ∷ back))
+count_around items front back name None (Some was) split =
+    omega (arith, ap length split.parts, length-append front ((record { name = name; place = was }) ∷ back), length-append front back)
+count_around items front back name (Some place) (Some was) split =
+    omega (arith, ap length split.parts, length-append front ((record { name = name; place = was }) ∷ back), length-append front ((record { name = name; place = place }) ∷ back))
 
 -- how many entries there are with one put
-pub few_with : (items front back : List Item) (name : Name) (place : Place) (found : Option Place) → IsSplit items name front found back → length items ≤ 32 → (found ≡ None → length items < 32)
-    → length (front ++ (entry_to name (Some place) ++ back)) ≤ 32
+pub few_with : (items front back : List Item) (name : Name) (place : Place) (found : Option Place) → IsSplit items name front found back → length items ≤ MAX_ENTRIES → (found ≡ None → length items < MAX_ENTRIES)
+    → length (front ++ (entry_to name (Some place) ++ back)) ≤ MAX_ENTRIES
 few_with items front back name place None split few capacity =
     let less = capacity refl in
     omega (arith, ap length split.parts, length-append front back, length-append front ((record { name = name; place = place }) ∷ back))
 few_with items front back name place (Some was) split few capacity =
     omega (arith, ap length split.parts, length-append front ((record { name = name; place = was }) ∷ back), length-append front ((record { name = name; place = place }) ∷ back))
 
-pub few_without : (items front back : List Item) (name : Name) (found : Option Place) → IsSplit items name front found back → length items ≤ 32 → length (front ++ back) ≤ 32
+pub few_without : (items front back : List Item) (name : Name) (found : Option Place) → IsSplit items name front found back → length items ≤ MAX_ENTRIES → length (front ++ back) ≤ MAX_ENTRIES
 few_without items front back name None split few = omega (arith, ap length split.parts)
 few_without items front back name (Some was) split few =
     omega (arith, ap length split.parts, length-append front ((record { name = name; place = was }) ∷ back), length-append front back)
 
--- the bytes of a directory in three parts
-abbrev pub in_parts : ℕ → List ℕ → List ℕ → List ℕ → List ℕ
-in_parts count fb mb bb = codes "UFND" ++ (little_bytes 4 count ++ (little_bytes 4 (length fb + (length mb + length bb)) ++ (replicate 4 0 ++ (fb ++ (mb ++ bb)))))
-
--- what a changed directory is
-pub record IsWritten (items : List Item) (name : Name) (place : Option Place) (bytes : List ℕ) : Type 0 where
-  pub edit : IsEdited items name place bytes
-  pub node : (block : ℕ) → 4096 ≤ block → IsNode block bytes
+-- what a list with one name changed is
+pub record IsWritten (items : List Item) (name : Name) (place : Option Place) (count : ℕ) (bytes : List ℕ) : Type 0 where
+  pub spelled : AreSpelled count bytes (items_at count bytes)
+  pub edit : IsEdited items name place (items_at count bytes)
 
 written : (items front back : List Item) (name : Name) (place found : Option Place) (fc bc : ℕ) (fb mb bb bytes : List ℕ) → IsSplit items name front found back
-    → AreSpelled fc fb front → AreSpelled bc bb back → is_lawful_entry name place ≡ true → mb ≡ items_bytes (entry_to name place) → length (front ++ (entry_to name place ++ back)) ≤ 32
-    → bytes ≡ in_parts (fc + (length (entry_to name place) + bc)) fb mb bb → IsWritten items name place bytes
+    → AreSpelled fc fb front → AreSpelled bc bb back → is_lawful_entry name place ≡ true → mb ≡ items_bytes (entry_to name place) → length (front ++ (entry_to name place ++ back)) ≤ MAX_ENTRIES
+    → bytes ≡ fb ++ (mb ++ bb) → IsWritten items name place (fc + (length (entry_to name place) + bc)) bytes
 written items front back name place found fc bc fb mb bb bytes split f b lawful middle few is =
     let new = front ++ (entry_to name place ++ back) in
     let entries : are_entries new ≡ true = entries_around front back name place f.lawful b.lawful lawful split.before split.after few in
-    let count : fc + (length (entry_to name place) + bc) ≡ length front + (length (entry_to name place) + length back) = omega (arith, f.counted, b.counted) in
-    let made : IsMade front back name place bytes = record {
-      count = fc + (length (entry_to name place) + bc);
-      counted = count;
-      made = is ∙ λ i. in_parts (fc + (length (entry_to name place) + bc)) (f.spelled i) (middle i) (b.spelled i);
+    let text : bytes ≡ items_bytes new = is ∙ (λ i. f.spelled i ++ (middle i ++ b.spelled i)) ∙ sym (items_bytes-around front back name place) in
+    let made : AreSpelled (fc + (length (entry_to name place) + bc)) bytes new = record {
+      lawful = entries;
+      counted = omega (arith, length-append front (entry_to name place ++ back), length-append (entry_to name place) back, f.counted, b.counted);
+      spelled = text;
     } in
-    let d = made_directory front back name place bytes entries made in
-    record { edit = edited items front back name place found bytes split d (made_spelling front back name place bytes made); node = λ block capacity. directory_is_node block bytes new capacity d }
+    let e = extended (fc + (length (entry_to name place) + bc)) bytes new made in
+    let edit : IsEdited items name place new = record {
+      lawful = entries;
+      counted = count_around items front back name place found split ∙ ap (λ (o : Option Place). edited_count o place (length items)) (sym (split_named items front back name found split));
+      leads = λ other. named_around front back name place found split.before split.after other
+          ∙ ap (λ (x : List Item). cond (same_name name other) place (named x other)) (sym split.parts);
+    } in
+    record { spelled = e.spelled; edit = subst (IsEdited items name place) (sym e.read) edit }
 
 pub written_with : (items front back : List Item) (name : Name) (place : Place) (found : Option Place) (fc bc : ℕ) (fb mb bb bytes : List ℕ) → IsSplit items name front found back
-    → length items ≤ 32 → (named items name ≡ None → length items < 32) → is_name name ≡ true → is_place place ≡ true
+    → length items ≤ MAX_ENTRIES → (named items name ≡ None → length items < MAX_ENTRIES) → is_name name ≡ true → is_place place ≡ true
     → AreSpelled fc fb front → AreSpelled bc bb back → mb ≡ item_bytes (record { name = name; place = place })
-    → bytes ≡ in_parts (fc + (1 + bc)) fb mb bb → IsWritten items name (Some place) bytes
+    → bytes ≡ fb ++ (mb ++ bb) → IsWritten items name (Some place) (fc + (1 + bc)) bytes
 written_with items front back name place found fc bc fb mb bb bytes split few capacity lawful place_lawful f b middle is =
     written items front back name (Some place) found fc bc fb mb bb bytes split f b (and_true _ _ lawful place_lawful)
     (middle ∙ sym (append-nil (item_bytes (record { name = name; place = place }))))
     (few_with items front back name place found split few (λ none. capacity (split_named items front back name found split ∙ none))) is
 
 pub written_without : (items front back : List Item) (name : Name) (found : Option Place) (fc bc : ℕ) (fb bb bytes : List ℕ) → IsSplit items name front found back
-    → length items ≤ 32 → AreSpelled fc fb front → AreSpelled bc bb back → bytes ≡ in_parts (fc + bc) fb [] bb → IsWritten items name None bytes
+    → length items ≤ MAX_ENTRIES → AreSpelled fc fb front → AreSpelled bc bb back → bytes ≡ fb ++ ([] ++ bb) → IsWritten items name None (fc + bc) bytes
 written_without items front back name found fc bc fb bb bytes split few f b is =
-    let count : fc + bc ≡ fc + (0 + bc) = omega arith in
-    written items front back name None found fc bc fb [] bb bytes split f b refl refl (few_without items front back name found split few) (is ∙ ap (λ (k : ℕ). in_parts k fb [] bb) count)
+    let count : fc + (0 + bc) ≡ fc + bc = omega arith in
+    subst (λ (k : ℕ). IsWritten items name None k bytes) count
+    (written items front back name None found fc bc fb [] bb bytes split f b refl refl (few_without items front back name found split few) is)
 
--- the bytes of both parts and of one entry are few
-pub parts_fit : (items front back : List Item) (name : Name) (found : Option Place) (fc bc : ℕ) (fb bb : List ℕ) → IsSplit items name front found back → AreSpelled fc fb front → AreSpelled bc bb back → length fb + length bb ≤ 4736
+-- the bytes of both parts are few
+pub parts_fit : (items front back : List Item) (name : Name) (found : Option Place) (fc bc : ℕ) (fb bb : List ℕ) → IsSplit items name front found back → AreSpelled fc fb front → AreSpelled bc bb back → length fb + length bb ≤ 151552
 parts_fit items front back name found fc bc fb bb split f b =
-    omega (arith, ap length f.spelled, ap length b.spelled, used_most front f.lawful, used_most back b.lawful)
+    omega (arith, ap length f.spelled, ap length b.spelled, list_most front f.lawful, list_most back b.lawful)
 
 -- and so are those with an entry put between them
 pub parts_fit_with : (items front back : List Item) (name : Name) (place : Place) (found : Option Place) (fc bc : ℕ) (fb mb bb : List ℕ) → IsSplit items name front found back → AreSpelled fc fb front → AreSpelled bc bb back

@@ -1,8 +1,7 @@
 -- A node's size is read off its first 16 bytes alone.
-use Rattle.std.proofs.Common.{◌≡◌, ℕ, suc, ◌+◌, ◌<◌, ◌==◌, List, length, take, get_or, Option, None, if◌then◌else◌, sym, ap, arith}
+use Rattle.std.proofs.Common.{◌≡◌, ℕ, suc, ◌+◌, ◌<◌, ◌==◌, List, take, Option, None, if◌then◌else◌, arith}
 use Rattle.std.proofs.lemmas.List.{get_or-take}
-use Rattle.byteorder.specs.Endian.{little_from}
-use Rattle.node_format.specs.Headers.{field, node_size, body_magic, directory_magic, body_size, directory_size}
+use Rattle.node_format.specs.Headers.{field, node_size, body_magic, directory_magic, chain_magic, body_size, directory_size}
 
 -- a field within the first n bytes is one of these bytes alone
 pub field-take : (xs : List ℕ) (n place : ℕ) → place + 3 < n → field (take n xs) place ≡ field xs place
@@ -18,6 +17,7 @@ fields_size : (block magic count used : ℕ) → Option ℕ
 fields_size block magic count used =
     if magic == body_magic then body_size block used
     else if magic == directory_magic then directory_size block count used
+    else if magic == chain_magic then directory_size block count used
     else None
 
 -- the first 16 bytes tell the size

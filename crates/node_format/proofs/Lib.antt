@@ -4,5 +4,7 @@ pub mod Fields
 pub mod DirectoryLaws
 pub mod Steps
 pub mod Passed
+pub mod Parts
 pub mod Edited
 pub mod BodyFields
+pub mod LinkLaws

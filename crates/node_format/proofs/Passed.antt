@@ -1,21 +1,19 @@
 -- A search among entries: what was passed comes before the name, and the others are left.
-use Rattle.std.proofs.Common.{◌≡◌, ℕ, zero, suc, ◌+◌, ◌-◌, ◌<◌, ◌≤◌, Bool, true, false, List, [], ◌∷◌, ◌++◌, length, take, drop, Option, Some, None, refl, sym, ap, subst, ◌∙◌, append_assoc, arith}
-use Rattle.std.specs.Prelude.{◌&&◌, nat_le}
-use Rattle.std.specs.List.{list_all, flat_map}
-use Rattle.std.proofs.lemmas.Bool.{le-leb, leb-true}
-use Rattle.std.proofs.lemmas.List.{append-nil, take_at, length-append, nil_from_length}
+use Rattle.std.proofs.Common.{◌≡◌, ℕ, ◌+◌, ◌-◌, ◌<◌, ◌≤◌, true, List, [], ◌∷◌, ◌++◌, length, take, Some, None, refl, sym, ap, subst, ◌∙◌, append_assoc, arith}
+use Rattle.std.specs.List.{list_all}
+use Rattle.std.proofs.lemmas.List.{append-nil, take_at, length-append}
 use Rattle.std.proofs.lemmas.List.Folds.{list_all-append}
 use Rattle.std.proofs.lemmas.List.Concat.{flat_map-cons, flat_map-append}
 use Rattle.std.specs.Ordering.{is_lt, ordering_reverse}
-use Rattle.std.specs.declared.cmp.Ordering.TheVariants.{Less, Equal, Greater}
+use Rattle.std.specs.declared.cmp.Ordering.TheVariants.{Equal, Greater}
 use Rattle.std.proofs.lemmas.Cmp.{nat_list_cmp_total}
 use Rattle.fs_types.specs.Names.{Name, name_cmp}
 use Rattle.node_format.specs.Items.{Item, is_item, is_before, are_ascending, are_entries}
 use Rattle.node_format.specs.Directories.{item_bytes, items_bytes, item_at, items_at, AreSpelled}
 use Rattle.node_format.specs.Edits.{AreFront, IsSplit, entry_to}
 use Rattle.node_format.specs.Order.{same_from_tie, both_true, and_true, all_after, ascending_parts}
-use Rattle.node_format.proofs.DirectoryLaws.{items_again}
-use Rattle.node_format.proofs.Steps.{step, no_step, tail_entries}
+use Rattle.node_format.proofs.DirectoryLaws.{items_again, lawful_parts, lawful_from}
+use Rattle.node_format.proofs.Steps.{step, no_step}
 
 -- so many entries were passed, all before the name, and the others stand in the rest
 pub record IsPassed (items : List Item) (count : ℕ) (bytes : List ℕ) (name : Name) (done : ℕ) (rest : List ℕ) : Type 0 where
@@ -58,42 +56,47 @@ pass_one items count bytes name done rest item after lt read before_it so_far =
 -- the first entries are entries of a directory
 pub front_entries : (front back : List Item) → are_entries (front ++ back) ≡ true → are_entries front ≡ true
 front_entries front back lawful =
-    let outer = both_true (nat_le (length (front ++ back)) 32) (list_all is_item (front ++ back) && are_ascending (front ++ back)) lawful in
-    let inner = both_true (list_all is_item (front ++ back)) (are_ascending (front ++ back)) outer.1 in
-    let each = both_true (list_all is_item front) (list_all is_item back) (sym (list_all-append is_item front back) ∙ inner.0) in
-    let few : length (front ++ back) ≤ 32 = leb-true _ _ outer.0 in
-    and_true _ _ (le-leb (length front) 32 (omega (arith, length-append front back))) (and_true _ _ each.0 (ascending_parts front back inner.1).front_ascends)
+    let l = lawful_parts (front ++ back) lawful in
+    let each = both_true (list_all is_item front) (list_all is_item back) (sym (list_all-append is_item front back) ∙ l.each) in
+    lawful_from front (record { few = omega (arith, l.few, length-append front back); each = each.0; ascending = (ascending_parts front back l.ascending).front_ascends })
 
--- what was passed stands in the bytes before the rest
+-- and so are the last ones
+pub back_entries : (front back : List Item) → are_entries (front ++ back) ≡ true → are_entries back ≡ true
+back_entries front back lawful =
+    let l = lawful_parts (front ++ back) lawful in
+    let each = both_true (list_all is_item front) (list_all is_item back) (sym (list_all-append is_item front back) ∙ l.each) in
+    lawful_from back (record { few = omega (arith, l.few, length-append front back); each = each.1; ascending = (ascending_parts front back l.ascending).back_ascends })
+
+-- entries stand in the bytes before the rest
 pub record IsFront (bytes rest : List ℕ) (done : ℕ) (passed : List Item) : Type 0 where
   pub within : length rest ≤ length bytes
   pub read : items_at done (take (length bytes - length rest) bytes) ≡ passed
   pub spelled : AreFront done bytes rest
 
-pub passed_front : (items : List Item) (count : ℕ) (bytes : List ℕ) (name : Name) (done : ℕ) (rest : List ℕ) → are_entries items ≡ true → (so_far : IsPassed items count bytes name done rest) → IsFront bytes rest done so_far.passed
-passed_front items count bytes name done rest lawful so_far =
-    let text = items_bytes so_far.passed in
-    let sizes : length bytes ≡ length text + length rest = ap length so_far.spelled ∙ length-append text rest in
+pub cut_front : (bytes rest : List ℕ) (done : ℕ) (passed : List Item) → are_entries passed ≡ true → length passed ≡ done → bytes ≡ items_bytes passed ++ rest → IsFront bytes rest done passed
+cut_front bytes rest done passed entries counted parts =
+    let text = items_bytes passed in
+    let sizes : length bytes ≡ length text + length rest = ap length parts ∙ length-append text rest in
     let front : take (length bytes - length rest) bytes ≡ text =
-    ap (take (length bytes - length rest)) so_far.spelled ∙ take_at text rest (length bytes - length rest) (omega arith) in
-    let entries : are_entries so_far.passed ≡ true = front_entries so_far.passed (items_at (count - done) rest) (ap are_entries (sym so_far.parts) ∙ lawful) in
-    let outer = both_true (nat_le (length so_far.passed) 32) (list_all is_item so_far.passed && are_ascending so_far.passed) entries in
-    let inner = both_true (list_all is_item so_far.passed) (are_ascending so_far.passed) outer.1 in
-    let again : items_at done text ≡ so_far.passed =
-    ap (λ (k : ℕ). items_at k text) (sym so_far.counted) ∙ ap (items_at (length so_far.passed)) (sym (append-nil text)) ∙ items_again so_far.passed [] inner.0 in
-    let read : items_at done (take (length bytes - length rest) bytes) ≡ so_far.passed = ap (items_at done) front ∙ again in
+    ap (take (length bytes - length rest)) parts ∙ take_at text rest (length bytes - length rest) (omega arith) in
+    let again : items_at done text ≡ passed =
+    ap (λ (k : ℕ). items_at k text) (sym counted) ∙ ap (items_at (length passed)) (sym (append-nil text)) ∙ items_again passed [] (lawful_parts passed entries).each in
+    let read : items_at done (take (length bytes - length rest) bytes) ≡ passed = ap (items_at done) front ∙ again in
     record {
       within = omega arith;
       read = read;
-      spelled = record { lawful = ap are_entries read ∙ entries; counted = ap length read ∙ so_far.counted; spelled = front ∙ ap items_bytes (sym read) };
+      spelled = record { lawful = ap are_entries read ∙ entries; counted = ap length read ∙ counted; spelled = front ∙ ap items_bytes (sym read) };
     }
+
+-- what was passed stands in the bytes before the rest
+pub passed_front : (items : List Item) (count : ℕ) (bytes : List ℕ) (name : Name) (done : ℕ) (rest : List ℕ) → are_entries items ≡ true → (so_far : IsPassed items count bytes name done rest) → IsFront bytes rest done so_far.passed
+passed_front items count bytes name done rest lawful so_far =
+    cut_front bytes rest done so_far.passed (front_entries so_far.passed (items_at (count - done) rest) (ap are_entries (sym so_far.parts) ∙ lawful)) so_far.counted so_far.spelled
 
 -- the entries after the first one are after its name
 after_first : (item : Item) (items : List Item) → are_entries (item ∷ items) ≡ true → list_all (λ other. is_before item.name other.name) items ≡ true
 after_first item items lawful =
-    let outer = both_true (nat_le (suc (length items)) 32) (list_all is_item (item ∷ items) && are_ascending (item ∷ items)) lawful in
-    let inner = both_true (list_all is_item (item ∷ items)) (are_ascending (item ∷ items)) outer.1 in
-    (both_true (list_all (λ other. is_before item.name other.name) items) (are_ascending items) inner.1).0
+    (both_true (list_all (λ other. is_before item.name other.name) items) (are_ascending items) (lawful_parts (item ∷ items) lawful).ascending).0
 
 pub split_found : (items : List Item) (count : ℕ) (bytes : List ℕ) (name : Name) (done : ℕ) (rest : List ℕ) (item : Item) (after : List ℕ) (front : List Item) → done < count
     → Some (item, after) ≡ item_at rest → name_cmp item.name name ≡ Equal → (so_far : IsPassed items count bytes name done rest) → front ≡ so_far.passed

@@ -1,24 +1,20 @@
 -- Taking the first entry off.
-use Rattle.std.proofs.Common.{◌≡◌, ℕ, zero, suc, ◌+◌, ◌-◌, ◌<◌, ◌≤◌, Bool, true, false, List, [], ◌∷◌, ◌++◌, length, Option, Some, None, refl, sym, ap, subst, ◌∙◌, arith}
-use Rattle.std.specs.Prelude.{◌&&◌, nat_le}
+use Rattle.std.proofs.Common.{◌≡◌, ℕ, suc, ◌-◌, ◌<◌, true, List, [], ◌∷◌, ◌++◌, length, Some, None, refl, sym, ap, ◌∙◌, arith}
 use Rattle.std.specs.List.{list_all}
-use Rattle.std.proofs.lemmas.Bool.{le-leb, leb-true}
 use Rattle.std.proofs.lemmas.List.Concat.{flat_map-cons}
 use Rattle.node_format.specs.Items.{Item, is_item, is_before, are_ascending, are_entries}
 use Rattle.node_format.specs.Directories.{item_bytes, items_bytes, item_at, items_at, AreSpelled}
-use Rattle.node_format.specs.Order.{both_true, and_true}
+use Rattle.node_format.specs.Order.{both_true}
 use Rattle.node_format.proofs.Fields.{some_is}
-use Rattle.node_format.proofs.DirectoryLaws.{item_again}
+use Rattle.node_format.proofs.DirectoryLaws.{item_again, lawful_parts, lawful_from}
 
 -- the entries after the first one
 pub tail_entries : (item : Item) (items : List Item) → are_entries (item ∷ items) ≡ true → (is_item item ≡ true) × (are_entries items ≡ true)
 tail_entries item items lawful =
-    let outer = both_true (nat_le (suc (length items)) 32) (list_all is_item (item ∷ items) && are_ascending (item ∷ items)) lawful in
-    let inner = both_true (list_all is_item (item ∷ items)) (are_ascending (item ∷ items)) outer.1 in
-    let each = both_true (is_item item) (list_all is_item items) inner.0 in
-    let order = both_true (list_all (λ other. is_before item.name other.name) items) (are_ascending items) inner.1 in
-    let few : suc (length items) ≤ 32 = leb-true _ _ outer.0 in
-    (each.0, and_true _ _ (le-leb (length items) 32 (omega arith)) (and_true _ _ each.1 order.1))
+    let l = lawful_parts (item ∷ items) lawful in
+    let each = both_true (is_item item) (list_all is_item items) l.each in
+    let order = both_true (list_all (λ other. is_before item.name other.name) items) (are_ascending items) l.ascending in
+    (each.0, lawful_from items (record { few = omega (arith, l.few); each = each.1; ascending = order.1 }))
 
 -- what is left after the first entry
 pub record IsStep (count left : ℕ) (bytes : List ℕ) (item : Item) (after : List ℕ) : Type 0 where

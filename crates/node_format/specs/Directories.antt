@@ -1,11 +1,10 @@
--- The bytes of a directory node, and how they are read; numbers are little-endian.
-use Rattle.std.specs.Prelude.{◌≡◌, ℕ, zero, suc, ◌+◌, ◌==◌, Bool, true, false, nat_lt, nat_le, Option, Some, None, List, [], ◌∷◌, ◌++◌, length, take, drop, replicate, unwrap_or, codes, if◌then◌else◌}
+-- The spelling of a directory's entries, and how they are read; numbers are little-endian.
+use Rattle.std.specs.Prelude.{◌≡◌, ℕ, zero, suc, ◌==◌, Bool, true, false, nat_lt, nat_le, Option, Some, None, List, [], ◌∷◌, ◌++◌, length, take, drop, if◌then◌else◌}
 use Rattle.std.specs.Option.{option_map_or}
 use Rattle.std.specs.List.{flat_map}
 use Rattle.byteorder.specs.Endian.{little_number, little_bytes}
-use Rattle.fs_types.specs.declared.limits.TheConstants.{MAX_ENTRIES, MAX_FILE_BYTES}
+use Rattle.fs_types.specs.declared.limits.TheConstants.{NODE_ENTRIES, MAX_FILE_BYTES}
 use Rattle.fs_types.specs.Names.{Name, is_name}
-use Rattle.node_format.specs.Headers.{field, directory_header, directory_magic}
 use Rattle.node_format.specs.Items.{Item, is_before, are_entries}
 use Rattle.node_format.specs.declared.places.Place.{Place}
 use Rattle.node_format.specs.declared.places.Place.TheVariants.{Dir, File}
@@ -32,17 +31,6 @@ item_bytes item = (kind_of item.place ∷ length item.name ∷ []) ++ (item.name
 -- the spelling of entries, one after the other
 abbrev pub items_bytes : List Item → List ℕ
 items_bytes items = flat_map item_bytes items
-
--- the spelling of a directory: magic, count of entries, used bytes, four bytes that are not looked at, entries
-abbrev pub directory_bytes : List ℕ → List Item → List ℕ
-directory_bytes unread items = codes "UFND" ++ (little_bytes 4 (length items) ++ (little_bytes 4 (length (items_bytes items)) ++ (unread ++ items_bytes items)))
-
--- the bytes are those of a directory with these entries
-pub record IsDirectory (bytes : List ℕ) (items : List Item) : Type 0 where
-  pub lawful : are_entries items ≡ true
-  pub unread : List ℕ
-  pub four : length unread ≡ 4
-  pub spelling : bytes ≡ directory_bytes unread items
 
 -- a step of reading that follows one that found something
 infixl 10 ◌>>=◌
@@ -91,21 +79,14 @@ unfoldable pub are_filled : ℕ → Name → List ℕ → Bool
 are_filled zero before bytes = length bytes == 0
 are_filled (suc count) before bytes = option_map_or (λ read. if is_before before read.0.name then are_filled count read.0.name read.1 else false) (item_at bytes) false
 
--- the entries of the directory whose header says so many entries and used bytes
+-- the entries of the node whose header says so many entries and used bytes
 unfoldable pub entries_at : ℕ → ℕ → List ℕ → Option (List Item)
 entries_at count used bytes =
-    if nat_lt MAX_ENTRIES count then None
+    if nat_lt NODE_ENTRIES count then None
     else if used == length bytes then (if are_filled count [] bytes then Some (items_at count bytes) else None)
     else None
 
--- the entries of the directory that the bytes spell
-unfoldable pub directory_at : List ℕ → Option (List Item)
-directory_at bytes =
-    if nat_lt (length bytes) directory_header then None
-    else if field bytes 0 == directory_magic then entries_at (field bytes 4) (field bytes 8) (drop directory_header bytes)
-    else None
-
--- the entries of a directory, so many, and their spelling
+-- entries of a directory, so many, and their spelling
 pub record AreSpelled (count : ℕ) (bytes : List ℕ) (items : List Item) : Type 0 where
   pub lawful : are_entries items ≡ true
   pub counted : length items ≡ count

@@ -1,9 +1,9 @@
--- How the entries of a directory lie around a name, and a directory with one entry changed.
-use Rattle.std.specs.Prelude.{◌≡◌, ℕ, ◌-◌, true, length, take, replicate, Option, Some, None, List, [], ◌∷◌, ◌++◌, if◌then◌else◌}
+-- How entries lie around a name, and entries with one of them changed.
+use Rattle.std.specs.Prelude.{◌≡◌, ℕ, ◌+◌, ◌-◌, true, length, take, Option, Some, None, List, [], ◌∷◌, ◌++◌, if◌then◌else◌}
 use Rattle.std.specs.List.{list_all}
 use Rattle.fs_types.specs.Names.{Name, same_name}
-use Rattle.node_format.specs.Items.{Item, is_before, named}
-use Rattle.node_format.specs.Directories.{items_at, directory_at, directory_bytes, AreSpelled}
+use Rattle.node_format.specs.Items.{Item, is_before, are_entries, named}
+use Rattle.node_format.specs.Directories.{items_at, AreSpelled}
 use Rattle.node_format.specs.declared.places.Place.{Place}
 
 -- the bytes before the others are the spelling of so many entries
@@ -21,10 +21,15 @@ pub record IsSplit (items : List Item) (name : Name) (front : List Item) (found 
   pub before : list_all (λ item. is_before item.name name) front ≡ true
   pub after : list_all (λ item. is_before name item.name) back ≡ true
 
--- the bytes are a directory in which the name leads to the place, or nowhere, and all others lead where they did
-pub record IsEdited (old : List Item) (name : Name) (place : Option Place) (bytes : List ℕ) : Type 0 where
-  pub items : List Item
-  pub spelled : directory_at bytes ≡ Some items
-  -- the one spelling that is written: four zero bytes where nothing is looked at
-  pub written : bytes ≡ directory_bytes (replicate 4 0) items
-  pub leads : (other : Name) → named items other ≡ (if same_name name other then place else named old other)
+-- how many entries there are then: one more where a missing name is put, one fewer where the name goes
+abbrev pub edited_count : Option Place → Option Place → ℕ → ℕ
+edited_count None None count = count
+edited_count None (Some place) count = count + 1
+edited_count (Some was) None count = count - 1
+edited_count (Some was) (Some place) count = count
+
+-- the new entries are a directory's; the name leads to the place, or nowhere, and all others lead where they did
+pub record IsEdited (old : List Item) (name : Name) (place : Option Place) (new : List Item) : Type 0 where
+  pub lawful : are_entries new ≡ true
+  pub counted : length new ≡ edited_count (named old name) place (length old)
+  pub leads : (other : Name) → named new other ≡ (if same_name name other then place else named old other)

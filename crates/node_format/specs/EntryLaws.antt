@@ -1,99 +1,25 @@
--- What is true of the entries of each directory.
-use Rattle.std.proofs.Common.{◌≡◌, ℕ, zero, suc, ◌<◌, Bool, true, false, cond, eqb, ltb, ◌⊎◌, inl, inr, List, [], ◌∷◌, length, drop, Option, Some, None, refl, sym, ap, subst, ◌∙◌, arith}
+-- What is true of the names of entries that ascend.
+use Rattle.std.proofs.Common.{◌≡◌, ℕ, zero, suc, ◌<◌, Bool, true, false, cond, ◌⊎◌, inl, inr, List, [], ◌∷◌, length, Option, Some, refl, sym, ap, subst, ◌∙◌, arith}
 use Rattle.std.specs.Prelude.{Contains, slice_index_or, nat_eq}
-use Rattle.std.specs.Option.{option_map_or}
 use Rattle.std.specs.List.{list_all}
 use Rattle.std.specs.Ordering.{is_lt}
 use Rattle.std.proofs.lemmas.Bool.{eqb-true, eq-eqb}
 use Rattle.std.proofs.lemmas.Cmp.{nat_list_cmp_total, tied_itself}
 use Rattle.fs_types.specs.Names.{Name, same_name}
-use Rattle.node_format.specs.Headers.{field, directory_magic}
 use Rattle.node_format.specs.Items.{Item, is_before, are_ascending, named}
-use Rattle.node_format.specs.Directories.{item_at, items_at, are_filled, entries_at, directory_at}
-use Rattle.node_format.specs.Order.{both_true, and_true, all_after}
+use Rattle.node_format.specs.Order.{both_true, and_true}
 use Rattle.node_format.specs.declared.places.Place.{Place}
-
--- a test that let through
-passed : {A : Type 0} (b : Bool) (r : Option A) (y : A) → cond b r None ≡ Some y → (b ≡ true) × (r ≡ Some y)
-passed true r y e = (refl, e)
-passed false r y e = absurd cc
-
--- a test that did not refuse
-not_refused : {A : Type 0} (b : Bool) (r : Option A) (y : A) → cond b None r ≡ Some y → (b ≡ false) × (r ≡ Some y)
-not_refused true r y e = absurd cc
-not_refused false r y e = (refl, e)
-
-kept_true : (b c : Bool) → cond b c false ≡ true → (b ≡ true) × (c ≡ true)
-kept_true true c e = (refl, e)
-kept_true false c e = absurd cc
 
 -- which way a test went
 chosen : {A : Type 0} (b : Bool) (x y z : A) → cond b x y ≡ z → ((b ≡ true) × (x ≡ z)) ⊎ ((b ≡ false) × (y ≡ z))
 chosen true x y z e = inl (refl, e)
 chosen false x y z e = inr (refl, e)
 
-abbrev some_items : List Item → Option (List Item)
-some_items items = Some items
-
-items_are : (xs ys : List Item) → some_items xs ≡ some_items ys → xs ≡ ys
-items_are xs ys e = cc
-
 abbrev some_place : Place → Option Place
 some_place place = Some place
 
 place_is : (x y : Place) → some_place x ≡ some_place y → x ≡ y
 place_is x y e = cc
-
--- the parts of a directory that was read
-record IsRead (bytes : List ℕ) (items : List Item) : Type 0 where
-  magic : field bytes 0 ≡ directory_magic
-  filled : are_filled (field bytes 4) [] (drop 16 bytes) ≡ true
-  read : items_at (field bytes 4) (drop 16 bytes) ≡ items
-
-read_parts : (bytes : List ℕ) (items : List Item) → directory_at bytes ≡ Some items → IsRead bytes items
-unfolding directory_at entries_at
-read_parts bytes items e =
-    let rest = drop 16 bytes in
-    let a = not_refused (ltb (length bytes) 16) _ items e in
-    let b = passed (eqb (field bytes 0) directory_magic) _ items a.1 in
-    let c = not_refused (ltb 32 (field bytes 4)) _ items b.1 in
-    let d = passed (eqb (field bytes 8) (length rest)) _ items c.1 in
-    let f = passed (are_filled (field bytes 4) [] rest) (Some (items_at (field bytes 4) rest)) items d.1 in
-    record { magic = eqb-true _ _ b.0; filled = f.0; read = items_are (items_at (field bytes 4) rest) items f.1 }
-
--- a directory has the magic of one
-pub directory_at-magic : (bytes : List ℕ) (items : List Item) → directory_at bytes ≡ Some items → field bytes 0 ≡ directory_magic
-directory_at-magic bytes items e = (read_parts bytes items e).magic
-
--- entries in order after a name
-record Ascend (before : Name) (items : List Item) : Type 0 where
-  after : list_all (λ other. is_before before other.name) items ≡ true
-  ascending : are_ascending items ≡ true
-
-filled_ascend : (count : ℕ) (before : Name) (bytes : List ℕ) → are_filled count before bytes ≡ true → Ascend before (items_at count bytes)
-unfolding are_filled items_at
-filled_ascend zero before bytes e = record { after = refl; ascending = refl }
-filled_ascend (suc count) before bytes e = on (item_at bytes) e (λ b after. filled_ascend count b after)
-  where
-    on : (read : Option (Item × List ℕ)) → option_map_or (λ x. cond (is_before before x.0.name) (are_filled count x.0.name x.1) false) read false ≡ true
-        → ((b : Name) (after : List ℕ) → are_filled count b after ≡ true → Ascend b (items_at count after))
-        → Ascend before (option_map_or (λ x. x.0 ∷ items_at count x.1) read [])
-    on None filled again = absurd cc
-    on (Some x) filled again =
-        let g = kept_true (is_before before x.0.name) (are_filled count x.0.name x.1) filled in
-        let others = again x.0.name x.1 g.1 in
-        record {
-          after = and_true _ _ g.0 (all_after before x.0.name (items_at count x.1) g.0 others.after);
-          ascending = and_true _ _ others.after others.ascending;
-        }
-
--- the names of a directory ascend
-pub directory_at-ascending : (bytes : List ℕ) (items : List Item) → directory_at bytes ≡ Some items → are_ascending items ≡ true
-directory_at-ascending bytes items e =
-    let parts = read_parts bytes items e in
-    ap are_ascending (sym parts.read) ∙ (filled_ascend (field bytes 4) [] (drop 16 bytes) parts.filled).ascending
-
--- ---- names
 
 pub same_name-true : (a b : Name) → same_name a b ≡ true → a ≡ b
 same_name-true [] [] e = refl

@@ -1,5 +1,5 @@
 -- The entries of a directory: names in byte order, each with what it names.
-use Rattle.std.specs.Prelude.{ℕ, ◌+◌, ◌^◌, Bool, true, false, ◌&&◌, nat_lt, nat_le, Option, Some, None, List, [], ◌∷◌, ◌++◌, length, if◌then◌else◌}
+use Rattle.std.specs.Prelude.{◌^◌, Bool, true, false, ◌&&◌, nat_lt, nat_le, Option, Some, None, List, [], ◌∷◌, length, if◌then◌else◌}
 use Rattle.std.specs.List.{list_all}
 use Rattle.std.specs.Ordering.{is_lt}
 use Rattle.fs_types.specs.declared.limits.TheConstants.{MAX_ENTRIES, MAX_FILE_BYTES}
@@ -34,7 +34,7 @@ abbrev pub are_ascending : List Item → Bool
 are_ascending [] = true
 are_ascending (item ∷ items) = list_all (λ other. is_before item.name other.name) items && are_ascending items
 
--- the entries of a directory: at most 32, each lawful, in strict byte order
+-- the entries of a directory: at most 1,024, each lawful, in strict byte order
 abbrev pub are_entries : List Item → Bool
 are_entries items = nat_le (length items) MAX_ENTRIES && (list_all is_item items && are_ascending items)
 

@@ -5,3 +5,4 @@ pub mod Directories
 pub mod Edits
 pub mod Order
 pub mod EntryLaws
+pub mod Links

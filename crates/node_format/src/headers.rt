@@ -2,13 +2,16 @@ ghost use Rattle.std.specs.Prelude.{◌≡◌, ◌≤◌, length, take};
 ghost use Rattle.node_format.specs.Headers as spec;
 
 use byteorder::{ByteOrder, LittleEndian};
-use fs_types::MAX_ENTRIES;
+use fs_types::NODE_ENTRIES;
 
 /// The magic of a body node, `UFNB`.
 const BODY_MAGIC: u32 = 0x424e_4655;
 
-/// The magic of a directory node, `UFND`.
+/// The magic of a node of a directory that stands alone, `UFND`.
 pub(crate) const DIRECTORY_MAGIC: u32 = 0x444e_4655;
+
+/// The magic of a node of a directory's chain, `UFNE`.
+pub(crate) const CHAIN_MAGIC: u32 = 0x454e_4655;
 
 /// The bytes of the header of a body node, before its data.
 pub const BODY_HEADER: u32 = 80;
@@ -16,11 +19,11 @@ pub const BODY_HEADER: u32 = 80;
 /// The slots of a body node, each for a pointer to a node before it.
 pub const SLOTS: usize = 16;
 
-/// The bytes of the header of a directory node, before its entries.
+/// The bytes of the header of a node of a directory, before its entries.
 const DIRECTORY_HEADER: u32 = 16;
 
-/// The most entries of a directory.
-pub(crate) const MOST_ENTRIES: u32 = MAX_ENTRIES as u32;
+/// The most entries of a node of a directory.
+pub(crate) const MOST_ENTRIES: u32 = NODE_ENTRIES as u32;
 
 /// The size in bytes of the node whose first bytes are given, or None where its header is not well
 /// formed. Only the first 16 bytes are looked at.
@@ -40,6 +43,9 @@ pub fn node_size(block_bytes: u32, header: &[u8]) -> Option<u32>
     if magic == DIRECTORY_MAGIC {
         return directory_size(block_bytes, count, used);
     }
+    if magic == CHAIN_MAGIC {
+        return directory_size(block_bytes, count, used);
+    }
     None
 }
 
@@ -55,7 +61,7 @@ fn body_size(block_bytes: u32, used: u32) -> Option<u32>
     Some(BODY_HEADER + used)
 }
 
-/// A directory node has at most 32 entries, and fits in its block.
+/// A node of a directory has at most 32 entries, and fits in its block.
 fn directory_size(block_bytes: u32, count: u32, used: u32) -> Option<u32>
     requires least { 4096 ≤ block_bytes }
     requires most { block_bytes ≤ 262144 }

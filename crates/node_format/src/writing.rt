@@ -1,43 +1,85 @@
-//! The bytes of a directory node with one entry changed.
-ghost use Rattle.std.specs.Prelude.{◌≡◌, ℕ, ◌+◌, ◌^◌, ◌<◌, ◌≤◌, [], ◌++◌, length, true, codes, replicate, Some, None, OnOk, IfOk};
+//! A list of entries of its own, and a list with one entry changed.
+ghost use Rattle.std.specs.Prelude.{◌≡◌, ◌+◌, ◌^◌, ◌<◌, ◌≤◌, [], ◌++◌, length, true, Some, None, OnOk, OnErr, IfOk};
 ghost use Rattle.byteorder.specs.Endian.{little_bytes};
 ghost use Rattle.fs_types.specs.declared.limits.TheConstants.{MAX_ENTRIES};
 ghost use Rattle.fs_types.specs.Names.{is_name};
-ghost use Rattle.node_format.specs.Headers.{IsNode};
-ghost use Rattle.node_format.specs.Items.{is_place, named};
-ghost use Rattle.node_format.specs.Directories as spec;
-ghost use Rattle.node_format.specs.Directories.{item_bytes, kind_of, head_of, size_of, IsDirectory, directory_at};
+ghost use Rattle.node_format.specs.Items.{is_place, are_ascending, named};
+ghost use Rattle.node_format.specs.Directories.{item_bytes, kind_of, head_of, size_of};
 ghost use Rattle.node_format.specs.Edits.{IsEdited};
 
-use crate::entries::{Entries, Split};
+use crate::entry_lists::{EntryList, Split};
 use crate::places::Place;
 use byteorder::{ByteOrder, LittleEndian};
 use std::alloc::{AllocError, Global};
+use std::marker::Model;
 
-/// The bytes of a directory without entries.
-pub const fn empty_directory() -> [u8; 16]
-    ensures spelled { IsDirectory result [] }
-    ensures written { result ≡ spec.directory_bytes (replicate 4 0) [] }
-    ensures read { directory_at result ≡ Some [] }
-    ensures node { (block : ℕ) → 4096 ≤ block → IsNode block result }
-{
-    *b"UFND\0\0\0\0\0\0\0\0\0\0\0\0"
+/// Entries of a directory, at most 1,024, in byte order of their names, with the bytes that spell
+/// them.
+#[derive(Drop)]
+pub struct Spelled {
+    count: u32,
+    bytes: Vec<u8>,
 }
 
-impl<'a> Entries<'a> {
-    /// The bytes of the directory with a name put: added in its place in the order, or, where it is
-    /// there already, leading to another place.
+impl Model for Spelled {
+    ghost use Rattle.std.specs.Prelude.{List};
+    ghost use Rattle.node_format.specs.Items.{Item};
+    ghost use Rattle.node_format.specs.Directories.{items_at, AreSpelled};
+
+    ghost Value = { List Item };
+
+    ghost view = { λ s. items_at s.count s.bytes.items };
+
+    ghost invariant = { λ s. AreSpelled s.count s.bytes.items (items_at s.count s.bytes.items) };
+}
+
+impl Spelled {
+    /// No entries.
+    pub fn new(alloc: Global) -> Self
+        ensures { result ≡ [] }
+    {
+        Spelled {
+            count: 0,
+            bytes: Vec::new(alloc),
+        }
+    }
+
+    /// The entries, lent.
+    pub fn list(&self) -> EntryList<'_>
+        ensures { result ≡ self.now }
+    {
+        EntryList {
+            count: self.count,
+            bytes: &self.bytes,
+        }
+    }
+
+    /// Puts entries after these, whose names all come before theirs. Where memory is short these stay.
+    pub fn extend(&mut self, list: &EntryList<'_>) -> Result<(), AllocError>
+        requires few { length self.old + length list.now ≤ MAX_ENTRIES }
+        requires ordered { are_ascending (self.old ++ list.now) ≡ true }
+        ensures added { OnOk result (self.new ≡ self.old ++ list.now) }
+        ensures kept { OnErr result (self.new ≡ self.old) }
+    {
+        self.bytes.extend_from_slice(list.bytes)?;
+        self.count += list.count;
+        Ok(())
+    }
+}
+
+impl<'a> EntryList<'a> {
+    /// The entries with a name put: added in its place in the order, or, where it is there already,
+    /// leading to another place.
     pub fn with_entry(
         &self,
         alloc: Global,
         name: &[u8],
         place: Place,
-    ) -> Result<Vec<u8>, AllocError>
+    ) -> Result<Spelled, AllocError>
         requires name { is_name name.now ≡ true }
         requires place { is_place place ≡ true }
         requires capacity { named self.now name.now ≡ None → length self.now < MAX_ENTRIES }
-        ensures edited { IfOk result (λ bytes. IsEdited self.now name.now (Some place) bytes.items) }
-        ensures node { IfOk result (λ bytes. (block : ℕ) → 4096 ≤ block → IsNode block bytes.items) }
+        ensures { IfOk result (λ new. IsEdited self.now name.now (Some place) new) }
     {
         let Split {
             front,
@@ -46,13 +88,13 @@ impl<'a> Entries<'a> {
         } = self.split(name);
         let entry = entry_bytes(alloc, name, place)?;
         let count = front.count + (1 + back.count);
-        directory_bytes(alloc, count, front.bytes, &entry, back.bytes)
+        let bytes = joined(alloc, front.bytes, &entry, back.bytes)?;
+        Ok(Spelled { count, bytes })
     }
 
-    /// The bytes of the directory without a name.
-    pub fn without_entry(&self, alloc: Global, name: &[u8]) -> Result<Vec<u8>, AllocError>
-        ensures edited { IfOk result (λ bytes. IsEdited self.now name.now None bytes.items) }
-        ensures node { IfOk result (λ bytes. (block : ℕ) → 4096 ≤ block → IsNode block bytes.items) }
+    /// The entries without a name.
+    pub fn without_entry(&self, alloc: Global, name: &[u8]) -> Result<Spelled, AllocError>
+        ensures { IfOk result (λ new. IsEdited self.now name.now None new) }
     {
         let Split {
             front,
@@ -60,11 +102,12 @@ impl<'a> Entries<'a> {
             back,
         } = self.split(name);
         let count = front.count + back.count;
-        directory_bytes(alloc, count, front.bytes, &[], back.bytes)
+        let bytes = joined(alloc, front.bytes, &[], back.bytes)?;
+        Ok(Spelled { count, bytes })
     }
 }
 
-fn push_number(out: &mut Vec<u8>, number: u32) -> Result<(), AllocError>
+pub(crate) fn push_number(out: &mut Vec<u8>, number: u32) -> Result<(), AllocError>
     ensures { OnOk result (out.new.items ≡ out.old.items ++ little_bytes 4 number) }
 {
     let mut bytes = [0; 4];
@@ -95,23 +138,12 @@ fn fields_of(place: Place) -> (u8, u32, u32)
     }
 }
 
-/// The bytes of a directory of so many entries, whose bytes come in three parts.
-fn directory_bytes(
-    alloc: Global,
-    count: u32,
-    front: &[u8],
-    middle: &[u8],
-    back: &[u8],
-) -> Result<Vec<u8>, AllocError>
+/// Bytes in three parts.
+fn joined(alloc: Global, front: &[u8], middle: &[u8], back: &[u8]) -> Result<Vec<u8>, AllocError>
     requires { length front.now + (length middle.now + length back.now) < 2 ^ 32 }
-    ensures { IfOk result (λ v. v.items ≡ codes "UFND" ++ (little_bytes 4 count ++ (little_bytes 4 (length front.now + (length middle.now + length back.now)) ++ (replicate 4 0 ++ (front.now ++ (middle.now ++ back.now)))))) }
+    ensures { IfOk result (λ v. v.items ≡ front.now ++ (middle.now ++ back.now)) }
 {
-    let used = front.len() + (middle.len() + back.len());
-    let mut out = Vec::with_capacity(alloc, 16 + used)?;
-    out.extend_from_slice(b"UFND")?;
-    push_number(&mut out, count)?;
-    push_number(&mut out, used as u32)?;
-    push_number(&mut out, 0)?;
+    let mut out = Vec::with_capacity(alloc, front.len() + (middle.len() + back.len()))?;
     out.extend_from_slice(front)?;
     out.extend_from_slice(middle)?;
     out.extend_from_slice(back)?;

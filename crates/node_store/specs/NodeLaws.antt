@@ -12,7 +12,7 @@ use Rattle.flash_model.specs.declared.sizes.Geometry.{Geometry}
 use Rattle.flash_model.specs.Geometry.{block_bytes, IsGeometry, is_page_size}
 use Rattle.flash_model.specs.Device.{Device, Page, bytes_of, erased, unreadable, block_of}
 use Rattle.flash_model.specs.Blocks.{block_of-at}
-use Rattle.node_format.specs.Headers.{node_size, IsNode, field, body_magic, directory_magic, body_size, directory_size}
+use Rattle.node_format.specs.Headers.{node_size, IsNode, field, body_magic, directory_magic, chain_magic, body_size, directory_size}
 use Rattle.node_store.specs.NodePages.{first_data, and_page, joined, pages_for, size_in, bytes_at, node_at, page_bytes, HasPages, HoldsNode, node_of}
 
 -- a node has at least its header, and fits in its block
@@ -58,6 +58,7 @@ abbrev size_by : ℕ → ℕ → ℕ → ℕ → Option ℕ
 size_by block magic count used =
     if magic == body_magic then body_size block used
     else if magic == directory_magic then directory_size block count used
+    else if magic == chain_magic then directory_size block count used
     else None
 
 node_size-take : (block m : ℕ) (xs : List ℕ) → 12 ≤ m → node_size block (take m xs) ≡ node_size block xs
@@ -69,7 +70,8 @@ node_size-take block m xs h =
 pub size_within : (block size : ℕ) (bytes : List ℕ) → node_size block bytes ≡ Some size → IsWithin block size
 size_within block size bytes h =
     either (field bytes 0 == body_magic) _ _ size h (body_within block (field bytes 8) size)
-    (λ rest. directory_within block (field bytes 4) (field bytes 8) size (if_some (field bytes 0 == directory_magic) _ size rest).1)
+    (λ rest. either (field bytes 0 == directory_magic) _ _ size rest (directory_within block (field bytes 4) (field bytes 8) size)
+    (λ last. directory_within block (field bytes 4) (field bytes 8) size (if_some (field bytes 0 == chain_magic) _ size last).1))
 
 -- a longer list that begins alike has the same size
 node_size-append : (block : ℕ) (xs ys : List ℕ) → 12 ≤ length xs → node_size block (xs ++ ys) ≡ node_size block xs

@@ -10,7 +10,7 @@ use Rattle.flash_model.specs.Geometry.{IsGeometry, block_bytes}
 use Rattle.flash_model.specs.Blocks.{block_of-at}
 use Rattle.node_store.specs.NodePages.{page_bytes, pages_for}
 use Rattle.node_store.specs.NodeLaws.{has_room, pages_for-most}
-use Rattle.node_store.specs.Writing.{has_data, IsInOrder, IsUnerased, IsFilledInOrder, WritesBlock, IsWriting}
+use Rattle.node_store.specs.Writing.{has_data, IsInOrder, IsFilledInOrder, WritesBlock, IsWriting}
 
 -- before the first program
 pub IsWriting_start : (d : Device) (b : ℕ) (bytes : List ℕ)

@@ -113,6 +113,8 @@ const LONG_RECORD: &[&str] = &[
     "checkpoint a-name-that-takes-31-bytes-no-6",
 ];
 
+const THOUSAND_ENTRIES: &[&str] = &["wide 1000"];
+
 /// What is done before a mount that is measured.
 pub const SYNCED_DIRECTORIES: &[&str] = &["deep 4", "sync"];
 
@@ -242,6 +244,42 @@ pub const MEASURES: &[Measure] = &[
         name: "pread of 1 MiB, a second time",
         before: &["open /f 7", "fill 1048576", "pread 0 0 1048576"],
         call: "pread 0 0 1048576",
+        nodes: 0,
+    },
+    Measure {
+        name: "mkdir in a directory of 1,000 entries",
+        before: THOUSAND_ENTRIES,
+        call: "mkdir /a",
+        nodes: 33,
+    },
+    Measure {
+        name: "mkdir below the first of 1,000 entries",
+        before: THOUSAND_ENTRIES,
+        call: "mkdir /1000/a",
+        nodes: 34,
+    },
+    Measure {
+        name: "mkdir below the last of 1,000 entries",
+        before: THOUSAND_ENTRIES,
+        call: "mkdir /1999/a",
+        nodes: 34,
+    },
+    Measure {
+        name: "stat of the first of 1,000 entries",
+        before: THOUSAND_ENTRIES,
+        call: "stat /1000",
+        nodes: 0,
+    },
+    Measure {
+        name: "stat of the last of 1,000 entries",
+        before: THOUSAND_ENTRIES,
+        call: "stat /1999",
+        nodes: 0,
+    },
+    Measure {
+        name: "ls of a directory of 1,000 entries",
+        before: THOUSAND_ENTRIES,
+        call: "ls /",
         nodes: 0,
     },
     Measure {

@@ -27,7 +27,8 @@ pub fn formatted(alloc: Global) -> Result<SimFlash, MeasureError> {
 /// flash since it was made.
 ///
 /// A line is one of a script, or `fill N`, which writes N bytes at the start of descriptor 0, `deep N`,
-/// which makes N directories `a`, each in the one before, or `cold`, which forgets the nodes in memory.
+/// which makes N directories `a`, each in the one before, `wide N`, which makes N directories in the
+/// root, named by numbers from 1000 on, or `cold`, which forgets the nodes in memory.
 pub fn counts_after(
     alloc: Global,
     flash: &mut SimFlash,
@@ -61,6 +62,9 @@ fn carry_out(
     }
     if let Some(depth) = number_after(line, "deep ") {
         return make_directories(alloc, system, depth);
+    }
+    if let Some(count) = number_after(line, "wide ") {
+        return make_siblings(alloc, system, count);
     }
     let call = call_of(alloc, line, number)?;
     ask(alloc, system, &call)
@@ -111,6 +115,19 @@ fn make_directories(
     for _ in 0..depth {
         text.push_str("/a")?;
         make_directory(alloc, system, text.as_str())?;
+    }
+    Ok(())
+}
+
+/// Makes so many directories in the root, named by numbers from 1000 on.
+fn make_siblings(
+    alloc: Global,
+    system: &mut Fs<'_, SimFlash>,
+    count: usize,
+) -> Result<(), MeasureError> {
+    for number in 1_000..count.saturating_add(1_000) {
+        let path = format!(in alloc; "/{number}")?;
+        make_directory(alloc, system, path.as_str())?;
     }
     Ok(())
 }

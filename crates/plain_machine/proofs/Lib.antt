@@ -1,4 +1,5 @@
 pub mod Beneath
 pub mod Entries
 pub mod Restored
+pub mod Sums
 pub mod Ways

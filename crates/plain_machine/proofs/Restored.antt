@@ -1,10 +1,11 @@
 -- Parts that were looked at make a history, as it is kept in memory.
-use Rattle.std.proofs.Common.{◌≡◌, ℕ, ◌<◌, ◌≤◌, Bool, true, false, List, [], ◌∷◌, length, refl, sym, subst, arith, leb, ltb}
+use Rattle.std.proofs.Common.{◌≡◌, ℕ, ◌<◌, Bool, true, false, List, [], ◌∷◌, length, refl, sym, subst, arith, leb}
 use Rattle.std.proofs.lemmas.Bool.{ltb-true, leb-true}
 use Rattle.std.proofs.lemmas.List.Elements.{All-nil, All-cons, All-weaker}
 use Rattle.std.proofs.lemmas.List.Kept.{AllPairs-cons}
-use Rattle.std.specs.Prelude.{nat_lt, nat_le, ◌&&◌, All, AllPairs}
+use Rattle.std.specs.Prelude.{nat_lt, ◌&&◌, All, AllPairs}
 use Rattle.std.specs.List.{list_all}
+use Rattle.fs_types.specs.declared.limits.TheConstants.{MIN_VERSIONS, MAX_VERSIONS}
 use Rattle.fs_types.specs.declared.calls.Version.{Version}
 use Rattle.history.specs.Kept.{IsKept}
 use Rattle.history_machine.specs.History.{Past}
@@ -42,7 +43,7 @@ kept_of p h =
     let a = both_true _ (leb (length p.checkpoints) 16) parts.0 in
     let b = both_true _ (nat_lt p.cursor (length p.versions)) a.0 in
     let c = both_true _ (leb (length p.versions) p.limit) b.0 in
-    let d = both_true (leb 2 p.limit) (leb p.limit 64) c.0 in
+    let d = both_true (leb MIN_VERSIONS p.limit) (leb p.limit MAX_VERSIONS) c.0 in
     record {
       lawful = record {
         some_limit = leb-true _ _ d.0;

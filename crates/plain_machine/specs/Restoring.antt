@@ -15,7 +15,7 @@ abbrev pub serials_ascend : ℕ → List (Version Tree) → Bool
 serials_ascend before [] = true
 serials_ascend before (version ∷ versions) = nat_lt before version.serial && serials_ascend version.serial versions
 
--- the limit is 2 to 64, there are no more versions than that, one of them is present, and there are at most 16 checkpoints
+-- the limit is 2 to 128, there are no more versions than that, one of them is present, and there are at most 16 checkpoints
 abbrev pub has_counts : Past Tree → Bool
 has_counts p =
     nat_le MIN_VERSIONS p.limit && nat_le p.limit MAX_VERSIONS && nat_le (length p.versions) p.limit && nat_lt p.cursor (length p.versions)

@@ -6,6 +6,7 @@ mod groups;
 mod machines;
 mod maps;
 mod names;
+mod needs;
 mod nodes;
 mod parts;
 mod refusals;

@@ -1,5 +1,5 @@
 //! The machine, and its step.
-ghost use Rattle.std.specs.Prelude.{◌≡◌, ◌≤◌, true, false, Some, None, IfOk, IfErr, IsErrOf, OnOk, OnErr};
+ghost use Rattle.std.specs.Prelude.{◌≡◌, ◌<◌, ◌≤◌, min, true, false, Some, None, IfOk, IfErr, IsErrOf, OnOk, OnErr};
 ghost use Rattle.plain_trees.specs.Trees.{bare};
 ghost use Rattle.history_machine.specs.History.{fresh};
 ghost use Rattle.history_machine.specs.Machine as machine;
@@ -11,6 +11,7 @@ ghost use Rattle.plain_machine.specs.Spaces.{space_of};
 ghost use Rattle.history_machine.specs.Machine.{machine_with};
 
 use crate::groups::adopt;
+use crate::needs::change_need;
 use crate::parts::history_of;
 use crate::refusals::refusal;
 use crate::spaces::Space;
@@ -19,7 +20,7 @@ use crate::{effects, replies};
 use fs_types::{Call, CpName, Fault, Group, Reply, Version};
 use history::History;
 use open_files::OpenFiles;
-use std::alloc::Global;
+use std::alloc::{AllocError, Global};
 use std::collections::BTreeMap;
 use std::marker::Model;
 
@@ -44,7 +45,7 @@ impl Model for PlainMachine {
 }
 
 impl PlainMachine {
-    /// A fresh system, which keeps `limit` versions, 2 to 64. The only error is [`Fault::NoMemory`].
+    /// A fresh system, which keeps `limit` versions, 2 to 128. The only error is [`Fault::NoMemory`].
     pub fn new(alloc: Global, limit: usize) -> Result<PlainMachine, Fault>
         requires low { 2 ≤ limit }
         requires high { limit ≤ MAX_VERSIONS }
@@ -59,7 +60,7 @@ impl PlainMachine {
     }
 
     /// A system with a history of these parts, and no open file. [`Fault::Invalid`] where no system
-    /// may keep it: `limit` is 2 to 64, there are no more versions than that, their serials ascend from
+    /// may keep it: `limit` is 2 to 128, there are no more versions than that, their serials ascend from
     /// 1 on below the next one, `cursor` is the place of one of them, and there are at most 16
     /// checkpoints. Else [`Fault::NoMemory`].
     pub fn restore(
@@ -105,6 +106,29 @@ impl PlainMachine {
             space,
             call,
         )
+    }
+
+    /// How many nodes a call may write on a flash, where a node of a file's body has room for so many
+    /// data bytes, one at least; the greatest `u64` where it is more.
+    pub fn need(&self, alloc: Global, capacity: u64, call: &Call) -> Result<u64, AllocError>
+        requires { 0 < capacity }
+        ensures { IfOk result (λ nodes. nodes ≡ min (machine.need capacity self.now call.now) u64.MAX) }
+    {
+        if refusal(&self.history, &self.group, &self.files, call).is_some() {
+            return Ok(0);
+        }
+        let Some(after) = effects::tree_after(alloc, &self.history, &self.group, &self.files, call)?
+        else {
+            return Ok(0);
+        };
+        Ok(change_need(
+            &self.history,
+            &self.group,
+            &self.files,
+            &after,
+            capacity,
+            call,
+        ))
     }
 }
 

@@ -87,7 +87,7 @@ impl Tree {
         maps::count_children(&self.nodes, path)
     }
 
-    /// Whether a directory has 32 entries or more.
+    /// Whether a directory has as many entries as it may, or more.
     pub fn is_full(&self, path: &[Name]) -> bool
         ensures { result ≡ tree.is_full self.now path.now }
     {

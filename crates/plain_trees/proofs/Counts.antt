@@ -122,6 +122,16 @@ count-swap t s p q j k old among =
     either n (inl is) = inl is
     either n (inr f) = inr (ap is_some (get-remove names_total (directory s q) j n ∙ cond-false _ _ _ (apart-tied n j f.0)) ∙ in-directory s q n ∙ f.1)
 
+-- one entry more than another directory has
+pub count-grows : (s t : Tree) (q p : Path) (k : Name) → Has t p k → ((n : Name) → Has s q n → (n ≢ k) × Has t p n) → entry_count s q + 1 ≤ entry_count t p
+count-grows s t q p k there among =
+    let m : FinMap name_cmp Bool = remove (directory t p) k in
+    let few : entry_count s q ≤ len m = count-within s q m (λ n has. ap is_some (get-remove names_total (directory t p) k n ∙ cond-false _ _ _ (apart-tied n k (among n has).0)) ∙ in-directory t p n ∙ (among n has).1) in
+    let has : contains_key (directory t p) k ≡ true = in-directory t p k ∙ there in
+    let some : len (directory t p) ≢ 0 = not-empty (directory t p) k has in
+    let fewer : len m ≡ len (directory t p) - 1 = len-remove names_total (directory t p) k ∙ ap (λ b. cond b (len (directory t p) - 1) (len (directory t p))) has in
+    omega (arith, len-directory t p)
+
 -- a directory without entries has no name
 pub none-in : (t : Tree) (p : Path) (n : Name) → entry_count t p ≡ 0 → get t (p ++ n ∷ []) ≡ None
 none-in t p n e = go (get t (p ++ n ∷ [])) refl

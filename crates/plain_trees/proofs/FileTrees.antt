@@ -11,6 +11,7 @@ use Rattle.fs_types.specs.Names.{Name, Path, is_name, is_path, path_cmp}
 use Rattle.plain_trees.specs.Contents.{Entry, IsTree, Apart, begins, beneath, parent_of, moved_at}
 use Rattle.plain_trees.specs.Contents as plain
 use Rattle.plain_trees.specs.Trees.{Tree, put, remove, move, entry_count, is_full, IsFileTree, is_too_deep}
+use Rattle.fs_types.specs.declared.limits.TheConstants.{MAX_ENTRIES}
 use Rattle.fs_types.proofs.Orders.{path_ties, same_path-is}
 use Rattle.plain_trees.proofs.Beneath.{by_same, by_beneath, beneath-append, None≢Some, same_Some}
 use Rattle.plain_trees.proofs.Edits.{get-put, get-removed, get-moved, move_law}
@@ -77,8 +78,8 @@ not-deep t old new r e there =
     ltb-false 16 (length new + length r) (sym (ap (λ o. option_map_or (λ rest. nat_lt 16 (length new + length rest)) o false) (beneath-append old r)) ∙ test)
 
 -- room in a directory
-has-room : (t : Tree) (p : Path) → is_full t p ≡ false → entry_count t p < 32
-has-room t p e = leb-false 32 (entry_count t p) e
+has-room : (t : Tree) (p : Path) → is_full t p ≡ false → entry_count t p < MAX_ENTRIES
+has-room t p e = leb-false MAX_ENTRIES (entry_count t p) e
 
 pub put-file_tree : (t : Tree) (p : Path) (n : Name) (x : Entry) → IsFileTree t → is_path (p ++ n ∷ []) ≡ true → get t p ≡ Some Entry.Dir
     → ((m : Name) → IsSome (get t (p ++ n ∷ [] ++ m ∷ [])) → x ≡ Entry.Dir) → ((bytes : List ℕ) → x ≡ Entry.File bytes → length bytes ≤ 16777216)
@@ -96,20 +97,20 @@ put-file_tree t p n x tree path parent below short room = record {
     name-of : (q : Path) (m : Name) → here ≡ q ++ m ∷ [] → (p ≡ q) × (n ≡ m)
     name-of q m is = same_from_push p q n m is
 
-    counted : (q : Path) → IsSome (get t here) ⊎ (is_full t p ≡ false) → entry_count (put t here x) q ≤ 32
+    counted : (q : Path) → IsSome (get t here) ⊎ (is_full t p ≡ false) → entry_count (put t here x) q ≤ MAX_ENTRIES
     counted q (inl there) =
         let few : entry_count (put t here x) q ≤ entry_count t q = count-le (put t here x) t q q (λ m. by_put t here x (q ++ m ∷ []) (λ o. IsSome o → Has t q m) (λ is _. subst (λ r. IsSome (get t r)) is there) (λ _ h. h)) in
-        let l : entry_count t q ≤ 32 = tree.entries q in
+        let l : entry_count t q ≤ MAX_ENTRIES = tree.entries q in
         omega arith
-    counted q (inr free) = by_same p q (λ _. entry_count (put t here x) q ≤ 32)
+    counted q (inr free) = by_same p q (λ _. entry_count (put t here x) q ≤ MAX_ENTRIES)
         (λ is.
         let more : entry_count (put t here x) q ≤ entry_count t q + 1 = count-more (put t here x) t q q n (λ m. by_put t here x (q ++ m ∷ []) (λ o. IsSome o → (m ≡ n) ⊎ Has t q m) (λ same _. inl (sym (name-of q m same).1)) (λ _ h. inr h)) in
-        let l : entry_count t p < 32 = has-room t p free in
+        let l : entry_count t p < MAX_ENTRIES = has-room t p free in
         let same : entry_count t p ≡ entry_count t q = ap (entry_count t) is in
         omega arith)
         (λ apart.
         let few : entry_count (put t here x) q ≤ entry_count t q = count-le (put t here x) t q q (λ m. by_put t here x (q ++ m ∷ []) (λ o. IsSome o → Has t q m) (λ same _. absurd (apart (name-of q m same).0)) (λ _ h. h)) in
-        let l : entry_count t q ≤ 32 = tree.entries q in
+        let l : entry_count t q ≤ MAX_ENTRIES = tree.entries q in
         omega arith)
 
 pub remove-file_tree : (t : Tree) (p : Path) → IsFileTree t → 0 < length p → ((n : Name) → get t (p ++ n ∷ []) ≡ None) → IsFileTree (remove t p)
@@ -118,7 +119,7 @@ remove-file_tree t p tree long empty = record {
   paths = λ q. by_remove t p q (λ o. IsSome o → is_path q ≡ true) (λ _ h. absurd (true≢false (sym h))) (λ _. tree.paths q);
   entries = λ q.
       let few : entry_count (remove t p) q ≤ entry_count t q = count-le (remove t p) t q q (λ m. by_remove t p (q ++ m ∷ []) (λ o. IsSome o → Has t q m) (λ _ h. absurd (true≢false (sym h))) (λ _ h. h)) in
-      let l : entry_count t q ≤ 32 = tree.entries q in
+      let l : entry_count t q ≤ MAX_ENTRIES = tree.entries q in
       omega arith;
   lengths = λ q bytes. by_remove t p q (λ o. o ≡ Some (Entry.File bytes) → length bytes ≤ 16777216) (λ _ e. absurd (None≢Some e)) (λ _. tree.lengths q bytes);
 }
@@ -154,28 +155,28 @@ module _ (t : Tree) (p q : Path) (j k : Name) (tree : IsFileTree t) (apart : Apa
   named-new d n is = same_from_push d q n k is
 
   -- no more entries than a directory had
-  kept : (d e : Path) → ((n : Name) → Has left d n → Has t e n) → entry_count left d ≤ 32
+  kept : (d e : Path) → ((n : Name) → Has left d n → Has t e n) → entry_count left d ≤ MAX_ENTRIES
   kept d e among =
       let few : entry_count left d ≤ entry_count t e = count-le left t d e among in
-      let l : entry_count t e ≤ 32 = tree.entries e in
+      let l : entry_count t e ≤ MAX_ENTRIES = tree.entries e in
       omega arith
 
-  below-new : (d s : Path) → d ≡ new ++ s → entry_count left d ≤ 32
+  below-new : (d s : Path) → d ≡ new ++ s → entry_count left d ≤ MAX_ENTRIES
   below-new d s is = kept d (old ++ s) (λ n h. subst IsSome (ap (λ r. get left (r ++ n ∷ [])) is ∙ ap (get left) (append_assoc new s (n ∷ [])) ∙ move_law.moved t old new (s ++ n ∷ []) apart ∙ ap (get t) (sym (append_assoc old s (n ∷ [])))) h)
 
-  below-old : (d s : Path) → d ≡ old ++ s → entry_count left d ≤ 32
+  below-old : (d s : Path) → d ≡ old ++ s → entry_count left d ≤ MAX_ENTRIES
   below-old d s is = kept d d (λ n h. absurd (true≢false (sym h ∙ ap is_some (ap (λ r. get left (r ++ n ∷ [])) is ∙ ap (get left) (append_assoc old s (n ∷ [])) ∙ move_law.gone t old new (s ++ n ∷ []) apart))))
 
-  elsewhere : (d : Path) → beneath new d ≡ None → Room t p q k → entry_count left d ≤ 32
+  elsewhere : (d : Path) → beneath new d ≡ None → Room t p q k → entry_count left d ≤ MAX_ENTRIES
   elsewhere d none (Replaced here) = kept d d (λ n h. stays n (entry-of d n none h))
     where
       stays : (n : Name) → (d ++ n ∷ [] ≡ new) ⊎ ((d ++ n ∷ [] ≢ old) × Has t d n) → Has t d n
       stays n (inl is) = subst (λ r. IsSome (get t r)) (sym is) here
       stays n (inr f) = f.1
-  elsewhere d none (Beside same) = by_same q d (λ _. entry_count left d ≤ 32)
+  elsewhere d none (Beside same) = by_same q d (λ _. entry_count left d ≤ MAX_ENTRIES)
       (λ is.
       let few : entry_count left d ≤ entry_count t d = count-swap left t d d j k (subst (λ r. IsSome (get t (r ++ j ∷ []))) (same ∙ is) there) (λ n h. swapped is n (entry-of d n none h)) in
-      let l : entry_count t d ≤ 32 = tree.entries d in
+      let l : entry_count t d ≤ MAX_ENTRIES = tree.entries d in
       omega arith)
       (λ other. kept d d (λ n h. stays other n (entry-of d n none h)))
     where
@@ -186,10 +187,10 @@ module _ (t : Tree) (p q : Path) (j k : Name) (tree : IsFileTree t) (apart : Apa
       stays : (q ≢ d) → (n : Name) → (d ++ n ∷ [] ≡ new) ⊎ ((d ++ n ∷ [] ≢ old) × Has t d n) → Has t d n
       stays other n (inl e) = absurd (other (sym (named-new d n e).0))
       stays other n (inr f) = f.1
-  elsewhere d none (Free free) = by_same q d (λ _. entry_count left d ≤ 32)
+  elsewhere d none (Free free) = by_same q d (λ _. entry_count left d ≤ MAX_ENTRIES)
       (λ is.
       let more : entry_count left d ≤ entry_count t d + 1 = count-more left t d d k (λ n h. added n (entry-of d n none h)) in
-      let l : entry_count t q < 32 = has-room t q free in
+      let l : entry_count t q < MAX_ENTRIES = has-room t q free in
       let e : entry_count t q ≡ entry_count t d = ap (entry_count t) is in
       omega arith)
       (λ other. kept d d (λ n h. stays other n (entry-of d n none h)))
@@ -209,8 +210,8 @@ module _ (t : Tree) (p q : Path) (j k : Name) (tree : IsFileTree t) (apart : Apa
         (λ r is h. ap is_path is ∙ path-joined new old r path (tree.paths (old ++ r) h) (not-deep t old new r deep h))
         (λ _ r _ h. absurd (true≢false (sym h)))
         (λ _ _. tree.paths d);
-    entries = λ d. by_beneath new d (λ o. beneath new d ≡ o → entry_count left d ≤ 32) (λ s is _. below-new d s is)
-        (λ none _. by_beneath old d (λ _. entry_count left d ≤ 32) (λ s is. below-old d s is) (λ _. elsewhere d none room)) refl;
+    entries = λ d. by_beneath new d (λ o. beneath new d ≡ o → entry_count left d ≤ MAX_ENTRIES) (λ s is _. below-new d s is)
+        (λ none _. by_beneath old d (λ _. entry_count left d ≤ MAX_ENTRIES) (λ s is. below-old d s is) (λ _. elsewhere d none room)) refl;
     lengths = λ d bytes. by_move t old new d (λ o. o ≡ Some (Entry.File bytes) → length bytes ≤ 16777216)
         (λ r _. tree.lengths (old ++ r) bytes)
         (λ _ r _ e. absurd (None≢Some e))

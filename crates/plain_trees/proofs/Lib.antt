@@ -6,4 +6,5 @@ pub mod Files
 pub mod Grafts
 pub mod Listings
 pub mod Lookups
+pub mod Needs
 pub mod Shapes

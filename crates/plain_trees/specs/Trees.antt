@@ -1,11 +1,12 @@
 -- Trees as finite maps from paths, the plain edits of them, and listings.
-use Rattle.std.specs.Prelude.{◌≡◌, ℕ, ◌+◌, ◌≤◌, Bool, true, Option, Some, None, IsSome, List, [], ◌∷◌, ◌++◌, length, false, filter_map, nat_le, nat_lt}
+use Rattle.std.specs.Prelude.{◌≡◌, ℕ, ◌+◌, ◌≤◌, max, Bool, true, Option, Some, None, IsSome, List, [], ◌∷◌, ◌++◌, length, take, sum_by, false, filter_map, nat_le, nat_lt}
+use Rattle.std.specs.Int.{div_ceil}
 use Rattle.std.specs.Option.{option_map_or}
-use Rattle.std.specs.List.{list_any}
+use Rattle.std.specs.List.{list_any, range_with_len}
 use Rattle.std.specs.FinMap as map
 use Rattle.fs_types.specs.Names.{Name, Path, path_cmp, is_path}
 use Rattle.plain_trees.specs.Contents.{Entry, is_dir, beneath, IsTree}
-use Rattle.fs_types.specs.declared.limits.TheConstants.{MAX_NAMES, MAX_ENTRIES, MAX_FILE_BYTES}
+use Rattle.fs_types.specs.declared.limits.TheConstants.{MAX_NAMES, MAX_ENTRIES, NODE_ENTRIES, MAX_FILE_BYTES}
 
 -- a finite map from paths to what stands there
 abbrev pub Tree : Type 0
@@ -56,6 +57,19 @@ entry_count t p = length (children t p)
 -- a directory has as many entries as it may
 abbrev pub is_full : Tree → Path → Bool
 is_full t p = nat_le MAX_ENTRIES (entry_count t p)
+
+-- how many nodes a directory of so many entries has: each but the last is full, and one is there without entries
+abbrev pub nodes_for : ℕ → ℕ
+nodes_for count = max 1 (div_ceil count NODE_ENTRIES)
+
+-- how many nodes the directory at a path has in one tree or in the other: the greater number
+abbrev pub directory_need : Tree → Tree → Path → ℕ
+directory_need t t' p = max (nodes_for (entry_count t p)) (nodes_for (entry_count t' p))
+
+-- how many nodes of directories a change of what stands at a path may write, from one tree to the other: those of each
+-- directory on the way to it, which some first names of the path lead to
+abbrev pub path_need : Tree → Tree → Path → ℕ
+path_need t t' p = sum_by (λ i. directory_need t t' (take i p)) (range_with_len 0 (length p))
 
 -- the bytes of the file at a path
 abbrev pub bytes_of : Option Entry → List ℕ

@@ -1,21 +1,24 @@
 -- What reads cost: sums over the blocks that were read.
-use Rattle.std.proofs.Common.{◌≡◌, ℕ, zero, suc, inl, ◌+◌, ◌*◌, ◌<◌, ◌≤◌, Bool, true, false, cond, Option, Some, None, List, [], ◌∷◌, length, take, refl, sym, ap, subst, ◌∙◌, arith, rules}
-use Rattle.std.specs.Prelude.{Contains, slice_index, is_some, All, unwrap_or}
+use Rattle.std.proofs.Common.{◌≡◌, ℕ, zero, suc, inl, inr, ◌+◌, ◌*◌, ◌<◌, ◌≤◌, Bool, true, false, cond, Option, Some, None, List, [], ◌∷◌, length, take, refl, sym, ap, subst, ◌∙◌, arith, rules}
+use Rattle.std.specs.Prelude.{Contains, slice_index, is_some, eqb}
 use Rattle.std.specs.Option.{option_map_or}
 use Rattle.std.specs.List.{sum_by, filter}
 use Rattle.std.proofs.lemmas.List.{take_more}
-use Rattle.std.proofs.lemmas.List.Elements.{All-contains}
 use Rattle.std.proofs.lemmas.List.Sums.{sum_by-cons, sum_by_push, sum_by-take-le}
 use Rattle.node_format.specs.Items.{Item}
+use Rattle.node_format.specs.Links.{Link}
+use Rattle.node_format.proofs.LinkLaws.{IsFilled}
 use Rattle.node_format.specs.declared.places.Place.{Place}
 use Rattle.node_format.specs.declared.places.Place.TheVariants.{Dir}
 use Rattle.block_trees.specs.Bodies.{Blocks}
-use Rattle.block_trees.specs.Trees.{entries_in, items_in}
+use Rattle.block_trees.specs.Chains.{link_of, next_of, link_items, most_after}
 use Rattle.block_trees.specs.Reached.{Reached, PlaceNames, IsFirst, IsNamed}
+use Rattle.block_trees.proofs.Chained.{among_chain}
+use Rattle.block_trees.proofs.ChainCounts.{linked_filled}
 use Rattle.directory.specs.Depths.{HasDirectories, names_directory, is_directory_at}
 use Rattle.directory.proofs.Levels.{any_contains, directory_is}
-use Rattle.reclaim.specs.Looks.{look_reads}
-use Rattle.reclaim.specs.Sound.{IsDirectoryAt, IsSoundNode, IsSoundPlace}
+use Rattle.reclaim.specs.Looks.{reads_after, look_reads}
+use Rattle.reclaim.specs.Sound.{HoldsLink, IsSoundNode, IsSoundPlace}
 use Rattle.reclaim.specs.Passes.{Pass, AreReached, HasRead, IsPass, IsFinished, Begins}
 use Rattle.reclaim.specs.Verified.{HasCost}
 use Rattle.reclaim.proofs.Marking.{begins_length}
@@ -40,35 +43,44 @@ sum_two g (x ∷ xs) = omega (arith, sum_by-cons (λ b. 20 + g b) x xs, sum_by-c
 pub look_cost : (f g : Blocks) (b before after : ℕ) → g ≡ f → after ≤ before + look_reads (g b) → after ≤ before + look_reads (f b)
 look_cost f g b before after same most = subst (λ (h : Blocks). after ≤ before + look_reads (h b)) same most
 
--- whether a block holds a directory node
-abbrev pub holds_directory : Blocks → ℕ → Bool
-holds_directory f b = is_some (entries_in f b)
+-- whether a block holds a node of a directory
+abbrev pub holds_link : Blocks → ℕ → Bool
+holds_link f b = is_some (link_of (f b))
 
--- a look at each block, and 17 levels that have directories alone
-pub looks_and_levels : (f : Blocks) (xs : List ℕ) → sum_by (λ b. look_reads (f b)) xs + 17 * length (filter (holds_directory f) xs) ≤ sum_by (λ b. 18 + 2 * length (items_in f b)) xs
+-- the nodes after one are no more than its entries
+few_after : (l : Link) → IsFilled l → reads_after l.next ≤ length l.items
+few_after l filled = elim filled.full [ inl last ↦ none last | inr all ↦ omega (arith, all, at_most (eqb l.next 0)) ]
+  where
+    none : l.next ≡ 0 → reads_after l.next ≤ length l.items
+    none last = rw last (omega arith)
+
+    at_most : (t : Bool) → cond t 0 most_after ≤ most_after
+    at_most true = omega arith
+    at_most false = omega arith
+
+-- the reads of a look at one node, and of 17 levels where it is one of a directory
+one_node : (node : Option (List ℕ)) → look_reads node + (option_map_or (λ _. 17) (link_of node) 0) ≤ 18 + 2 * length (link_items node)
+one_node node = on (link_of node) refl
+  where
+    on : (o : Option Link) → link_of node ≡ o
+        → 1 + option_map_or (λ l. length l.items) o 13 + reads_after (option_map_or (λ l. l.next) o 0) + option_map_or (λ _. 17) o 0 ≤ 18 + 2 * length (option_map_or (λ l. l.items) o [])
+    on None is = omega arith
+    on (Some l) is = omega (arith, few_after l (linked_filled node l is))
+
+-- a look at each block, and 17 levels that have nodes of directories alone
+pub looks_and_levels : (f : Blocks) (xs : List ℕ) → sum_by (λ b. look_reads (f b)) xs + 17 * length (filter (holds_link f) xs) ≤ sum_by (λ b. 18 + 2 * length (link_items (f b))) xs
 looks_and_levels f [] = omega arith
-looks_and_levels f (x ∷ xs) = on (entries_in f x) refl (looks_and_levels f xs)
+looks_and_levels f (x ∷ xs) = omega (arith, one, all, levels (link_of (f x)), one_node (f x), looks_and_levels f xs)
   where
     one : sum_by (λ b. look_reads (f b)) (x ∷ xs) ≡ look_reads (f x) + sum_by (λ b. look_reads (f b)) xs
     one = sum_by-cons (λ b. look_reads (f b)) x xs
 
-    all : sum_by (λ b. 18 + 2 * length (items_in f b)) (x ∷ xs) ≡ (18 + 2 * length (items_in f x)) + sum_by (λ b. 18 + 2 * length (items_in f b)) xs
-    all = sum_by-cons (λ b. 18 + 2 * length (items_in f b)) x xs
+    all : sum_by (λ b. 18 + 2 * length (link_items (f b))) (x ∷ xs) ≡ (18 + 2 * length (link_items (f x))) + sum_by (λ b. 18 + 2 * length (link_items (f b))) xs
+    all = sum_by-cons (λ b. 18 + 2 * length (link_items (f b))) x xs
 
-    on : (o : Option (List Item)) → entries_in f x ≡ o
-        → sum_by (λ b. look_reads (f b)) xs + 17 * length (filter (holds_directory f) xs) ≤ sum_by (λ b. 18 + 2 * length (items_in f b)) xs
-        → sum_by (λ b. look_reads (f b)) (x ∷ xs) + 17 * length (filter (holds_directory f) (x ∷ xs)) ≤ sum_by (λ b. 18 + 2 * length (items_in f b)) (x ∷ xs)
-    on None is rest =
-        let look : look_reads (f x) ≡ 14 = ap (λ (o : Option (List Item)). option_map_or (λ items. 1 + length items) o 14) is in
-        let size : length (filter (holds_directory f) (x ∷ xs)) ≡ length (filter (holds_directory f) xs) =
-        ap (λ (o : Option (List Item)). length (cond (is_some o) (x ∷ filter (holds_directory f) xs) (filter (holds_directory f) xs))) is in
-        omega (arith, one, all, look, size, rest)
-    on (Some items) is rest =
-        let look : look_reads (f x) ≡ 1 + length items = ap (λ (o : Option (List Item)). option_map_or (λ items. 1 + length items) o 14) is in
-        let own : length (items_in f x) ≡ length items = ap (λ (o : Option (List Item)). length (unwrap_or o [])) is in
-        let size : length (filter (holds_directory f) (x ∷ xs)) ≡ suc (length (filter (holds_directory f) xs)) =
-        ap (λ (o : Option (List Item)). length (cond (is_some o) (x ∷ filter (holds_directory f) xs) (filter (holds_directory f) xs))) is in
-        omega (arith, one, all, look, own, size, rest)
+    levels : (o : Option Link) → 17 * length (cond (is_some o) (x ∷ filter (holds_link f) xs) (filter (holds_link f) xs)) ≡ option_map_or (λ _. 17) o 0 + 17 * length (filter (holds_link f) xs)
+    levels None = omega arith
+    levels (Some l) = omega arith
 
 -- what passes a test is in the list of those that do
 filter_has : (p : ℕ → Bool) (xs : List ℕ) (x : ℕ) → Contains xs x → p x ≡ true → Contains (filter p xs) x
@@ -94,40 +106,72 @@ filter_only p (y ∷ xs) x h = on (p y) h (filter_only p xs x)
     on true (suc k, lt, same) again = more (again (k, omega (arith, lt), same))
     on false h again = more (again h)
 
-is_held : (f : Blocks) (b : ℕ) → IsDirectoryAt f b → holds_directory f b ≡ true
+is_held : (f : Blocks) (b : ℕ) → HoldsLink f b → holds_link f b ≡ true
 is_held f b own = ap is_some own.1
 
-some_list : (o : Option (List Item)) (items : List Item) → o ≡ Some items → unwrap_or o [] ≡ items
-some_list o items is = ap (λ (p : Option (List Item)). unwrap_or p []) is
-
-held_items : (f : Blocks) (parent : ℕ) (item : Item) → Contains (items_in f parent) item → (items : List Item) × (entries_in f parent ≡ Some items) × Contains items item
-held_items f parent item h = on (entries_in f parent) refl h
+held_is : (f : Blocks) (b : ℕ) → holds_link f b ≡ true → HoldsLink f b
+held_is f b is = on (link_of (f b)) refl is
   where
-    on : (o : Option (List Item)) → entries_in f parent ≡ o → Contains (unwrap_or o []) item → (items : List Item) × (entries_in f parent ≡ Some items) × Contains items item
+    on : (o : Option Link) → link_of (f b) ≡ o → is_some o ≡ true → HoldsLink f b
+    on None e is = absurd cc
+    on (Some l) e is = (l, e)
+
+filter_is : (p : ℕ → Bool) (xs : List ℕ) (x : ℕ) → Contains (filter p xs) x → p x ≡ true
+filter_is p [] x h = absurd (omega (arith, h.1))
+filter_is p (y ∷ xs) x h = on (p y) refl h (filter_is p xs x)
+  where
+    on : (t : Bool) → p y ≡ t → Contains (cond t (y ∷ filter p xs) (filter p xs)) x → (Contains (filter p xs) x → p x ≡ true) → p x ≡ true
+    on true is (zero, lt, same) again = subst (λ (b : ℕ). p b ≡ true) same is
+    on true is (suc k, lt, same) again = again (k, omega (arith, lt), same)
+    on false is h again = again h
+
+held_items : (node : Option (List ℕ)) (item : Item) → Contains (link_items node) item → (l : Link) × (link_of node ≡ Some l) × Contains l.items item
+held_items node item h = on (link_of node) refl h
+  where
+    on : (o : Option Link) → link_of node ≡ o → Contains (option_map_or (λ l. l.items) o []) item → (l : Link) × (link_of node ≡ Some l) × Contains l.items item
     on None is h = absurd (omega (arith, h.1))
-    on (Some items) is h = (items, is, h)
+    on (Some l) is h = (l, is, h)
 
--- of the reached blocks, where they are sound, the directories have all that directories name
+-- the node after one of a directory is one
+next_held : (capacity : ℕ) (f : Blocks) (b : ℕ) → IsSoundNode capacity f b → HoldsLink f b → 0 < next_of (f b) → HoldsLink f (next_of (f b))
+next_held capacity f b sound (l, is) some =
+    let own = sound.directory (l, is) in
+    let here = among_chain f b own.0 own.1 b (0, omega arith, refl) in
+    let at : next_of (f b) ≡ here.l.next = ap (λ (o : Option Link). option_map_or (λ x. x.next) o 0) here.is in
+    let there = among_chain f b own.0 own.1 here.l.next (here.on (omega (arith, at, some))) in
+    subst (HoldsLink f) (sym at) (there.l, there.is)
+
+-- of the reached blocks, where they are sound, the nodes of directories have all that directories name
 pub reached_directories : (capacity blocks : ℕ) (f : Blocks) (roots marked : List ℕ) → ((b : ℕ) → Reached f roots b → Contains marked b) → ((b : ℕ) → Contains marked b → Reached f roots b)
-    → All (λ b. IsSoundNode capacity f (f b)) marked → All (IsDirectoryAt f) roots → HasDirectories f blocks roots (filter (holds_directory f) marked)
-reached_directories capacity blocks f roots marked has only sound directories = record { first = first; next = next }
+    → ((b : ℕ) → Reached f roots b → IsSoundNode capacity f b) → ((root : ℕ) → Contains roots root → HoldsLink f root) → HasDirectories f blocks roots (filter (holds_link f) marked)
+reached_directories capacity blocks f roots marked has only sound directories = record { first = first; next = next; on = on }
   where
-    first : (b : ℕ) → Contains roots b → b < blocks → Contains (filter (holds_directory f) marked) b
-    first b rooted below = filter_has (holds_directory f) marked b (has b (IsFirst rooted)) (is_held f b (All-contains (IsDirectoryAt f) roots b directories rooted))
+    in_list : (b : ℕ) → Reached f roots b → HoldsLink f b → Contains (filter (holds_link f) marked) b
+    in_list b reached own = filter_has (holds_link f) marked b (has b reached) (is_held f b own)
 
-    place : (parent : ℕ) (item : Item) → Contains marked parent → Contains (items_in f parent) item → IsSoundPlace capacity f item.place
-    place parent item within h =
-        let own = held_items f parent item h in
-        (All-contains (λ b. IsSoundNode capacity f (f b)) marked parent sound within).entries own.0 own.1 item own.2
+    was_reached : (b : ℕ) → Contains (filter (holds_link f) marked) b → Reached f roots b
+    was_reached b held = only b (filter_only (holds_link f) marked b held)
 
-    next : (parent b : ℕ) → Contains (filter (holds_directory f) marked) parent → b < blocks → names_directory (items_in f parent) b ≡ true → Contains (filter (holds_directory f) marked) b
+    first : (b : ℕ) → Contains roots b → b < blocks → Contains (filter (holds_link f) marked) b
+    first b rooted below = in_list b (IsFirst rooted) (directories b rooted)
+
+    place : (parent : ℕ) (item : Item) → Reached f roots parent → Contains (link_items (f parent)) item → IsSoundPlace capacity f item.place
+    place parent item reached h =
+        let own = held_items (f parent) item h in
+        (sound parent reached).names.entries own.0 own.1 item own.2
+
+    next : (parent b : ℕ) → Contains (filter (holds_link f) marked) parent → b < blocks → names_directory (link_items (f parent)) b ≡ true → Contains (filter (holds_link f) marked) b
     next parent b held below names =
-        let within = filter_only (holds_directory f) marked parent held in
-        let found = any_contains (λ item. is_directory_at item.place b) (items_in f parent) names in
+        let reached = was_reached parent held in
+        let found = any_contains (λ item. is_directory_at item.place b) (link_items (f parent)) names in
         let is : found.0.place ≡ Dir b = directory_is found.0.place b found.2 in
-        let own : IsDirectoryAt f b = subst (IsSoundPlace capacity f) is (place parent found.0 within found.1) in
-        let reached : Reached f roots b = IsNamed (only parent within) (inl (found.0, found.1, subst (λ (p : Place). PlaceNames p b) (sym is) refl)) in
-        filter_has (holds_directory f) marked b (has b reached) (is_held f b own)
+        let own : HoldsLink f b = subst (IsSoundPlace capacity f) is (place parent found.0 reached found.1) in
+        in_list b (IsNamed reached (inl (found.0, found.1, subst (λ (p : Place). PlaceNames p b) (sym is) refl))) own
+
+    on : (b : ℕ) → Contains (filter (holds_link f) marked) b → 0 < next_of (f b) → next_of (f b) < blocks → Contains (filter (holds_link f) marked) (next_of (f b))
+    on b held some below =
+        let reached = was_reached b held in
+        in_list (next_of (f b)) (IsNamed reached (inr (inr (some, refl)))) (next_held capacity f b (sound b reached) (held_is f b (filter_is (holds_link f) marked b held)) some)
 
 -- ---- passes
 
@@ -154,7 +198,7 @@ pub few_reads : (f : Blocks) (roots blocks : List ℕ) (before after : ℕ) → 
 few_reads f roots blocks before after are most = record {
   blocks = blocks;
   are = are;
-  most = omega (arith, sum_two (λ b. 2 * length (items_in f b)) blocks, most);
+  most = omega (arith, sum_two (λ b. 2 * length (link_items (f b))) blocks, most);
 }
 
 -- no reads
@@ -163,11 +207,11 @@ none_read f roots before = few_reads f roots [] before before (search rules) (om
 
 -- and those of looks and levels
 pub all_reads : (f : Blocks) (roots blocks : List ℕ) (before after : ℕ) → AreReached f roots blocks
-    → after ≤ before + 2 * length blocks + sum_by (λ b. 18 + 2 * length (items_in f b)) blocks → HasCost f roots before after
+    → after ≤ before + 2 * length blocks + sum_by (λ b. 18 + 2 * length (link_items (f b))) blocks → HasCost f roots before after
 all_reads f roots blocks before after are most = record {
   blocks = blocks;
   are = are;
-  most = omega (arith, sum_two (λ b. 2 * length (items_in f b)) blocks, most);
+  most = omega (arith, sum_two (λ b. 2 * length (link_items (f b))) blocks, most);
 }
 
 -- ---- the parts of verification
@@ -190,12 +234,12 @@ pass_reads f g roots marked p before mid after same own listed begun most read =
 
 -- and the marked blocks were looked at
 pub tree_reads : (f g : Blocks) (roots first marked : List ℕ) (old p : Pass) (before mid next after : ℕ) → g ≡ f → IsPass g p → IsFinished p → p.roots ≡ roots → first ≡ old.order → marked ≡ p.order
-    → Begins old.order p.order → old.next ≡ 0 → mid ≤ before + length first → next + old.next ≡ mid + p.next → after ≤ next + sum_by (λ b. 18 + 2 * length (items_in g b)) marked
+    → Begins old.order p.order → old.next ≡ 0 → mid ≤ before + length first → next + old.next ≡ mid + p.next → after ≤ next + sum_by (λ b. 18 + 2 * length (link_items (g b))) marked
     → HasCost f roots before after
 tree_reads f g roots first marked old p before mid next after same pass end own listed all begins begun most read last =
     let size : length first ≡ length old.order = ap length listed in
     let count : p.next ≡ length p.order = end in
-    let sum : sum_by (λ b. 18 + 2 * length (items_in g b)) marked ≡ sum_by (λ b. 18 + 2 * length (items_in f b)) p.order =
-    (λ i. sum_by (λ b. 18 + 2 * length (items_in (same i) b)) (all i)) in
+    let sum : sum_by (λ b. 18 + 2 * length (link_items (g b))) marked ≡ sum_by (λ b. 18 + 2 * length (link_items (f b))) p.order =
+    (λ i. sum_by (λ b. 18 + 2 * length (link_items (same i b))) (all i)) in
     all_reads f roots p.order before after (subst (λ (h : Blocks). AreReached h roots p.order) same (pass_reached g roots p pass own))
     (omega (arith, begins_length old.order p.order begins, last, sum, read, most, size, count))

@@ -1,18 +1,20 @@
 -- The files of a directory are not too long, and so the indices of their nodes are small.
-use Rattle.std.proofs.Common.{◌≡◌, ◌⊎◌, inl, inr, ℕ, zero, suc, ◌-◌, ◌*◌, ◌^◌, ◌<◌, ◌≤◌, cond, Option, Some, None, List, [], ◌∷◌, length, drop, refl, sym, subst, arith}
-use Rattle.std.specs.Prelude.{Contains, unwrap_or, eqb, leb, ltb}
+use Rattle.std.proofs.Common.{◌≡◌, ◌⊎◌, inl, inr, ℕ, zero, suc, ◌-◌, ◌*◌, ◌^◌, ◌<◌, ◌≤◌, cond, Option, Some, None, List, [], ◌∷◌, drop, refl, sym, subst, arith}
+use Rattle.std.specs.Prelude.{Contains, eqb, leb}
 use Rattle.std.specs.Option.{option_map_or}
 use Rattle.std.proofs.Math.Nat.{div-mul-le_self, pow-le-pow_right}
 use Rattle.std.proofs.lemmas.Bool.{leb-true, cases_lt}
 use Rattle.std.proofs.lemmas.Nat.{mul-le}
-use Rattle.node_format.specs.Headers.{field, directory_magic}
+use Rattle.node_format.specs.Headers.{field}
 use Rattle.node_format.specs.Items.{Item}
-use Rattle.node_format.specs.Directories.{size_of, byte_at, number_at, name_at, place_at, item_at, items_at, are_filled, entries_at, directory_at}
+use Rattle.node_format.specs.Directories.{size_of, byte_at, number_at, name_at, place_at, item_at, items_at}
+use Rattle.node_format.specs.Links.{Link, link_at}
+use Rattle.node_format.proofs.LinkLaws.{link_items_at}
 use Rattle.node_format.specs.declared.places.Place.{Place}
 use Rattle.node_format.specs.declared.places.Place.TheVariants.{Dir, File}
-use Rattle.node_format.proofs.Fields.{bind_some, passed, not_refused, chosen, some_is}
+use Rattle.node_format.proofs.Fields.{bind_some, passed, chosen, some_is}
 use Rattle.block_trees.specs.Bodies.{head_index}
-use Rattle.block_trees.specs.Trees.{items_of}
+use Rattle.block_trees.specs.Chains.{link_items}
 use Rattle.reclaim.proofs.Chains.{divides_least}
 use Rattle.fs_types.specs.declared.limits.TheConstants.{MAX_FILE_BYTES}
 use Rattle.node_format.specs.BodyNodes.{Divides}
@@ -62,28 +64,14 @@ items_short (suc count) bytes item h = on (item_at bytes) refl h (λ after. item
       | inr other ↦ again x.1 other
     ]
 
-abbrev some_items : List Item → Option (List Item)
-some_items items = Some items
-
-directory_short : (bytes : List ℕ) (items : List Item) → directory_at bytes ≡ Some items → (item : Item) → Contains items item → size_of item.place ≤ MAX_FILE_BYTES
-unfolding directory_at entries_at
-directory_short bytes items e item h =
-    let rest = drop 16 bytes in
-    let a = not_refused (ltb (length bytes) 16) _ items e in
-    let b = passed (eqb (field bytes 0) directory_magic) _ items a.1 in
-    let c = not_refused (ltb 32 (field bytes 4)) _ items b.1 in
-    let d = passed (eqb (field bytes 8) (length rest)) _ items c.1 in
-    let f = passed (are_filled (field bytes 4) [] rest) (Some (items_at (field bytes 4) rest)) items d.1 in
-    items_short (field bytes 4) rest item (subst (λ (l : List Item). Contains l item) (sym (some_is (items_at (field bytes 4) rest) items f.1)) h)
-
 -- no entry of a node is a file that is too long
-pub entry_short : (node : Option (List ℕ)) (item : Item) → Contains (items_of node) item → size_of item.place ≤ MAX_FILE_BYTES
+pub entry_short : (node : Option (List ℕ)) (item : Item) → Contains (link_items node) item → size_of item.place ≤ MAX_FILE_BYTES
 entry_short None item h = absurd (omega (arith, h.1))
-entry_short (Some bytes) item h = on (directory_at bytes) refl h
+entry_short (Some bytes) item h = on (link_at bytes) refl h
   where
-    on : (o : Option (List Item)) → directory_at bytes ≡ o → Contains (unwrap_or o []) item → size_of item.place ≤ MAX_FILE_BYTES
+    on : (o : Option Link) → link_at bytes ≡ o → Contains (option_map_or (λ l. l.items) o []) item → size_of item.place ≤ MAX_FILE_BYTES
     on None is h = absurd (omega (arith, h.1))
-    on (Some items) is h = directory_short bytes items is item h
+    on (Some l) is h = items_short (field bytes 4) (drop 16 bytes) item (subst (λ (items : List Item). Contains items item) (sym (link_items_at bytes l is)) h)
 
 -- ---- indices
 

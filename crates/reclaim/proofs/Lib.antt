@@ -2,6 +2,7 @@ pub mod NamedLaws
 pub mod Marking
 pub mod Chains
 pub mod Lengths
+pub mod Directories
 pub mod Looking
 pub mod Soundness
 pub mod Verifying

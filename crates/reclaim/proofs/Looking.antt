@@ -10,14 +10,14 @@ use Rattle.fs_types.specs.declared.faults.Fault.{Fault}
 use Rattle.fs_types.specs.declared.faults.Fault.TheVariants.{ReadFailed, PowerCut, NoMemory, Damaged}
 use Rattle.node_store.specs.Faults.{IsReadFault}
 use Rattle.node_format.specs.Items.{Item}
-use Rattle.node_format.specs.Directories.{directory_at}
+use Rattle.node_format.specs.Links.{Link, link_at}
 use Rattle.node_format.specs.declared.places.Place.{Place}
 use Rattle.block_trees.specs.Bodies.{Blocks, index_of, pointer_of, data_of, head_index}
-use Rattle.block_trees.specs.Trees.{entries_of, items_of}
+use Rattle.block_trees.specs.Chains.{link_of, link_items}
 use Rattle.block_trees.proofs.Entries.{directory_no_index}
 use Rattle.reclaim.specs.Naming.{has_slot}
-use Rattle.reclaim.specs.Sound.{IsDirectoryAt, IsHead, IsSoundPlace, HoldsSlot, IsSoundBody, IsSoundNode}
-use Rattle.reclaim.specs.Looks.{IsLookFault, body_of, look_reads, AreSteppedTo, ArePartsOf, IsSoundAt}
+use Rattle.reclaim.specs.Sound.{HoldsLink, IsHead, IsSoundPlace, HoldsSlot, IsSoundBody, AreSoundNames}
+use Rattle.reclaim.specs.Looks.{IsLookFault, body_of, name_reads, AreSteppedTo, ArePartsOf, IsSoundAt}
 use Rattle.reclaim.proofs.NamedLaws.{has_slot-divides, divides-has_slot}
 use Rattle.reclaim.proofs.Lengths.{divides-short}
 use Rattle.fs_types.specs.declared.limits.TheConstants.{MAX_FILE_BYTES}
@@ -101,13 +101,13 @@ head_some capacity f head (suc n) index held good some is same = (
 
 -- ---- directories
 
-pub directory_shown : (f : Blocks) (block : ℕ) (bytes : List ℕ) (o : Option (List Item)) (found : Bool) → f block ≡ Some bytes → o ≡ directory_at bytes → found ≡ is_some o
-    → IsTrue found ↔ IsDirectoryAt f block
-directory_shown f block bytes None found is same some = (
+pub link_shown : (f : Blocks) (block : ℕ) (bytes : List ℕ) (o : Option Link) (found : Bool) → f block ≡ Some bytes → o ≡ link_at bytes → found ≡ is_some o
+    → IsTrue found ↔ HoldsLink f block
+link_shown f block bytes None found is same some = (
   λ t. absurd (true≢false (sym t ∙ some)),
-  λ h. absurd (true≢false (ap is_some (sym h.1 ∙ ap entries_of is ∙ sym same))),
+  λ h. absurd (true≢false (ap is_some (sym h.1 ∙ ap link_of is ∙ sym same))),
 )
-directory_shown f block bytes (Some items) found is same some = (λ t. (items, ap entries_of is ∙ sym same), λ h. some)
+link_shown f block bytes (Some l) found is same some = (λ t. (l, ap link_of is ∙ sym same), λ h. some)
 
 -- ---- pointers
 
@@ -164,7 +164,7 @@ body_same capacity f p q (suc i) same h = (
 
 -- the entries of a node are sound
 abbrev pub AreSoundEntries : ℕ → Blocks → Option (List ℕ) → Type 0
-AreSoundEntries capacity f node = (items : List Item) → entries_of node ≡ Some items → (item : Item) → Contains items item → IsSoundPlace capacity f item.place
+AreSoundEntries capacity f node = (l : Link) → link_of node ≡ Some l → (item : Item) → Contains l.items item → IsSoundPlace capacity f item.place
 
 places_back : (P : Place → Type 0) (items : List Item) → All P (map (λ (item : Item). item.place) items) → All (λ (item : Item). P item.place) items
 places_back P [] all = All-nil (λ (item : Item). P item.place)
@@ -172,33 +172,33 @@ places_back P (item ∷ items) all =
     let rest = map (λ (item : Item). item.place) items in
     All-cons (λ (item : Item). P item.place) item items (All-head P item.place rest all) (places_back P items (All-tail P item.place rest all))
 
-pub entries_all : (capacity : ℕ) (f : Blocks) (node : Option (List ℕ)) (places : List Place) → places ≡ map (λ (item : Item). item.place) (items_of node)
+pub entries_all : (capacity : ℕ) (f : Blocks) (node : Option (List ℕ)) (places : List Place) → places ≡ map (λ (item : Item). item.place) (link_items node)
     → All (IsSoundPlace capacity f) places → AreSoundEntries capacity f node
-entries_all capacity f node places is all items some item within =
-    let own : items_of node ≡ items = ap (λ (o : Option (List Item)). unwrap_or o []) some in
-    let here : All (IsSoundPlace capacity f) (map (λ (item : Item). item.place) items) =
+entries_all capacity f node places is all l some item within =
+    let own : link_items node ≡ l.items = ap (λ (o : Option Link). option_map_or (λ x. x.items) o []) some in
+    let here : All (IsSoundPlace capacity f) (map (λ (item : Item). item.place) l.items) =
     subst (λ (l : List Item). All (IsSoundPlace capacity f) (map (λ (item : Item). item.place) l)) own (subst (All (IsSoundPlace capacity f)) is all) in
-    All-contains (λ (item : Item). IsSoundPlace capacity f item.place) items item (places_back (IsSoundPlace capacity f) items here) within
+    All-contains (λ (item : Item). IsSoundPlace capacity f item.place) l.items item (places_back (IsSoundPlace capacity f) l.items here) within
 
-pub all_entries : (capacity : ℕ) (f : Blocks) (node : Option (List ℕ)) (places : List Place) → places ≡ map (λ (item : Item). item.place) (items_of node)
+pub all_entries : (capacity : ℕ) (f : Blocks) (node : Option (List ℕ)) (places : List Place) → places ≡ map (λ (item : Item). item.place) (link_items node)
     → AreSoundEntries capacity f node → All (IsSoundPlace capacity f) places
-all_entries capacity f node places is sound = subst (All (IsSoundPlace capacity f)) (sym is) (on (entries_of node) sound)
+all_entries capacity f node places is sound = subst (All (IsSoundPlace capacity f)) (sym is) (on (link_of node) sound)
   where
-    on : (o : Option (List Item)) → ((items : List Item) → o ≡ Some items → (item : Item) → Contains items item → IsSoundPlace capacity f item.place)
-        → All (IsSoundPlace capacity f) (map (λ (item : Item). item.place) (unwrap_or o []))
+    on : (o : Option Link) → ((l : Link) → o ≡ Some l → (item : Item) → Contains l.items item → IsSoundPlace capacity f item.place)
+        → All (IsSoundPlace capacity f) (map (λ (item : Item). item.place) (option_map_or (λ x. x.items) o []))
     on None sound = All-nil (IsSoundPlace capacity f)
-    on (Some items) sound =
-        All-map (IsSoundPlace capacity f) (λ (item : Item). item.place) items
-        (All-weaker (Contains items) (λ (item : Item). IsSoundPlace capacity f item.place) (sound items refl) items (All-contains_itself items))
+    on (Some l) sound =
+        All-map (IsSoundPlace capacity f) (λ (item : Item). item.place) l.items
+        (All-weaker (Contains l.items) (λ (item : Item). IsSoundPlace capacity f item.place) (sound l refl) l.items (All-contains_itself l.items))
 
 -- ---- nodes
 
-pub node_bad : (capacity : ℕ) (f : Blocks) (node : Option (List ℕ)) (places : List Place) (good : Bool) → places ≡ map (λ (item : Item). item.place) (items_of node)
-    → (IsTrue good ↔ All (IsSoundPlace capacity f) places) → good ≡ false → IsTrue false ↔ IsSoundNode capacity f node
+pub node_bad : (capacity : ℕ) (f : Blocks) (node : Option (List ℕ)) (places : List Place) (good : Bool) → places ≡ map (λ (item : Item). item.place) (link_items node)
+    → (IsTrue good ↔ All (IsSoundPlace capacity f) places) → good ≡ false → IsTrue false ↔ AreSoundNames capacity f node
 node_bad capacity f node places good is exact bad = (λ t. absurd (never t), λ h. sym bad ∙ exact.1 (all_entries capacity f node places is h.entries))
 
-pub node_plain : (capacity : ℕ) (f : Blocks) (node : Option (List ℕ)) (places : List Place) (good : Bool) → places ≡ map (λ (item : Item). item.place) (items_of node)
-    → (IsTrue good ↔ All (IsSoundPlace capacity f) places) → good ≡ true → index_of node ≡ None → IsTrue true ↔ IsSoundNode capacity f node
+pub node_plain : (capacity : ℕ) (f : Blocks) (node : Option (List ℕ)) (places : List Place) (good : Bool) → places ≡ map (λ (item : Item). item.place) (link_items node)
+    → (IsTrue good ↔ All (IsSoundPlace capacity f) places) → good ≡ true → index_of node ≡ None → IsTrue true ↔ AreSoundNames capacity f node
 node_plain capacity f node places good is exact well none = (
   λ t. record {
     entries = entries_all capacity f node places is (exact.0 well);
@@ -210,13 +210,13 @@ node_plain capacity f node places good is exact well none = (
 
 -- no file has a node of such an index
 pub node_long : (capacity : ℕ) (f : Blocks) (held : Option (List ℕ)) (index : ℕ) (short : Bool) → index_of held ≡ Some index → short ≡ nat_lt (index * capacity) MAX_FILE_BYTES
-    → short ≡ false → IsTrue false ↔ IsSoundNode capacity f held
+    → short ≡ false → IsTrue false ↔ AreSoundNames capacity f held
 node_long capacity f held index short has is long = (λ t. absurd (never t), λ h. sym long ∙ is ∙ lt-ltb (index * capacity) MAX_FILE_BYTES (h.short index has))
 
-pub node_body : (capacity : ℕ) (f : Blocks) (node : Option (List ℕ)) (places : List Place) (good : Bool) → places ≡ map (λ (item : Item). item.place) (items_of node)
+pub node_body : (capacity : ℕ) (f : Blocks) (node : Option (List ℕ)) (places : List Place) (good : Bool) → places ≡ map (λ (item : Item). item.place) (link_items node)
     → (IsTrue good ↔ All (IsSoundPlace capacity f) places) → good ≡ true
     → (index : ℕ) (pointers : ℕ → ℕ) (sound : Bool) → index_of node ≡ Some index → ((x : ℕ) → x < SLOTS → pointers x ≡ pointer_of node x) → index * capacity < MAX_FILE_BYTES
-    → (IsTrue sound ↔ IsSoundBody capacity f pointers index) → IsTrue sound ↔ IsSoundNode capacity f node
+    → (IsTrue sound ↔ IsSoundBody capacity f pointers index) → IsTrue sound ↔ AreSoundNames capacity f node
 node_body capacity f node places good is exact well index pointers sound has same short body = (
   λ t. record {
     entries = entries_all capacity f node places is (exact.0 well);
@@ -237,21 +237,21 @@ parts_again own bytes places pointers places' pointers' index is same_places sam
 
 -- a node by its parts: entries that are not sound, no index, and an index
 pub parts_bad : (capacity : ℕ) (f : Blocks) (places : List Place) (pointers : List ℕ) (index : Option ℕ) (good : Bool) → (IsTrue good ↔ All (IsSoundPlace capacity f) places) → good ≡ false
-    → (node : Option (List ℕ)) → ArePartsOf node places pointers index → IsTrue false ↔ IsSoundNode capacity f node
+    → (node : Option (List ℕ)) → ArePartsOf node places pointers index → IsTrue false ↔ AreSoundNames capacity f node
 parts_bad capacity f places pointers index good exact bad node parts = node_bad capacity f node places good parts.places_are exact bad
 
 pub parts_plain : (capacity : ℕ) (f : Blocks) (places : List Place) (pointers : List ℕ) (index : Option ℕ) (good : Bool) → (IsTrue good ↔ All (IsSoundPlace capacity f) places) → good ≡ true → index ≡ None
-    → (node : Option (List ℕ)) → ArePartsOf node places pointers index → IsTrue true ↔ IsSoundNode capacity f node
+    → (node : Option (List ℕ)) → ArePartsOf node places pointers index → IsTrue true ↔ AreSoundNames capacity f node
 parts_plain capacity f places pointers index good exact well none node parts = node_plain capacity f node places good parts.places_are exact well (sym parts.index_is ∙ none)
 
 pub parts_body : (capacity : ℕ) (f f' : Blocks) (places : List Place) (pointers : List ℕ) (index : ℕ) (good sound : Bool) → f' ≡ f → (IsTrue good ↔ All (IsSoundPlace capacity f) places) → good ≡ true
-    → (IsTrue sound ↔ IsSoundAt capacity f' (slice_index pointers) index) → (node : Option (List ℕ)) → ArePartsOf node places pointers (Some index) → IsTrue sound ↔ IsSoundNode capacity f node
+    → (IsTrue sound ↔ IsSoundAt capacity f' (slice_index pointers) index) → (node : Option (List ℕ)) → ArePartsOf node places pointers (Some index) → IsTrue sound ↔ AreSoundNames capacity f node
 parts_body capacity f f' places pointers index good sound same exact well own node parts = (λ t. (whole t).0 t, λ h. here.1 (h.short index (sym parts.index_is), body_same capacity f (pointer_of node) (slice_index pointers) index (λ x below. sym (parts.pointers_are x below)) (h.pointers index (sym parts.index_is))))
   where
     here : IsTrue sound ↔ IsSoundAt capacity f (slice_index pointers) index
     here = subst (λ (h : Blocks). IsTrue sound ↔ IsSoundAt capacity h (slice_index pointers) index) same own
 
-    whole : IsTrue sound → IsTrue sound ↔ IsSoundNode capacity f node
+    whole : IsTrue sound → IsTrue sound ↔ AreSoundNames capacity f node
     whole t =
         let at = here.0 t in
         node_body capacity f node places good parts.places_are exact well index (slice_index pointers) sound (sym parts.index_is) parts.pointers_are at.0 (λ s. (here.0 s).1, λ b. t)
@@ -263,38 +263,31 @@ at_long capacity f p index short is long = (λ t. absurd (never t), λ h. sym lo
 pub at_short : (capacity : ℕ) (f : Blocks) (p : ℕ → ℕ) (index : ℕ) (short sound : Bool) → short ≡ nat_lt (index * capacity) MAX_FILE_BYTES → short ≡ true → (IsTrue sound ↔ IsSoundBody capacity f p index) → IsTrue sound ↔ IsSoundAt capacity f p index
 at_short capacity f p index short sound is well body = (λ t. (ltb-true (index * capacity) MAX_FILE_BYTES (sym is ∙ well), body.0 t), λ h. body.1 h.1)
 
--- ---- reads of a look
-
-pub look_least : (node : Option (List ℕ)) → 1 ≤ look_reads node
-look_least node = on (entries_of node)
-  where
-    on : (o : Option (List Item)) → 1 ≤ option_map_or (λ items. 1 + length items) o 14
-    on None = omega arith
-    on (Some items) = omega arith
+-- ---- reads of what a node names
 
 -- one for each entry
-pub look_places : (node : Option (List ℕ)) (places : List Place) → places ≡ map (λ (item : Item). item.place) (items_of node) → 1 + length places ≤ look_reads node
-look_places node places is = on (entries_of node) (ap length is)
+pub name_places : (node : Option (List ℕ)) (places : List Place) → places ≡ map (λ (item : Item). item.place) (link_items node) → length places ≤ name_reads node
+name_places node places is = on (link_of node) (ap length is)
   where
-    on : (o : Option (List Item)) → length places ≡ length (map (λ (item : Item). item.place) (unwrap_or o [])) → 1 + length places ≤ option_map_or (λ items. 1 + length items) o 14
-    on None size = omega arith
-    on (Some items) size = omega (arith, size, length-map items (λ (item : Item). item.place))
+    on : (o : Option Link) → length places ≡ length (map (λ (item : Item). item.place) (option_map_or (λ x. x.items) o [])) → length places ≤ option_map_or (λ x. length x.items) o 13
+    on None size = omega (arith, size)
+    on (Some l) size = omega (arith, size, length-map l.items (λ (item : Item). item.place))
 
 -- a body node has no entries
-pub look_body : (node : Option (List ℕ)) (places : List Place) (index : ℕ) → places ≡ map (λ (item : Item). item.place) (items_of node) → index_of node ≡ Some index
-    → 14 + length places ≤ look_reads node
-look_body node places index is has = on (entries_of node) refl (ap length is)
+pub name_body : (node : Option (List ℕ)) (places : List Place) (index : ℕ) → places ≡ map (λ (item : Item). item.place) (link_items node) → index_of node ≡ Some index
+    → 13 + length places ≤ name_reads node
+name_body node places index is has = on (link_of node) refl (ap length is)
   where
-    on : (o : Option (List Item)) → entries_of node ≡ o → length places ≡ length (map (λ (item : Item). item.place) (unwrap_or o [])) → 14 + length places ≤ option_map_or (λ items. 1 + length items) o 14
-    on None none size = omega arith
-    on (Some items) some size = absurd (true≢false (ap is_some (sym has ∙ directory_no_index node items some)))
+    on : (o : Option Link) → link_of node ≡ o → length places ≡ length (map (λ (item : Item). item.place) (option_map_or (λ x. x.items) o [])) → 13 + length places ≤ option_map_or (λ x. length x.items) o 13
+    on None none size = omega (arith, size)
+    on (Some l) some size = absurd (true≢false (ap is_some (sym has ∙ directory_no_index node l some)))
 
 -- one look at each entry, or those of a body
-pub parts_places : (node : Option (List ℕ)) (places : List Place) (pointers : List ℕ) (index : Option ℕ) (before now : ℕ) → now ≤ before + length places → ArePartsOf node places pointers index → now + 1 ≤ before + look_reads node
-parts_places node places pointers index before now few parts = (let most = look_places node places parts.places_are in omega arith)
+pub parts_places : (node : Option (List ℕ)) (places : List Place) (pointers : List ℕ) (index : Option ℕ) (before now : ℕ) → now ≤ before + length places → ArePartsOf node places pointers index → now ≤ before + name_reads node
+parts_places node places pointers index before now few parts = (let most = name_places node places parts.places_are in omega (arith, most, few))
 
-pub parts_at : (node : Option (List ℕ)) (places : List Place) (pointers : List ℕ) (index before now now' : ℕ) → now ≤ before + length places → now' ≤ now + 13 → ArePartsOf node places pointers (Some index) → now' + 1 ≤ before + look_reads node
-parts_at node places pointers index before now now' few more parts = (let most = look_body node places index parts.places_are (sym parts.index_is) in omega arith)
+pub parts_at : (node : Option (List ℕ)) (places : List Place) (pointers : List ℕ) (index before now now' : ℕ) → now ≤ before + length places → now' ≤ now + 13 → ArePartsOf node places pointers (Some index) → now' ≤ before + name_reads node
+parts_at node places pointers index before now now' few more parts = (let most = name_body node places index parts.places_are (sym parts.index_is) in omega (arith, most, few, more))
 
 -- ---- what calls answered
 

@@ -9,9 +9,9 @@ use Rattle.node_format.specs.Items.{Item}
 use Rattle.node_format.specs.declared.places.Place.{Place}
 use Rattle.node_format.specs.declared.places.Place.TheVariants.{Dir, File}
 use Rattle.block_trees.specs.Bodies.{index_of, pointer_of}
-use Rattle.block_trees.specs.Trees.{items_of}
+use Rattle.block_trees.specs.Chains.{link_items, next_of}
 use Rattle.block_trees.specs.Reached.{PlaceNames, BodyNames, Names}
-use Rattle.reclaim.specs.Naming.{place_names, item_names, has_slot, slots_named, body_named}
+use Rattle.reclaim.specs.Naming.{place_names, item_names, next_names, has_slot, slots_named, body_named}
 use Rattle.node_format.specs.BodyNodes.{Divides}
 use Rattle.node_format.specs.declared.headers.TheConstants.{SLOTS}
 
@@ -154,20 +154,46 @@ body_from (Some index) pointer b (x, has, is) =
 
 -- ---- both
 
+-- the node after
+next_to : (next b : ℕ) → Contains (next_names next) b → (0 < next) × (next ≡ b)
+next_to next b h = on (next == 0) refl h
+  where
+    on : (t : Bool) → (next == 0) ≡ t → Contains (cond t [] (next ∷ [])) b → (0 < next) × (next ≡ b)
+    on true none h = absurd (in_none b h)
+    on false some h = (grind arith, in_one next b h)
+
+next_from : (next b : ℕ) → 0 < next → next ≡ b → Contains (next_names next) b
+next_from next b some same =
+    let differs : (next == 0) ≡ false = grind arith in
+    subst (λ (t : Bool). Contains (cond t [] (next ∷ [])) b) (sym differs) (own_in next b same)
+
 -- the list has what the node names, and nothing else
-pub named_all : (bytes list : List ℕ) → list ≡ flat_map item_names (items_of (Some bytes)) ++ body_named (index_of (Some bytes)) (pointer_of (Some bytes))
+pub named_all : (bytes list : List ℕ) → list ≡ (flat_map item_names (link_items (Some bytes)) ++ next_names (next_of (Some bytes))) ++ body_named (index_of (Some bytes)) (pointer_of (Some bytes))
     → (b : ℕ) → Contains list b ↔ Names (Some bytes) b
 named_all bytes list is b = (
-  λ h. to (Contains-append_cases (flat_map item_names (items_of (Some bytes))) (body_named (index_of (Some bytes)) (pointer_of (Some bytes))) b (subst (λ (xs : List ℕ). Contains xs b) is h)),
+  λ h. to (Contains-append_cases (entries ++ after) slots b (subst (λ (xs : List ℕ). Contains xs b) is h)),
   λ h. subst (λ (xs : List ℕ). Contains xs b) (sym is) (from h),
 )
   where
-    to : Contains (flat_map item_names (items_of (Some bytes))) b ⊎ Contains (body_named (index_of (Some bytes)) (pointer_of (Some bytes))) b → Names (Some bytes) b
-    to (inl h) = inl (items_to (items_of (Some bytes)) b h)
-    to (inr h) = inr (body_to (index_of (Some bytes)) (pointer_of (Some bytes)) b h)
+    entries : List ℕ
+    entries = flat_map item_names (link_items (Some bytes))
 
-    from : Names (Some bytes) b → Contains (flat_map item_names (items_of (Some bytes)) ++ body_named (index_of (Some bytes)) (pointer_of (Some bytes))) b
+    after : List ℕ
+    after = next_names (next_of (Some bytes))
+
+    slots : List ℕ
+    slots = body_named (index_of (Some bytes)) (pointer_of (Some bytes))
+
+    chained : Contains entries b ⊎ Contains after b → Names (Some bytes) b
+    chained (inl h) = inl (items_to (link_items (Some bytes)) b h)
+    chained (inr h) = inr (inr (next_to (next_of (Some bytes)) b h))
+
+    to : Contains (entries ++ after) b ⊎ Contains slots b → Names (Some bytes) b
+    to (inl h) = chained (Contains-append_cases entries after b h)
+    to (inr h) = inr (inl (body_to (index_of (Some bytes)) (pointer_of (Some bytes)) b h))
+
+    from : Names (Some bytes) b → Contains ((entries ++ after) ++ slots) b
     from (inl (item, within, names)) =
-        Contains-append_left (flat_map item_names (items_of (Some bytes))) (body_named (index_of (Some bytes)) (pointer_of (Some bytes))) b (items_from (items_of (Some bytes)) item b within names)
-    from (inr h) =
-        Contains-append_right (flat_map item_names (items_of (Some bytes))) (body_named (index_of (Some bytes)) (pointer_of (Some bytes))) b (body_from (index_of (Some bytes)) (pointer_of (Some bytes)) b h)
+        Contains-append_left (entries ++ after) slots b (Contains-append_left entries after b (items_from (link_items (Some bytes)) item b within names))
+    from (inr (inl h)) = Contains-append_right (entries ++ after) slots b (body_from (index_of (Some bytes)) (pointer_of (Some bytes)) b h)
+    from (inr (inr h)) = Contains-append_left (entries ++ after) slots b (Contains-append_right entries after b (next_from (next_of (Some bytes)) b h.0 h.1))

@@ -1,21 +1,26 @@
 -- Trees hang from roots exactly where all that they reach is sound.
 use Rattle.std.proofs.Common.{◌≡◌, ◌≢◌, ◌⊎◌, inl, inr, ℕ, zero, suc, ◌-◌, ◌*◌, ◌^◌, ◌<◌, ◌≤◌, Option, Some, None, List, [], ◌∷◌, refl, sym, ap, subst, ◌∙◌, arith}
 use Rattle.std.specs.Prelude.{Contains, IsSome, unwrap_or}
-use Rattle.std.specs.Option.{option_and_then}
+use Rattle.std.specs.Option.{option_map_or, option_and_then}
 use Rattle.std.proofs.lemmas.Nat.{pow_pos}
-use Rattle.fs_types.specs.declared.limits.TheConstants.{MAX_FILE_BYTES}
+use Rattle.fs_types.specs.declared.limits.TheConstants.{MAX_FILE_BYTES, MAX_NAMES}
 use Rattle.fs_types.specs.Names.{Name, Path}
 use Rattle.node_format.specs.Items.{Item}
 use Rattle.node_format.specs.Directories.{size_of}
 use Rattle.node_format.specs.EntryLaws.{named-contained}
+use Rattle.node_format.specs.Links.{Link}
 use Rattle.node_format.specs.declared.places.Place.{Place}
 use Rattle.node_format.specs.declared.places.Place.TheVariants.{Dir, File}
 use Rattle.block_trees.specs.Bodies.{Blocks, index_of, pointer_of, back, head_index, IsChain, IsLinked, IsBody}
-use Rattle.block_trees.specs.Trees.{items_of, entries_of, child, leads, IsWhole, HasTree, IsRoot, entries_in, items_in}
+use Rattle.block_trees.specs.Chains.{link_of, next_of, link_items, chain, entries_in, items_in}
+use Rattle.block_trees.specs.Trees.{child, leads, IsWhole, HasTree, IsRoot}
 use Rattle.block_trees.specs.Reached.{PlaceNames, BodyNames, Names, Reached, IsFirst, IsNamed}
-use Rattle.block_trees.proofs.Entries.{entry_named, directory_no_index, place_is}
-use Rattle.block_trees.proofs.Reaching.{before_named}
-use Rattle.reclaim.specs.Sound.{IsDirectoryAt, IsHead, IsSoundPlace, HoldsSlot, AreStepped, IsSoundBody, IsSoundNode, SoundHasTrees, TreesAreSound, TreesHoldNodes}
+use Rattle.block_trees.proofs.Chains.{tail_law}
+use Rattle.block_trees.proofs.Chained.{entry_named, IsAmong, among_chain, held_chain, reached_chain, child_names}
+use Rattle.block_trees.proofs.Entries.{directory_no_index, place_is}
+use Rattle.block_trees.proofs.Reaching.{before_named, reached_via}
+use Rattle.directory.specs.Lookups.{LeadsToDirectories}
+use Rattle.reclaim.specs.Sound.{HoldsLink, IsDirectoryAt, IsHead, IsSoundPlace, HoldsSlot, AreStepped, IsSoundBody, IsSoundNode, SoundHasTrees, TreesAreSound, TreesHoldNodes}
 use Rattle.reclaim.proofs.Lengths.{entry_short, head_short, shorter}
 use Rattle.reclaim.proofs.Chains.{chain_node, chain_back, linked_back, data_length, half_slot, divides_least, fewer_slots, some_before, back_twice}
 use Rattle.node_format.specs.BodyNodes.{HasSlot}
@@ -58,16 +63,16 @@ pub record IsLinkedChain (capacity : ℕ) (f : Blocks) (i block : ℕ) : Type 0 
   pub linked : IsLinked f i block
   pub short : i * capacity < MAX_FILE_BYTES
 
-chain_sound : (capacity : ℕ) (f : Blocks) (roots : List ℕ) → ((b : ℕ) → Reached f roots b → IsSoundNode capacity f (f b))
+chain_sound : (capacity : ℕ) (f : Blocks) (roots : List ℕ) → ((b : ℕ) → Reached f roots b → IsSoundNode capacity f b)
     → (i block : ℕ) → Reached f roots block → index_of (f block) ≡ Some i → IsLinkedChain capacity f i block
-chain_sound capacity f roots sound zero block reached is = record { chain = is; linked = tt; short = (sound block reached).short 0 is }
+chain_sound capacity f roots sound zero block reached is = record { chain = is; linked = tt; short = (sound block reached).names.short 0 is }
 chain_sound capacity f roots sound (suc i) block reached is =
-    let own = (sound block reached).pointers (suc i) is in
+    let own = (sound block reached).names.pointers (suc i) is in
     let before = chain_sound capacity f roots sound i (pointer_of (f block) 0) (IsNamed reached (before_named f i block is)) own.0 in
     record {
       chain = (is, own.1, before.chain);
       linked = (slots_linked f i block before.linked own.2, before.linked);
-      short = (sound block reached).short (suc i) is;
+      short = (sound block reached).names.short (suc i) is;
     }
 
 -- ---- sound trees
@@ -77,43 +82,48 @@ abbrev IsGood : ℕ → Blocks → List ℕ → Place → Type 0
 IsGood capacity f roots (Dir block) = Reached f roots block × IsDirectoryAt f block
 IsGood capacity f roots (File head size) = IsBody capacity f head size
 
-head_body : (capacity : ℕ) (f : Blocks) (roots : List ℕ) → ((b : ℕ) → Reached f roots b → IsSoundNode capacity f (f b))
-    → (block head size : ℕ) → Reached f roots block → ((b : ℕ) → PlaceNames (File head size) b → Names (f block) b)
-    → IsHead capacity f head size → IsBody capacity f head size
-head_body capacity f roots sound block head zero reached names is = is
-head_body capacity f roots sound block head (suc n) reached names is =
-    let whole = chain_sound capacity f roots sound (head_index capacity (suc n)) head (IsNamed reached (names head (omega arith, refl))) is.0 in
+head_body : (capacity : ℕ) (f : Blocks) (roots : List ℕ) → ((b : ℕ) → Reached f roots b → IsSoundNode capacity f b)
+    → (head size : ℕ) → ((b : ℕ) → PlaceNames (File head size) b → Reached f roots b) → IsHead capacity f head size → IsBody capacity f head size
+head_body capacity f roots sound head zero reached is = is
+head_body capacity f roots sound head (suc n) reached is =
+    let whole = chain_sound capacity f roots sound (head_index capacity (suc n)) head (reached head (omega arith, refl)) is.0 in
     (whole.chain, omega (arith, is.1, data_length capacity f (head_index capacity (suc n)) head whole.chain), whole.linked)
 
--- an entry of a directory names what its place names
-item_names : (f : Blocks) (block b : ℕ) (item : Item) → Contains (items_in f block) item → PlaceNames item.place b → Names (f block) b
-item_names f block b item within names = inl (item, within, names)
+good_place : (capacity : ℕ) (f : Blocks) (roots : List ℕ) → ((b : ℕ) → Reached f roots b → IsSoundNode capacity f b)
+    → (at : Place) → ((b : ℕ) → PlaceNames at b → Reached f roots b) → IsSoundPlace capacity f at → IsGood capacity f roots at
+good_place capacity f roots sound (Dir next) reached (l, is) = let here = reached next refl in (here, (sound next here).directory (l, is))
+good_place capacity f roots sound (File head size) reached is = head_body capacity f roots sound head size reached is
 
-good_place : (capacity : ℕ) (f : Blocks) (roots : List ℕ) → ((b : ℕ) → Reached f roots b → IsSoundNode capacity f (f b))
-    → (block : ℕ) (at : Place) → Reached f roots block → ((b : ℕ) → PlaceNames at b → Names (f block) b) → IsSoundPlace capacity f at → IsGood capacity f roots at
-good_place capacity f roots sound block (Dir next) reached names is = (IsNamed reached (names next refl), is)
-good_place capacity f roots sound block (File head size) reached names is = head_body capacity f roots sound block head size reached names is
+-- the node that has an entry
+holds_item : (node : Option (List ℕ)) (item : Item) → Contains (link_items node) item → (l : Link) × (link_of node ≡ Some l) × Contains l.items item
+holds_item node item within = on (link_of node) refl within
+  where
+    on : (o : Option Link) → link_of node ≡ o → Contains (option_map_or (λ l. l.items) o []) item → (l : Link) × (link_of node ≡ Some l) × Contains l.items item
+    on None is h = absurd (omega (arith, h.1))
+    on (Some l) is h = (l, is, h)
 
-good_child : (capacity : ℕ) (f : Blocks) (roots : List ℕ) → ((b : ℕ) → Reached f roots b → IsSoundNode capacity f (f b))
+good_child : (capacity : ℕ) (f : Blocks) (roots : List ℕ) → ((b : ℕ) → Reached f roots b → IsSoundNode capacity f b)
     → (from : Place) (name : Name) (at : Place) → IsGood capacity f roots from → child f from name ≡ Some at → IsGood capacity f roots at
 good_child capacity f roots sound (File head size) name at good is = absurd cc
 good_child capacity f roots sound (Dir block) name at good is =
     let found = named-contained (items_in f block) name at is in
     let items = good.1.0 in
     let within : Contains items found.0 = subst (λ (l : List Item). Contains l found.0) (some_items (entries_in f block) items good.1.1) found.1 in
-    let own : IsSoundPlace capacity f at = subst (IsSoundPlace capacity f) found.2 ((sound block good.0).entries items good.1.1 found.0 within) in
-    good_place capacity f roots sound block at good.0
-    (λ b names. item_names f block b found.0 found.1 (subst (λ (p : Place). PlaceNames p b) (sym found.2) names)) own
+    let held = held_chain f block items good.1.1 found.0 within in
+    let reached : Reached f roots held.node = reached_via f roots block good.0 (reached_chain f block held.node held.listed) in
+    let own = holds_item (f held.node) found.0 held.holds in
+    good_place capacity f roots sound at (λ b names. reached_via f roots block good.0 (child_names f block name at b is names))
+    (subst (IsSoundPlace capacity f) found.2 ((sound held.node reached).names.entries own.0 own.1 found.0 own.2))
 
 -- a path of one name more
-through : (capacity : ℕ) (f : Blocks) (roots : List ℕ) → ((b : ℕ) → Reached f roots b → IsSoundNode capacity f (f b))
+through : (capacity : ℕ) (f : Blocks) (roots : List ℕ) → ((b : ℕ) → Reached f roots b → IsSoundNode capacity f b)
     → (from : Place) (name : Name) (at : Place) → IsGood capacity f roots from → (path : Path) (o : Option Place) → child f from name ≡ o
     → option_and_then (λ next. leads f next path) o ≡ Some at
     → ((from at : Place) → IsGood capacity f roots from → leads f from path ≡ Some at → IsGood capacity f roots at) → IsGood capacity f roots at
 through capacity f roots sound from name at good path None e is again = absurd cc
 through capacity f roots sound from name at good path (Some next) e is again = again next at (good_child capacity f roots sound from name next good e) is
 
-good_leads : (capacity : ℕ) (f : Blocks) (roots : List ℕ) → ((b : ℕ) → Reached f roots b → IsSoundNode capacity f (f b))
+good_leads : (capacity : ℕ) (f : Blocks) (roots : List ℕ) → ((b : ℕ) → Reached f roots b → IsSoundNode capacity f b)
     → (path : Path) (from at : Place) → IsGood capacity f roots from → leads f from path ≡ Some at → IsGood capacity f roots at
 good_leads capacity f roots sound [] from at good is = subst (IsGood capacity f roots) (place_is from at is) good
 good_leads capacity f roots sound (name ∷ path) from at good is =
@@ -126,9 +136,17 @@ good_whole capacity f roots (File head size) good = good
 leads_some : (o : Option Place) (at : Place) → o ≡ Some at → IsSome o
 leads_some o at is = subst IsSome (sym is) refl
 
+-- a root that holds a node of a directory
+good_root : (capacity : ℕ) (f : Blocks) (roots : List ℕ) → ((b : ℕ) → Reached f roots b → IsSoundNode capacity f b) → (root : ℕ) → Contains roots root → HoldsLink f root → IsGood capacity f roots (Dir root)
+good_root capacity f roots sound root within (l, is) = (IsFirst within, (sound root (IsFirst within)).directory (l, is))
+
+-- each directory that paths below it lead to begins one
+pub sound_directories : (capacity : ℕ) (f : Blocks) (roots : List ℕ) → ((b : ℕ) → Reached f roots b → IsSoundNode capacity f b) → (root : ℕ) → Contains roots root → HoldsLink f root → LeadsToDirectories f root
+sound_directories capacity f roots sound root within holds path block is = (good_leads capacity f roots sound path (Dir root) (Dir block) (good_root capacity f roots sound root within holds) is).1
+
 pub sound_has_trees : SoundHasTrees
 sound_has_trees capacity f roots are root within path at is = (
-  good_whole capacity f roots at (good_leads capacity f roots are.nodes path (Dir root) at (IsFirst within, are.directories root within) is),
+  good_whole capacity f roots at (good_leads capacity f roots are.nodes path (Dir root) at (good_root capacity f roots are.nodes root within (are.directories root within)) is),
   are.shallow root within path (leads_some (leads f (Dir root) path) at is),
 )
 
@@ -143,18 +161,46 @@ tree_body capacity f head size depth tree = (tree [] (File head size) refl).0
 -- what an entry of a tree's directory leads to has a tree
 entry_tree : (capacity : ℕ) (f : Blocks) (block depth : ℕ) (item : Item) → HasTree capacity f (Dir block) depth → Contains (items_in f block) item → HasTree capacity f item.place depth
 entry_tree capacity f block depth item tree within = λ path at is.
-    let whole = tree (item.name ∷ path) at (ap (option_and_then (λ next. leads f next path)) (entry_named (f block) item within) ∙ is) in
+    let whole = tree (item.name ∷ path) at (ap (option_and_then (λ next. leads f next path)) (entry_named f block item within) ∙ is) in
     (whole.0, omega (arith, whole.1))
 
--- a block with a tree below it, or in a linked chain
+-- a block has a node of a directory with a tree below it
+record IsInTree (capacity : ℕ) (f : Blocks) (block : ℕ) : Type 0 where
+  first : ℕ
+  depth : ℕ
+  tree : HasTree capacity f (Dir first) depth
+  listed : Contains (chain f first) block
+
+-- what its node says
+own_node : (capacity : ℕ) (f : Blocks) (block : ℕ) (t : IsInTree capacity f block) → IsAmong f block (tree_directory capacity f t.first t.depth t.tree).0 (chain f t.first)
+own_node capacity f block t = let own = tree_directory capacity f t.first t.depth t.tree in among_chain f t.first own.0 own.1 block t.listed
+
+abbrev some_link : Link → Option Link
+some_link l = Some l
+
+link_is : (k l : Link) → some_link k ≡ some_link l → k ≡ l
+link_is k l e = cc
+
+-- what an entry of it leads to has a tree
+own_tree : (capacity : ℕ) (f : Blocks) (block : ℕ) (t : IsInTree capacity f block) (l : Link) (item : Item) → link_of (f block) ≡ Some l → Contains l.items item → HasTree capacity f item.place t.depth
+own_tree capacity f block t l item is within =
+    let own = tree_directory capacity f t.first t.depth t.tree in
+    let a = own_node capacity f block t in
+    let here : Contains own.0 item = a.entries item (subst (λ (k : Link). Contains k.items item) (link_is l a.l (sym is ∙ a.is)) within) in
+    entry_tree capacity f t.first t.depth item t.tree (subst (λ (xs : List Item). Contains xs item) (sym (some_items (entries_in f t.first) own.0 own.1)) here)
+
+-- a block with a node of a tree's directory, or in a linked chain
 abbrev IsShaped : ℕ → Blocks → ℕ → Type 0
-IsShaped capacity f block = ((depth : ℕ) × HasTree capacity f (Dir block) depth) ⊎ ((i : ℕ) × IsLinkedChain capacity f i block)
+IsShaped capacity f block = IsInTree capacity f block ⊎ ((i : ℕ) × IsLinkedChain capacity f i block)
+
+begins_tree : (capacity : ℕ) (f : Blocks) (block depth : ℕ) → HasTree capacity f (Dir block) depth → IsInTree capacity f block
+begins_tree capacity f block depth tree = record { first = block; depth = depth; tree = tree; listed = (0, omega arith, refl) }
 
 body_shape : (capacity : ℕ) (f : Blocks) (head n : ℕ) → suc n ≤ MAX_FILE_BYTES → IsBody capacity f head (suc n) → IsShaped capacity f head
 body_shape capacity f head n few whole = inr (head_index capacity (suc n), record { chain = whole.0; linked = whole.2; short = head_short capacity n few })
 
 place_shape : (capacity : ℕ) (f : Blocks) (place : Place) (depth next : ℕ) → size_of place ≤ MAX_FILE_BYTES → HasTree capacity f place depth → PlaceNames place next → IsShaped capacity f next
-place_shape capacity f (Dir block) depth next few tree same = subst (IsShaped capacity f) same (inl (depth, tree))
+place_shape capacity f (Dir block) depth next few tree same = subst (IsShaped capacity f) same (inl (begins_tree capacity f block depth tree))
 place_shape capacity f (File head zero) depth next few tree names = absurd (omega (arith, names.0))
 place_shape capacity f (File head (suc n)) depth next few tree names =
     subst (IsShaped capacity f) names.1 (body_shape capacity f head n few (tree_body capacity f head (suc n) depth tree))
@@ -168,13 +214,24 @@ number_is m n e = cc
 no_number : (n : ℕ) → some_number n ≡ None → ⊥
 no_number n e = cc
 
--- a body node has no entries
-no_entry : (node : Option (List ℕ)) (i : ℕ) (item : Item) → index_of node ≡ Some i → Contains (items_of node) item → ⊥
-no_entry node i item is within = on (entries_of node) refl within
+-- a body node is none of a directory
+no_link : (node : Option (List ℕ)) (i : ℕ) → index_of node ≡ Some i → link_of node ≡ None
+no_link node i is = on (link_of node) refl
   where
-    on : (o : Option (List Item)) → entries_of node ≡ o → Contains (unwrap_or o []) item → ⊥
-    on None e (k, lt, at) = omega arith
-    on (Some items) e within = no_number i (sym is ∙ directory_no_index node items e)
+    on : (o : Option Link) → link_of node ≡ o → o ≡ None
+    on None e = refl
+    on (Some l) e = absurd (no_number i (sym is ∙ directory_no_index node l e))
+
+-- so it has no entries, and no node comes after it
+no_entry : (node : Option (List ℕ)) (i : ℕ) (item : Item) → index_of node ≡ Some i → Contains (link_items node) item → ⊥
+no_entry node i item is within =
+    let h : Contains [] item = subst (λ (o : Option Link). Contains (option_map_or (λ l. l.items) o []) item) (no_link node i is) within in
+    omega (arith, h.1)
+
+no_next : (node : Option (List ℕ)) (i : ℕ) → index_of node ≡ Some i → 0 < next_of node → ⊥
+no_next node i is some =
+    let none : next_of node ≡ 0 = ap (λ (o : Option Link). option_map_or (λ l. l.next) o 0) (no_link node i is) in
+    omega (arith, none, some)
 
 -- a node before one of a chain, by a slot
 pointed : (capacity : ℕ) (f : Blocks) (i block x next : ℕ) → IsLinkedChain capacity f i block → HasSlot i x → pointer_of (f block) x ≡ next → IsShaped capacity f next
@@ -185,18 +242,24 @@ pointed capacity f (suc i) block x next c has is =
     (inr (suc i - 2 ^ x, record { chain = chain_back capacity f (2 ^ x) (suc i) block le c.chain; linked = linked_back f (2 ^ x) (suc i) block le c.linked; short = shorter capacity (suc i) (suc i - 2 ^ x) (omega arith) c.short }))
 
 named_shape : (capacity : ℕ) (f : Blocks) (block next : ℕ) → IsShaped capacity f block → Names (f block) next → IsShaped capacity f next
-named_shape capacity f block next (inl (depth, tree)) (inl (item, within, names)) =
-    place_shape capacity f item.place depth next (entry_short (f block) item within) (entry_tree capacity f block depth item tree within) names
-named_shape capacity f block next (inl (depth, tree)) (inr names) =
-    let own = tree_directory capacity f block depth tree in
-    absurd (subst (λ (o : Option ℕ). BodyNames o (pointer_of (f block)) next) (directory_no_index (f block) own.0 own.1) names)
+named_shape capacity f block next (inl t) (inl (item, within, names)) =
+    let own = holds_item (f block) item within in
+    place_shape capacity f item.place t.depth next (entry_short (f block) item within) (own_tree capacity f block t own.0 item own.1 own.2) names
+named_shape capacity f block next (inl t) (inr (inl names)) =
+    let a = own_node capacity f block t in
+    absurd (subst (λ (o : Option ℕ). BodyNames o (pointer_of (f block)) next) (directory_no_index (f block) a.l a.is) names)
+named_shape capacity f block next (inl t) (inr (inr (some, same))) =
+    let a = own_node capacity f block t in
+    let is : next_of (f block) ≡ a.l.next = ap (λ (o : Option Link). option_map_or (λ l. l.next) o 0) a.is in
+    inl (record { first = t.first; depth = t.depth; tree = t.tree; listed = subst (Contains (chain f t.first)) (sym is ∙ same) (a.on (omega (arith, is, some))) })
 named_shape capacity f block next (inr (i, c)) (inl (item, within, names)) = absurd (no_entry (f block) i item (chain_node capacity i block f c.chain) within)
-named_shape capacity f block next (inr (i, c)) (inr names) =
+named_shape capacity f block next (inr (i, c)) (inr (inl names)) =
     let own = subst (λ (o : Option ℕ). BodyNames o (pointer_of (f block)) next) (chain_node capacity i block f c.chain) names in
     pointed capacity f i block own.0 next c own.1 own.2
+named_shape capacity f block next (inr (i, c)) (inr (inr (some, same))) = absurd (no_next (f block) i (chain_node capacity i block f c.chain) some)
 
 reached_shape : (capacity : ℕ) (f : Blocks) (roots : List ℕ) → ((root : ℕ) → Contains roots root → IsRoot capacity f root) → {b : ℕ} → Reached f roots b → IsShaped capacity f b
-reached_shape capacity f roots trees {b} (IsFirst within) = inl (16, trees b within)
+reached_shape capacity f roots trees {b} (IsFirst within) = inl (begins_tree capacity f b MAX_NAMES (trees b within))
 reached_shape capacity f roots trees {b} (IsNamed {block = block} reached names) = named_shape capacity f block b (reached_shape capacity f roots trees reached) names
 
 -- ---- what has such a shape is sound
@@ -206,8 +269,11 @@ body_head capacity f head zero is = is
 body_head capacity f head (suc n) is =
     (chain_node capacity (head_index capacity (suc n)) head f is.0, omega (arith, is.1, data_length capacity f (head_index capacity (suc n)) head is.0))
 
+directory_held : (f : Blocks) (block : ℕ) → IsDirectoryAt f block → HoldsLink f block
+directory_held f block (items, is) = let a = among_chain f block items is block (0, omega arith, refl) in (a.l, a.is)
+
 place_sound : (capacity : ℕ) (f : Blocks) (place : Place) (depth : ℕ) → HasTree capacity f place depth → IsSoundPlace capacity f place
-place_sound capacity f (Dir block) depth tree = tree_directory capacity f block depth tree
+place_sound capacity f (Dir block) depth tree = directory_held f block (tree_directory capacity f block depth tree)
 place_sound capacity f (File head size) depth tree = body_head capacity f head size (tree_body capacity f head size depth tree)
 
 some_node : (node : Option (List ℕ)) (i : ℕ) → index_of node ≡ Some i → (bytes : List ℕ) × (node ≡ Some bytes)
@@ -242,23 +308,29 @@ chain_body capacity f zero block c = tt
 chain_body capacity f (suc i) block c =
     (chain_node capacity i (pointer_of (f block) 0) f c.chain.2, c.chain.1, chain_stepped capacity f i block c)
 
-shape_sound : (capacity : ℕ) (f : Blocks) (block : ℕ) → IsShaped capacity f block → IsSoundNode capacity f (f block)
-shape_sound capacity f block (inl (depth, tree)) =
-    let own = tree_directory capacity f block depth tree in
+shape_sound : (capacity : ℕ) (f : Blocks) (block : ℕ) → IsShaped capacity f block → IsSoundNode capacity f block
+shape_sound capacity f block (inl t) =
+    let own = tree_directory capacity f t.first t.depth t.tree in
+    let a = own_node capacity f block t in
+    let none : index_of (f block) ≡ None = directory_no_index (f block) a.l a.is in
     record {
-      entries = λ items is item within.
-          place_sound capacity f item.place depth
-          (entry_tree capacity f block depth item tree (subst (λ (l : List Item). Contains l item) (sym (some_items (entries_in f block) items is)) within));
-      pointers = λ index is. absurd (no_number index (sym is ∙ directory_no_index (f block) own.0 own.1));
-      short = λ index is. absurd (no_number index (sym is ∙ directory_no_index (f block) own.0 own.1));
+      names = record {
+        entries = λ l is item within. place_sound capacity f item.place t.depth (own_tree capacity f block t l item is within);
+        pointers = λ index is. absurd (no_number index (sym is ∙ none));
+        short = λ index is. absurd (no_number index (sym is ∙ none));
+      };
+      directory = λ holds. tail_law f t.first own.0 block own.1 t.listed;
     }
 shape_sound capacity f block (inr (i, c)) =
     let node = chain_node capacity i block f c.chain in
     record {
-      entries = λ items is item within. absurd (no_number i (sym node ∙ directory_no_index (f block) items is));
-      pointers = λ index is.
-          subst (IsSoundBody capacity f (pointer_of (f block))) (number_is i index (sym node ∙ is)) (chain_body capacity f i block c);
-      short = λ index is. subst (λ (k : ℕ). k * capacity < MAX_FILE_BYTES) (number_is i index (sym node ∙ is)) c.short;
+      names = record {
+        entries = λ l is item within. absurd (no_number i (sym node ∙ directory_no_index (f block) l is));
+        pointers = λ index is.
+            subst (IsSoundBody capacity f (pointer_of (f block))) (number_is i index (sym node ∙ is)) (chain_body capacity f i block c);
+        short = λ index is. subst (λ (k : ℕ). k * capacity < MAX_FILE_BYTES) (number_is i index (sym node ∙ is)) c.short;
+      };
+      directory = λ (l, is). absurd (no_number i (sym node ∙ directory_no_index (f block) l is));
     }
 
 found_place : (o : Option Place) → IsSome o → (at : Place) × (o ≡ Some at)
@@ -268,20 +340,15 @@ found_place (Some at) some = (at, refl)
 pub trees_are_sound : TreesAreSound
 trees_are_sound capacity f roots trees = record {
   nodes = λ b reached. shape_sound capacity f b (reached_shape capacity f roots trees reached);
-  directories = λ root within. tree_directory capacity f root 16 (trees root within);
+  directories = λ root within. directory_held f root (tree_directory capacity f root MAX_NAMES (trees root within));
   shallow = λ root within path some. let found = found_place (leads f (Dir root) path) some in (trees root within path found.0 found.1).1;
 }
 
-abbrev some_list : List Item → Option (List Item)
-some_list items = Some items
-
-no_list : (items : List Item) → some_list items ≡ None → ⊥
-no_list items e = cc
+no_node : (l : Link) → some_link l ≡ None → ⊥
+no_node l e = cc
 
 shape_holds : (capacity : ℕ) (f : Blocks) (block : ℕ) → IsShaped capacity f block → f block ≢ None
-shape_holds capacity f block (inl (depth, tree)) none =
-    let own = tree_directory capacity f block depth tree in
-    no_list own.0 (sym own.1 ∙ ap entries_of none)
+shape_holds capacity f block (inl t) none = let a = own_node capacity f block t in no_node a.l (sym a.is ∙ ap link_of none)
 shape_holds capacity f block (inr (i, c)) none = no_number i (sym (chain_node capacity i block f c.chain) ∙ ap index_of none)
 
 pub trees_hold_nodes : TreesHoldNodes

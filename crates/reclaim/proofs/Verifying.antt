@@ -10,12 +10,14 @@ use Rattle.block_trees.specs.Bodies.{Blocks}
 use Rattle.block_trees.specs.Laws.{IsShallow}
 use Rattle.block_trees.specs.Reached.{Reached, IsFirst}
 use Rattle.directory.specs.Depths.{IsDeeper}
-use Rattle.reclaim.specs.Sound.{IsDirectoryAt, IsSoundNode}
+use Rattle.directory.specs.Lookups.{LeadsToDirectories}
+use Rattle.reclaim.specs.Sound.{HoldsLink, IsSoundNode, IsPlain}
+use Rattle.reclaim.specs.Looks.{IsAllowed}
 use Rattle.reclaim.specs.Passes.{Pass, IsPass, IsFinished}
 use Rattle.reclaim.specs.Verified.{AreRoots}
 use Rattle.reclaim.proofs.Looking.{never}
 use Rattle.reclaim.proofs.Marking.{pass_marks}
-use Rattle.reclaim.proofs.Soundness.{sound_has_trees, trees_are_sound, trees_hold_nodes}
+use Rattle.reclaim.proofs.Soundness.{sound_directories, sound_has_trees, trees_are_sound, trees_hold_nodes}
 
 -- ---- a test of each element
 
@@ -45,28 +47,47 @@ shallow_exact f roots false deeper shallow = (λ t. all_of (λ root. IsShallow f
 
 -- ---- roots
 
+-- the roots have trees, without a chain where only plain directories are allowed
+abbrev pub AreAllowed : ℕ → Blocks → List ℕ → Bool → Type 0
+AreAllowed limit f roots plain = AreRoots limit f roots × (plain ≡ true → IsPlain f roots)
+
 -- all that the marked blocks and the roots are asked
-pub record AreAsked (capacity : ℕ) (f : Blocks) (roots marked : List ℕ) : Type 0 where
-  pub nodes : All (λ b. IsSoundNode capacity f (f b)) marked
-  pub directories : All (IsDirectoryAt f) roots
+pub record AreAsked (capacity : ℕ) (f : Blocks) (roots marked : List ℕ) (plain : Bool) : Type 0 where
+  pub nodes : All (IsAllowed capacity f plain) marked
+  pub directories : All (HoldsLink f) roots
   pub shallow : All (λ root. IsShallow f (Dir root) 16) roots
 
-pub roots_asked : (limit : ℕ) (f : Blocks) (roots marked : List ℕ) → ((b : ℕ) → Contains marked b ↔ Reached f roots b) → AreRoots limit f roots → AreAsked (limit - 80) f roots marked
-roots_asked limit f roots marked all trees =
+pub roots_asked : (limit : ℕ) (f : Blocks) (roots marked : List ℕ) (plain : Bool) → ((b : ℕ) → Contains marked b ↔ Reached f roots b) → AreAllowed limit f roots plain → AreAsked (limit - 80) f roots marked plain
+roots_asked limit f roots marked plain all (trees, alone) =
     let sound = trees_are_sound (limit - 80) f roots trees in
     record {
-      nodes = all_of (λ b. IsSoundNode (limit - 80) f (f b)) marked (λ b within. sound.nodes b ((all b).0 within));
-      directories = all_of (IsDirectoryAt f) roots sound.directories;
+      nodes = all_of (IsAllowed (limit - 80) f plain) marked (λ b within. (sound.nodes b ((all b).0 within), λ t. alone t b ((all b).0 within)));
+      directories = all_of (HoldsLink f) roots sound.directories;
       shallow = all_of (λ root. IsShallow f (Dir root) 16) roots sound.shallow;
     }
 
-pub asked_roots : (limit : ℕ) (f : Blocks) (roots marked : List ℕ) → ((b : ℕ) → Contains marked b ↔ Reached f roots b) → AreAsked (limit - 80) f roots marked → AreRoots limit f roots
-asked_roots limit f roots marked all asked =
-    sound_has_trees (limit - 80) f roots (record {
-      nodes = λ b reached. All-contains (λ b. IsSoundNode (limit - 80) f (f b)) marked b asked.nodes ((all b).1 reached);
-      directories = λ root within. All-contains (IsDirectoryAt f) roots root asked.directories within;
-      shallow = λ root within. All-contains (λ root. IsShallow f (Dir root) 16) roots root asked.shallow within;
-    })
+-- each reached block is sound
+pub asked_sound : (capacity : ℕ) (f : Blocks) (roots marked : List ℕ) (plain : Bool) → ((b : ℕ) → Contains marked b ↔ Reached f roots b) → All (IsAllowed capacity f plain) marked → (b : ℕ) → Reached f roots b → IsSoundNode capacity f b
+asked_sound capacity f roots marked plain all nodes b reached = (All-contains (IsAllowed capacity f plain) marked b nodes ((all b).1 reached)).0
+
+pub all_hold : (f : Blocks) (roots : List ℕ) → All (HoldsLink f) roots → (root : ℕ) → Contains roots root → HoldsLink f root
+all_hold f roots directories root within = All-contains (HoldsLink f) roots root directories within
+
+pub asked_roots : (limit : ℕ) (f : Blocks) (roots marked : List ℕ) (plain : Bool) → ((b : ℕ) → Contains marked b ↔ Reached f roots b) → AreAsked (limit - 80) f roots marked plain → AreAllowed limit f roots plain
+asked_roots limit f roots marked plain all asked = (
+  sound_has_trees (limit - 80) f roots (record {
+    nodes = asked_sound (limit - 80) f roots marked plain all asked.nodes;
+    directories = all_hold f roots asked.directories;
+    shallow = λ root within. All-contains (λ root. IsShallow f (Dir root) 16) roots root asked.shallow within;
+  }),
+  λ t b reached. (All-contains (IsAllowed (limit - 80) f plain) marked b asked.nodes ((all b).1 reached)).1 t,
+)
+
+-- the roots lead to directories
+pub asked_lead : (capacity : ℕ) (f : Blocks) (roots marked : List ℕ) (plain : Bool) → ((b : ℕ) → Contains marked b ↔ Reached f roots b) → All (IsAllowed capacity f plain) marked → All (HoldsLink f) roots
+    → (root : ℕ) → Contains roots root → LeadsToDirectories f root
+asked_lead capacity f roots marked plain all nodes directories root within =
+    sound_directories capacity f roots (asked_sound capacity f roots marked plain all nodes) root within (all_hold f roots directories root within)
 
 -- roots with trees are data blocks
 pub roots_are_data : (limit blocks : ℕ) (f : Blocks) (roots : List ℕ) → ((b : ℕ) → b < 8 → f b ≡ None) → ((b : ℕ) → blocks ≤ b → f b ≡ None) → AreRoots limit f roots
@@ -93,10 +114,10 @@ marked_exact f p marked roots pass end list same b =
 
 -- ---- roots, each once
 
-pub roots_directories : (limit : ℕ) (f : Blocks) (roots order : List ℕ) → ((b : ℕ) → Contains order b ↔ Contains roots b) → AreRoots limit f roots → All (IsDirectoryAt f) order
+pub roots_directories : (limit : ℕ) (f : Blocks) (roots order : List ℕ) → ((b : ℕ) → Contains order b ↔ Contains roots b) → AreRoots limit f roots → All (HoldsLink f) order
 roots_directories limit f roots order same trees =
     let sound = trees_are_sound (limit - 80) f roots trees in
-    all_of (IsDirectoryAt f) order (λ b h. sound.directories b ((same b).0 h))
+    all_of (HoldsLink f) order (λ b h. sound.directories b ((same b).0 h))
 
-pub directories_roots : (f : Blocks) (roots order : List ℕ) → ((b : ℕ) → Contains order b ↔ Contains roots b) → All (IsDirectoryAt f) order → All (IsDirectoryAt f) roots
-directories_roots f roots order same all = all_of (IsDirectoryAt f) roots (λ b h. All-contains (IsDirectoryAt f) order b all ((same b).1 h))
+pub directories_roots : (f : Blocks) (roots order : List ℕ) → ((b : ℕ) → Contains order b ↔ Contains roots b) → All (HoldsLink f) order → All (HoldsLink f) roots
+directories_roots f roots order same all = all_of (HoldsLink f) roots (λ b h. All-contains (HoldsLink f) order b all ((same b).1 h))

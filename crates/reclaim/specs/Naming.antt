@@ -14,6 +14,10 @@ place_names (File head (suc n)) = head ∷ []
 abbrev pub item_names : Item → List ℕ
 item_names item = place_names item.place
 
+-- the block of the node after a node of a directory; 0 names none
+abbrev pub next_names : ℕ → List ℕ
+next_names next = if next == 0 then [] else next ∷ []
+
 -- whether the node of an index has a pointer at slot x, of those that nodes have
 abbrev pub has_slot : ℕ → ℕ → Bool
 has_slot index x = nat_lt 0 index && (index % 2 ^ x == 0)

@@ -1,19 +1,29 @@
 -- What one look at a block, and at the blocks that it names, shows: where each reached block is sound, whole trees hang
 -- from the roots.
-use Rattle.std.specs.Prelude.{◌≡◌, ◌≢◌, ℕ, zero, suc, ◌+◌, ◌*◌, ◌<◌, ◌≤◌, Option, Some, None, List, length, Contains}
+use Rattle.std.specs.Prelude.{◌≡◌, ◌≢◌, ℕ, zero, suc, ◌+◌, ◌*◌, ◌<◌, ◌≤◌, false, Option, Some, None, List, length, Contains}
 use Rattle.node_format.specs.Items.{Item}
+use Rattle.node_format.specs.Links.{Link}
 use Rattle.node_format.specs.declared.places.Place.{Place}
 use Rattle.node_format.specs.declared.places.Place.TheVariants.{Dir, File}
 use Rattle.block_trees.specs.Bodies.{Blocks, index_of, pointer_of, data_of, head_index}
-use Rattle.block_trees.specs.Trees.{entries_of, IsRoot, entries_in}
+use Rattle.block_trees.specs.Chains.{link_of, entries_in}
+use Rattle.block_trees.specs.Trees.{IsRoot}
 use Rattle.block_trees.specs.Reached.{Reached}
 use Rattle.block_trees.specs.Laws.{IsShallow}
 use Rattle.fs_types.specs.declared.limits.TheConstants.{MAX_FILE_BYTES, MAX_NAMES}
 use Rattle.node_format.specs.BodyNodes.{HasSlot}
 
--- the block holds a directory node
+-- the block holds a node of a directory
+abbrev pub HoldsLink : Blocks → ℕ → Type 0
+HoldsLink f block = (l : Link) × (link_of (f block) ≡ Some l)
+
+-- a directory begins in the block
 abbrev pub IsDirectoryAt : Blocks → ℕ → Type 0
 IsDirectoryAt f block = (items : List Item) × (entries_in f block ≡ Some items)
+
+-- the node is none of a chain
+abbrev pub IsPlainNode : Option (List ℕ) → Type 0
+IsPlainNode node = (l : Link) → link_of node ≡ Some l → l.chained ≡ false
 
 -- the head of a file has the index that the length asks, and bytes enough
 abbrev pub IsHead : ℕ → Blocks → ℕ → ℕ → Type 0
@@ -21,9 +31,9 @@ IsHead capacity f head zero = head ≡ 0
 IsHead capacity f head (suc n) =
     (index_of (f head) ≡ Some (head_index capacity (suc n))) × (suc n ≤ head_index capacity (suc n) * capacity + length (data_of (f head)))
 
--- an entry leads to a directory node, or to the head of its file
+-- an entry leads to a node of a directory, or to the head of its file
 abbrev pub IsSoundPlace : ℕ → Blocks → Place → Type 0
-IsSoundPlace capacity f (Dir block) = IsDirectoryAt f block
+IsSoundPlace capacity f (Dir block) = HoldsLink f block
 IsSoundPlace capacity f (File head size) = IsHead capacity f head size
 
 -- slot x of a node names this block
@@ -40,16 +50,21 @@ IsSoundBody capacity f pointer zero = Unit {0}
 IsSoundBody capacity f pointer (suc i) =
     (index_of (f (pointer 0)) ≡ Some i) × (length (data_of (f (pointer 0))) ≡ capacity) × AreStepped f pointer (suc i)
 
--- a directory's entries are sound, and so are a body node's pointers; its index is one that a file can have
-pub record IsSoundNode (capacity : ℕ) (f : Blocks) (node : Option (List ℕ)) : Type 0 where
-  pub entries : (items : List Item) → entries_of node ≡ Some items → (item : Item) → Contains items item → IsSoundPlace capacity f item.place
+-- a node's entries are sound, and so are a body node's pointers; its index is one that a file can have
+pub record AreSoundNames (capacity : ℕ) (f : Blocks) (node : Option (List ℕ)) : Type 0 where
+  pub entries : (l : Link) → link_of node ≡ Some l → (item : Item) → Contains l.items item → IsSoundPlace capacity f item.place
   pub pointers : (index : ℕ) → index_of node ≡ Some index → IsSoundBody capacity f (pointer_of node) index
   pub short : (index : ℕ) → index_of node ≡ Some index → index * capacity < MAX_FILE_BYTES
 
--- all that the roots reach is sound, and they are directories below which no path has more names than it may
+-- what the node in a block names is sound, and where it is one of a directory, a directory begins in the block
+pub record IsSoundNode (capacity : ℕ) (f : Blocks) (block : ℕ) : Type 0 where
+  pub names : AreSoundNames capacity f (f block)
+  pub directory : HoldsLink f block → IsDirectoryAt f block
+
+-- all that the roots reach is sound, and they hold directories below which no path has more names than it may
 pub record AreSound (capacity : ℕ) (f : Blocks) (roots : List ℕ) : Type 0 where
-  pub nodes : (b : ℕ) → Reached f roots b → IsSoundNode capacity f (f b)
-  pub directories : (root : ℕ) → Contains roots root → IsDirectoryAt f root
+  pub nodes : (b : ℕ) → Reached f roots b → IsSoundNode capacity f b
+  pub directories : (root : ℕ) → Contains roots root → HoldsLink f root
   pub shallow : (root : ℕ) → Contains roots root → IsShallow f (Dir root) MAX_NAMES
 
 -- then each root has a tree
@@ -63,3 +78,7 @@ TreesAreSound = (capacity : ℕ) (f : Blocks) (roots : List ℕ) → ((root : �
 -- and each reached block holds a node
 abbrev pub TreesHoldNodes : Type 0
 TreesHoldNodes = (capacity : ℕ) (f : Blocks) (roots : List ℕ) → ((root : ℕ) → Contains roots root → IsRoot capacity f root) → (b : ℕ) → Reached f roots b → f b ≢ None
+
+-- no node of a chain is reached
+abbrev pub IsPlain : Blocks → List ℕ → Type 0
+IsPlain f roots = (b : ℕ) → Reached f roots b → IsPlainNode (f b)

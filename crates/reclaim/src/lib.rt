@@ -1,6 +1,8 @@
 //! Which blocks roots reach, marked in steps of so many reads, and whether roots have trees.
 #![tactic(auto)]
 
+mod bringing;
+mod edges;
 mod fields;
 mod laws;
 mod looks;

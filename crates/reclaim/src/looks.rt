@@ -1,43 +1,28 @@
 //! One look at a block, and at the blocks that it names.
+ghost use Rattle.std.specs.Option.{option_map};
 ghost use Rattle.std.specs.Prelude.{◌≡◌, ◌≢◌, ℕ, ◌+◌, ◌*◌, ◌^◌, ◌-◌, ◌≤◌, ◌<◌, ◌↔◌, ◌++◌, ◌/◌, ◌%◌, ◌&&◌, nat_eq, nat_lt, All, true, false, IsTrue, map, length, List, Option, Some, None, OnOk, IfOk, IfErr, IsErrOf, slice_index};
 ghost use Rattle.fs_types.specs.declared.limits.TheConstants.{MAX_FILE_BYTES};
 ghost use Rattle.fs_types.specs.declared.faults.Fault.TheVariants.{Damaged};
 ghost use Rattle.node_format.specs.declared.places.Place.TheVariants.{Dir, File};
 ghost use Rattle.node_format.specs.declared.headers.TheConstants.{SLOTS};
 ghost use Rattle.block_trees.specs.Bodies.{index_of, pointer_of, data_of};
-ghost use Rattle.block_trees.specs.Trees.{entries_of, items_of};
-ghost use Rattle.reclaim.specs.Sound.{IsDirectoryAt, IsHead, IsSoundPlace, HoldsSlot, IsSoundBody, IsSoundNode, AreStepped};
+ghost use Rattle.block_trees.specs.Chains.{link_of, link_items, next_of, most_after};
+ghost use Rattle.reclaim.specs.Sound.{IsDirectoryAt, HoldsLink, IsHead, IsSoundPlace, HoldsSlot, IsSoundBody, AreSoundNames, AreStepped};
 ghost use Rattle.reclaim.specs.Looks as spec;
 ghost use Rattle.node_store.specs.Frames.{OnlyLooks};
 
+use crate::bringing::brings;
+use crate::edges::{Edge, begins_directory, edge_in, is_chained};
 use crate::fields::{has_pointer, index_in, pointer_in};
 use fs_types::{Fault, MAX_FILE_BYTES};
-use node_format::{BODY_HEADER, Entries, Place, SLOTS};
+use node_format::{BODY_HEADER, Entries, EntryList, Place, SLOTS};
 use node_store::Nodes;
 use std::alloc::{AllocError, Global};
 
-/// Brings the node in a block, for `lent` to lend; whether there is one.
-fn brings<N: Nodes>(nodes: &mut N, block: u32) -> Result<bool, Fault>
+/// Whether a block holds a node of a directory.
+pub fn holds_link<N: Nodes>(nodes: &mut N, block: u32) -> Result<bool, Fault>
     requires { N.is_sound nodes.old }
-    ensures shown { IfOk result (λ brought. brought ≡ true → N.node nodes.old block ≡ Some (N.shown nodes.new)) }
-    ensures lends { IfOk result (λ brought. brought ≡ true → N.lends nodes.new) }
-    ensures none { IfOk result (λ brought. brought ≡ false → N.node nodes.old block ≡ None) }
-    ensures why { IfErr result (λ fault. N.causes nodes.old nodes.new fault) }
-    ensures faults { IfErr result spec.IsLookFault }
-    ensures looks { OnlyLooks N.node N.kept N.writes N.follows N.is_sound N.limit N.blocks nodes.old nodes.new }
-    ensures reads { N.reads nodes.new ≡ N.reads nodes.old + 1 }
-{
-    match nodes.read(block) {
-        Ok(()) => Ok(true),
-        Err(Fault::Damaged) => Ok(false),
-        Err(fault) => Err(fault),
-    }
-}
-
-/// Whether a block holds a directory node.
-pub fn is_directory<N: Nodes>(nodes: &mut N, block: u32) -> Result<bool, Fault>
-    requires { N.is_sound nodes.old }
-    ensures exact { IfOk result (λ found. IsTrue found ↔ IsDirectoryAt (N.node nodes.old) block) }
+    ensures exact { IfOk result (λ found. IsTrue found ↔ HoldsLink (N.node nodes.old) block) }
     ensures why { IfErr result (λ fault. N.causes nodes.old nodes.new fault) }
     ensures faults { IfErr result spec.IsLookFault }
     ensures looks { OnlyLooks N.node N.kept N.writes N.follows N.is_sound N.limit N.blocks nodes.old nodes.new }
@@ -99,7 +84,7 @@ fn is_head<N: Nodes>(nodes: &mut N, capacity: u32, head: u32, length: u32) -> Re
     Ok(ends_file(capacity, index, held, length))
 }
 
-/// Whether a place leads to a directory node, or to the head of its file.
+/// Whether a place leads to a node of a directory, or to the head of its file.
 fn is_sound_place<N: Nodes>(nodes: &mut N, capacity: u32, place: Place) -> Result<bool, Fault>
     requires sound { N.is_sound nodes.old }
     requires capacity { 0 < capacity }
@@ -110,23 +95,23 @@ fn is_sound_place<N: Nodes>(nodes: &mut N, capacity: u32, place: Place) -> Resul
     ensures reads { N.reads nodes.new ≤ N.reads nodes.old + 1 }
 {
     match place {
-        Place::Dir { block } => is_directory(nodes, block),
+        Place::Dir { block } => holds_link(nodes, block),
         Place::File { head, length } => is_head(nodes, capacity, head, length),
     }
 }
 
-/// The places of the entries of a directory; none where the bytes are of none.
+/// The places of the entries of a node; none where the bytes are of none.
 fn places_in(alloc: Global, bytes: &[u8]) -> Result<Vec<Place>, AllocError>
-    ensures { IfOk result (λ v. v.items ≡ map (λ item. item.place) (items_of (Some bytes.now))) }
+    ensures { IfOk result (λ v. v.items ≡ map (λ item. item.place) (link_items (Some bytes.now))) }
 {
     let mut out = Vec::new(alloc);
-    if let Some(entries) = Entries::of(bytes) {
-        push_places_of(&mut out, entries)?;
+    if let Some(node) = Entries::of(bytes) {
+        push_places_of(&mut out, node.list())?;
     }
     Ok(out)
 }
 
-fn push_places_of(out: &mut Vec<Place>, entries: Entries<'_>) -> Result<(), AllocError>
+fn push_places_of(out: &mut Vec<Place>, entries: EntryList<'_>) -> Result<(), AllocError>
     ensures { OnOk result (out.new.items ≡ out.old.items ++ map (λ item. item.place) entries.entry) }
 {
     for entry in entries {
@@ -261,30 +246,38 @@ fn is_sound_at<N: Nodes>(
     is_sound_body(nodes, capacity, pointers, index)
 }
 
-/// What the bytes of a node say: the places of its entries, what stands in its slots, and the index of
-/// a body node.
+/// What the bytes of a node say: the places of its entries, what stands in its slots, the index of a
+/// body node, what a node of a directory says to the one after it, and whether it is one of a chain.
 #[derive(Drop)]
 struct Parts {
     places: Vec<Place>,
     pointers: Vec<u32>,
     index: Option<u32>,
+    edge: Option<Edge>,
+    is_chained: bool,
 }
 
 fn parts_in(alloc: Global, bytes: &[u8]) -> Result<Parts, AllocError>
-    ensures { IfOk result (λ parts. spec.ArePartsOf (Some bytes.now) parts.places.items parts.pointers.items parts.index) }
+    ensures named { IfOk result (λ parts. spec.ArePartsOf (Some bytes.now) parts.places.items parts.pointers.items parts.index) }
+    ensures edge { IfOk result (λ parts. option_map (λ e. (e.last.items, e.next)) parts.edge ≡ spec.edge_at (Some bytes.now)) }
+    ensures chained { IfOk result (λ parts. parts.is_chained ≡ spec.is_chained (Some bytes.now)) }
 {
     let places = places_in(alloc, bytes)?;
     let pointers = pointers_in(alloc, bytes)?;
     let index = index_in(bytes);
+    let edge = edge_in(bytes);
+    let is_chained = is_chained(bytes);
     Ok(Parts {
         places,
         pointers,
         index,
+        edge,
+        is_chained,
     })
 }
 
-/// Whether the node that these are the parts of is sound.
-fn are_sound_parts<N: Nodes>(
+/// Whether what a node names, of which these are parts, is sound.
+fn are_sound_names<N: Nodes>(
     nodes: &mut N,
     capacity: u32,
     places: &[Place],
@@ -294,11 +287,11 @@ fn are_sound_parts<N: Nodes>(
     requires sound { N.is_sound nodes.old }
     requires capacity { 2 ^ 11 ≤ capacity }
     requires count { length pointers.now ≡ SLOTS }
-    ensures exact { IfOk result (λ good. (node : Option (List ℕ)) → spec.ArePartsOf node places.now pointers.now index → IsTrue good ↔ IsSoundNode capacity (N.node nodes.old) node) }
+    ensures exact { IfOk result (λ good. (node : Option (List ℕ)) → spec.ArePartsOf node places.now pointers.now index → IsTrue good ↔ AreSoundNames capacity (N.node nodes.old) node) }
     ensures why { IfErr result (λ fault. N.causes nodes.old nodes.new fault) }
     ensures faults { IfErr result spec.IsLookFault }
     ensures looks { OnlyLooks N.node N.kept N.writes N.follows N.is_sound N.limit N.blocks nodes.old nodes.new }
-    ensures reads { (node : Option (List ℕ)) → spec.ArePartsOf node places.now pointers.now index → N.reads nodes.new + 1 ≤ N.reads nodes.old + spec.look_reads node }
+    ensures reads { (node : Option (List ℕ)) → spec.ArePartsOf node places.now pointers.now index → N.reads nodes.new ≤ N.reads nodes.old + spec.name_reads node }
 {
     let good = are_sound_places(nodes, capacity, places)?;
     if !good {
@@ -310,16 +303,19 @@ fn are_sound_parts<N: Nodes>(
     }
 }
 
-/// Whether a directory's entries are sound, or a body node's pointers.
+/// Whether the node in a block is sound: a directory's entries are, and the nodes after it go on with a
+/// directory, or a body node's pointers are. Where only plain directories are allowed, no node of a
+/// chain is.
 pub fn look<N: Nodes>(
     alloc: Global,
     nodes: &mut N,
     capacity: u32,
+    plain: bool,
     block: u32,
 ) -> Result<bool, Fault>
     requires sound { N.is_sound nodes.old }
     requires capacity { 2 ^ 11 ≤ capacity }
-    ensures exact { IfOk result (λ good. IsTrue good ↔ IsSoundNode capacity (N.node nodes.old) (N.node nodes.old block)) }
+    ensures exact { IfOk result (λ good. IsTrue good ↔ spec.IsAllowed capacity (N.node nodes.old) plain block) }
     ensures why { IfErr result (λ fault. N.causes nodes.old nodes.new fault) }
     ensures faults { IfErr result spec.IsLookFault }
     ensures looks { OnlyLooks N.node N.kept N.writes N.follows N.is_sound N.limit N.blocks nodes.old nodes.new }
@@ -330,6 +326,13 @@ pub fn look<N: Nodes>(
         return Ok(true);
     }
     let parts = parts_in(alloc, nodes.lent())?;
-    let good = are_sound_parts(nodes, capacity, &parts.places, &parts.pointers, parts.index)?;
+    if plain && parts.is_chained {
+        return Ok(false);
+    }
+    let whole = begins_directory(nodes, parts.edge)?;
+    if !whole {
+        return Ok(false);
+    }
+    let good = are_sound_names(nodes, capacity, &parts.places, &parts.pointers, parts.index)?;
     Ok(good)
 }

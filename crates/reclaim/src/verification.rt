@@ -1,22 +1,23 @@
 //! Whether roots have trees: one look at each block that they reach, and at the depth below each root.
-ghost use Rattle.std.specs.Prelude.{◌≡◌, ◌≢◌, ◌↔◌, ℕ, ◌+◌, ◌*◌, ◌^◌, ◌≤◌, ◌<◌, List, length, All, Contains, IsTrue, IfOk, IfErr, IsErrOf};
+ghost use Rattle.std.specs.Prelude.{◌≡◌, ◌≢◌, ◌↔◌, ℕ, ◌+◌, ◌*◌, ◌^◌, ◌≤◌, ◌<◌, true, List, length, All, Contains, IsTrue, IfOk, IfErr, IsErrOf};
 ghost use Rattle.std.specs.List.{sum_by};
 ghost use Rattle.allocator.specs.Ring.{IsDataBlock};
 ghost use Rattle.node_format.specs.declared.places.Place.TheVariants.{Dir};
 ghost use Rattle.block_trees.specs.Bodies.{Blocks};
-ghost use Rattle.block_trees.specs.Trees.{items_in};
+ghost use Rattle.block_trees.specs.Chains.{link_items};
 ghost use Rattle.block_trees.specs.Laws.{IsShallow};
 ghost use Rattle.directory.specs.Depths.{HasDirectories};
+ghost use Rattle.directory.specs.Lookups.{LeadsToDirectories};
 ghost use Rattle.block_trees.specs.Reached.{Reached};
 ghost use Rattle.node_store.specs.Faults.{IsReadFault};
 ghost use Rattle.node_store.specs.Frames.{OnlyLooks};
-ghost use Rattle.reclaim.specs.Looks.{IsLookFault, look_reads};
+ghost use Rattle.reclaim.specs.Looks.{IsLookFault, IsAllowed, look_reads};
 ghost use Rattle.reclaim.specs.Passes.{IsPass, IsFinished};
-ghost use Rattle.reclaim.specs.Sound.{IsDirectoryAt, IsSoundNode};
+ghost use Rattle.reclaim.specs.Sound.{HoldsLink, IsPlain};
 ghost use Rattle.reclaim.specs.Verified.{AreRoots, HasCost};
 ghost use Rattle.fs_types.specs.declared.limits.TheConstants.{MAX_NAMES};
 
-use crate::looks::{is_directory, look};
+use crate::looks::{holds_link, look};
 use crate::passes::{FIRST, Pass};
 use directory::any_is_deeper;
 use fs_types::{Fault, MAX_NAMES};
@@ -43,23 +44,25 @@ fn are_data_blocks(blocks: u32, list: &[u32]) -> bool
     true
 }
 
-// Whether a look at each block of a list finds it sound.
-fn are_sound<N: Nodes>(
+// Whether a look at each block of a list finds it sound, and none a node of a chain where only plain
+// directories are allowed.
+fn are_allowed<N: Nodes>(
     alloc: Global,
     nodes: &mut N,
     capacity: u32,
+    plain: bool,
     list: &[u32],
 ) -> Result<bool, Fault>
     requires sound { N.is_sound nodes.old }
     requires capacity { 2 ^ 11 ≤ capacity }
-    ensures exact { IfOk result (λ good. IsTrue good ↔ All (λ b. IsSoundNode capacity (N.node nodes.old) (N.node nodes.old b)) list.now) }
+    ensures exact { IfOk result (λ good. IsTrue good ↔ All (IsAllowed capacity (N.node nodes.old) plain) list.now) }
     ensures why { IfErr result (λ fault. N.causes nodes.old nodes.new fault) }
     ensures faults { IfErr result IsLookFault }
     ensures looks { OnlyLooks N.node N.kept N.writes N.follows N.is_sound N.limit N.blocks nodes.old nodes.new }
     ensures reads { N.reads nodes.new ≤ N.reads nodes.old + sum_by (λ b. look_reads (N.node nodes.old b)) list.now }
 {
     for block in list {
-        let good = look(alloc, nodes, capacity, *block)?;
+        let good = look(alloc, nodes, capacity, plain, *block)?;
         if !good {
             return Ok(false);
         }
@@ -67,17 +70,17 @@ fn are_sound<N: Nodes>(
     Ok(true)
 }
 
-// Whether each block of a list holds a directory node.
-fn are_directories<N: Nodes>(nodes: &mut N, list: &[u32]) -> Result<bool, Fault>
+// Whether each block of a list holds a node of a directory.
+fn hold_links<N: Nodes>(nodes: &mut N, list: &[u32]) -> Result<bool, Fault>
     requires { N.is_sound nodes.old }
-    ensures exact { IfOk result (λ good. IsTrue good ↔ All (IsDirectoryAt (N.node nodes.old)) list.now) }
+    ensures exact { IfOk result (λ good. IsTrue good ↔ All (HoldsLink (N.node nodes.old)) list.now) }
     ensures why { IfErr result (λ fault. N.causes nodes.old nodes.new fault) }
     ensures faults { IfErr result IsLookFault }
     ensures looks { OnlyLooks N.node N.kept N.writes N.follows N.is_sound N.limit N.blocks nodes.old nodes.new }
     ensures reads { N.reads nodes.new ≤ N.reads nodes.old + length list.now }
 {
     for block in list {
-        let good = is_directory(nodes, *block)?;
+        let good = holds_link(nodes, *block)?;
         if !good {
             return Ok(false);
         }
@@ -85,9 +88,10 @@ fn are_directories<N: Nodes>(nodes: &mut N, list: &[u32]) -> Result<bool, Fault>
     Ok(true)
 }
 
-// Whether no path below any root has too many names.
+// Whether no path below any root has too many names. All that the roots lead to are directories.
 fn are_shallow<N: Nodes>(alloc: Global, nodes: &mut N, roots: &[u32]) -> Result<bool, Fault>
-    requires { N.is_sound nodes.old }
+    requires sound { N.is_sound nodes.old }
+    requires whole { (root : ℕ) → Contains roots.now root → LeadsToDirectories (N.node nodes.old) root }
     ensures exact { IfOk result (λ good. IsTrue good ↔ All (λ root. IsShallow (N.node nodes.old) (Dir root) MAX_NAMES) roots.now) }
     ensures why { IfErr result (λ fault. N.causes nodes.old nodes.new fault) }
     ensures faults { IfErr result IsLookFault }
@@ -98,32 +102,34 @@ fn are_shallow<N: Nodes>(alloc: Global, nodes: &mut N, roots: &[u32]) -> Result<
     Ok(!deep)
 }
 
-// Whether each root has a tree, by the list of all that they reach. The roots are directories.
+// Whether each root has a tree, without a chain where only plain directories are allowed, by the list
+// of all that they reach. The roots hold nodes of directories.
 fn have_trees<N: Nodes>(
     alloc: Global,
     nodes: &mut N,
     roots: &[u32],
+    plain: bool,
     marked: &[u32],
 ) -> Result<bool, Fault>
     requires sound { N.is_sound nodes.old }
     requires marked { (b : ℕ) → Contains marked.now b ↔ Reached (N.node nodes.old) roots.now b }
-    requires directories { All (IsDirectoryAt (N.node nodes.old)) roots.now }
-    ensures exact { IfOk result (λ good. IsTrue good ↔ AreRoots (N.limit nodes.old) (N.node nodes.old) roots.now) }
+    requires directories { All (HoldsLink (N.node nodes.old)) roots.now }
+    ensures exact { IfOk result (λ good. IsTrue good ↔ (AreRoots (N.limit nodes.old) (N.node nodes.old) roots.now × (plain ≡ true → IsPlain (N.node nodes.old) roots.now))) }
     ensures why { IfErr result (λ fault. N.causes nodes.old nodes.new fault) }
     ensures faults { IfErr result IsLookFault }
     ensures looks { OnlyLooks N.node N.kept N.writes N.follows N.is_sound N.limit N.blocks nodes.old nodes.new }
-    ensures reads { N.reads nodes.new ≤ N.reads nodes.old + sum_by (λ b. 18 + 2 * length (items_in (N.node nodes.old) b)) marked.now }
+    ensures reads { N.reads nodes.new ≤ N.reads nodes.old + sum_by (λ b. 18 + 2 * length (link_items (N.node nodes.old b))) marked.now }
 {
     let capacity = nodes.block_bytes() - BODY_HEADER;
-    let are_sound = are_sound(alloc, nodes, capacity, marked)?;
-    if !are_sound {
+    let are_allowed = are_allowed(alloc, nodes, capacity, plain, marked)?;
+    if !are_allowed {
         return Ok(false);
     }
     let are_shallow = are_shallow(alloc, nodes, roots)?;
     Ok(are_shallow)
 }
 
-// A pass at its start, of roots that all are directories; `Damaged` where one is none.
+// A pass at its start, of roots that all hold nodes of directories; `Damaged` where one holds none.
 fn start_pass<N: Nodes>(
     alloc: Global,
     blocks: u32,
@@ -134,7 +140,7 @@ fn start_pass<N: Nodes>(
     requires blocks { blocks ≡ N.blocks nodes.old }
     ensures pass { IfOk result (λ p. (f : Blocks) → IsPass f p) }
     ensures begun { IfOk result (λ p. (p.blocks ≡ blocks) × (p.roots ≡ roots.now) × (p.next ≡ 0)) }
-    ensures directories { IfOk result (λ _. All (IsDirectoryAt (N.node nodes.old)) roots.now) }
+    ensures directories { IfOk result (λ _. All (HoldsLink (N.node nodes.old)) roots.now) }
     ensures asked { IfOk result (λ p. N.reads nodes.new ≤ N.reads nodes.old + length p.order) }
     ensures damaged { IsErrOf result Fault.Damaged → AreRoots (N.limit nodes.old) (N.node nodes.old) roots.now → ⊥ }
     ensures why { IfErr result (λ fault. fault ≢ Fault.Damaged → N.causes nodes.old nodes.new fault) }
@@ -147,29 +153,32 @@ fn start_pass<N: Nodes>(
     }
     let pass = Pass::start(alloc, blocks, roots)?;
     // The marked blocks are the roots so far, each once.
-    let are_directories = are_directories(nodes, pass.marked())?;
-    if !are_directories {
+    let hold_links = hold_links(nodes, pass.marked())?;
+    if !hold_links {
         return Err(Fault::Damaged);
     }
     Ok(pass)
 }
 
-/// A finished pass of roots that each have a tree with linked bodies, on a flash of `blocks` blocks.
+/// A finished pass of roots that each have a tree with linked bodies, on a flash of `blocks` blocks;
+/// with `plain` no node of a chain is among all that they reach.
 ///
-/// `Damaged` where a root has none, and only there: a root that is no data block has none. Nothing
-/// is written, and at most 20 reads come for each block that the roots reach and 2 for each entry.
+/// `Damaged` where that is not so, and only there: a root that is no data block has no tree. Nothing
+/// is written, and at most 20 reads come for each block that the roots reach and 2 for each entry of
+/// its node.
 pub fn verify<N: Nodes>(
     alloc: Global,
     blocks: u32,
     nodes: &mut N,
     roots: &[u32],
+    plain: bool,
 ) -> Result<Pass, Fault>
     requires sound { N.is_sound nodes.old }
     requires blocks { blocks ≡ N.blocks nodes.old }
-    ensures trees { IfOk result (λ _. AreRoots (N.limit nodes.old) (N.node nodes.old) roots.now) }
+    ensures trees { IfOk result (λ _. AreRoots (N.limit nodes.old) (N.node nodes.old) roots.now × (plain ≡ true → IsPlain (N.node nodes.old) roots.now)) }
     ensures pass { IfOk result (λ p. IsPass (N.node nodes.new) p × IsFinished p) }
     ensures of { IfOk result (λ p. (p.blocks ≡ blocks) × (p.roots ≡ roots.now)) }
-    ensures damaged { IsErrOf result Fault.Damaged → AreRoots (N.limit nodes.old) (N.node nodes.old) roots.now → ⊥ }
+    ensures damaged { IsErrOf result Fault.Damaged → AreRoots (N.limit nodes.old) (N.node nodes.old) roots.now × (plain ≡ true → IsPlain (N.node nodes.old) roots.now) → ⊥ }
     ensures why { IfErr result (λ fault. fault ≢ Fault.Damaged → N.causes nodes.old nodes.new fault) }
     ensures faults { IfErr result IsReadFault }
     ensures looks { OnlyLooks N.node N.kept N.writes N.follows N.is_sound N.limit N.blocks nodes.old nodes.new }
@@ -177,7 +186,7 @@ pub fn verify<N: Nodes>(
 {
     let mut pass = start_pass(alloc, blocks, nodes, roots)?;
     pass.read_all(nodes)?;
-    let have_trees = have_trees(alloc, nodes, roots, pass.marked())?;
+    let have_trees = have_trees(alloc, nodes, roots, plain, pass.marked())?;
     if !have_trees {
         return Err(Fault::Damaged);
     }

@@ -2,7 +2,7 @@
 use Rattle.std.proofs.Common.{◌≡◌, ℕ, ◌<◌, ◌≤◌, ◌^◌, Bool, true, false, ltb, eqb, List, [], ◌∷◌, ◌++◌, length, Option, Some, refl, sym, ap, ◌∙◌, append_assoc, arith}
 use Rattle.std.proofs.lemmas.Bool.{ltb-true, lt-ltb, le-ltb, eqb-true, eq-eqb}
 use Rattle.std.proofs.lemmas.List.{append-nil, length-append, take_at, drop_at}
-use Rattle.std.specs.Prelude.{◌&&◌, nat_lt}
+use Rattle.std.specs.Prelude.{◌&&◌, ◌||◌, nat_lt}
 use Rattle.std.specs.List.{list_all, flat_map}
 use Rattle.std.specs.Str.{bytes_eq}
 use Rattle.byteorder.specs.Endian.{little_bytes}
@@ -11,10 +11,12 @@ use Rattle.fs_types.specs.Names.{Name, is_checkpoint_name}
 use Rattle.fs_types.specs.declared.calls.Version.{Version}
 use Rattle.flash_model.specs.declared.sizes.Geometry.{Geometry}
 use Rattle.record_format.specs.declared.records.Checkpoint.{Checkpoint}
+use Rattle.fs_types.specs.declared.limits.TheConstants.{MAX_VERSIONS}
+use Rattle.record_format.specs.declared.formats.TheConstants.{FORMAT, OLD_FORMAT}
 use Rattle.record_format.specs.declared.records.Record.{Record}
 use Rattle.record_format.specs.declared.fronts.Front.{Front}
 use Rattle.record_format.specs.Fields.{◌>>=◌, number_at, name_at, version_at, checkpoint_at, block_at, many_at}
-use Rattle.record_format.specs.Payloads.{flag, format, version_bytes, checkpoint_bytes, block_bytes, sizes_bytes, counts_bytes, lists_bytes, spelling, is_record, SizesFit, Fits, sizes_at, front_at, if_spelled, meaning_of}
+use Rattle.record_format.specs.Payloads.{flag, is_format, version_bytes, checkpoint_bytes, block_bytes, sizes_bytes, counts_bytes, lists_bytes, spelling, is_record, SizesFit, Fits, sizes_at, front_at, if_spelled, meaning_of}
 use Rattle.record_format.proofs.Many.{many_again}
 use Rattle.record_format.proofs.LawfulRecords.{both_true, and_true, counts_of, serials_below, bad_below}
 
@@ -55,8 +57,7 @@ block_again block rest fit = number_again 4 block rest (ltb-true _ _ fit)
 sizes_again : (g : Geometry) (rest : List ℕ) → SizesFit g → sizes_at (sizes_bytes g ++ rest) ≡ Some (g, rest)
 unfolding sizes_at
 sizes_again g rest fit =
-    step _ _ _ (number_again 4 format (little_bytes 4 g.page ++ (little_bytes 4 g.pages ++ (little_bytes 4 g.blocks ++ rest))) (omega arith))
-    ∙ step _ _ _ (number_again 4 g.page (little_bytes 4 g.pages ++ (little_bytes 4 g.blocks ++ rest)) fit.page)
+    step _ _ _ (number_again 4 g.page (little_bytes 4 g.pages ++ (little_bytes 4 g.blocks ++ rest)) fit.page)
     ∙ step _ _ _ (number_again 4 g.pages (little_bytes 4 g.blocks ++ rest) fit.pages)
     ∙ step _ _ _ (number_again 4 g.blocks rest fit.blocks)
 
@@ -81,7 +82,7 @@ front_again : (r : Record) (one two : ℕ) (rest : List ℕ) → is_record r ≡
 unfolding front_at front_of ends_of
 front_again r one two rest lawful fit small =
     let counts = counts_of r lawful in
-    let most : r.limit ≤ 64 = counts.limit_most in
+    let most : r.limit ≤ MAX_VERSIONS = counts.limit_most in
     let some : r.cursor < length r.versions = counts.cursor in
     let versions : length r.versions ≤ r.limit = counts.versions in
     let bad : length r.bad ≤ 256 = counts.bad in
@@ -137,6 +138,15 @@ pub bad_fit : (r : Record) → is_record r ≡ true → Fits r → list_all (λ 
 bad_fit r lawful fit =
     all_weaker (λ block. nat_lt block r.geometry.blocks) (λ block. nat_lt block (2 ^ 32)) r.bad (λ block e. below_further block r.geometry.blocks (2 ^ 32) (let h : r.geometry.blocks < 2 ^ 32 = fit.sizes.blocks in omega arith) e) (bad_below r lawful)
 
+-- a format that is read fits its field
+pub format_fits : (format : ℕ) → is_format format ≡ true → format < 2 ^ 32
+format_fits format is = on (eqb format OLD_FORMAT) (eqb format FORMAT) refl refl is
+  where
+    on : (a b : Bool) → eqb format OLD_FORMAT ≡ a → eqb format FORMAT ≡ b → (a || b) ≡ true → format < 2 ^ 32
+    on true b e f is = let h = eqb-true format OLD_FORMAT e in omega arith
+    on false true e f is = let h = eqb-true format FORMAT f in omega arith
+    on false false e f is = absurd cc
+
 pub spelling_means : (r : Record) (one two : ℕ) → is_record r ≡ true → Fits r → two < 256 ^ 2 → meaning_of r.sequence (spelling one two r) ≡ Some r
 unfolding meaning_of front_of
 spelling_means r one two lawful fit small =
@@ -145,7 +155,8 @@ spelling_means r one two lawful fit small =
     let checkpoints = flat_map checkpoint_bytes r.checkpoints in
     let bad = flat_map block_bytes r.bad in
     let no_more : bad ++ [] ≡ bad = append-nil bad in
-    step _ _ _ (sizes_again r.geometry (counts_bytes one two r ++ lists_bytes r) fit.sizes)
+    step _ _ _ (number_again 4 r.format (sizes_bytes r.geometry ++ (counts_bytes one two r ++ lists_bytes r)) (format_fits r.format (counts_of r lawful).format))
+    ∙ step _ _ _ (sizes_again r.geometry (counts_bytes one two r ++ lists_bytes r) fit.sizes)
     ∙ step _ _ _ (front_again r one two (lists_bytes r) lawful fit small)
     ∙ step _ _ _ (many_again version_at version_bytes (λ version. nat_lt version.serial (2 ^ 64) && nat_lt version.root (2 ^ 32)) version_again r.versions (checkpoints ++ bad) (versions_fit r lawful fit))
     ∙ step _ _ _ (many_again checkpoint_at checkpoint_bytes (λ checkpoint. is_checkpoint_name checkpoint.name && nat_lt checkpoint.root (2 ^ 32)) checkpoint_again r.checkpoints bad fit.checkpoints)

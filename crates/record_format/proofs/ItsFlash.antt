@@ -10,7 +10,7 @@ use Rattle.fs_types.specs.declared.faults.Fault.TheVariants.{Damaged, BadGeometr
 use Rattle.flash_model.specs.declared.sizes.Geometry.{Geometry}
 use Rattle.record_format.specs.declared.records.Record.{Record}
 use Rattle.record_format.specs.Fields.{number_at, version_at, checkpoint_at, block_at, many_at}
-use Rattle.record_format.specs.Payloads.{format, shortest, longest, sizes_at, front_at, meaning_of, tells_sizes}
+use Rattle.record_format.specs.Payloads.{is_format, shortest, longest, sizes_at, front_at, meaning_of, tells_sizes}
 use Rattle.record_format.specs.Laws.{MeansItsFlash}
 use Rattle.record_format.proofs.LawfulRecords.{both_true}
 use Rattle.record_format.proofs.PayloadLaws.{bind_some, passed, some_is, meaning_says}
@@ -36,20 +36,18 @@ record ReadsSizes (bytes : List ℕ) (g : Geometry) : Type 0 where
   pages : little_from 8 4 bytes ≡ g.pages
   blocks : little_from 12 4 bytes ≡ g.blocks
 
-sizes_read : (bytes : List ℕ) (x : Geometry × List ℕ) → sizes_at bytes ≡ Some x → ReadsSizes bytes x.0
+sizes_read : (bytes : List ℕ) (x : Geometry × List ℕ) → sizes_at (drop 4 bytes) ≡ Some x → ReadsSizes bytes x.0
 unfolding sizes_at
 sizes_read bytes x e =
-    let one = bind_some (number_at 4 bytes) _ x e in
-    let two = bind_some (number_at 4 one.0.1) _ x one.2 in
+    let two = bind_some (number_at 4 (drop 4 bytes)) _ x e in
     let three = bind_some (number_at 4 two.0.1) _ x two.2 in
     let four = bind_some (number_at 4 three.0.1) _ x three.2 in
-    let a = number_read bytes one.0 one.1 in
-    let b = number_read one.0.1 two.0 two.1 in
+    let b = number_read (drop 4 bytes) two.0 two.1 in
     let c = number_read two.0.1 three.0 three.1 in
     let d = number_read three.0.1 four.0 four.1 in
-    let after_two : two.0.1 ≡ drop 8 bytes = b.1 ∙ ap (drop 4) a.1 ∙ drop-drop 4 4 bytes in
+    let after_two : two.0.1 ≡ drop 8 bytes = b.1 ∙ drop-drop 4 4 bytes in
     let after_three : three.0.1 ≡ drop 12 bytes = c.1 ∙ ap (drop 4) after_two ∙ drop-drop 4 8 bytes in
-    let page : two.0.0 ≡ little_from 4 4 bytes = b.0 ∙ ap (little_number 4) a.1 ∙ number_after 4 bytes in
+    let page : two.0.0 ≡ little_from 4 4 bytes = b.0 ∙ number_after 4 bytes in
     let pages : three.0.0 ≡ little_from 8 4 bytes = c.0 ∙ ap (little_number 4) after_two ∙ number_after 8 bytes in
     let blocks : four.0.0 ≡ little_from 12 4 bytes = d.0 ∙ ap (little_number 4) after_three ∙ number_after 12 bytes in
     let read : Geometry × List ℕ = (record { page = two.0.0; pages = three.0.0; blocks = four.0.0 }, four.0.1) in
@@ -58,13 +56,15 @@ sizes_read bytes x e =
 meaning_sizes : (sequence : ℕ) (bytes : List ℕ) (r : Record) → meaning_of sequence bytes ≡ Some r → ReadsSizes bytes r.geometry
 unfolding meaning_of
 meaning_sizes sequence bytes r e =
-    let sizes = bind_some (sizes_at bytes) _ r e in
+    let format = bind_some (number_at 4 bytes) _ r e in
+    let sizes = bind_some (sizes_at format.0.1) _ r format.2 in
     let front = bind_some (front_at sizes.0.1) _ r sizes.2 in
     let versions = bind_some (many_at version_at front.0.0.versions front.0.1) _ r front.2 in
     let checkpoints = bind_some (many_at checkpoint_at front.0.0.checkpoints versions.0.1) _ r versions.2 in
     let bad = bind_some (many_at block_at front.0.0.bad checkpoints.0.1) _ r checkpoints.2 in
     let read : Record = record {
       sequence = sequence;
+      format = format.0.0;
       geometry = sizes.0.0;
       limit = front.0.0.limit;
       cursor = front.0.0.cursor;
@@ -76,7 +76,8 @@ meaning_sizes sequence bytes r e =
       last = front.0.0.last;
     } in
     let same : read ≡ r = some_is read r (passed _ (Some read) r bad.2).1 in
-    subst (λ (x : Record). ReadsSizes bytes x.geometry) same (sizes_read bytes sizes.0 sizes.1)
+    let after : format.0.1 ≡ drop 4 bytes = (number_read bytes format.0 format.1).1 in
+    subst (λ (x : Record). ReadsSizes bytes x.geometry) same (sizes_read bytes sizes.0 (ap sizes_at (sym after) ∙ sizes.1))
 
 -- ---- the flash
 
@@ -100,7 +101,7 @@ meant (Some x) r e = ap (λ (y : Record). Some y) (good_is x r e)
 
 pub means_its_flash : MeansItsFlash
 means_its_flash g sequence bytes r e =
-    let other = accepted Damaged (ltb (length bytes) shortest || not (eqb (little_from 0 4 bytes) format)) _ r e in
+    let other = accepted Damaged (ltb (length bytes) shortest || not (is_format (little_from 0 4 bytes))) _ r e in
     let sizes = accepted BadGeometry (not (tells_sizes g bytes)) _ r other.1 in
     let long = accepted Damaged (ltb longest (length bytes)) _ r sizes.1 in
     let means : meaning_of sequence bytes ≡ Some r = meant (meaning_of sequence bytes) r long.1 in

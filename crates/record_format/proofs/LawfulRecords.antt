@@ -1,11 +1,13 @@
 -- A record with its own list of bad blocks; the parts of a lawful record.
-use Rattle.std.proofs.Common.{◌≡◌, ℕ, ◌<◌, ◌≤◌, Bool, true, false, ltb, leb, List, length, refl}
+use Rattle.std.proofs.Common.{◌≡◌, ℕ, ◌<◌, ◌≤◌, ◌==◌, Bool, true, false, cond, ltb, leb, List, length, refl, arith}
 use Rattle.std.proofs.lemmas.Bool.{ltb-true, leb-true}
 use Rattle.std.specs.Prelude.{◌&&◌, nat_lt}
 use Rattle.std.specs.List.{list_all}
 use Rattle.fs_types.specs.Names.{is_checkpoint_name}
+use Rattle.fs_types.specs.declared.limits.TheConstants.{MIN_VERSIONS, MAX_VERSIONS}
+use Rattle.record_format.specs.declared.formats.TheConstants.{OLD_FORMAT, OLD_MAX_VERSIONS}
 use Rattle.record_format.specs.declared.records.Record.{Record}
-use Rattle.record_format.specs.Payloads.{is_record, has_counts, has_versions, has_checkpoints}
+use Rattle.record_format.specs.Payloads.{is_format, most_versions, is_record, has_limit, has_counts, has_versions, has_checkpoints}
 
 pub both_true : (a b : Bool) → (a && b) ≡ true → (a ≡ true) × (b ≡ true)
 both_true true b e = (refl, e)
@@ -14,19 +16,29 @@ both_true false b e = absurd cc
 pub and_true : (a b : Bool) → a ≡ true → b ≡ true → (a && b) ≡ true
 and_true a b p q = rw (p, q) refl
 
-pub same_record : (r : Record) (bad : List ℕ) → bad ≡ r.bad → record r { bad = bad } ≡ r
+pub same_record : (r : Record) (bad : List ℕ) → bad ≡ r.bad → record r { format = r.format; bad = bad } ≡ r
 same_record r bad same = λ i. record r { bad = same i }
 
 -- the counts of a lawful record
 pub record HasCounts (r : Record) : Type 0 where
-  pub limit_least : 2 ≤ r.limit
-  pub limit_most : r.limit ≤ 64
+  pub limit : has_limit r ≡ true
+  pub format : is_format r.format ≡ true
+  pub limit_least : MIN_VERSIONS ≤ r.limit
+  pub limit_most : r.limit ≤ MAX_VERSIONS
   pub versions : length r.versions ≤ r.limit
   pub cursor : r.cursor < length r.versions
   pub checkpoints : length r.checkpoints ≤ 16
   pub bad : length r.bad ≤ 256
   pub last_least : 8 ≤ r.last
   pub last_most : r.last < r.geometry.blocks
+
+-- no format keeps more versions than may be kept
+most_of : (format : ℕ) → most_versions format ≤ MAX_VERSIONS
+most_of format = on (format == OLD_FORMAT)
+  where
+    on : (b : Bool) → cond b OLD_MAX_VERSIONS MAX_VERSIONS ≤ MAX_VERSIONS
+    on true = omega arith
+    on false = omega arith
 
 pub counts_of : (r : Record) → is_record r ≡ true → HasCounts r
 counts_of r lawful =
@@ -37,10 +49,14 @@ counts_of r lawful =
     let d = both_true _ (leb (length r.checkpoints) 16) c.0 in
     let e = both_true _ (nat_lt r.cursor (length r.versions)) d.0 in
     let f = both_true _ (leb (length r.versions) r.limit) e.0 in
-    let g = both_true (leb 2 r.limit) (leb r.limit 64) f.0 in
+    let g = both_true _ (leb r.limit (most_versions r.format)) f.0 in
+    let k = both_true (is_format r.format) (leb MIN_VERSIONS r.limit) g.0 in
+    let most : r.limit ≤ most_versions r.format = leb-true _ _ g.1 in
     record {
-      limit_least = leb-true _ _ g.0;
-      limit_most = leb-true _ _ g.1;
+      limit = f.0;
+      format = k.0;
+      limit_least = leb-true _ _ k.1;
+      limit_most = omega (arith, most, most_of r.format);
       versions = leb-true _ _ f.1;
       cursor = ltb-true _ _ e.1;
       checkpoints = leb-true _ _ d.1;

@@ -4,5 +4,6 @@ pub mod Ascending
 pub mod Appends
 pub mod Pushed
 pub mod Again
+mod ReadFormats
 pub mod PayloadLaws
 pub mod ItsFlash

@@ -12,12 +12,13 @@ use Rattle.fs_types.specs.declared.faults.Fault.{Fault}
 use Rattle.fs_types.specs.declared.faults.Fault.TheVariants.{Damaged, BadGeometry}
 use Rattle.std.specs.Option.{ok_or}
 use Rattle.record_format.specs.declared.records.Checkpoint.{Checkpoint}
+use Rattle.fs_types.specs.declared.limits.TheConstants.{MAX_VERSIONS}
 use Rattle.record_format.specs.declared.records.Record.{Record}
-use Rattle.record_format.specs.Fields.{◌>>=◌, version_at, checkpoint_at, block_at, many_at}
-use Rattle.record_format.specs.Payloads.{longest, shortest, version_bytes, checkpoint_bytes, block_bytes, counts_bytes, lists_bytes, spelling, payload_bytes, is_record, SizesFit, sizes_at, front_at, if_spelled, meaning_of, tells_sizes}
+use Rattle.record_format.specs.Fields.{◌>>=◌, number_at, version_at, checkpoint_at, block_at, many_at}
+use Rattle.record_format.specs.Payloads.{is_format, longest, shortest, version_bytes, checkpoint_bytes, block_bytes, sizes_bytes, counts_bytes, lists_bytes, spelling, payload_bytes, is_record, SizesFit, sizes_at, front_at, if_spelled, meaning_of, tells_sizes}
 use Rattle.record_format.specs.Laws.{Says, MeaningSays, SaysMeaning, OneMeaning, WrittenIsRead, IsShort}
 use Rattle.record_format.proofs.LawfulRecords.{both_true, counts_of, name_length}
-use Rattle.record_format.proofs.Again.{bytes_eq-true, spelling_means}
+use Rattle.record_format.proofs.Again.{bytes_eq-true, format_fits, spelling_means}
 
 pub bind_some : {A B : Type 0} (r : Option A) (f : A → Option B) (y : B) → (r >>= f) ≡ Some y → (x : A) × (r ≡ Some x) × (f x ≡ Some y)
 bind_some None f y e = absurd cc
@@ -43,13 +44,15 @@ spelled_says sequence one two bytes read r same e =
 pub meaning_says : MeaningSays
 unfolding meaning_of
 meaning_says sequence bytes r e =
-    let sizes = bind_some (sizes_at bytes) _ r e in
+    let format = bind_some (number_at 4 bytes) _ r e in
+    let sizes = bind_some (sizes_at format.0.1) _ r format.2 in
     let front = bind_some (front_at sizes.0.1) _ r sizes.2 in
     let versions = bind_some (many_at version_at front.0.0.versions front.0.1) _ r front.2 in
     let checkpoints = bind_some (many_at checkpoint_at front.0.0.checkpoints versions.0.1) _ r versions.2 in
     let bad = bind_some (many_at block_at front.0.0.bad checkpoints.0.1) _ r checkpoints.2 in
     let read : Record = record {
       sequence = sequence;
+      format = format.0.0;
       geometry = sizes.0.0;
       limit = front.0.0.limit;
       cursor = front.0.0.cursor;
@@ -91,7 +94,7 @@ pub is_short : IsShort
 is_short r lawful fit =
     let counts = counts_of r lawful in
     let a : length r.versions ≤ r.limit = counts.versions in
-    let b : r.limit ≤ 64 = counts.limit_most in
+    let b : r.limit ≤ MAX_VERSIONS = counts.limit_most in
     let c : length r.checkpoints ≤ 16 = counts.checkpoints in
     let d : length r.bad ≤ 256 = counts.bad in
     let versions = flat_map-short version_bytes (λ version. true) 12 r.versions (λ version e. omega arith) (all_true r.versions) in
@@ -121,4 +124,6 @@ written_is_read r lawful fit =
     let least : ltb (length (payload_bytes r)) shortest ≡ false = le-ltb _ _ (let h = size.0 in omega arith) in
     let most : ltb longest (length (payload_bytes r)) ≡ false = le-ltb _ _ size.1 in
     let means = spelling_means r 0 0 lawful fit (omega arith) in
-    λ i. payload_from (least i || false) (not (tells r fit.sizes i)) (most i) (means i)
+    let format : is_format (little_from 0 4 (payload_bytes r)) ≡ true =
+    ap is_format (little_number-reads_back 4 r.format (sizes_bytes r.geometry ++ (counts_bytes 0 0 r ++ lists_bytes r)) (format_fits r.format (counts_of r lawful).format)) ∙ (counts_of r lawful).format in
+    λ i. payload_from (least i || not (format i)) (not (tells r fit.sizes i)) (most i) (means i)

@@ -34,7 +34,7 @@ WrittenIsRead = (r : Record) → is_record r ≡ true → Fits r → payload_at 
 abbrev pub MeansItsFlash : Type 0
 MeansItsFlash = (g : Geometry) (sequence : ℕ) (bytes : List ℕ) (r : Record) → payload_at g sequence bytes ≡ Ok r → (r.geometry ≡ g) × (is_record r ≡ true)
 
--- a payload is not empty and has at most 2,408 bytes
+-- a payload is not empty and has at most 3,176 bytes
 abbrev pub IsShort : Type 0
 IsShort = (r : Record) → is_record r ≡ true → Fits r → (40 ≤ length (payload_bytes r)) × (length (payload_bytes r) ≤ longest)
 

@@ -6,6 +6,7 @@ use Rattle.std.specs.Ordering.{is_lt}
 use Rattle.std.specs.Str.{bytes_eq}
 use Rattle.byteorder.specs.Endian.{little_from, little_bytes}
 use Rattle.fs_types.specs.declared.limits.TheConstants.{MIN_VERSIONS, MAX_VERSIONS, MAX_CHECKPOINTS, MAX_BAD_BLOCKS}
+use Rattle.record_format.specs.declared.formats.TheConstants.{FORMAT, OLD_FORMAT, OLD_MAX_VERSIONS}
 use Rattle.fs_types.specs.Names.{Name, name_cmp, is_checkpoint_name}
 use Rattle.fs_types.specs.declared.faults.Fault.{Fault}
 use Rattle.fs_types.specs.declared.faults.Fault.TheVariants.{Damaged, BadGeometry}
@@ -16,13 +17,17 @@ use Rattle.record_format.specs.declared.records.Record.{Record}
 use Rattle.record_format.specs.declared.fronts.Front.{Front}
 use Rattle.record_format.specs.Fields.{◌>>=◌, byte_at, number_at, version_at, checkpoint_at, block_at, many_at}
 
--- the one format there is
-abbrev pub format : ℕ
-format = 1
+-- the formats that are read
+abbrev pub is_format : ℕ → Bool
+is_format format = (format == OLD_FORMAT) || (format == FORMAT)
 
--- the longest payload: 40 bytes in front, 64 versions, 16 checkpoints with names of 31 bytes, 256 bad blocks
+-- the most versions that a record of a format keeps
+abbrev pub most_versions : ℕ → ℕ
+most_versions format = if format == OLD_FORMAT then OLD_MAX_VERSIONS else MAX_VERSIONS
+
+-- the longest payload: 40 bytes in front, 128 versions, 16 checkpoints with names of 31 bytes, 256 bad blocks
 abbrev pub longest : ℕ
-longest = 2408
+longest = 3176
 
 -- the bytes that tell the format and the sizes
 abbrev pub shortest : ℕ
@@ -43,9 +48,9 @@ checkpoint_bytes checkpoint = length checkpoint.name ∷ (checkpoint.name ++ lit
 abbrev pub block_bytes : ℕ → List ℕ
 block_bytes block = little_bytes 4 block
 
--- format, bytes of a page, pages of a block, blocks
+-- bytes of a page, pages of a block, blocks
 abbrev pub sizes_bytes : Geometry → List ℕ
-sizes_bytes g = little_bytes 4 format ++ (little_bytes 4 g.page ++ (little_bytes 4 g.pages ++ little_bytes 4 g.blocks))
+sizes_bytes g = little_bytes 4 g.page ++ (little_bytes 4 g.pages ++ little_bytes 4 g.blocks)
 
 -- most versions, cursor, dropped, counts of versions and checkpoints, a byte and then, after the count of bad blocks, a number of two bytes that are not looked at, next serial, last block taken
 abbrev pub counts_bytes : ℕ → ℕ → Record → List ℕ
@@ -58,11 +63,15 @@ lists_bytes r = flat_map version_bytes r.versions ++ (flat_map checkpoint_bytes 
 
 -- a payload that says this record, with the numbers that are not looked at
 abbrev pub spelling : ℕ → ℕ → Record → List ℕ
-spelling one two r = sizes_bytes r.geometry ++ (counts_bytes one two r ++ lists_bytes r)
+spelling one two r = little_bytes 4 r.format ++ (sizes_bytes r.geometry ++ (counts_bytes one two r ++ lists_bytes r))
 
 -- the payload that is written: there they are 0
 abbrev pub payload_bytes : Record → List ℕ
 payload_bytes r = spelling 0 0 r
+
+-- the record that is written for one: of the format that is written, with another list of bad blocks
+abbrev pub written : Record → List ℕ → Record
+written r bad = record r { format = FORMAT; bad = bad }
 
 -- ---- lawful records
 
@@ -81,10 +90,14 @@ abbrev pub numbers_ascend : ℕ → List ℕ → Bool
 numbers_ascend least [] = true
 numbers_ascend least (n ∷ numbers) = nat_le least n && numbers_ascend (n + 1) numbers
 
+-- a format that is read, and a lawful number of versions that may be kept
+abbrev pub has_limit : Record → Bool
+has_limit r = is_format r.format && nat_le MIN_VERSIONS r.limit && nat_le r.limit (most_versions r.format)
+
 -- the counts of a record: a lawful number of versions may be kept, some are, the cursor is at one of them, no more checkpoints and bad blocks than may be, and the last block taken is a data block
 abbrev pub has_counts : Record → Bool
 has_counts r =
-    nat_le MIN_VERSIONS r.limit && nat_le r.limit MAX_VERSIONS && nat_le (length r.versions) r.limit && nat_lt r.cursor (length r.versions)
+    has_limit r && nat_le (length r.versions) r.limit && nat_lt r.cursor (length r.versions)
     && nat_le (length r.checkpoints) MAX_CHECKPOINTS && nat_le (length r.bad) MAX_BAD_BLOCKS && nat_le 8 r.last && nat_lt r.last r.geometry.blocks
 
 -- versions from serial 1 on, below the next serial, in order
@@ -121,8 +134,7 @@ pub record Fits (r : Record) : Type 0 where
 -- the fields in front of the lists
 unfoldable pub sizes_at : List ℕ → Option (Geometry × List ℕ)
 sizes_at bytes = do
-  format ← number_at 4 bytes
-  page ← number_at 4 format.1
+  page ← number_at 4 bytes
   pages ← number_at 4 page.1
   blocks ← number_at 4 pages.1
   Some (record { page = page.0; pages = pages.0; blocks = blocks.0 }, blocks.1)
@@ -162,13 +174,15 @@ if_spelled r one two bytes = if is_record r && bytes_eq (spelling one two r) byt
 -- the record with this sequence that a payload means; none where it means none. What is read is a lawful record, and the bytes are its spelling but for those that are not looked at
 unfoldable pub meaning_of : ℕ → List ℕ → Option Record
 meaning_of sequence bytes = do
-  sizes ← sizes_at bytes
+  format ← number_at 4 bytes
+  sizes ← sizes_at format.1
   front ← front_at sizes.1
   versions ← many_at version_at front.0.versions front.1
   checkpoints ← many_at checkpoint_at front.0.checkpoints versions.1
   bad ← many_at block_at front.0.bad checkpoints.1
   if_spelled (record {
     sequence = sequence;
+    format = format.0;
     geometry = sizes.0;
     limit = front.0.limit;
     cursor = front.0.cursor;
@@ -187,7 +201,7 @@ tells_sizes g bytes = (little_from 4 4 bytes == g.page) && ((little_from 8 4 byt
 -- what a payload on a flash of these sizes means, or why it means nothing: the format comes first, then the sizes, then the rest, a payload that is too long among it
 abbrev pub payload_at : Geometry → ℕ → List ℕ → Result Record Fault
 payload_at g sequence bytes =
-    if nat_lt (length bytes) shortest || not (little_from 0 4 bytes == format) then Err Damaged
+    if nat_lt (length bytes) shortest || not (is_format (little_from 0 4 bytes)) then Err Damaged
     else if not (tells_sizes g bytes) then Err BadGeometry
     else if nat_lt longest (length bytes) then Err Damaged
     else ok_or (meaning_of sequence bytes) Damaged

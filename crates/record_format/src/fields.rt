@@ -81,8 +81,7 @@ pub(crate) fn checkpoint_of(bytes: &[u8]) -> Option<(Checkpoint, &[u8])>
 pub(crate) fn sizes_of(bytes: &[u8]) -> Option<(Geometry, &[u8])>
     ensures { option_map (λ x. (x.0, x.1.now)) result ≡ payload.sizes_at bytes.now }
 {
-    let (_, rest) = number_of(bytes)?;
-    let (page, rest) = number_of(rest)?;
+    let (page, rest) = number_of(bytes)?;
     let (pages, rest) = number_of(rest)?;
     let (blocks, rest) = number_of(rest)?;
     let sizes = Geometry {

@@ -3,12 +3,13 @@ ghost use Rattle.std.specs.Prelude.{◌≡◌, [], nat_lt};
 ghost use Rattle.std.specs.List.{list_all};
 ghost use Rattle.record_format.specs.Payloads as payload;
 
+use crate::formats::{is_format, most_versions};
 use crate::records::{Checkpoint, Record};
 use flash_model::FIRST_DATA_BLOCK;
-use fs_types::{MAX_BAD_BLOCKS, MAX_CHECKPOINTS, MAX_VERSIONS, MIN_VERSIONS, Version};
+use fs_types::{MAX_BAD_BLOCKS, MAX_CHECKPOINTS, MIN_VERSIONS, Version};
 
 impl Record {
-    /// Whether a payload may say this record: the counts are within their limits, and versions,
+    /// Whether a payload may say this record: its format is one that is read, the counts are within their limits, and versions,
     /// checkpoints and bad blocks are in order.
     pub fn is_lawful(&self) -> bool
         ensures { result ≡ payload.is_record self.now }
@@ -16,12 +17,19 @@ impl Record {
         self.has_counts() && self.has_versions() && self.has_checkpoints() && self.has_bad_blocks()
     }
 
+    fn has_limit(&self) -> bool
+        ensures { result ≡ payload.has_limit self.now }
+    {
+        is_format(self.format)
+            && MIN_VERSIONS <= self.limit
+            && self.limit <= most_versions(self.format)
+    }
+
     fn has_counts(&self) -> bool
         ensures { result ≡ payload.has_counts self.now }
     {
         let versions = self.versions.as_slice().len();
-        MIN_VERSIONS <= self.limit
-            && self.limit <= MAX_VERSIONS
+        self.has_limit()
             && versions <= self.limit as usize
             && (self.cursor as usize) < versions
             && self.checkpoints.as_slice().len() <= MAX_CHECKPOINTS

@@ -1,4 +1,5 @@
 //! The laws of the definitions, as contracts of functions that do nothing.
+ghost use Rattle.record_format.specs.FormatLaw.{ReadIsWritten};
 ghost use Rattle.record_format.specs.Laws.{MeaningSays, SaysMeaning, OneMeaning, WrittenIsRead, MeansItsFlash, IsShort, PageIsRead};
 
 /// The laws of payloads: meaning and spelling belong together, a payload has at most one meaning,
@@ -15,4 +16,9 @@ pub fn payload_laws()
 /// The law of pages: what is written is read.
 pub fn page_laws()
     ensures { PageIsRead }
+{}
+
+/// The law of formats: a record of any format that is read may be written.
+pub fn format_laws()
+    ensures { ReadIsWritten }
 {}

@@ -2,6 +2,7 @@
 #![tactic(auto)]
 
 mod fields;
+mod formats;
 mod fronts;
 mod lawful;
 mod laws;
@@ -10,7 +11,8 @@ mod reading;
 mod records;
 mod writing;
 
-pub use laws::{page_laws, payload_laws};
+pub use formats::{FORMAT, OLD_FORMAT, OLD_MAX_VERSIONS};
+pub use laws::{format_laws, page_laws, payload_laws};
 pub use pages::{HEAD_SIZE, PageHead, write_page};
 pub use reading::{read_payload, refuse_long};
 pub use records::{Checkpoint, LONGEST_PAYLOAD, Payload, Record};

@@ -8,15 +8,13 @@ ghost use Rattle.record_format.specs.Fields as spec;
 ghost use Rattle.record_format.specs.Payloads as payload;
 
 use crate::fields::{checkpoint_of, front_of, number_of, sizes_of, version_of};
+use crate::formats::is_format;
 use crate::records::{Checkpoint, LONGEST_PAYLOAD, Record};
 use crate::writing::spell;
 use byteorder::{ByteOrder, LittleEndian};
 use flash_model::Geometry;
 use fs_types::{Fault, Sequence, Version};
 use std::alloc::{AllocError, Global};
-
-/// The one format there is.
-pub(crate) const FORMAT: u32 = 1;
 
 /// The bytes that tell the format and the sizes.
 const SHORTEST: usize = 16;
@@ -83,7 +81,7 @@ fn is_spelled(read: &Record, one: u8, two: u16, bytes: &[u8]) -> bool
     requires { payload.is_record read.now ≡ true }
     ensures { result ≡ bytes_eq (payload.spelling one two read.now) bytes.now }
 {
-    let spelled = spell(read, read.bad.as_slice(), one, two);
+    let spelled = spell(read, read.format, read.bad.as_slice(), one, two);
     spelled.as_slice() == bytes
 }
 
@@ -104,7 +102,10 @@ fn if_spelled(read: Record, one: u8, two: u16, bytes: &[u8]) -> Option<Record>
 fn record_of(alloc: Global, sequence: u64, bytes: &[u8]) -> Result<Option<Record>, AllocError>
     ensures { IfOk result (λ found. found ≡ payload.meaning_of sequence bytes.now) }
 {
-    let Some((geometry, rest)) = sizes_of(bytes) else {
+    let Some((format, rest)) = number_of(bytes) else {
+        return Ok(None);
+    };
+    let Some((geometry, rest)) = sizes_of(rest) else {
         return Ok(None);
     };
     let Some((front, rest)) = front_of(rest) else {
@@ -121,6 +122,7 @@ fn record_of(alloc: Global, sequence: u64, bytes: &[u8]) -> Result<Option<Record
     };
     let record = Record {
         sequence,
+        format,
         geometry,
         limit: front.limit,
         cursor: front.cursor,
@@ -152,8 +154,8 @@ fn tells_sizes(geometry: Geometry, bytes: &[u8]) -> bool
 
 /// The record that a payload means on a flash of these sizes, with the sequence of its pages.
 ///
-/// `Damaged` where the payload has under 16 bytes or is of another format; `BadGeometry` where it
-/// tells other sizes; then `Damaged` for every other departure, over 2,408 bytes among them.
+/// `Damaged` where the payload has under 16 bytes or is of a format that is not read; `BadGeometry` where it
+/// tells other sizes; then `Damaged` for every other departure, over 3,176 bytes among them.
 /// `NoMemory` where memory could not be had.
 pub fn read_payload(
     alloc: Global,
@@ -164,7 +166,7 @@ pub fn read_payload(
     ensures ok { IfOk result (λ found. payload.payload_at geometry sequence bytes.now ≡ Ok found) }
     ensures err { IfErr result (λ fault. fault ≢ Fault.NoMemory → payload.payload_at geometry sequence bytes.now ≡ Err fault) }
 {
-    if bytes.len() < SHORTEST || LittleEndian::read_u32(bytes) != FORMAT {
+    if bytes.len() < SHORTEST || !is_format(LittleEndian::read_u32(bytes)) {
         return Err(Fault::Damaged);
     }
     if !tells_sizes(geometry, bytes) {
@@ -177,13 +179,13 @@ pub fn read_payload(
     found.ok_or(Fault::Damaged)
 }
 
-/// Why a payload that is longer than any is refused on a flash of these sizes, by its first 2,408
-/// bytes: `BadGeometry` where it is of the format and tells other sizes, `Damaged` else.
+/// Why a payload that is longer than any is refused on a flash of these sizes, by its first 3,176
+/// bytes: `BadGeometry` where it is of a format that is read and tells other sizes, `Damaged` else.
 pub fn refuse_long(geometry: Geometry, front: &[u8]) -> Fault
     requires { length front.now ≡ payload.longest }
     ensures { (sequence : ℕ) (rest : List ℕ) → 0 < length rest → payload.payload_at geometry sequence (front.now ++ rest) ≡ Err result }
 {
-    if number_at(front, 0) == FORMAT && !tells_sizes(geometry, front) {
+    if is_format(number_at(front, 0)) && !tells_sizes(geometry, front) {
         Fault::BadGeometry
     } else {
         Fault::Damaged

@@ -5,7 +5,7 @@ use fs_types::{CpName, Sequence, Version};
 
 /// The bytes of the longest payload: 40 in front, and 12 for each version, 36 for each checkpoint
 /// and 4 for each bad block.
-pub const LONGEST_PAYLOAD: usize = 2408;
+pub const LONGEST_PAYLOAD: usize = 3176;
 
 /// The bytes of a payload. They take no memory.
 pub type Payload = ArrayVec<u8, LONGEST_PAYLOAD>;
@@ -24,9 +24,11 @@ pub struct Checkpoint {
 pub struct Record {
     /// The sequence number: of two records the one with the greater number is newer.
     pub sequence: u64,
+    /// The format, 1 or 2, as it was read. 2 is written whatever stands here.
+    pub format: u32,
     /// The sizes of the flash.
     pub geometry: Geometry,
-    /// How many versions are kept at most, 2 to 64.
+    /// How many versions are kept at most, 2 to 128; in format 1, 2 to 64.
     pub limit: u16,
     /// The place of the present version, from 0.
     pub cursor: u16,

@@ -6,14 +6,14 @@ ghost use Rattle.byteorder.specs.Endian.{little_bytes};
 ghost use Rattle.fs_types.specs.Names.{is_checkpoint_name};
 ghost use Rattle.record_format.specs.Payloads as payload;
 
-use crate::reading::FORMAT;
+use crate::formats::FORMAT;
 use crate::records::{Checkpoint, Payload, Record};
 use arrayvec::ArrayVec;
 use flash_model::Geometry;
 use fs_types::Version;
 
 fn push_bytes(out: &mut Payload, bytes: &[u8])
-    requires { array_vec_len out.old + length bytes.now ≤ 2408 }
+    requires { array_vec_len out.old + length bytes.now ≤ payload.longest }
     ensures items { out.new.items ≡ out.old.items ++ bytes.now }
     ensures len { array_vec_len out.new ≡ array_vec_len out.old + length bytes.now }
 {
@@ -21,7 +21,7 @@ fn push_bytes(out: &mut Payload, bytes: &[u8])
 }
 
 fn push_byte(out: &mut Payload, byte: u8)
-    requires { array_vec_len out.old + 1 ≤ 2408 }
+    requires { array_vec_len out.old + 1 ≤ payload.longest }
     ensures items { out.new.items ≡ out.old.items ++ byte ∷ [] }
     ensures len { array_vec_len out.new ≡ array_vec_len out.old + 1 }
 {
@@ -29,7 +29,7 @@ fn push_byte(out: &mut Payload, byte: u8)
 }
 
 fn push_short(out: &mut Payload, number: u16)
-    requires { array_vec_len out.old + 2 ≤ 2408 }
+    requires { array_vec_len out.old + 2 ≤ payload.longest }
     ensures items { out.new.items ≡ out.old.items ++ little_bytes 2 number }
     ensures len { array_vec_len out.new ≡ array_vec_len out.old + 2 }
 {
@@ -37,7 +37,7 @@ fn push_short(out: &mut Payload, number: u16)
 }
 
 fn push_number(out: &mut Payload, number: u32)
-    requires { array_vec_len out.old + 4 ≤ 2408 }
+    requires { array_vec_len out.old + 4 ≤ payload.longest }
     ensures items { out.new.items ≡ out.old.items ++ little_bytes 4 number }
     ensures len { array_vec_len out.new ≡ array_vec_len out.old + 4 }
     ensures fits { number < 2 ^ 32 }
@@ -46,7 +46,7 @@ fn push_number(out: &mut Payload, number: u32)
 }
 
 fn push_long(out: &mut Payload, number: u64)
-    requires { array_vec_len out.old + 8 ≤ 2408 }
+    requires { array_vec_len out.old + 8 ≤ payload.longest }
     ensures items { out.new.items ≡ out.old.items ++ little_bytes 8 number }
     ensures len { array_vec_len out.new ≡ array_vec_len out.old + 8 }
     ensures fits { number < 2 ^ 64 }
@@ -55,12 +55,11 @@ fn push_long(out: &mut Payload, number: u64)
 }
 
 fn push_sizes(out: &mut Payload, geometry: Geometry)
-    requires { array_vec_len out.old + 16 ≤ 2408 }
+    requires { array_vec_len out.old + 12 ≤ payload.longest }
     ensures items { out.new.items ≡ out.old.items ++ payload.sizes_bytes geometry }
-    ensures len { array_vec_len out.new ≡ array_vec_len out.old + 16 }
+    ensures len { array_vec_len out.new ≡ array_vec_len out.old + 12 }
     ensures fits { payload.SizesFit geometry }
 {
-    push_number(out, FORMAT);
     push_number(out, geometry.page);
     push_number(out, geometry.pages);
     push_number(out, geometry.blocks);
@@ -74,7 +73,7 @@ fn flag_of(b: bool) -> u8
 }
 
 fn push_places(out: &mut Payload, limit: u16, cursor: u16)
-    requires { array_vec_len out.old + 4 ≤ 2408 }
+    requires { array_vec_len out.old + 4 ≤ payload.longest }
     ensures items { out.new.items ≡ out.old.items ++ (little_bytes 2 limit ++ little_bytes 2 cursor) }
     ensures len { array_vec_len out.new ≡ array_vec_len out.old + 4 }
 {
@@ -83,7 +82,7 @@ fn push_places(out: &mut Payload, limit: u16, cursor: u16)
 }
 
 fn push_ends(out: &mut Payload, bad: u16, two: u16, next: u64, last: u32)
-    requires { array_vec_len out.old + 16 ≤ 2408 }
+    requires { array_vec_len out.old + 16 ≤ payload.longest }
     ensures items { out.new.items ≡ out.old.items ++ (little_bytes 2 bad ++ (little_bytes 2 two ++ (little_bytes 8 next ++ little_bytes 4 last))) }
     ensures len { array_vec_len out.new ≡ array_vec_len out.old + 16 }
     ensures fits { next < 2 ^ 64 }
@@ -95,7 +94,7 @@ fn push_ends(out: &mut Payload, bad: u16, two: u16, next: u64, last: u32)
 }
 
 fn push_versions(out: &mut Payload, versions: &[Version<u32>])
-    requires { array_vec_len out.old + 12 * length versions.now ≤ 2408 }
+    requires { array_vec_len out.old + 12 * length versions.now ≤ payload.longest }
     ensures items { out.new.items ≡ out.old.items ++ flat_map payload.version_bytes versions.now }
     ensures len { array_vec_len out.new ≤ array_vec_len out.old + 12 * length versions.now }
     ensures fits { list_all (λ version. nat_lt version.root (2 ^ 32)) versions.now ≡ true }
@@ -107,7 +106,7 @@ fn push_versions(out: &mut Payload, versions: &[Version<u32>])
 }
 
 fn push_checkpoints(out: &mut Payload, checkpoints: &[Checkpoint])
-    requires { array_vec_len out.old + 36 * length checkpoints.now ≤ 2408 }
+    requires { array_vec_len out.old + 36 * length checkpoints.now ≤ payload.longest }
     ensures items { out.new.items ≡ out.old.items ++ flat_map payload.checkpoint_bytes checkpoints.now }
     ensures len { array_vec_len out.new ≤ array_vec_len out.old + 36 * length checkpoints.now }
     ensures fits { list_all (λ checkpoint. is_checkpoint_name checkpoint.name && nat_lt checkpoint.root (2 ^ 32)) checkpoints.now ≡ true }
@@ -121,7 +120,7 @@ fn push_checkpoints(out: &mut Payload, checkpoints: &[Checkpoint])
 }
 
 fn push_blocks(out: &mut Payload, blocks: &[u32])
-    requires { array_vec_len out.old + 4 * length blocks.now ≤ 2408 }
+    requires { array_vec_len out.old + 4 * length blocks.now ≤ payload.longest }
     ensures items { out.new.items ≡ out.old.items ++ flat_map payload.block_bytes blocks.now }
     ensures len { array_vec_len out.new ≤ array_vec_len out.old + 4 * length blocks.now }
 {
@@ -131,8 +130,10 @@ fn push_blocks(out: &mut Payload, blocks: &[u32])
 }
 
 fn push_counts(out: &mut Payload, saved: &Record, bad: &[u32], one: u8, two: u16)
-    requires room { array_vec_len out.old + 24 ≤ 2408 }
-    requires lawful { payload.is_record (record saved.now { bad = bad.now }) ≡ true }
+    requires room { array_vec_len out.old + 24 ≤ payload.longest }
+    requires versions { length saved.now.versions < 2 ^ 8 }
+    requires checkpoints { length saved.now.checkpoints < 2 ^ 8 }
+    requires blocks { length bad.now < 2 ^ 16 }
     ensures items { out.new.items ≡ out.old.items ++ payload.counts_bytes one two (record saved.now { bad = bad.now }) }
     ensures len { array_vec_len out.new ≡ array_vec_len out.old + 24 }
     ensures fits { saved.now.next < 2 ^ 64 }
@@ -144,14 +145,15 @@ fn push_counts(out: &mut Payload, saved: &Record, bad: &[u32], one: u8, two: u16
     push_ends(out, bad.len() as u16, two, saved.next, saved.last);
 }
 
-/// The payload that says a record, with another list of bad blocks and the numbers that are not
-/// looked at.
-pub(crate) fn spell(saved: &Record, bad: &[u32], one: u8, two: u16) -> Payload
-    requires { payload.is_record (record saved.now { bad = bad.now }) ≡ true }
-    ensures spelled { result.items ≡ payload.spelling one two (record saved.now { bad = bad.now }) }
-    ensures fits { payload.Fits (record saved.now { bad = bad.now }) }
+/// The payload that says a record, with another format, another list of bad blocks and the numbers
+/// that are not looked at.
+pub(crate) fn spell(saved: &Record, format: u32, bad: &[u32], one: u8, two: u16) -> Payload
+    requires { payload.is_record (record saved.now { format = format; bad = bad.now }) ≡ true }
+    ensures spelled { result.items ≡ payload.spelling one two (record saved.now { format = format; bad = bad.now }) }
+    ensures fits { payload.Fits (record saved.now { format = format; bad = bad.now }) }
 {
     let mut out = ArrayVec::new();
+    push_number(&mut out, format);
     push_sizes(&mut out, saved.geometry);
     push_counts(&mut out, saved, bad, one, two);
     push_versions(&mut out, saved.versions.as_slice());
@@ -160,11 +162,12 @@ pub(crate) fn spell(saved: &Record, bad: &[u32], one: u8, two: u16) -> Payload
     out
 }
 
-/// The payload of a record with another list of bad blocks, which ascends. It takes no memory.
+/// The payload of a record in format 2, whatever its own is, with another list of bad blocks, which
+/// ascends. It takes no memory.
 pub fn write_payload(saved: &Record, bad: &[u32]) -> Payload
-    requires { payload.is_record (record saved.now { bad = bad.now }) ≡ true }
-    ensures spelled { result.items ≡ payload.payload_bytes (record saved.now { bad = bad.now }) }
-    ensures fits { payload.Fits (record saved.now { bad = bad.now }) }
+    requires { payload.is_record (payload.written saved.now bad.now) ≡ true }
+    ensures spelled { result.items ≡ payload.payload_bytes (payload.written saved.now bad.now) }
+    ensures fits { payload.Fits (payload.written saved.now bad.now) }
 {
-    spell(saved, bad, 0, 0)
+    spell(saved, FORMAT, bad, 0, 0)
 }

@@ -1,6 +1,7 @@
 //! Runs worked rows: scripts with the replies that are expected of them, each on the plain machine,
 //! on a flash in memory that was formatted, with 8, 1 and 64 nodes in memory, as far as these go by
-//! now, and by the program `uffs` on an image that it made, in a folder of its own. A row that does
+//! now, and by the program `uffs` on an image that it made, in a folder of its own. A row may begin
+//! on a stored image instead. A row that does
 //! not give its replies is told with what it gave, and the status is 1.
 #![tactic(auto)]
 
@@ -16,7 +17,7 @@ use error::RowError;
 use nodes::run_with_nodes;
 use row::{Row, Side};
 use runs::{append_difference, run_on_flash, run_on_image, run_plain};
-use shell::HostFiles;
+use shell::{HostFiles, ImageFiles};
 use std::fs::File;
 use std::process::ExitCode;
 use std::rt::{Env, Files};
@@ -109,24 +110,41 @@ fn try_side<R: Files<File = File> + AllocGlobal>(
     differences: &mut String,
 ) -> Result<usize, RowError> {
     let row = Row::read(rt.alloc(), source.text, side)?;
-    let written = written_on(rt, source.image, &row, side, differences)?;
+    let first = first_image(rt, &row)?;
+    let image = first.as_ref().map(|bytes| bytes.as_slice());
+    let written = written_on(rt, source.image, &row, image, side, differences)?;
     append_difference(differences, &row, side, written.as_str())?;
     Ok(row.steps.len().saturating_add(row.looks.len()))
+}
+
+/// The bytes of the image that a row begins on; none for a new file system.
+fn first_image<R: Files<File = File> + AllocGlobal>(
+    rt: &R,
+    row: &Row<'_>,
+) -> Result<Option<Vec<u8>>, RowError> {
+    match row.image {
+        Some(name) => Ok(Some(HostFiles::new(rt).read(rt.alloc(), name)?)),
+        None => Ok(None),
+    }
 }
 
 /// What a row writes on a side. What it says of the flash and is not so is appended.
 fn written_on<R: Files<File = File> + AllocGlobal>(
     rt: &R,
-    image: &str,
+    name: &str,
     row: &Row<'_>,
+    image: Option<&[u8]>,
     side: Side,
     differences: &mut String,
 ) -> Result<String, RowError> {
     let alloc = rt.alloc();
     match side {
         Side::Plain => run_plain(alloc, row),
-        Side::Flash => run_on_flash(alloc, row, differences),
-        Side::Nodes(nodes) => run_with_nodes(alloc, row, nodes, differences),
-        Side::Image => run_on_image(&mut HostFiles::new(rt), alloc, image, row, differences),
+        Side::Flash => run_on_flash(alloc, row, image, differences),
+        Side::Nodes(nodes) => run_with_nodes(alloc, row, image, nodes, differences),
+        Side::Image => {
+            let files = &mut HostFiles::new(rt);
+            run_on_image(files, alloc, name, row, image, differences)
+        }
     }
 }

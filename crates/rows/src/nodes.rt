@@ -5,7 +5,7 @@ ghost use Rattle.upkeep.specs.Systems.{IsSystem};
 
 use crate::error::RowError;
 use crate::row::{Row, Side};
-use crate::runs::text_of;
+use crate::runs::{first_flash, text_of};
 use crate::sight::Sight;
 use allocator::Ring;
 use flash_model::{Flash, SimFlash};
@@ -13,18 +13,18 @@ use fs_types::Answer;
 use script::{Line, LineAnswer, print_answer, read_line};
 use shell::carry_out;
 use std::alloc::Global;
-use undofs::{System, format, mount_with};
+use undofs::{System, mount_with};
 
-/// Runs a row on a flash in memory that was formatted, with so many nodes in memory, 1 to 64, and
+/// Runs a row on a flash in memory, with so many nodes in memory, 1 to 64, and
 /// looks at the flash and at the used blocks.
 pub fn run_with_nodes(
     alloc: Global,
     row: &Row<'_>,
+    image: Option<&[u8]>,
     nodes: usize,
     differences: &mut String,
 ) -> Result<String, RowError> {
-    let mut flash = SimFlash::new(alloc, row.geometry, &row.plan)?;
-    format(alloc, &mut flash, row.history)?;
+    let mut flash = first_flash(alloc, row, image)?;
     let mut system = Some(mount_with(alloc, &mut flash, nodes)?);
     let written = run_lines(alloc, row, &mut flash, &mut system, nodes)?;
     let sight = Sight {

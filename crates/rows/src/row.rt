@@ -55,6 +55,8 @@ pub struct Step<'a> {
 pub struct Row<'a> {
     pub geometry: Geometry,
     pub history: u32,
+    /// The file of the image that the row begins on, in place of a new file system.
+    pub image: Option<&'a str>,
     pub plan: Vec<PlannedFault>,
     pub steps: Vec<Step<'a>>,
     /// What is looked at on the flash afterwards.
@@ -74,6 +76,7 @@ impl<'a> Row<'a> {
         let mut row = Row {
             geometry: DEFAULT_SIZES,
             history: 8,
+            image: None,
             plan: Vec::new(alloc),
             steps: Vec::new(alloc),
             looks: Vec::new(alloc),
@@ -130,6 +133,7 @@ impl<'a> Row<'a> {
             "pages" => self.geometry.pages = number(value)?,
             "blocks" => self.geometry.blocks = number(value)?,
             "history" => self.history = number(value)?,
+            "image" => self.image = Some(value),
             "plan" => self.set_plan(value)?,
             _ => {}
         }

@@ -23,7 +23,7 @@ const NO_SPACE: Space = Space {
 /// Runs a row on the plain machine.
 pub fn run_plain(alloc: Global, row: &Row<'_>) -> Result<String, RowError> {
     let history = row.history as usize;
-    if history < 2 || 64 < history {
+    if history < 2 || 128 < history {
         return Err(RowError::Layout);
     }
     let mut machine = PlainMachine::new(alloc, history)?;
@@ -65,14 +65,28 @@ fn told(outcome: Result<Reply, Fault>) -> LineAnswer {
     }
 }
 
-/// Runs a row on a flash in memory that was formatted, as one script, and looks at the flash.
+/// The flash that a row begins on: that of an image, or else one that is formatted.
+pub fn first_flash(
+    alloc: Global,
+    row: &Row<'_>,
+    image: Option<&[u8]>,
+) -> Result<SimFlash, RowError> {
+    if let Some(bytes) = image {
+        return Ok(decode(alloc, bytes)?);
+    }
+    let mut flash = SimFlash::new(alloc, row.geometry, &row.plan)?;
+    format(alloc, &mut flash, row.history)?;
+    Ok(flash)
+}
+
+/// Runs a row on a flash in memory, as one script, and looks at the flash.
 pub fn run_on_flash(
     alloc: Global,
     row: &Row<'_>,
+    image: Option<&[u8]>,
     differences: &mut String,
 ) -> Result<String, RowError> {
-    let mut flash = SimFlash::new(alloc, row.geometry, &row.plan)?;
-    format(alloc, &mut flash, row.history)?;
+    let mut flash = first_flash(alloc, row, image)?;
     let written = run_as_script(alloc, row, &mut flash)?;
     look_at(alloc, row, Side::Flash, &flash, differences)?;
     Ok(written)
@@ -109,16 +123,20 @@ fn script_of(alloc: Global, row: &Row<'_>) -> Result<String, AllocError> {
     Ok(script)
 }
 
-/// Runs a row by the program on an image of this name, which it makes first, and looks at the flash
-/// of the image.
+/// Runs a row by the program on an image of this name, which is put there or which the program makes
+/// first, and looks at the flash of the image.
 pub fn run_on_image<F: ImageFiles>(
     files: &mut F,
     alloc: Global,
     name: &str,
     row: &Row<'_>,
+    image: Option<&[u8]>,
     differences: &mut String,
 ) -> Result<String, RowError> {
-    make_image(files, alloc, name, row)?;
+    match image {
+        Some(bytes) => put_image(files, alloc, name, bytes)?,
+        None => make_image(files, alloc, name, row)?,
+    }
     let words = words_of(alloc, "run", name)?;
     let script = script_of(alloc, row)?;
     let written = call(files, alloc, &words, script.as_str())?;
@@ -126,6 +144,17 @@ pub fn run_on_image<F: ImageFiles>(
     let flash = decode(alloc, &bytes)?;
     look_at(alloc, row, Side::Image, &flash, differences)?;
     Ok(written)
+}
+
+fn put_image<F: ImageFiles>(
+    files: &mut F,
+    alloc: Global,
+    name: &str,
+    bytes: &[u8],
+) -> Result<(), RowError> {
+    files.claim(alloc, name)?;
+    files.replace(alloc, name, bytes)?;
+    Ok(())
 }
 
 /// Makes an image of the sizes of a row.

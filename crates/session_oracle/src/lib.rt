@@ -17,7 +17,7 @@ mod trees;
 pub use beginnings::Beginning;
 pub use causes::Causes;
 pub use images::{flash_of, new_image};
-pub use needs::{has_fewer_free, is_full_before, need};
+pub use needs::has_fewer_free;
 pub use oracles::Oracle;
 pub use scripts::{Script, ScriptLine, event_of, events_of};
 pub use shows::{Extent, Shown, Shows, serve_call, show, show_after_restart, show_some};

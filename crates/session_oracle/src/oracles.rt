@@ -8,6 +8,10 @@ use fs_types::{Answer, Call, Event, Fault, Reply};
 use plain_machine::{PlainMachine, Space};
 use std::alloc::Global;
 
+/// The bytes of a file that a node of its body holds: those of a block, 4,096 on each flash here, less
+/// 80.
+const CAPACITY: u64 = 4_016;
+
 /// Whether a system is mounted, and has power.
 #[derive(Clone, Copy)]
 enum Seat {
@@ -50,6 +54,14 @@ impl<'a> Oracle<'a> {
             saved: 0,
             seat,
         })
+    }
+
+    /// The most nodes that an event writes, where it comes next.
+    pub fn need(&self, alloc: Global, event: &Event) -> Result<u64, Fault> {
+        match event {
+            Event::Call(call) => Ok(self.machine.need(alloc, CAPACITY, call)?),
+            _ => Ok(0),
+        }
     }
 
     /// Whether this may be the answer to the first mount.

@@ -1,6 +1,7 @@
 -- How what is done on an image ends, by how its parts do.
 use Rattle.std.proofs.Common.{◌≡◌, ◌≢◌, ◌<◌, ℕ, Option, Some, None, Result, Ok, Err, List, IfSome, IfErr, IfOk, OnOk, OnErr, take, codes, inl, inr, refl, sym, ◌∙◌, ap, subst, arith}
 use Rattle.std.specs.Io.KnownBytes.{Appends}
+use Rattle.fs_types.specs.declared.limits.TheConstants.{MIN_VERSIONS, MAX_VERSIONS}
 use Rattle.fs_types.specs.declared.faults.Fault.{Fault}
 use Rattle.flash_model.specs.Geometry.{IsGeometry}
 use Rattle.flash_model.specs.Device.{Device}
@@ -20,7 +21,7 @@ use Rattle.shell.specs.declared.failures.Failure.{Failure}
 use Rattle.shell.specs.declared.files.TheConstants.{MOST_BYTES}
 
 -- a limit that is not refused
-pub lawful_limit : (sizes : Geometry) (limit : ℕ) → IsGeometry sizes → (limit < 2 → ⊥) → (64 < limit → ⊥) → AreLawful sizes limit
+pub lawful_limit : (sizes : Geometry) (limit : ℕ) → IsGeometry sizes → (limit < MIN_VERSIONS → ⊥) → (MAX_VERSIONS < limit → ⊥) → AreLawful sizes limit
 lawful_limit sizes limit lawful low high = record { geometry = lawful; least = omega arith; most = omega arith }
 
 pub format_saved : (sizes : Geometry) (limit : ℕ) (flash : SimFlash) (held saved : Option (List ℕ)) (result : Result (Unit {0}) Failure)

@@ -5,6 +5,7 @@ use Rattle.std.specs.Str.{bytes_eq}
 use Rattle.std.specs.Io.KnownBytes.{Appends}
 use Rattle.clap.specs.Words.{fault_of}
 use Rattle.clap.specs.declared.error.kind.ErrorKind.{ErrorKind}
+use Rattle.fs_types.specs.declared.limits.TheConstants.{MIN_VERSIONS, MAX_VERSIONS}
 use Rattle.fs_types.specs.declared.faults.Fault.{Fault}
 use Rattle.flash_model.specs.Geometry.{IsGeometry}
 use Rattle.flash_model.specs.Plan.{plan_of_entries}
@@ -91,8 +92,8 @@ ChangeUnsaved name held saved was image failure = ((failure ≡ Failure.Memory) 
 -- sizes and a limit that a format takes
 pub record AreLawful (sizes : Geometry) (limit : ℕ) : Type 0 where
   pub geometry : IsGeometry sizes
-  pub least : 2 ≤ limit
-  pub most : limit ≤ 64
+  pub least : MIN_VERSIONS ≤ limit
+  pub most : limit ≤ MAX_VERSIONS
 
 -- why no image is made: its name is not claimed, or for want of memory; or the sizes or the limit are refused, or a format is
 abbrev pub FormatFailure : Geometry → ℕ → Failure → Type 0

@@ -178,10 +178,11 @@ fn a_refused_format_leaves_the_image(rt: HostRuntime) -> Result<(), Fail> {
     files.bytes = fresh_image(alloc)?;
     let sizes = (3, "", "uffs: BADGEOMETRY 28\n");
     let limit = (3, "", "uffs: EINVAL 7\n");
-    let calls: [Wanted<'_>; 4] = [
+    let calls: [Wanted<'_>; 5] = [
         (&["format", "x", "--blocks", "15"], "", sizes),
         (&["format", "x", "--pages", "4294967295"], "", sizes),
         (&["format", "x", "--history", "1"], "", limit),
+        (&["format", "x", "--history", "129"], "", limit),
         (&["format", "x", "--history", "4294967295"], "", limit),
     ];
     assert_calls(&rt, &mut files, alloc, &calls)?;

@@ -2,10 +2,12 @@
 use Rattle.std.proofs.Common.{◌≡◌, ℕ, zero, suc, ◌+◌, ◌-◌, ◌*◌, ◌/◌, ◌^◌, ◌<◌, ◌≤◌, ◌⊎◌, inl, inr, Option, Some, None, List, [], ◌∷◌, ◌++◌, length, take, refl, sym, ap, subst, ◌∙◌, arith, suc-mul, length-append}
 use Rattle.std.proofs.lemmas.List.{take_all}
 use Rattle.std.proofs.lemmas.Nat.{pow_pos, div-mul-add}
-use Rattle.std.specs.Prelude.{Contains, unwrap_or}
+use Rattle.std.specs.Prelude.{Contains}
 use Rattle.node_format.specs.Items.{Item}
 use Rattle.block_trees.specs.Bodies.{Blocks, index_of, pointer_of, data_of, back, data_to, head_index, body, IsChain, IsLinked, IsBody}
-use Rattle.block_trees.specs.Trees.{entries_in}
+use Rattle.std.specs.Option.{option_map_or}
+use Rattle.node_format.specs.Links.{Link}
+use Rattle.block_trees.specs.Chains.{link_of, next_of}
 use Rattle.block_trees.specs.Reached.{Reached, Names, BodyNames}
 use Rattle.block_trees.proofs.Entries.{directory_no_index}
 use Rattle.block_trees.proofs.Reaching.{IsReachedBy, reached_by}
@@ -44,15 +46,20 @@ index_at capacity i more size least most e =
 
 -- a body node names what its slots say, and nothing else
 named_by : (f : Blocks) (i block b : ℕ) → index_of (f block) ≡ Some i → Names (f block) b → BodyNames (Some i) (pointer_of (f block)) b
-named_by f i block b is (inl (item, within, names)) = on (entries_in f block) refl
+named_by f i block b is (inl (item, within, names)) = on (link_of (f block)) refl
   where
     none-in : Contains [] item → ⊥
     none-in (k, below, is) = omega arith
 
-    on : (entries : Option (List Item)) → entries_in f block ≡ entries → BodyNames (Some i) (pointer_of (f block)) b
-    on None e = absurd (none-in (subst (λ (o : Option (List Item)). Contains (unwrap_or o []) item) e within))
-    on (Some items) e = let none = directory_no_index (f block) items e in absurd cc
-named_by f i block b is (inr names) = subst (λ (index : Option ℕ). BodyNames index (pointer_of (f block)) b) is names
+    on : (o : Option Link) → link_of (f block) ≡ o → BodyNames (Some i) (pointer_of (f block)) b
+    on None e = absurd (none-in (subst (λ (o : Option Link). Contains (option_map_or (λ l. l.items) o []) item) e within))
+    on (Some l) e = let none = directory_no_index (f block) l e in absurd cc
+named_by f i block b is (inr (inl names)) = subst (λ (index : Option ℕ). BodyNames index (pointer_of (f block)) b) is names
+named_by f i block b is (inr (inr (some, next))) = on (link_of (f block)) refl
+  where
+    on : (o : Option Link) → link_of (f block) ≡ o → BodyNames (Some i) (pointer_of (f block)) b
+    on None e = absurd (let zero_is = ap (λ (o : Option Link). option_map_or (λ l. l.next) o 0) e in omega (arith, some, zero_is))
+    on (Some l) e = let none = directory_no_index (f block) l e in absurd cc
 
 module _ (capacity : ℕ) (f : Blocks) (head next : ℕ) (chunk : List ℕ) (some : 0 < length chunk) (fits : length chunk ≤ capacity) where
   append_first : IsNext f f head 0 next chunk → IsAppended capacity f head 0 next chunk

@@ -2,7 +2,7 @@
 use Rattle.std.proofs.Common.{◌≡◌, ℕ, ◌+◌, ◌-◌, ◌≤◌, Bool, true, false, eqb, cond, Option, Some, None, List, length, if◌then◌else◌, refl, sym, ap, ◌∙◌, arith, length-drop}
 use Rattle.std.specs.Prelude.{nat_le, nat_lt}
 use Rattle.std.proofs.lemmas.Bool.{leb-true}
-use Rattle.node_format.specs.Headers.{field, body_header, body_magic, directory_magic, body_size, directory_size, IsNode}
+use Rattle.node_format.specs.Headers.{field, body_header, body_magic, directory_magic, chain_magic, body_size, directory_size, IsNode}
 use Rattle.block_trees.specs.Bodies.{index_of, data_of}
 
 if_some : {A : Type 0} (b : Bool) (o : Option A) (x : A) → (if b then o else None) ≡ Some x → (b ≡ true) × (o ≡ Some x)
@@ -18,7 +18,7 @@ data_fits block None i whole is = omega arith
 data_fits block (Some bytes) i whole is =
     let magic = if_some (eqb (field bytes 0) body_magic) (Some (field bytes 4)) i is in
     let size : body_size block (field bytes 8) ≡ Some (length bytes) =
-    sym (ap (λ (b : Bool). cond b (body_size block (field bytes 8)) (cond (eqb (field bytes 0) directory_magic) (directory_size block (field bytes 4) (field bytes 8)) None)) magic.0) ∙ whole bytes refl in
+    sym (ap (λ (b : Bool). cond b (body_size block (field bytes 8)) (cond (eqb (field bytes 0) directory_magic) (directory_size block (field bytes 4) (field bytes 8)) (cond (eqb (field bytes 0) chain_magic) (directory_size block (field bytes 4) (field bytes 8)) None))) magic.0) ∙ whole bytes refl in
     let used = if_some (nat_lt 0 (field bytes 8)) _ (length bytes) size in
     let within = if_some (nat_le (body_header + field bytes 8) block) (Some (body_header + field bytes 8)) (length bytes) used.1 in
     let is_whole : body_header + field bytes 8 ≡ length bytes = some_is (body_header + field bytes 8) (length bytes) within.1 in

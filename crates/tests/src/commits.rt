@@ -1,12 +1,12 @@
 //! Records committed on a flash in memory: where they go, and what failed operations and cuts leave.
 ghost use Rattle.std.specs.Prelude.{◌≡◌, true, [], IfOk};
-ghost use Rattle.record_format.specs.Payloads.{is_record};
+ghost use Rattle.record_format.specs.Payloads.{is_record, written};
 
 use bad_blocks::BadBlocks;
 use commit_pair::Anchors;
 use flash_model::{Counters, FaultKind, Flash, Geometry, PageView, PlannedFault, SimFlash};
 use fs_types::{Fault, Sequence, Version};
-use record_format::{PageHead, Record};
+use record_format::{FORMAT, PageHead, Record};
 use std::alloc::Global;
 use std::test::Fail;
 
@@ -20,7 +20,7 @@ const SIZES: Geometry = Geometry {
 /// read. With 1 version it fills one page, with 40 it fills three.
 fn record_of(alloc: Global, versions: u64, next: u64) -> Result<Record, Fault>
     ensures sizes { IfOk result (λ r. r.geometry ≡ SIZES) }
-    ensures lawful { IfOk result (λ r. is_record (record r { bad = [] }) ≡ true) }
+    ensures lawful { IfOk result (λ r. is_record (written r []) ≡ true) }
 {
     let mut kept = Sequence::new(alloc);
     for serial in 0..versions {
@@ -32,6 +32,7 @@ fn record_of(alloc: Global, versions: u64, next: u64) -> Result<Record, Fault>
     }
     let record = Record {
         sequence: 99,
+        format: FORMAT,
         geometry: SIZES,
         limit: 64,
         cursor: 0,

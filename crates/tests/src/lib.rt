@@ -7,6 +7,8 @@ mod caches;
 #[cfg(test)]
 mod commits;
 #[cfg(test)]
+mod directories;
+#[cfg(test)]
 mod formats;
 #[cfg(test)]
 mod histories;

@@ -7,7 +7,7 @@ use node_store::{Nodes, Storage, Store};
 use std::test::Fail;
 
 /// The empty directory.
-const EMPTY: [u8; 16] = *b"UFND\0\0\0\0\0\0\0\0\0\0\0\0";
+const EMPTY: [u8; 16] = *b"UFNE\0\0\0\0\0\0\0\0\0\0\0\0";
 
 #[test]
 fn a_node_is_written_past_a_block_that_fails(rt: HostRuntime) -> Result<(), Fail> {

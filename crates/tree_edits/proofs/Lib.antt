@@ -2,3 +2,4 @@ pub mod Lookups
 pub mod NewRoots
 pub mod NewBytes
 pub mod Needs
+pub mod NeedLaws

@@ -19,14 +19,15 @@ use Rattle.block_trees.proofs.EditedMaps.{put_file_law}
 use Rattle.block_trees.proofs.EditedTrees.{edit_law}
 use Rattle.block_trees.proofs.Entries.{place_is}
 use Rattle.block_trees.proofs.Frames.{frame_law}
-use Rattle.block_trees.proofs.Reaching.{child_names, held_leads, reached_below}
+use Rattle.block_trees.proofs.Chained.{child_names}
+use Rattle.block_trees.proofs.Reaching.{held_leads, reached_via}
 use Rattle.block_trees.proofs.RootMaps.{map_law}
 use Rattle.directory.specs.declared.lookups.Found.{Found}
 use Rattle.directory.specs.declared.lookups.Found.TheVariants as found
 use Rattle.directory.specs.Edits as directories
-use Rattle.directory.specs.Lookups.{look_up}
+use Rattle.directory.specs.Lookups.{look_up, LeadsToDirectories}
 use Rattle.directory.specs.Trails.{IsChangeFault}
-use Rattle.directory.proofs.LookupLaws.{found_is, found_leads_file}
+use Rattle.directory.proofs.LookupLaws.{found_is, found_leads_file, rooted_leads}
 use Rattle.directory.proofs.NewDirectories.{rewritten_before}
 use Rattle.skip_list_file.specs.Writing as bodies
 use Rattle.skip_list_file.specs.Writing.{IsWritten, IsWritingFault}
@@ -77,13 +78,13 @@ reached_leads f (n ∷ path) from root b place led names reached = on (child f (
     on : (o : Option Place) → child f (Dir from) n ≡ o → option_and_then (λ next. leads f next path) o ≡ Some place
         → ((below : ℕ) → leads f (Dir below) path ≡ Some place → PlaceNames place root → Reached f (root ∷ []) b → Reached f (below ∷ []) b) → Reached f (from ∷ []) b
     on None is e again = absurd cc
-    on (Some (Dir below)) is e again = reached_below f from below (child_names f from n (Dir below) below is refl) (again below e names reached)
+    on (Some (Dir below)) is e again = reached_via f (from ∷ []) below (child_names f from n (Dir below) below is refl) (again below e names reached)
     on (Some (File head size)) is e again = at_file path e
       where
         at_file : (p : Path) → leads f (File head size) p ≡ Some place → Reached f (from ∷ []) b
         at_file [] e =
             let named = subst (λ (q : Place). PlaceNames q root) (sym (place_is (File head size) place e)) names in
-            reached_below f from root (child_names f from n (File head size) root is named) reached
+            reached_via f (from ∷ []) root (child_names f from n (File head size) root is named) reached
         at_file (m ∷ p) e = absurd cc
 
 -- the blocks that a new body reaches, of those before it: the root reached them, or they were not kept
@@ -91,9 +92,9 @@ abbrev pub IsFrom : Blocks → (ℕ → Bool) → ℕ → Blocks → Body → Ty
 IsFrom old kept from mid x = (root block : ℕ) → PlaceNames (File x.head x.length) root → Reached mid (root ∷ []) block → Reached old (from ∷ []) block ⊎ (kept block ≡ false)
 
 -- a body made of that of a file of the tree
-pub from_file : (capacity : ℕ) (old mid : Blocks) (kept : ℕ → Bool) (from : ℕ) (path : Path) (x y : Body) → look_up old from path ≡ Ok (found.File x.head x.length) → bodies.OnlyReaches capacity old mid kept x y → IsFrom old kept from mid y
-from_file capacity old mid kept from path x y led only root block names reached = elim (only root block names reached) [
-  | inl before ↦ inl (reached_leads old path from before.0 block (File x.head x.length) (found_leads_file old from path x.head x.length led) before.1 before.2)
+pub from_file : (capacity : ℕ) (old mid : Blocks) (kept : ℕ → Bool) (from : ℕ) (path : Path) (x y : Body) → LeadsToDirectories old from → look_up old from path ≡ Ok (found.File x.head x.length) → bodies.OnlyReaches capacity old mid kept x y → IsFrom old kept from mid y
+from_file capacity old mid kept from path x y whole led only root block names reached = elim (only root block names reached) [
+  | inl before ↦ inl (reached_leads old path from before.0 block (File x.head x.length) (found_leads_file old from path x.head x.length whole led) before.1 before.2)
   | inr fresh ↦ inr fresh.0
 ]
 
@@ -102,14 +103,14 @@ from_file capacity old mid kept from path x y led only root block names reached 
 -- the body was written from `old` to `mid`, and the path to it from there to `new`
 pub file_root : (capacity : ℕ) (old mid new : Blocks) (kept held_mid kept' : ℕ → Bool) (from to : ℕ) (path : Path) (found_there : Found) (x : Body) (bytes : List ℕ) → Keeps kept old held_mid mid → Keeps held_mid mid kept' new
     → IsHeld old kept (Dir from) → IsRoot capacity old from → is_path path ≡ true → look_up old from path ≡ Ok found_there → TakesFile found_there
-    → IsWritten capacity mid held_mid x bytes → IsFrom old kept from mid x → IsRewritten mid kept' new from to path (Some (File x.head x.length)) → directories.OnlyReaches mid new held_mid from to (Some (File x.head x.length))
+    → IsWritten capacity mid held_mid x bytes → IsFrom old kept from mid x → IsRewritten mid new held_mid kept' from to path (Some (File x.head x.length)) → directories.OnlyReaches mid new held_mid from to (Some (File x.head x.length))
     → IsNewRoot capacity old kept new kept' from to (put (root_tree capacity old from) path (Entry.File bytes))
 file_root capacity old mid new kept held_mid kept' from to path found_there x bytes first second held rooted lawful led takes written is_from rewritten reaches =
     let both : Keeps kept old kept' new = record { same = λ b k. second.same b (first.stays b k) ∙ first.same b k; stays = λ b k. second.stays b (first.stays b k) } in
     let stays = stays_body capacity mid new held_mid kept' x bytes second written in
-    let whole = rewritten_before old mid new kept held_mid kept' first path from to (Some (File x.head x.length)) held rewritten in
+    let whole = rewritten_before old mid new kept held_mid kept' first was_fresh path from to (Some (File x.head x.length)) held rewritten in
     let edit = edit_law old new kept kept' from to path (Some (File x.head x.length)) both held whole in
-    let law = put_file_law capacity old new kept kept' from to x.head x.length path both held rooted (no_directory capacity old from path found_there led takes) (path_within path lawful) stays.whole whole in
+    let law = put_file_law capacity old new kept kept' from to x.head x.length path both held rooted (no_directory capacity old from path found_there (rooted_leads capacity old from rooted) led takes) (path_within path lawful) stays.whole whole in
     record {
       rooted = law.0;
       held = edit.held stays.held;
@@ -134,7 +135,7 @@ file_root capacity old mid new kept held_mid kept' from to path found_there x by
 
 pub file_result : (capacity : ℕ) (old mid new : Blocks) (kept held_mid kept' : ℕ → Bool) (from : ℕ) (path : Path) (found_there : Found) (x : Body) (bytes : List ℕ) (result : Result ℕ Fault) → Keeps kept old held_mid mid → Keeps held_mid mid kept' new
     → IsHeld old kept (Dir from) → IsRoot capacity old from → is_path path ≡ true → look_up old from path ≡ Ok found_there → TakesFile found_there
-    → IsWritten capacity mid held_mid x bytes → IsFrom old kept from mid x → IfOk result (λ to. IsRewritten mid kept' new from to path (Some (File x.head x.length)))
+    → IsWritten capacity mid held_mid x bytes → IsFrom old kept from mid x → IfOk result (λ to. IsRewritten mid new held_mid kept' from to path (Some (File x.head x.length)))
     → IfOk result (λ to. directories.OnlyReaches mid new held_mid from to (Some (File x.head x.length)))
     → IfOk result (λ to. IsNewRoot capacity old kept new kept' from to (put (root_tree capacity old from) path (Entry.File bytes)))
 file_result capacity old mid new kept held_mid kept' from path found_there x bytes (Ok to) first second held rooted lawful led takes written is_from rewritten reaches =
@@ -166,14 +167,14 @@ body_length capacity f head (suc n) is =
     omega (arith, length-take (suc n) (data_to f (head_index capacity (suc n)) head))
 
 pub file_whole : (capacity : ℕ) (f : Blocks) (root : ℕ) (path : Path) (head size : ℕ) → IsRoot capacity f root → look_up f root path ≡ Ok (found.File head size) → IsBody capacity f head size
-file_whole capacity f root path head size rooted led = (rooted path (File head size) (found_leads_file f root path head size led)).0
+file_whole capacity f root path head size rooted led = (rooted path (File head size) (found_leads_file f root path head size (rooted_leads capacity f root rooted) led)).0
 
-pub file_held : (f : Blocks) (kept : ℕ → Bool) (root : ℕ) (path : Path) (head size : ℕ) → IsHeld f kept (Dir root) → look_up f root path ≡ Ok (found.File head size) → IsHeld f kept (File head size)
-file_held f kept root path head size held led = held_leads f kept path (Dir root) (File head size) (found_leads_file f root path head size led) held
+pub file_held : (f : Blocks) (kept : ℕ → Bool) (root : ℕ) (path : Path) (head size : ℕ) → LeadsToDirectories f root → IsHeld f kept (Dir root) → look_up f root path ≡ Ok (found.File head size) → IsHeld f kept (File head size)
+file_held f kept root path head size whole held led = held_leads f kept path (Dir root) (File head size) (found_leads_file f root path head size whole led) held
 
 pub file_bytes : (capacity : ℕ) (f : Blocks) (root : ℕ) (path : Path) (head size : ℕ) → IsRoot capacity f root → look_up f root path ≡ Ok (found.File head size) → body capacity f head size ≡ bytes_at (root_tree capacity f root) path
 file_bytes capacity f root path head size rooted led =
-    sym (ap bytes_of (ap (λ (t : Contents). t path) (map_law capacity f root rooted).same ∙ (found_is capacity f root path (found.File head size) led).1))
+    sym (ap bytes_of (ap (λ (t : Contents). t path) (map_law capacity f root rooted).same ∙ (found_is capacity f root path (found.File head size) (rooted_leads capacity f root rooted) led).1))
 
 -- an overwritten body is no longer than the most bytes of a file
 pub overwritten_short : (capacity : ℕ) (f : Blocks) (head size offset n : ℕ) (bytes : List ℕ) → IsBody capacity f head size → n ≡ length (overwritten (body capacity f head size) offset bytes) → size ≤ 16777216 → offset + length bytes ≤ 16777216 → n ≤ 16777216

@@ -22,7 +22,7 @@ use Rattle.directory.specs.declared.lookups.Found.TheVariants as found
 use Rattle.directory.specs.Edits.{OnlyReaches}
 use Rattle.directory.specs.Lookups.{look_up}
 use Rattle.directory.specs.Making.{IsMade}
-use Rattle.directory.proofs.LookupLaws.{found_is, found_leads, found_leads_file}
+use Rattle.directory.proofs.LookupLaws.{found_is, found_leads, found_leads_file, rooted_leads}
 use Rattle.tree_edits.specs.Edits.{IsMovable, IsRemovable}
 use Rattle.tree_edits.specs.Roots.{IsNewRoot}
 use Rattle.tree_edits.proofs.Lookups.{path_within}
@@ -43,7 +43,7 @@ pub made_root : (capacity : ℕ) (old new : Blocks) (kept kept' : ℕ → Bool) 
     → look_up old from path ≡ Ok (found.Missing false) → IsMade old new kept kept' from to path → OnlyReaches old new kept from to None
     → IsNewRoot capacity old kept new kept' from to (put (root_tree capacity old from) path Entry.Dir)
 made_root capacity old new kept kept' from to path keeps held rooted lawful missing made reaches =
-    let nothing = (found_is capacity old from path (found.Missing false) missing).1 in
+    let nothing = (found_is capacity old from path (found.Missing false) (rooted_leads capacity old from rooted) missing).1 in
     let edit = edit_law old new kept kept' from to path (Some (Dir made.block)) keeps held made.rewritten in
     let law = mkdir_law capacity old new kept kept' from to made.block path keeps held rooted nothing (path_within path lawful) made.empty made.rewritten in
     record {
@@ -62,18 +62,18 @@ made_result capacity old new kept kept' from path (Err fault) keeps held rooted 
 -- ---- an entry taken out
 
 -- nothing stands below what can be taken out
-removable_last : (capacity : ℕ) (f : Blocks) (root : ℕ) (path : Path) (x : Found) → look_up f root path ≡ Ok x → IsRemovable f x → IsLast (tree capacity f root) path
-removable_last capacity f root path (found.Missing is_full) led removable = absurd removable
-removable_last capacity f root path (found.File head size) led removable = last_at capacity f path (Dir root) (File head size) (found_leads_file f root path head size led) (λ n. refl)
-removable_last capacity f root path (found.Dir block) led removable =
-    last_at capacity f path (Dir root) (Dir block) (found_leads f root path block led) (λ n. ap (λ (o : Option (List Item)). named (unwrap_or o []) n) removable)
+removable_last : (capacity : ℕ) (f : Blocks) (root : ℕ) (path : Path) (x : Found) → IsRoot capacity f root → look_up f root path ≡ Ok x → IsRemovable f x → IsLast (tree capacity f root) path
+removable_last capacity f root path (found.Missing is_full) rooted led removable = absurd removable
+removable_last capacity f root path (found.File head size) rooted led removable = last_at capacity f path (Dir root) (File head size) (found_leads_file f root path head size (rooted_leads capacity f root rooted) led) (λ n. refl)
+removable_last capacity f root path (found.Dir block) rooted led removable =
+    last_at capacity f path (Dir root) (Dir block) (found_leads f root path block (rooted_leads capacity f root rooted) led) (λ n. ap (λ (o : Option (List Item)). named (unwrap_or o []) n) removable)
 
 pub removed_root : (capacity : ℕ) (old new : Blocks) (kept kept' : ℕ → Bool) (from to : ℕ) (path : Path) (x : Found) → Keeps kept old kept' new → IsHeld old kept (Dir from) → IsRoot capacity old from → is_path path ≡ true
-    → look_up old from path ≡ Ok x → IsRemovable old x → IsRewritten old kept' new from to path None → OnlyReaches old new kept from to None
+    → look_up old from path ≡ Ok x → IsRemovable old x → IsRewritten old new kept kept' from to path None → OnlyReaches old new kept from to None
     → IsNewRoot capacity old kept new kept' from to (remove (root_tree capacity old from) path)
 removed_root capacity old new kept kept' from to path x keeps held rooted lawful led removable rewritten reaches =
     let edit = edit_law old new kept kept' from to path None keeps held rewritten in
-    let law = remove_law capacity old new kept kept' from to path keeps held rooted (removable_last capacity old from path x led removable) (path_within path lawful) rewritten in
+    let law = remove_law capacity old new kept kept' from to path keeps held rooted (removable_last capacity old from path x rooted led removable) (path_within path lawful) rewritten in
     record {
       rooted = law.0;
       held = edit.held tt;
@@ -82,7 +82,7 @@ removed_root capacity old new kept kept' from to path x keeps held rooted lawful
     }
 
 pub removed_result : (capacity : ℕ) (old new : Blocks) (kept kept' : ℕ → Bool) (from : ℕ) (path : Path) (x : Found) (result : Result ℕ Fault) → Keeps kept old kept' new → IsHeld old kept (Dir from) → IsRoot capacity old from → is_path path ≡ true
-    → look_up old from path ≡ Ok x → IsRemovable old x → IfOk result (λ to. IsRewritten old kept' new from to path None) → IfOk result (λ to. OnlyReaches old new kept from to None)
+    → look_up old from path ≡ Ok x → IsRemovable old x → IfOk result (λ to. IsRewritten old new kept kept' from to path None) → IfOk result (λ to. OnlyReaches old new kept from to None)
     → IfOk result (λ to. IsNewRoot capacity old kept new kept' from to (remove (root_tree capacity old from) path))
 removed_result capacity old new kept kept' from path x (Ok to) keeps held rooted lawful led removable rewritten reaches = removed_root capacity old new kept kept' from to path x keeps held rooted lawful led removable rewritten reaches
 removed_result capacity old new kept kept' from path x (Err fault) keeps held rooted lawful led removable rewritten reaches = tt

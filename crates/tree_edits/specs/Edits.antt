@@ -1,5 +1,5 @@
--- Edits of trees: when one can be applied, the tree that it makes, and how many nodes it writes.
-use Rattle.std.specs.Prelude.{◌≡◌, ℕ, ◌+◌, ◌-◌, ◌*◌, ◌^◌, ◌<◌, ◌≤◌, ◌&&◌, Bool, true, false, Some, Ok, List, [], length}
+-- Edits of trees: when one can be applied, the tree that it makes, and how many nodes it may write.
+use Rattle.std.specs.Prelude.{◌≡◌, ℕ, ◌+◌, ◌-◌, ◌*◌, ◌<◌, ◌≤◌, ◌&&◌, Bool, true, false, Some, Ok, List, [], length}
 use Rattle.fs_types.specs.declared.limits.TheConstants.{MAX_NAMES, MAX_FILE_BYTES}
 use Rattle.fs_types.specs.Names.{Path, is_path, same_path}
 use Rattle.plain_trees.specs.Contents.{Entry, Apart, parent_of, overwritten, resized, pwrite_need, ftruncate_need}
@@ -14,7 +14,7 @@ use Rattle.block_trees.specs.Trees.{entries_in, leads, IsRoot}
 use Rattle.directory.specs.declared.lookups.Found.{Found}
 use Rattle.directory.specs.declared.lookups.Found.TheVariants as found
 use Rattle.directory.specs.Lookups.{look_up}
-use Rattle.directory.specs.Moves.{directories_along}
+use Rattle.directory.specs.Counts.{path_nodes, move_nodes}
 use Rattle.directory.specs.Trails.{IsTrail, has_room}
 use Rattle.skip_list_file.specs.Reading.{nodes_between, HasDigits}
 use Rattle.tree_edits.specs.declared.edits.Edit.{Edit}
@@ -69,15 +69,17 @@ abbrev pub source : ℕ → Edit → ℕ
 source root (Edit.Restore other) = other
 source root _ = root
 
--- how many nodes an edit writes, where a body node has room for so many data bytes
-abbrev pub need : ℕ → Edit → ℕ
-need capacity (Edit.MakeDirectory path trail) = length path.now + 1
-need capacity (Edit.PutEmptyFile path trail) = length path.now
-need capacity (Edit.Overwrite path trail body offset bytes) = pwrite_need capacity body.length offset (length bytes.now) + length path.now
-need capacity (Edit.SetLength path trail body size) = ftruncate_need capacity body.length size + length path.now
-need capacity (Edit.Remove path trail) = length path.now
-need capacity (Edit.Move old old_trail new new_trail place) = directories_along old.now new.now
-need capacity (Edit.Restore other) = 0
+-- how many nodes an edit may write, where a body node has room for so many data bytes: of each directory of its trails as
+-- many as it has, or as it has with one entry more where a name is put that is missing; a directory that is made; and those
+-- of a file's body
+abbrev pub need : ℕ → Blocks → Edit → ℕ
+need capacity f (Edit.MakeDirectory path trail) = path_nodes f trail.now path.now true 0 + 1
+need capacity f (Edit.PutEmptyFile path trail) = path_nodes f trail.now path.now true 0
+need capacity f (Edit.Overwrite path trail body offset bytes) = pwrite_need capacity body.length offset (length bytes.now) + path_nodes f trail.now path.now true 0
+need capacity f (Edit.SetLength path trail body size) = ftruncate_need capacity body.length size + path_nodes f trail.now path.now true 0
+need capacity f (Edit.Remove path trail) = path_nodes f trail.now path.now false 0
+need capacity f (Edit.Move old old_trail new new_trail place) = move_nodes f old_trail.now old.now new_trail.now new.now
+need capacity f (Edit.Restore other) = 0
 
 -- how many nodes are read at most to overwrite a body of this length up to an end, where the index of its head has so
 -- many binary digits
@@ -88,13 +90,15 @@ overwrite_reads capacity size end digits = 2 * nodes_between capacity end size +
 abbrev pub resize_reads : ℕ → ℕ
 resize_reads digits = 1 + 5 * digits
 
--- an edit read few nodes: each directory that is written anew once, and of a file what its body's write asks
-abbrev pub ReadsFew : ℕ → Edit → ℕ → ℕ → Type 0
-ReadsFew capacity (Edit.MakeDirectory path trail) before after = after ≤ before + length path.now
-ReadsFew capacity (Edit.PutEmptyFile path trail) before after = after ≤ before + length path.now
-ReadsFew capacity (Edit.Overwrite path trail body offset bytes) before after =
-    (digits : ℕ) → HasDigits (head_index capacity body.length) digits → after ≤ before + (overwrite_reads capacity body.length (offset + length bytes.now) digits + length path.now)
-ReadsFew capacity (Edit.SetLength path trail body size) before after = (digits : ℕ) → HasDigits (head_index capacity body.length) digits → after ≤ before + (resize_reads digits + length path.now)
-ReadsFew capacity (Edit.Remove path trail) before after = after ≤ before + length path.now
-ReadsFew capacity (Edit.Move old old_trail new new_trail place) before after = after ≤ before + directories_along old.now new.now
-ReadsFew capacity (Edit.Restore other) before after = after ≡ before
+-- an edit read few nodes: each of a directory that is written anew once, and of a file what its body's write asks
+abbrev pub ReadsFew : ℕ → Blocks → Edit → ℕ → ℕ → Type 0
+ReadsFew capacity f (Edit.MakeDirectory path trail) before after = after ≤ before + path_nodes f trail.now path.now false 0
+ReadsFew capacity f (Edit.PutEmptyFile path trail) before after = after ≤ before + path_nodes f trail.now path.now false 0
+ReadsFew capacity f (Edit.Overwrite path trail body offset bytes) before after =
+    (digits : ℕ) → HasDigits (head_index capacity body.length) digits
+    → after ≤ before + (overwrite_reads capacity body.length (offset + length bytes.now) digits + path_nodes f trail.now path.now false 0)
+ReadsFew capacity f (Edit.SetLength path trail body size) before after =
+    (digits : ℕ) → HasDigits (head_index capacity body.length) digits → after ≤ before + (resize_reads digits + path_nodes f trail.now path.now false 0)
+ReadsFew capacity f (Edit.Remove path trail) before after = after ≤ before + path_nodes f trail.now path.now false 0
+ReadsFew capacity f (Edit.Move old old_trail new new_trail place) before after = after ≤ before + move_nodes f old_trail.now old.now new_trail.now new.now
+ReadsFew capacity f (Edit.Restore other) before after = after ≡ before

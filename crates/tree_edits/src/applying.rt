@@ -16,8 +16,8 @@ use node_store::Nodes;
 use std::alloc::Global;
 
 /// Applies an edit to the tree of a root, as what was looked up allows, and answers the new root. It
-/// writes exactly as many nodes as the edit needs, and reads each directory that is written anew once
-/// more. The old root stays as it was, whatever is answered.
+/// writes at most as many nodes as the edit needs, and reads each node of the directories that are
+/// written anew once more at most. The old root stays as it was, whatever is answered.
 ///
 /// Refused only with what reads and writes are refused with, and with `NoMemory`. An edit that needs
 /// no node is not refused, and leaves the nodes as they were.
@@ -35,10 +35,9 @@ pub fn apply<N: Nodes>(
     ensures keeps { Keeps (N.kept nodes.old) (N.node nodes.old) (N.kept nodes.new) (N.node nodes.new) }
     ensures why { IfErr result (λ fault. N.causes nodes.old nodes.new fault) }
     ensures faults { IfErr result IsChangeFault }
-    ensures still { need (N.limit nodes.old - body_header) edit.entry ≡ 0 → (nodes.new ≡ nodes.old) × (result ≡ Ok (source root edit.entry)) }
-    ensures written { IfOk result (λ _. N.writes nodes.new ≡ N.writes nodes.old + need (N.limit nodes.old - body_header) edit.entry) }
-    ensures writes { N.writes nodes.new ≤ N.writes nodes.old + need (N.limit nodes.old - body_header) edit.entry }
-    ensures reads { ReadsFew (N.limit nodes.old - body_header) edit.entry (N.reads nodes.old) (N.reads nodes.new) }
+    ensures still { need (N.limit nodes.old - body_header) (N.node nodes.old) edit.entry ≡ 0 → (nodes.new ≡ nodes.old) × (result ≡ Ok (source root edit.entry)) }
+    ensures writes { N.writes nodes.new ≤ N.writes nodes.old + need (N.limit nodes.old - body_header) (N.node nodes.old) edit.entry }
+    ensures reads { ReadsFew (N.limit nodes.old - body_header) (N.node nodes.old) edit.entry (N.reads nodes.old) (N.reads nodes.new) }
     ensures follows { N.follows nodes.old nodes.new }
 {
     match edit {

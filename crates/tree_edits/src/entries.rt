@@ -10,7 +10,7 @@ ghost use Rattle.block_trees.specs.Trees.{IsRoot, root_tree};
 ghost use Rattle.directory.specs.declared.lookups.Found.{Found};
 ghost use Rattle.directory.specs.declared.lookups.Found.TheVariants.{Missing};
 ghost use Rattle.directory.specs.Lookups.{look_up};
-ghost use Rattle.directory.specs.Moves.{directories_along};
+ghost use Rattle.directory.specs.Counts.{path_nodes, move_nodes};
 ghost use Rattle.directory.specs.Trails.{IsTrail, IsChangeFault};
 ghost use Rattle.tree_edits.specs.Edits.{IsMovable, IsRemovable};
 ghost use Rattle.tree_edits.specs.Roots.{IsNewRoot};
@@ -38,9 +38,8 @@ pub(crate) fn make<N: Nodes>(
     ensures root { IfOk result (λ to. IsNewRoot (N.limit nodes.old - body_header) (N.node nodes.old) (N.kept nodes.old) (N.node nodes.new) (N.kept nodes.new) root to (put (root_tree (N.limit nodes.old - body_header) (N.node nodes.old) root) path.now Entry.Dir)) }
     ensures why { IfErr result (λ fault. N.causes nodes.old nodes.new fault) }
     ensures faults { IfErr result IsChangeFault }
-    ensures written { IfOk result (λ _. N.writes nodes.new ≡ N.writes nodes.old + (length path.now + 1)) }
-    ensures writes { N.writes nodes.new ≤ N.writes nodes.old + (length path.now + 1) }
-    ensures reads { N.reads nodes.new ≤ N.reads nodes.old + length path.now }
+    ensures writes { N.writes nodes.new ≤ N.writes nodes.old + (path_nodes (N.node nodes.old) trail.now path.now true 0 + 1) }
+    ensures reads { N.reads nodes.new ≤ N.reads nodes.old + path_nodes (N.node nodes.old) trail.now path.now false 0 }
     ensures follows { N.follows nodes.old nodes.new }
 {
     put_directory(alloc, nodes, root, trail, path)
@@ -64,9 +63,8 @@ pub(crate) fn remove<N: Nodes>(
     ensures root { IfOk result (λ to. IsNewRoot (N.limit nodes.old - body_header) (N.node nodes.old) (N.kept nodes.old) (N.node nodes.new) (N.kept nodes.new) root to (remove (root_tree (N.limit nodes.old - body_header) (N.node nodes.old) root) path.now)) }
     ensures why { IfErr result (λ fault. N.causes nodes.old nodes.new fault) }
     ensures faults { IfErr result IsChangeFault }
-    ensures written { IfOk result (λ _. N.writes nodes.new ≡ N.writes nodes.old + length path.now) }
-    ensures writes { N.writes nodes.new ≤ N.writes nodes.old + length path.now }
-    ensures reads { N.reads nodes.new ≤ N.reads nodes.old + length path.now }
+    ensures writes { N.writes nodes.new ≤ N.writes nodes.old + path_nodes (N.node nodes.old) trail.now path.now false 0 }
+    ensures reads { N.reads nodes.new ≤ N.reads nodes.old + path_nodes (N.node nodes.old) trail.now path.now false 0 }
     ensures follows { N.follows nodes.old nodes.new }
 {
     remove_entry(alloc, nodes, root, trail, path)
@@ -91,9 +89,8 @@ pub(crate) fn rename<N: Nodes>(
     ensures root { IfOk result (λ to. IsNewRoot (N.limit nodes.old - body_header) (N.node nodes.old) (N.kept nodes.old) (N.node nodes.new) (N.kept nodes.new) root to (move (root_tree (N.limit nodes.old - body_header) (N.node nodes.old) root) old.now new.now)) }
     ensures why { IfErr result (λ fault. N.causes nodes.old nodes.new fault) }
     ensures faults { IfErr result IsChangeFault }
-    ensures written { IfOk result (λ _. N.writes nodes.new ≡ N.writes nodes.old + directories_along old.now new.now) }
-    ensures writes { N.writes nodes.new ≤ N.writes nodes.old + directories_along old.now new.now }
-    ensures reads { N.reads nodes.new ≤ N.reads nodes.old + directories_along old.now new.now }
+    ensures writes { N.writes nodes.new ≤ N.writes nodes.old + move_nodes (N.node nodes.old) old_trail.now old.now new_trail.now new.now }
+    ensures reads { N.reads nodes.new ≤ N.reads nodes.old + move_nodes (N.node nodes.old) old_trail.now old.now new_trail.now new.now }
     ensures follows { N.follows nodes.old nodes.new }
 {
     move_entry(alloc, nodes, root, old_trail, old, new_trail, new, place)

@@ -1,5 +1,5 @@
 //! Files with other bytes.
-ghost use Rattle.std.specs.Prelude.{◌≡◌, ℕ, ◌+◌, ◌-◌, ◌^◌, ◌≤◌, ◌<◌, true, length, Some, Ok, [], IfOk, IfErr};
+ghost use Rattle.std.specs.Prelude.{◌≡◌, ℕ, ◌+◌, ◌-◌, ◌^◌, ◌≤◌, ◌<◌, true, false, length, Some, Ok, [], IfOk, IfErr};
 ghost use Rattle.plain_trees.specs.Contents.{Entry, overwritten, resized, pwrite_need, ftruncate_need};
 ghost use Rattle.plain_trees.specs.Trees.{bytes_at, put};
 ghost use Rattle.fs_types.specs.declared.limits.TheConstants.{MAX_FILE_BYTES};
@@ -12,6 +12,7 @@ ghost use Rattle.block_trees.specs.Rewritten.{IsRewritten};
 ghost use Rattle.block_trees.specs.Trees.{IsRoot, root_tree};
 ghost use Rattle.directory.specs.declared.lookups.Found.{Found};
 ghost use Rattle.directory.specs.declared.lookups.Found.TheVariants as found;
+ghost use Rattle.directory.specs.Counts.{path_nodes};
 ghost use Rattle.directory.specs.Edits.{OnlyReaches};
 ghost use Rattle.directory.specs.Lookups.{look_up};
 ghost use Rattle.directory.specs.Trails.{IsTrail, IsChangeFault};
@@ -40,14 +41,13 @@ fn put_body<N: Nodes>(
     requires way { IsTrail (N.node nodes.old) root path.now trail.now }
     requires fits { (x : Found) × (look_up (N.node nodes.old) root path.now ≡ Ok x) × TakesFile x }
     requires short { body.length ≤ MAX_FILE_BYTES }
-    ensures rewritten { IfOk result (λ to. IsRewritten (N.node nodes.old) (N.kept nodes.new) (N.node nodes.new) root to path.now (Some (File body.head body.length))) }
+    ensures rewritten { IfOk result (λ to. IsRewritten (N.node nodes.old) (N.node nodes.new) (N.kept nodes.old) (N.kept nodes.new) root to path.now (Some (File body.head body.length))) }
     ensures reaches { IfOk result (λ to. OnlyReaches (N.node nodes.old) (N.node nodes.new) (N.kept nodes.old) root to (Some (File body.head body.length))) }
     ensures keeps { Keeps (N.kept nodes.old) (N.node nodes.old) (N.kept nodes.new) (N.node nodes.new) }
     ensures why { IfErr result (λ fault. N.causes nodes.old nodes.new fault) }
     ensures faults { IfErr result IsChangeFault }
-    ensures written { IfOk result (λ _. N.writes nodes.new ≡ N.writes nodes.old + length path.now) }
-    ensures writes { N.writes nodes.new ≤ N.writes nodes.old + length path.now }
-    ensures reads { N.reads nodes.new ≤ N.reads nodes.old + length path.now }
+    ensures writes { N.writes nodes.new ≤ N.writes nodes.old + path_nodes (N.node nodes.old) trail.now path.now true 0 }
+    ensures reads { N.reads nodes.new ≤ N.reads nodes.old + path_nodes (N.node nodes.old) trail.now path.now false 0 }
     ensures follows { N.follows nodes.old nodes.new }
 {
     let place = Place::File {
@@ -74,9 +74,8 @@ pub(crate) fn put_empty<N: Nodes>(
     ensures root { IfOk result (λ to. IsNewRoot (N.limit nodes.old - body_header) (N.node nodes.old) (N.kept nodes.old) (N.node nodes.new) (N.kept nodes.new) root to (put (root_tree (N.limit nodes.old - body_header) (N.node nodes.old) root) path.now (Entry.File []))) }
     ensures why { IfErr result (λ fault. N.causes nodes.old nodes.new fault) }
     ensures faults { IfErr result IsChangeFault }
-    ensures written { IfOk result (λ _. N.writes nodes.new ≡ N.writes nodes.old + length path.now) }
-    ensures writes { N.writes nodes.new ≤ N.writes nodes.old + length path.now }
-    ensures reads { N.reads nodes.new ≤ N.reads nodes.old + length path.now }
+    ensures writes { N.writes nodes.new ≤ N.writes nodes.old + path_nodes (N.node nodes.old) trail.now path.now true 0 }
+    ensures reads { N.reads nodes.new ≤ N.reads nodes.old + path_nodes (N.node nodes.old) trail.now path.now false 0 }
     ensures follows { N.follows nodes.old nodes.new }
 {
     let body = Body { head: 0, length: 0 };
@@ -107,9 +106,8 @@ pub(crate) fn overwrite<N: Nodes>(
     ensures root { IfOk result (λ to. IsNewRoot (N.limit nodes.old - body_header) (N.node nodes.old) (N.kept nodes.old) (N.node nodes.new) (N.kept nodes.new) root to (put (root_tree (N.limit nodes.old - body_header) (N.node nodes.old) root) path.now (Entry.File (overwritten (bytes_at (root_tree (N.limit nodes.old - body_header) (N.node nodes.old) root) path.now) offset bytes.now)))) }
     ensures why { IfErr result (λ fault. N.causes nodes.old nodes.new fault) }
     ensures faults { IfErr result IsChangeFault }
-    ensures written { IfOk result (λ _. N.writes nodes.new ≡ N.writes nodes.old + (pwrite_need (N.limit nodes.old - body_header) body.length offset (length bytes.now) + length path.now)) }
-    ensures writes { N.writes nodes.new ≤ N.writes nodes.old + (pwrite_need (N.limit nodes.old - body_header) body.length offset (length bytes.now) + length path.now) }
-    ensures reads { (digits : ℕ) → HasDigits (head_index (N.limit nodes.old - body_header) body.length) digits → N.reads nodes.new ≤ N.reads nodes.old + (overwrite_reads (N.limit nodes.old - body_header) body.length (offset + length bytes.now) digits + length path.now) }
+    ensures writes { N.writes nodes.new ≤ N.writes nodes.old + (pwrite_need (N.limit nodes.old - body_header) body.length offset (length bytes.now) + path_nodes (N.node nodes.old) trail.now path.now true 0) }
+    ensures reads { (digits : ℕ) → HasDigits (head_index (N.limit nodes.old - body_header) body.length) digits → N.reads nodes.new ≤ N.reads nodes.old + (overwrite_reads (N.limit nodes.old - body_header) body.length (offset + length bytes.now) digits + path_nodes (N.node nodes.old) trail.now path.now false 0) }
     ensures follows { N.follows nodes.old nodes.new }
 {
     let new = write_range(alloc, nodes, body, offset, bytes)?;
@@ -136,9 +134,8 @@ pub(crate) fn resize<N: Nodes>(
     ensures root { IfOk result (λ to. IsNewRoot (N.limit nodes.old - body_header) (N.node nodes.old) (N.kept nodes.old) (N.node nodes.new) (N.kept nodes.new) root to (put (root_tree (N.limit nodes.old - body_header) (N.node nodes.old) root) path.now (Entry.File (resized (bytes_at (root_tree (N.limit nodes.old - body_header) (N.node nodes.old) root) path.now) size)))) }
     ensures why { IfErr result (λ fault. N.causes nodes.old nodes.new fault) }
     ensures faults { IfErr result IsChangeFault }
-    ensures written { IfOk result (λ _. N.writes nodes.new ≡ N.writes nodes.old + (ftruncate_need (N.limit nodes.old - body_header) body.length size + length path.now)) }
-    ensures writes { N.writes nodes.new ≤ N.writes nodes.old + (ftruncate_need (N.limit nodes.old - body_header) body.length size + length path.now) }
-    ensures reads { (digits : ℕ) → HasDigits (head_index (N.limit nodes.old - body_header) body.length) digits → N.reads nodes.new ≤ N.reads nodes.old + (resize_reads digits + length path.now) }
+    ensures writes { N.writes nodes.new ≤ N.writes nodes.old + (ftruncate_need (N.limit nodes.old - body_header) body.length size + path_nodes (N.node nodes.old) trail.now path.now true 0) }
+    ensures reads { (digits : ℕ) → HasDigits (head_index (N.limit nodes.old - body_header) body.length) digits → N.reads nodes.new ≤ N.reads nodes.old + (resize_reads digits + path_nodes (N.node nodes.old) trail.now path.now false 0) }
     ensures follows { N.follows nodes.old nodes.new }
 {
     let new = set_length(alloc, nodes, body, size)?;

@@ -26,7 +26,7 @@ use Rattle.commit_pair.proofs.NewestLaws.{found_is_newest}
 use Rattle.working_state.specs.Seen.{machine_on}
 use Rattle.working_state.specs.Steps.{is_sync}
 use Rattle.upkeep.specs.Steps.{SystemStep}
-use Rattle.upkeep.specs.Mounts.{trees_of, IsMountOf, MountCause}
+use Rattle.upkeep.specs.Mounts.{trees_of, HasTrees, IsMountOf, MountCause}
 use Rattle.upkeep.specs.Reclaiming.{Reclaims}
 use Rattle.upkeep.specs.Saved.{record_in, saved_on, saved_trees, IsWhole}
 use Rattle.upkeep.specs.Systems.{IsSystem}
@@ -247,10 +247,14 @@ mount_begins d e m reads mount system =
     let lawful : IsGeometry d.geometry = subst IsGeometry reads.geometry system.mounted.lawful in
     let history : Past Tree = trees_of d mount.newest in
     let is : saved_trees d ≡ Some history = ap (λ o. option_map (trees_of d) (record_in o)) mount.holds in
-    let there : IsWhole e = λ r saved root has. (system.stands mount.loaded.is_on r saved root has).rooted in
+    let same : saved_on e ≡ saved_on d = still_saved d e lawful reads.geometry reads.pages in
+    let there : IsWhole e = λ r saved. subst (HasTrees e) (one_record mount.newest r (sym (ap record_in mount.holds) ∙ (sym same ∙ saved))) mount.loaded.trees in
     let saved : IsSaved d (history ∷ []) = record { history = history; saved = is; among = the_one history; whole = still_whole e d system.mounted.lawful (sym reads.geometry) (λ p. sym (reads.pages p)) there } in
     let both = mount_stands d e (history ∷ []) lawful saved reads m mount system in
     (history, is, both.0, both.1)
+  where
+    one_record : (a b : Record) → Some a ≡ Some b → a ≡ b
+    one_record a b x = cc
 
 -- ---- after any event
 

@@ -34,6 +34,7 @@ use Rattle.block_trees.specs.Bodies.{Blocks}
 use Rattle.block_trees.specs.Reached.{Reached, IsFirst, IsNamed}
 use Rattle.block_trees.specs.Trees.{IsRoot}
 use Rattle.block_trees.proofs.FileTrees.{all_file_trees}
+use Rattle.reclaim.specs.Sound.{IsPlain}
 use Rattle.reclaim.specs.Verified.{AreRoots}
 use Rattle.record_format.specs.declared.records.Record.{Record}
 use Rattle.record_format.specs.Payloads.{is_record, payload_at}
@@ -51,19 +52,19 @@ use Rattle.working_state.specs.Seen.{capacity_of, tree_on, machine_on}
 use Rattle.working_state.specs.Mounted.{IsStanding, IsMounted}
 use Rattle.working_state.specs.Roots.{HasRoot}
 use Rattle.working_state.specs.declared.state.State.{State}
-use Rattle.upkeep.specs.Mounts.{history_of, roots_of, IsLoaded, IsMountOf, RootsCause, MountCause}
+use Rattle.upkeep.specs.Mounts.{history_of, roots_of, is_plain, HaveTrees, HasTrees, IsLoaded, IsMountOf, RootsCause, MountCause}
 use Rattle.upkeep.specs.declared.systems.System.{System}
 
 -- ---- why roots are refused
 
-pub roots_why : {F : Type 0} (device : F → Device) (s t : Store F) (roots : List ℕ) (fault : Fault) → IsReadFault fault
-    → (fault ≡ Damaged → AreRoots (block_bytes (device s.flash.now).geometry) (node_of (device s.flash.now)) roots → ⊥) → (fault ≢ Damaged → Causes device s t fault)
-    → RootsCause (device s.flash.now) roots (device t.flash.now) fault
-roots_why device s t roots Damaged is damaged why = damaged refl
-roots_why device s t roots ReadFailed is damaged why = (why (λ e. cc)).reason
-roots_why device s t roots PowerCut is damaged why = (why (λ e. cc)).reason
-roots_why device s t roots NoMemory is damaged why = tt
-roots_why device s t roots _ is damaged why = absurd (true≢false (sym is))
+pub roots_why : {F : Type 0} (device : F → Device) (s t : Store F) (plain : Bool) (roots : List ℕ) (fault : Fault) → IsReadFault fault
+    → (fault ≡ Damaged → HaveTrees plain (device s.flash.now) roots → ⊥) → (fault ≢ Damaged → Causes device s t fault)
+    → RootsCause plain (device s.flash.now) roots (device t.flash.now) fault
+roots_why device s t plain roots Damaged is damaged why = damaged refl
+roots_why device s t plain roots ReadFailed is damaged why = (why (λ e. cc)).reason
+roots_why device s t plain roots PowerCut is damaged why = (why (λ e. cc)).reason
+roots_why device s t plain roots NoMemory is damaged why = tt
+roots_why device s t plain roots _ is damaged why = absurd (true≢false (sym is))
 
 -- ---- used blocks
 
@@ -118,6 +119,11 @@ map-names f (e ∷ es) = ap (λ (rest : List Name). e.0 ∷ rest) (map-names f e
 
 -- ---- the working state
 
+-- where neither the sizes nor the nodes are others, the trees of roots stay
+pub later_trees : (d e : Device) (plain : Bool) (roots : List ℕ) → e.geometry ≡ d.geometry → node_of e ≡ node_of d → HaveTrees plain d roots → HaveTrees plain e roots
+later_trees d e plain roots sizes nodes trees =
+    subst (λ (x : ℕ × Blocks). AreRoots x.0 x.1 roots × (plain ≡ true → IsPlain x.1 roots)) (λ i. (block_bytes (sym sizes i), sym nodes i)) trees
+
 -- what was found before a working state is made: after reads alone
 pub record IsBuilt (d e : Device) (r : Record) (s : State) : Type 0 where
   pub lawful : IsGeometry d.geometry
@@ -125,7 +131,7 @@ pub record IsBuilt (d e : Device) (r : Record) (s : State) : Type 0 where
   pub history : s.history ≡ history_of r
   pub sound : IsLawful s.history
   pub named : IsStrictlySortedBy name_cmp (map (λ (x : Name × ℕ). x.0) s.history.checkpoints)
-  pub trees : AreRoots (block_bytes d.geometry) (node_of d) (roots_of (history_of r))
+  pub trees : HasTrees d r
   pub used : (b : ℕ) → (set.contains s.storage.ring.used b ≡ true) ↔ Reached (node_of d) (roots_of (history_of r)) b
   pub ring_blocks : s.storage.ring.blocks ≡ d.geometry.blocks
   pub bad : s.storage.bad ≡ set.from_list r.bad
@@ -147,7 +153,7 @@ module _ (d e : Device) (r : Record) (s : State) (built : IsBuilt d e r s) where
 
   trees_there : (root : ℕ) → Contains (roots_of s.history) root → IsRoot (capacity_of e) (node_of e) root
   trees_there root has =
-      let there : IsRoot (capacity_of d) (node_of d) root = built.trees root (subst (λ (h : Past ℕ). Contains (roots_of h) root) built.history has) in
+      let there : IsRoot (capacity_of d) (node_of d) root = built.trees.0 root (subst (λ (h : Past ℕ). Contains (roots_of h) root) built.history has) in
       let nodes : IsRoot (capacity_of d) (node_of e) root = subst (λ (f : Blocks). IsRoot (capacity_of d) f root) (sym same_nodes) there in
       subst (λ (g : Geometry). IsRoot (block_bytes g - body_header) (node_of e) root) (sym same_sizes) nodes
 
@@ -202,6 +208,7 @@ module _ (d e : Device) (r : Record) (s : State) (built : IsBuilt d e r s) where
     bad = built.bad;
     last = built.last;
     used = used_there;
+    trees = later_trees d e (is_plain r) (roots_of (history_of r)) same_sizes same_nodes built.trees;
   }
 
 -- ---- the newest record
@@ -286,13 +293,12 @@ newest_why old new PowerCut why = why
 newest_why old new NoMemory why = tt
 newest_why old new _ why = absurd why
 
-pub load_why : (old mid new : Device) (r : Record) (fault : Fault) → IsGeometry old.geometry → committed_on old ≡ Some (Ok r) → OnlyReads old mid → RootsCause mid (roots_of (history_of r)) new fault → MountCause old new fault
+pub load_why : (old mid new : Device) (r : Record) (fault : Fault) → IsGeometry old.geometry → committed_on old ≡ Some (Ok r) → OnlyReads old mid → RootsCause (is_plain r) mid (roots_of (history_of r)) new fault → MountCause old new fault
 load_why old mid new r Damaged lawful is reads why =
     inr (inr (
       r,
       is,
-      λ trees. why (subst (λ (x : ℕ × Blocks). AreRoots x.0 x.1 (roots_of (history_of r)))
-          (λ i. (block_bytes (sym reads.geometry i), sym (OnlyReads_nodes old mid lawful reads) i)) trees),
+      λ trees. why (later_trees old mid (is_plain r) (roots_of (history_of r)) reads.geometry (OnlyReads_nodes old mid lawful reads) trees),
     ))
 load_why old mid new r ReadFailed lawful is reads why = let l = reads.failed_reads in omega arith
 load_why old mid new r PowerCut lawful is reads why = why
@@ -300,5 +306,5 @@ load_why old mid new r NoMemory lawful is reads why = tt
 load_why old mid new r _ lawful is reads why = absurd why
 
 -- why trees of roots are not found, by another name of the roots and of the answer
-pub err_roots : (A : Type 0) (old new : Device) (found roots : List ℕ) (r : Result A Fault) (fault : Fault) → found ≡ roots → r ≡ Err fault → RootsCause old found new fault → IfErr r (RootsCause old roots new)
-err_roots A old new found roots r fault same is why = subst (λ r. IfErr r (RootsCause old roots new)) (sym is) (subst (λ all. RootsCause old all new fault) same why)
+pub err_roots : (A : Type 0) (plain : Bool) (old new : Device) (found roots : List ℕ) (r : Result A Fault) (fault : Fault) → found ≡ roots → r ≡ Err fault → RootsCause plain old found new fault → IfErr r (RootsCause plain old roots new)
+err_roots A plain old new found roots r fault same is why = subst (λ r. IfErr r (RootsCause plain old roots new)) (sym is) (subst (λ all. RootsCause plain old all new fault) same why)

@@ -43,7 +43,7 @@ use Rattle.upkeep.specs.Rooms.{unmarked, no_limit, MarksAnew, LacksCommit}
 use Rattle.upkeep.specs.Steps.{TriesAgain, LacksRoom, TriesTwice, IsOfSecond, SystemAnswers, IsAfter, bad_data, Takes, SystemStep}
 use Rattle.upkeep.specs.Systems.{IsSystem}
 use Rattle.upkeep.specs.declared.systems.System.{System}
-use Rattle.upkeep.proofs.AfterCommits.{same, same_machine, same_history, saved_after, stands_after, trees_after, newly_trees}
+use Rattle.upkeep.proofs.AfterCommits.{same, same_machine, same_history, saved_after, whole_after, trees_after, newly_trees}
 use Rattle.upkeep.proofs.Committed.{IsNewly, newly_saved}
 use Rattle.upkeep.proofs.Measured.{listed_root, has_same}
 use Rattle.upkeep.proofs.Passing.{must_used}
@@ -245,7 +245,7 @@ module _ {T : Type 0} (d b p : Device) (m k l : System) (result : Result T Fault
             saves.used_pages q (must_used b k s on (block_of b q) (inl (subst (λ (g : Geometry). IsReached b k.state (q / g.pages)) (sym between.geometry) (between.reaches (block_of d q) reached))))
             ∙ between.pages q reached;
         reaches = λ block reached. moved b p k.state l.state (same_history b p k l result s saves) (ap (λ (t : State). t.group) saves.state) (same_nodes b p alike) block (between.reaches block reached);
-        whole = λ was r is root has. (stands_after b p k l result s saves (saved_after b p k l result s saves) on r is root has).rooted;
+        whole = λ was. whole_after b p k l result s saves (saved_after b p k l result s saves) on (between.whole was);
       }
 
 marked_later : (p c : Device) (l q : System) → IsSystem p l → Stays p l c q → IsAfter (seen_on p l.state) (seen_on c q.state)

@@ -30,6 +30,7 @@ use Rattle.working_state.specs.declared.state.State.{State}
 use Rattle.working_state.proofs.Standing.{still_stands, same_tree}
 use Rattle.upkeep.specs.Mounts.{history_of, roots_of, trees_of}
 use Rattle.upkeep.specs.Saved.{saved_on, saved_trees, IsWhole}
+use Rattle.upkeep.proofs.PlainRoots.{plain_stays}
 use Rattle.upkeep.specs.Commits.{TriesOnce}
 use Rattle.upkeep.specs.Systems.{IsSystem, IsRunning, MustStay}
 use Rattle.upkeep.specs.declared.systems.System.{System}
@@ -144,7 +145,15 @@ module _ (d e : Device) (m : System) (t : State) (call : Call) (result : Result 
   either = by_power (λ off. ap saved_trees (step.stopped off).0) same_trees
 
   whole : IsWhole d → IsWhole e
-  whole before = by_power (λ off. subst IsWhole (sym (step.stopped off).0) before) (λ on r is root has. (stands on r (sym as_saved ∙ is) root has).rooted)
+  whole before = by_power (λ off. subst IsWhole (sym (step.stopped off).0) before) (λ on r is.
+      let saved : saved_on d ≡ Some r = sym as_saved ∙ is in (
+        λ root has. (stands on r saved root has).rooted,
+        λ plain. plain_stays (node_of d) (node_of e) (roots_of (history_of r))
+            (λ c there.
+            let from = reached_from (node_of d) (roots_of (history_of r)) c there in
+            Evolved_node was now c s.mounted.lawful evolved ((s.stands on r saved from.0 from.1).held from.0 refl c from.2))
+            ((before r saved).1 plain),
+      ))
 
   kept : (r : Record) → saved_on d ≡ Some r → (p : ℕ) → Reached (node_of d) (roots_of (history_of r)) (block_of d p) → e.pages p ≡ d.pages p
   kept r is p reached =

@@ -39,7 +39,7 @@ use Rattle.upkeep.specs.Commits.{record_on, Saves, SaveCause, LacksSequence, Com
 use Rattle.upkeep.specs.Systems.{IsSystem}
 use Rattle.upkeep.specs.declared.systems.System.{System}
 use Rattle.upkeep.proofs.SameNodes.{same_room}
-use Rattle.upkeep.proofs.AfterCommits.{same, same_history, same_machine, saved_after, stands_after, trees_after, newly_trees}
+use Rattle.upkeep.proofs.AfterCommits.{same, same_history, same_machine, saved_after, whole_after, trees_after, newly_trees}
 use Rattle.upkeep.proofs.Committed.{newly_saved}
 
 abbrev failed_as : (T : Type 0) → Fault → Result T Fault
@@ -193,7 +193,7 @@ module _ {T : Type 0} (d e : Device) (m n : System) (result : Result T Fault) (s
   record_after call sync = record {
     either = by (trees_after d e m n result s saves (saved_after d e m n result s saves) on);
     synced = λ is. synced;
-    whole = λ was r is root has. (stands_after d e m n result s saves (saved_after d e m n result s saves) on r is root has).rooted;
+    whole = whole_after d e m n result s saves (saved_after d e m n result s saves) on;
     anchors = λ none. absurd (none sync);
     kept = inl (λ r is p reached. saves.used_pages p (used r is (block_of d p) reached));
   }

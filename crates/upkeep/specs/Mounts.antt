@@ -1,5 +1,5 @@
 -- What a mount makes of the newest record of a flash, and why it makes nothing of it.
-use Rattle.std.specs.Prelude.{◌≡◌, ◌⊎◌, ◌↔◌, ℕ, ◌<◌, true, false, Option, Some, None, Ok, Err, List, [], ◌∷◌, ◌++◌, map}
+use Rattle.std.specs.Prelude.{Bool, ◌==◌, ◌≡◌, ◌⊎◌, ◌↔◌, ℕ, ◌<◌, true, false, Option, Some, None, Ok, Err, List, [], ◌∷◌, ◌++◌, map}
 use Rattle.std.specs.FinSet as set
 use Rattle.history_machine.specs.History.{Past, map_roots}
 use Rattle.history_machine.specs.Machine.{mounted}
@@ -11,7 +11,9 @@ use Rattle.flash_model.specs.Device.{Device}
 use Rattle.flash_model.specs.Geometry.{IsGeometry, block_bytes}
 use Rattle.node_store.specs.NodePages.{node_of}
 use Rattle.block_trees.specs.Reached.{Reached}
+use Rattle.reclaim.specs.Sound.{IsPlain}
 use Rattle.reclaim.specs.Verified.{AreRoots}
+use Rattle.record_format.specs.declared.formats.TheConstants.{OLD_FORMAT}
 use Rattle.record_format.specs.declared.records.Record.{Record}
 use Rattle.commit_pair.specs.Parts.{parts_on}
 use Rattle.commit_pair.specs.Laws.{HasNone, HasTie}
@@ -50,9 +52,17 @@ working_roots s = roots_of s.history ++ group_roots s.group
 abbrev pub trees_of : Device → Record → Past Tree
 trees_of d r = map_roots (tree_on d) (history_of r)
 
--- each version and checkpoint of a record has a tree of linked bodies
+-- each of these roots has a tree of linked bodies; where they are to be plain, each directory in it is a node that stands alone
+abbrev pub HaveTrees : Bool → Device → List ℕ → Type 0
+HaveTrees plain d roots = AreRoots (block_bytes d.geometry) (node_of d) roots × (plain ≡ true → IsPlain (node_of d) roots)
+
+-- the format of a record knows no other directories
+abbrev pub is_plain : Record → Bool
+is_plain r = r.format == OLD_FORMAT
+
+-- each version and checkpoint of a record has a tree of linked bodies, with directories of its format
 abbrev pub HasTrees : Device → Record → Type 0
-HasTrees d r = AreRoots (block_bytes d.geometry) (node_of d) (roots_of (history_of r))
+HasTrees d r = HaveTrees (is_plain r) d (roots_of (history_of r))
 
 -- a working state is what a record holds: its history, with no file open, its bad blocks, and the last block that was
 -- taken. Used are exactly the blocks that its roots reach
@@ -64,6 +74,7 @@ pub record IsLoaded (d : Device) (r : Record) (state : State) : Type 0 where
   pub bad : state.storage.bad ≡ set.from_list r.bad
   pub last : state.storage.ring.last ≡ r.last
   pub used : (b : ℕ) → (set.contains state.storage.ring.used b ≡ true) ↔ Reached (node_of d) (roots_of (history_of r)) b
+  pub trees : HasTrees d r
 
 -- a system is mounted with what the newest record holds, and that record's place is known, so that a commit may follow
 pub record IsMountOf (old new : Device) (system : System) : Type 0 where
@@ -78,12 +89,12 @@ abbrev pub LacksTrees : Device → Type 0
 LacksTrees d = (newest : Record) × (committed_on d ≡ Some (Ok newest)) × (HasTrees d newest → ⊥)
 
 -- why trees of roots are not found
-abbrev pub RootsCause : Device → List ℕ → Device → Fault → Type 0
-RootsCause old roots new Damaged = AreRoots (block_bytes old.geometry) (node_of old) roots → ⊥
-RootsCause old roots new ReadFailed = old.failed_reads < new.failed_reads
-RootsCause old roots new PowerCut = new.powered ≡ false
-RootsCause old roots new NoMemory = Unit {0}
-RootsCause old roots new _ = ⊥
+abbrev pub RootsCause : Bool → Device → List ℕ → Device → Fault → Type 0
+RootsCause plain old roots new Damaged = HaveTrees plain old roots → ⊥
+RootsCause plain old roots new ReadFailed = old.failed_reads < new.failed_reads
+RootsCause plain old roots new PowerCut = new.powered ≡ false
+RootsCause plain old roots new NoMemory = Unit {0}
+RootsCause plain old roots new _ = ⊥
 
 -- why a mount is refused: the sizes are out of range, which is seen before any read, or the newest record tells others; no
 -- record is valid; two have the greatest sequence, or what the newest holds is damaged; a read failed; the device is off;

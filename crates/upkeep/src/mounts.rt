@@ -6,7 +6,7 @@ ghost use Rattle.flash_model.specs.Reading.{OnlyReads};
 ghost use Rattle.node_cache.specs.declared.caches.TheConstants.{MAX_CACHED_NODES};
 ghost use Rattle.record_format.specs.Payloads.{is_record};
 ghost use Rattle.upkeep.specs.Costs.{AsksToVerify, AsksToMount, AsksUntilRefused};
-ghost use Rattle.upkeep.specs.Mounts.{history_of, roots_of, IsLoaded, IsMountOf, RootsCause, MountCause};
+ghost use Rattle.upkeep.specs.Mounts.{history_of, roots_of, is_plain, IsLoaded, IsMountOf, RootsCause, MountCause};
 ghost use Rattle.upkeep.specs.Systems.{IsSystem};
 
 use crate::reaching::use_reached;
@@ -18,7 +18,7 @@ use fs_types::Fault;
 use node_cache::NodeCache;
 use node_store::Storage;
 use open_files::OpenFiles;
-use record_format::Record;
+use record_format::{OLD_FORMAT, Record};
 use std::alloc::Global;
 use working_state::State;
 
@@ -40,13 +40,14 @@ fn load<F: Flash>(
     ensures room { IfOk result (λ state. state.storage.cache.room ≡ cache.room) }
     ensures only_reads { OnlyReads (F.device flash.old) (F.device flash.new) }
     ensures asks { AsksToVerify (F.device flash.old) (roots_of (history_of saved.now)) (F.device flash.new) }
-    ensures why { IfErr result (RootsCause (F.device flash.old) (roots_of (history_of saved.now)) (F.device flash.new)) }
+    ensures why { IfErr result (RootsCause (is_plain saved.now) (F.device flash.old) (roots_of (history_of saved.now)) (F.device flash.new)) }
 {
     let history = restore_history(alloc, saved)?;
     let roots = list_roots(alloc, &history)?;
     let bad = list_bad(saved.bad.as_slice());
     let mut storage = Storage::unused(alloc, saved.geometry, bad, saved.last, cache)?;
-    use_reached(alloc, flash, &mut storage, &roots)?;
+    let plain = saved.format == OLD_FORMAT;
+    use_reached(alloc, flash, &mut storage, &roots, plain)?;
     Ok(State {
         history,
         group: None,

@@ -1,7 +1,7 @@
 -- The step of a change that writes a path of the tree that calls work on anew, and has them work on the new root.
 use Rattle.std.proofs.Common.{◌≡◌, ◌≢◌, ℕ, Option, None, ◌<◌, ◌≤◌, true, false, Some, Result, Ok, length, refl, sym, ap, subst, ◌∙◌, inr, arith}
 use Rattle.std.proofs.lemmas.Bool.{true≢false, and_parts, and_from, leb-true}
-use Rattle.std.specs.Prelude.{nat_le, is_some, is_none, if◌then◌else◌}
+use Rattle.std.specs.Prelude.{nat_le, is_some, is_none, unwrap_or, if◌then◌else◌}
 use Rattle.std.specs.List.{list_all}
 use Rattle.std.specs.FinSet as set
 use Rattle.fs_types.specs.Names.{Path, is_name, is_path}
@@ -9,7 +9,7 @@ use Rattle.plain_trees.specs.Trees.{Tree}
 use Rattle.history_machine.specs.History.{Past, working_root, history_with, group_with, map_roots, map_group}
 use Rattle.history_machine.specs.HistoryMaps.{history_with-map, group_with-map}
 use Rattle.history_machine.specs.Descriptors.{Descriptors}
-use Rattle.history_machine.specs.Machine.{Machine, Space, has_paths, working_tree, refusal, need, change_need, answer_of, machine_of, reply_of, is_accepted, tree_after, version_after, history_after, group_after, descriptors_after, changes_tree, makes_version, machine_with}
+use Rattle.history_machine.specs.Machine.{Machine, Space, has_paths, working_tree, refusal, need, way_need, change_need, answer_of, machine_of, reply_of, is_accepted, tree_after, version_after, history_after, group_after, descriptors_after, changes_tree, makes_version, machine_with}
 use Rattle.fs_types.specs.declared.calls.Call.{Call}
 use Rattle.fs_types.specs.declared.calls.Group.{Group}
 use Rattle.fs_types.specs.declared.calls.Reply.{Reply}
@@ -28,6 +28,7 @@ use Rattle.working_state.specs.Mounted.{IsStanding}
 use Rattle.working_state.specs.Roots.{ReachesNew}
 use Rattle.working_state.specs.Worked.{IsWorked, IsLooked}
 use Rattle.plain_trees.proofs.Beneath.{None≢Some}
+use Rattle.plain_trees.proofs.Needs.{path_need-long}
 use Rattle.history_machine.proofs.Groups.{worked-after, version-outside}
 use Rattle.working_state.proofs.Roots.{AllRoots, ReachesBefore, after_work, at_work, with_work, all_reach}
 use Rattle.working_state.proofs.Standing.{keeps, AllStand, worked_trees, worked_machine, worked_later, worked_mounted, worked_before, looked_worked, worked_on, worked_group, same_working}
@@ -49,6 +50,10 @@ needs capacity m call version more = subst (λ b. 0 < (if b then change_need cap
 -- a version writes all that its change needs
 pub needs_all : (capacity : ℕ) (m : Machine) (call : Call) → changes_tree m call ≡ true → need capacity m call ≡ change_need capacity m call
 needs_all capacity m call version = ap (λ b. if b then change_need capacity m call else 0) version
+
+-- a way that has a name needs a node
+pub way_some : (m : Machine) (call : Call) (path : Path) → 0 < length path → 0 < way_need m call path
+way_some m call path some = let long = path_need-long (working_tree m) (unwrap_or (tree_after m call) (working_tree m)) path in omega arith
 
 -- read-only mode before reads is that after them
 pub later_writable : (a b : Moment) → IsLooked a b → is_read_only b.state.storage.bad ≡ is_read_only a.state.storage.bad
@@ -81,7 +86,7 @@ later_outside a b l call heavy made = l.rest.group ∙ outside_version a call he
 
 -- the nodes of a version are not written
 pub writing_refuses : (a b : Moment) (f : Device) (st : Storage) (edit : Edit) (call : Call) (fault : Fault) → IsLooked a b → is_light call ≡ false → changes_tree (machine_at a) call ≡ true
-    → 0 < change_need (capacity_at a) (machine_at a) call → edits.need (capacity_at b) edit ≤ change_need (capacity_at a) (machine_at a) call → IsUnwritten b.device b.state.history b.state.group b.state.storage edit fault f st
+    → 0 < change_need (capacity_at a) (machine_at a) call → edits.need (capacity_at b) (nodes_at b) edit ≤ change_need (capacity_at a) (machine_at a) call → IsUnwritten b.device b.state.history b.state.group b.state.storage edit fault f st
     → Refuses (seen_at a) (machine_at a) call fault (seen_at (moment f (record b.state { storage = st })))
 writing_refuses a b f st edit call fault l heavy version more few work =
     let m = machine_at a in

@@ -2,16 +2,17 @@
 use Rattle.std.proofs.Common.{Bool, ◌≡◌, ℕ, zero, suc, ◌+◌, ◌<◌, ◌≤◌, true, false, Option, Some, None, Result, Ok, Err, List, [], ◌∷◌, length, refl, sym, ap, subst, ◌∙◌, arith}
 use Rattle.std.proofs.lemmas.Bool.{true≢false, eq-eqb, ne_eqb}
 use Rattle.std.proofs.lemmas.List.{length-take}
-use Rattle.std.specs.Prelude.{unwrap_or, is_some, ◌||◌, if◌then◌else◌, ◌==◌}
+use Rattle.std.specs.Prelude.{unwrap_or, is_some, nat_le, ◌||◌, if◌then◌else◌, ◌==◌}
 use Rattle.std.specs.Option.{option_map, option_map_or, option_and_then}
 use Rattle.std.specs.FinMap.{get}
 use Rattle.std.specs.FinSet as set
+use Rattle.fs_types.specs.declared.limits.TheConstants.{MAX_ENTRIES}
 use Rattle.fs_types.specs.Names.{Path, is_path}
 use Rattle.plain_trees.specs.Contents.{Contents, Entry, overwritten, resized, pwrite_need, ftruncate_need}
 use Rattle.plain_trees.specs.Trees.{Tree, put, IsFile, bytes_of, bytes_at}
 use Rattle.history_machine.specs.History.{working_root, changed, group_with}
 use Rattle.history_machine.specs.Descriptors.{Descriptor, descriptor_at}
-use Rattle.history_machine.specs.Machine.{Machine, Space, has_paths, working_tree, file_put, refusal, change_need, reply_of, tree_after, descriptors_after, changes_tree, machine_of, machine_with}
+use Rattle.history_machine.specs.Machine.{Machine, Space, has_paths, working_tree, file_put, refusal, way_need, change_need, reply_of, tree_after, descriptors_after, changes_tree, machine_of, machine_with}
 use Rattle.fs_types.specs.declared.calls.Call.{Call}
 use Rattle.fs_types.specs.declared.calls.Reply.{Reply}
 use Rattle.fs_types.specs.declared.faults.Fault.{Fault}
@@ -28,10 +29,13 @@ use Rattle.block_trees.specs.Trees.{entries_in, leads, entry_at, IsRoot, root_tr
 use Rattle.block_trees.proofs.Entries.{some_place, place_is}
 use Rattle.block_trees.proofs.Reaching.{held_leads}
 use Rattle.block_trees.proofs.RootMaps.{map_law}
+use Rattle.directory.specs.Counts.{path_nodes}
+use Rattle.directory.specs.Trails.{IsTrail}
 use Rattle.directory.specs.declared.lookups.Found.{Found}
 use Rattle.directory.specs.declared.lookups.Found.TheVariants as found
 use Rattle.directory.specs.Lookups.{◌>>=◌, look_up, found_in, found_of, below_in, directory_at, is_path_fault, IsLookupFault}
-use Rattle.directory.proofs.LookupLaws.{found_is, found_leads_file}
+use Rattle.directory.proofs.Directories.{place_named}
+use Rattle.directory.proofs.LookupLaws.{found_is, found_items, found_leads_file, rooted_leads}
 use Rattle.working_state.specs.Moments.{Moment, machine_at, storage_at, IsMountedAt, nodes_at, capacity_at, tree_at}
 use Rattle.working_state.specs.Changing.{IsPathOf}
 use Rattle.working_state.specs.Leaves.{is_still}
@@ -41,8 +45,9 @@ use Rattle.working_state.specs.Steps.{is_light}
 use Rattle.working_state.specs.Opening.{IsAnswered}
 use Rattle.working_state.specs.Worked.{IsWorked, IsLooked, WorkCause, ReadCause}
 use Rattle.working_state.proofs.ChangedCalls.{IsChangeBy}
-use Rattle.working_state.proofs.ChangeSteps.{makes, later_tree}
+use Rattle.working_state.proofs.ChangeSteps.{makes, later_tree, way_some}
 use Rattle.working_state.proofs.MovedEntries.{read_cause}
+use Rattle.working_state.proofs.Needs.{put_way}
 use Rattle.working_state.proofs.OpenCalls.{working_is}
 use Rattle.working_state.proofs.PathCalls.{OnlyReads, working_stands, read_done}
 use Rattle.working_state.proofs.Standing.{same_working, same_capacity, worked_machine, worked_mounted, worked_pages, worked_reaches, looked_worked, looked_leaves}
@@ -52,26 +57,26 @@ use Rattle.working_state.proofs.Standing.{same_working, same_capacity, worked_ma
 -- a path that leads to a file is looked up as that
 leads_looked : (f : Blocks) (root : ℕ) (path : Path) (head size : ℕ) → leads f (place.Dir root) path ≡ Some (place.File head size) → look_up f root path ≡ Ok (found.File head size)
 leads_looked f root [] head size e = absurd cc
-leads_looked f root (n ∷ []) head size e = last (entries_in f root) e
+leads_looked f root (n ∷ []) head size e = last (entries_in f root) refl e
   where
     at : (r : Option Place) (full : Bool) → option_and_then some_place r ≡ Some (place.File head size) → (let x : Result Found Fault = Ok (found_of r full) in x) ≡ Ok (found.File head size)
     at None full e = absurd cc
     at (Some (place.Dir block)) full e = absurd cc
     at (Some (place.File h n)) full e = ap (λ (p : Place). let x : Result Found Fault = Ok (found_of (Some p) full) in x) (place_is (place.File h n) (place.File head size) e)
 
-    last : (o : Option (List Item)) → option_and_then some_place (named (unwrap_or o []) n) ≡ Some (place.File head size) → found_in o n ≡ Ok (found.File head size)
-    last None e = absurd cc
-    last (Some items) e = at (named items n) _ e
-leads_looked f root (n ∷ m ∷ path) head size e = way (λ below. leads_looked f below (m ∷ path) head size) (entries_in f root) e
+    last : (o : Option (List Item)) → entries_in f root ≡ o → option_and_then some_place (named (unwrap_or o []) n) ≡ Some (place.File head size) → found_in f n root ≡ Ok (found.File head size)
+    last None is e = absurd cc
+    last (Some items) is e = found_items f root n items is ∙ at (named items n) (nat_le MAX_ENTRIES (length items)) e
+leads_looked f root (n ∷ m ∷ path) head size e = way (λ below. leads_looked f below (m ∷ path) head size) (entries_in f root) refl e
   where
     on : ((below : ℕ) → leads f (place.Dir below) (m ∷ path) ≡ Some (place.File head size) → look_up f below (m ∷ path) ≡ Ok (found.File head size)) → (r : Option Place) → option_and_then (λ next. leads f next (m ∷ path)) r ≡ Some (place.File head size) → (directory_at r >>= λ below. look_up f below (m ∷ path)) ≡ Ok (found.File head size)
     on again None e = absurd cc
     on again (Some (place.Dir below)) e = again below e
     on again (Some (place.File h n)) e = absurd cc
 
-    way : ((below : ℕ) → leads f (place.Dir below) (m ∷ path) ≡ Some (place.File head size) → look_up f below (m ∷ path) ≡ Ok (found.File head size)) → (o : Option (List Item)) → option_and_then (λ next. leads f next (m ∷ path)) (named (unwrap_or o []) n) ≡ Some (place.File head size) → (below_in o n >>= λ below. look_up f below (m ∷ path)) ≡ Ok (found.File head size)
-    way again None e = absurd cc
-    way again (Some items) e = on again (named items n) e
+    way : ((below : ℕ) → leads f (place.Dir below) (m ∷ path) ≡ Some (place.File head size) → look_up f below (m ∷ path) ≡ Ok (found.File head size)) → (o : Option (List Item)) → entries_in f root ≡ o → option_and_then (λ next. leads f next (m ∷ path)) (named (unwrap_or o []) n) ≡ Some (place.File head size) → (below_in f n root >>= λ below. look_up f below (m ∷ path)) ≡ Ok (found.File head size)
+    way again None is e = absurd cc
+    way again (Some items) is e = ap (λ (r : Result (Option Place) Fault). r >>= directory_at >>= λ below. look_up f below (m ∷ path)) (place_named f root n items is) ∙ on again (named items n) e
 
 -- a file of the tree that calls work on is looked up as one
 pub working_file : (a : Moment) (root : ℕ) (path : Path) → IsMountedAt a → working_root a.state.history a.state.group ≡ Some root → IsFile (working_tree (machine_at a)) path
@@ -102,10 +107,10 @@ pub record IsWorkingBody (a : Moment) (path : Path) (head size : ℕ) : Type 0 w
 pub working_body : (a : Moment) (root : ℕ) (path : Path) (head size : ℕ) → IsMountedAt a → working_root a.state.history a.state.group ≡ Some root → look_up (nodes_at a) root path ≡ Ok (found.File head size) → IsWorkingBody a path head size
 working_body a root path head size m is led =
     let stands = working_stands a root m is in
-    let leads = found_leads_file (nodes_at a) root path head size led in
+    let leads = found_leads_file (nodes_at a) root path head size (rooted_leads (capacity_at a) (nodes_at a) root stands.rooted) led in
     let whole = (stands.rooted path (place.File head size) leads).0 in
     let there : get (working_tree (machine_at a)) path ≡ Some (Entry.File (body (capacity_at a) (nodes_at a) head size)) =
-    ap (λ (t : Contents). t path) (working_is a root m is) ∙ (found_is (capacity_at a) (nodes_at a) root path (found.File head size) led).1 in
+    ap (λ (t : Contents). t path) (working_is a root m is) ∙ (found_is (capacity_at a) (nodes_at a) root path (found.File head size) (rooted_leads (capacity_at a) (nodes_at a) root stands.rooted) led).1 in
     let most = (working-file_tree (machine_at a) m.machine).lengths path (body (capacity_at a) (nodes_at a) head size) there in
     record {
       whole = whole;
@@ -118,8 +123,8 @@ working_body a root path head size m is led =
 pub file_length : (capacity : ℕ) (f : Blocks) (root : ℕ) (path : Path) → IsRoot capacity f root → (x : Found) (head size : ℕ) → look_up f root path ≡ Ok x → x ≡ found.File head size → length (bytes_at (root_tree capacity f root) path) ≡ size
 file_length capacity f root path is x head size led called =
     let there : look_up f root path ≡ Ok (found.File head size) = subst (λ z. look_up f root path ≡ Ok z) called led in
-    let whole = (is path (place.File head size) (found_leads_file f root path head size there)).0 in
-    ap (λ (o : Option Entry). length (bytes_of o)) (ap (λ (t : Contents). t path) (map_law capacity f root is).same ∙ (found_is capacity f root path (found.File head size) there).1)
+    let whole = (is path (place.File head size) (found_leads_file f root path head size (rooted_leads capacity f root is) there)).0 in
+    ap (λ (o : Option Entry). length (bytes_of o)) (ap (λ (t : Contents). t path) (map_law capacity f root is).same ∙ (found_is capacity f root path (found.File head size) (rooted_leads capacity f root is) there).1)
     ∙ long_body capacity f head size whole
 
 -- Refusals.
@@ -204,8 +209,8 @@ pwrite_change m descriptor offset bytes path has fine some below = record {
   moves = refl;
   paths = refl;
   more = λ capacity.
-      subst (λ (o : Option Descriptor). 0 < option_map_or (λ d. pwrite_need capacity (length (bytes_at (working_tree m) d.path)) offset (length bytes) + length d.path) o 0) (sym has.1)
-      (some_more (pwrite_need capacity (length (bytes_at (working_tree m) path)) offset (length bytes)) (length path) below);
+      subst (λ (o : Option Descriptor). 0 < option_map_or (λ d. pwrite_need capacity (length (bytes_at (working_tree m) d.path)) offset (length bytes) + way_need m (Call.Pwrite descriptor offset bytes) d.path) o 0) (sym has.1)
+      (some_more (pwrite_need capacity (length (bytes_at (working_tree m) path)) offset (length bytes)) (way_need m (Call.Pwrite descriptor offset bytes) path) (way_some m (Call.Pwrite descriptor offset bytes) path below));
 }
 
 pub some_length : (n : ℕ) → (n == 0) ≡ false → 0 < n
@@ -240,8 +245,8 @@ ftruncate_change m descriptor n path has fine other below = record {
   moves = refl;
   paths = refl;
   more = λ capacity.
-      subst (λ (o : Option Descriptor). 0 < option_map_or (λ d. ftruncate_need capacity (length (bytes_at (working_tree m) d.path)) n + length d.path) o 0) (sym has.1)
-      (some_more (ftruncate_need capacity (length (bytes_at (working_tree m) path)) n) (length path) below);
+      subst (λ (o : Option Descriptor). 0 < option_map_or (λ d. ftruncate_need capacity (length (bytes_at (working_tree m) d.path)) n + way_need m (Call.Ftruncate descriptor n) d.path) o 0) (sym has.1)
+      (some_more (ftruncate_need capacity (length (bytes_at (working_tree m) path)) n) (way_need m (Call.Ftruncate descriptor n) path) (way_some m (Call.Ftruncate descriptor n) path below));
 }
 
 -- the same length makes no version
@@ -292,24 +297,30 @@ file_lawful a path m file = (working-file_tree (machine_at a) m.machine).paths p
 same_capacity_at : (a b : Moment) → IsWorked a b → capacity_at a ≡ capacity_at b
 same_capacity_at a b w = sym (same_capacity (storage_at a) (storage_at b) w.evolved)
 
-pub pwrite_few : (a b : Moment) (descriptor offset : ℕ) (bytes : List ℕ) (path : Path) (head size : ℕ) → IsMountedAt a → IsLooked a b → IsPathOf a.state.files descriptor path → IsWorkingBody b path head size
-    → pwrite_need (capacity_at b) size offset (length bytes) + length path ≤ change_need (capacity_at a) (machine_at a) (Call.Pwrite descriptor offset bytes)
-pwrite_few a b descriptor offset bytes path head size m l has there =
+pub pwrite_few : (a b : Moment) (root descriptor offset : ℕ) (bytes : List ℕ) (path : Path) (trail : List ℕ) (head size : ℕ) (x : ℕ → Entry) (reply : Reply) → IsMountedAt a → working_root a.state.history a.state.group ≡ Some root → IsLooked a b
+    → IsPathOf a.state.files descriptor path → IsWorkingBody b path head size → IsChangeBy a (Call.Pwrite descriptor offset bytes) (λ r. put (tree_at b r) path (x r)) reply → IsTrail (nodes_at b) root path trail
+    → pwrite_need (capacity_at b) size offset (length bytes) + path_nodes (nodes_at b) trail path true 0 ≤ change_need (capacity_at a) (machine_at a) (Call.Pwrite descriptor offset bytes)
+pwrite_few a b root descriptor offset bytes path trail head size x reply m is l has there by way =
     let w = looked_worked a b l in
+    let call = Call.Pwrite descriptor offset bytes in
     let long = working_length a b path head size m w there in
     let same = same_capacity_at a b w in
-    let all : change_need (capacity_at a) (machine_at a) (Call.Pwrite descriptor offset bytes) ≡ pwrite_need (capacity_at b) size offset (length bytes) + length path =
-    ap (λ (o : Option Descriptor). option_map_or (λ x. pwrite_need (capacity_at a) (length (bytes_at (working_tree (machine_at a)) x.path)) offset (length bytes) + length x.path) o 0) has.1
-    ∙ (λ i. pwrite_need (same i) (long i) offset (length bytes) + length path) in
+    let all : change_need (capacity_at a) (machine_at a) (Call.Pwrite descriptor offset bytes) ≡ pwrite_need (capacity_at b) size offset (length bytes) + way_need (machine_at a) (Call.Pwrite descriptor offset bytes) path =
+    ap (λ (o : Option Descriptor). option_map_or (λ y. pwrite_need (capacity_at a) (length (bytes_at (working_tree (machine_at a)) y.path)) offset (length bytes) + way_need (machine_at a) (Call.Pwrite descriptor offset bytes) y.path) o 0) has.1
+    ∙ (λ i. pwrite_need (same i) (long i) offset (length bytes) + way_need (machine_at a) (Call.Pwrite descriptor offset bytes) path) in
+    let few = put_way a b call x reply root path trail m is l by way in
     omega arith
 
-pub ftruncate_few : (a b : Moment) (descriptor n : ℕ) (path : Path) (head size : ℕ) → IsMountedAt a → IsLooked a b → IsPathOf a.state.files descriptor path → IsWorkingBody b path head size
-    → ftruncate_need (capacity_at b) size n + length path ≤ change_need (capacity_at a) (machine_at a) (Call.Ftruncate descriptor n)
-ftruncate_few a b descriptor n path head size m l has there =
+pub ftruncate_few : (a b : Moment) (root descriptor n : ℕ) (path : Path) (trail : List ℕ) (head size : ℕ) (x : ℕ → Entry) (reply : Reply) → IsMountedAt a → working_root a.state.history a.state.group ≡ Some root → IsLooked a b
+    → IsPathOf a.state.files descriptor path → IsWorkingBody b path head size → IsChangeBy a (Call.Ftruncate descriptor n) (λ r. put (tree_at b r) path (x r)) reply → IsTrail (nodes_at b) root path trail
+    → ftruncate_need (capacity_at b) size n + path_nodes (nodes_at b) trail path true 0 ≤ change_need (capacity_at a) (machine_at a) (Call.Ftruncate descriptor n)
+ftruncate_few a b root descriptor n path trail head size x reply m is l has there by way =
     let w = looked_worked a b l in
+    let call = Call.Ftruncate descriptor n in
     let long = working_length a b path head size m w there in
     let same = same_capacity_at a b w in
-    let all : change_need (capacity_at a) (machine_at a) (Call.Ftruncate descriptor n) ≡ ftruncate_need (capacity_at b) size n + length path =
-    ap (λ (o : Option Descriptor). option_map_or (λ x. ftruncate_need (capacity_at a) (length (bytes_at (working_tree (machine_at a)) x.path)) n + length x.path) o 0) has.1
-    ∙ (λ i. ftruncate_need (same i) (long i) n + length path) in
+    let all : change_need (capacity_at a) (machine_at a) (Call.Ftruncate descriptor n) ≡ ftruncate_need (capacity_at b) size n + way_need (machine_at a) (Call.Ftruncate descriptor n) path =
+    ap (λ (o : Option Descriptor). option_map_or (λ y. ftruncate_need (capacity_at a) (length (bytes_at (working_tree (machine_at a)) y.path)) n + way_need (machine_at a) (Call.Ftruncate descriptor n) y.path) o 0) has.1
+    ∙ (λ i. ftruncate_need (same i) (long i) n + way_need (machine_at a) (Call.Ftruncate descriptor n) path) in
+    let few = put_way a b call x reply root path trail m is l by way in
     omega arith

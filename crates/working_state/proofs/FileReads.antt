@@ -24,7 +24,7 @@ use Rattle.block_trees.proofs.RootMaps.{map_law}
 use Rattle.directory.specs.declared.lookups.Found.{Found}
 use Rattle.directory.specs.declared.lookups.Found.TheVariants as found
 use Rattle.directory.specs.Lookups.{look_up, entry_of, is_path_fault, IsLookupFault}
-use Rattle.directory.proofs.LookupLaws.{found_is, found_leads_file}
+use Rattle.directory.proofs.LookupLaws.{found_is, found_leads_file, rooted_leads}
 use Rattle.skip_list_file.specs.Reading.{is_body_fault}
 use Rattle.working_state.specs.Moments.{Moment, machine_at, seen_at, IsMountedAt, IsStep, tree_at}
 use Rattle.working_state.specs.Reading.{refuse_directory, file_refusal, IsRead}
@@ -75,7 +75,7 @@ module _ (capacity : ℕ) (f : Blocks) (root : ℕ) (path : Path) (is : IsRoot c
     pub file_body : IsBody capacity' f' head size
     file_body =
         subst (λ r. IsBody r f' head size) (sym same_capacity)
-        (subst (λ (g : Blocks). IsBody capacity g head size) (sym same) (is path (File head size) (found_leads_file f root path head size file_there)).0)
+        (subst (λ (g : Blocks). IsBody capacity g head size) (sym same) (is path (File head size) (found_leads_file f root path head size (rooted_leads capacity f root is) file_there)).0)
 
     -- what is read of its body
     pub file_read : (offset count : ℕ) (result : Result (List ℕ) Fault) → IfOk result (λ bytes. bytes ≡ read_from (body capacity' f' head size) offset count) → IfOk result (IsRead (root_tree capacity f root) path offset count)
@@ -86,7 +86,7 @@ module _ (capacity : ℕ) (f : Blocks) (root : ℕ) (path : Path) (is : IsRoot c
           ∙ ap (λ r. read_from (body r f' head size) offset count) same_capacity
           ∙ ap (λ (g : Blocks). read_from (body capacity g head size) offset count) same
           ∙ ap (λ (o : Option Entry). read_from (bytes_of o) offset count)
-          (sym (ap (λ (t : Contents). t path) (map_law capacity f root is).same ∙ (found_is capacity f root path (found.File head size) file_there).1));
+          (sym (ap (λ (t : Contents). t path) (map_law capacity f root is).same ∙ (found_is capacity f root path (found.File head size) (rooted_leads capacity f root is) file_there).1));
     }
 
 -- Steps.

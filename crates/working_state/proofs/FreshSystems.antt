@@ -30,8 +30,10 @@ use Rattle.node_store.specs.NodePages.{first_data, node_of, pages_for}
 use Rattle.node_store.specs.Fitting.{Fits, StillFits}
 use Rattle.node_store.specs.Storage as parts
 use Rattle.node_store.specs.Storage.{Evolved, Pays, Spends, Adds, unpaid}
-use Rattle.node_format.specs.Directories.{directory_at}
-use Rattle.block_trees.specs.Trees.{entries_of, entries_in}
+use Rattle.node_format.specs.Links.{link, link_at}
+use Rattle.block_trees.specs.Chains.{link_of}
+use Rattle.block_trees.specs.Trees.{entries_in}
+use Rattle.block_trees.proofs.Chains.{first_law}
 use Rattle.block_trees.proofs.RootMaps.{empty_root}
 use Rattle.working_state.specs.Fresh.{unused_ring, unused_beside, IsFirstGood, IsBegun, AsksForRoot, HasGrown, BeginCause, RootCause}
 use Rattle.working_state.specs.Leaves.{HasWritten}
@@ -196,9 +198,9 @@ root_why s bytes t (Err PowerCut) evolved pays adds = adds.0
 root_why s bytes t (Err NoMemory) evolved pays adds = tt
 root_why s bytes t (Err _) evolved pays adds = absurd adds
 
-pub root_empty : (s : parts.Storage) (bytes : List ℕ) (t : parts.Storage) (result : Result ℕ Fault) → directory_at bytes ≡ Some [] → Adds s bytes t result
+pub root_empty : (s : parts.Storage) (bytes : List ℕ) (t : parts.Storage) (result : Result ℕ Fault) → link_at bytes ≡ Some (link true 0 []) → Adds s bytes t result
     → IfOk result (λ root. entries_in (node_of t.device) root ≡ Some [])
-root_empty s bytes t (Ok root) read adds = ap entries_of adds.node ∙ read
+root_empty s bytes t (Ok root) read adds = first_law (node_of t.device) 0 root (link true 0 []) [] (omega arith) (ap link_of adds.node ∙ read) refl refl
 root_empty s bytes t (Err fault) read adds = tt
 
 first_good : (blocks : ℕ) (bad : set.FinSet nat_cmp) (b : ℕ) → IsNext (is_busy (unused_ring blocks) bad) blocks (blocks - 1) b → IsFirstGood bad b

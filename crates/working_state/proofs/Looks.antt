@@ -3,7 +3,7 @@ use Rattle.std.proofs.Common.{◌≡◌, ℕ, ◌+◌, ◌*◌, ◌≤◌, Bool,
 use Rattle.std.proofs.lemmas.Bool.{true≢false}
 use Rattle.std.proofs.lemmas.Nat.{mul-le}
 use Rattle.history_machine.specs.Descriptors.{Descriptor, descriptor_at}
-use Rattle.history_machine.specs.Machine.{Machine, working_tree}
+use Rattle.history_machine.specs.Machine.{Machine, working_tree, view_tree}
 use Rattle.plain_trees.specs.Trees.{Tree, bytes_at}
 use Rattle.fs_types.specs.Names.{Path}
 use Rattle.fs_types.specs.declared.calls.Call.{Call}
@@ -13,7 +13,7 @@ use Rattle.block_trees.specs.Bodies.{head_index}
 use Rattle.skip_list_file.specs.Reading.{HasDigits, nodes_of_range}
 use Rattle.node_store.specs.declared.stores.Store.{Store}
 use Rattle.node_store.specs.Stores.{Follows}
-use Rattle.working_state.specs.Looking.{Asks, IsReadOf, AsksForRange, AsksForOpen, only_looks, LooksOnce}
+use Rattle.working_state.specs.Looking.{Asks, IsReadOf, AsksForRange, AsksForOpen, look_nodes, list_nodes, only_looks, LooksOnce}
 
 -- ---- what is asked
 
@@ -69,8 +69,8 @@ still_open d None t offset count = asks_none d 0
 still_open d (Some file) t offset count = λ nodes is. asks_none d nodes
 
 pub looks_still : (m : Machine) (call : Call) (d : Device) → LooksOnce m call d d
-looks_still m (Call.Stat view path) d = asks_none d (length path + 1)
-looks_still m (Call.List view path) d = asks_none d (length path + 1)
+looks_still m (Call.Stat view path) d = asks_none d (list_nodes (view_tree m view) path)
+looks_still m (Call.List view path) d = asks_none d (list_nodes (view_tree m view) path)
 looks_still m (Call.ReadAt view path offset count) d = λ nodes is. asks_none d nodes
 looks_still m (Call.Pread descriptor offset count) d = still_open d (descriptor_at m.descriptors descriptor) (working_tree m) offset count
 looks_still m _ d = tt
@@ -85,11 +85,11 @@ looks_other m _ d e other = tt
 
 -- the bytes of an open file
 pub open_looks : (d e : Device) (o : Option Descriptor) (file : Descriptor) (path : Path) (t u : Tree) (offset count : ℕ) → o ≡ Some file → path ≡ file.path → t ≡ u
-    → AsksForRange d (length path) (bytes_at u path) offset count e → AsksForOpen d o t offset count e
+    → AsksForRange d (look_nodes u path) (bytes_at u path) offset count e → AsksForOpen d o t offset count e
 open_looks d e o file path t u offset count there named same asks =
     subst (λ (x : Option Descriptor). AsksForOpen d x t offset count e) (sym there)
-    (subst (λ (x : Tree). AsksForRange d (length file.path) (bytes_at x file.path) offset count e) (sym same)
-    (subst (λ (p : Path). AsksForRange d (length p) (bytes_at u p) offset count e) named asks))
+    (subst (λ (x : Tree). AsksForRange d (look_nodes x file.path) (bytes_at x file.path) offset count e) (sym same)
+    (subst (λ (p : Path). AsksForRange d (look_nodes u p) (bytes_at u p) offset count e) named asks))
 
 -- neither of two
 pub neither : (x y : Bool) → x || y ≡ false → (x ≡ false) × (y ≡ false)

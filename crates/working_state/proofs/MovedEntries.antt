@@ -30,7 +30,7 @@ use Rattle.directory.specs.declared.lookups.Found.{Found}
 use Rattle.directory.specs.declared.lookups.Found.TheVariants as found
 use Rattle.directory.specs.Trails.{has_room}
 use Rattle.directory.specs.Lookups.{look_up, entry_of, is_path_fault, IsLookupFault}
-use Rattle.directory.proofs.LookupLaws.{found_is, found_leads, found_leads_file, missing_parent, refused_is}
+use Rattle.directory.proofs.LookupLaws.{found_is, found_leads, found_leads_file, missing_parent, refused_is, rooted_leads}
 use Rattle.working_state.specs.Moments.{Moment, machine_at, seen_at, IsMountedAt, nodes_at, capacity_at, tree_at}
 use Rattle.working_state.specs.Seen.{Seen}
 use Rattle.working_state.specs.Steps.{begins_work, MayRefuse, IsLater}
@@ -146,7 +146,7 @@ module _ (a : Moment) (root : ℕ) (path : Path) (m : IsMountedAt a) (is : worki
   pub place_by : (x y : Found) → look_up (nodes_at a) root path ≡ Ok x → x ≡ y → (refuse : Entry → Option Fault)
       → found_refusal (working_tree (machine_at a)) path refuse ≡ option_map_or refuse (entry_of (capacity_at a) (nodes_at a) y) (Some NoEntry)
   place_by x y led called refuse =
-      let there = found_is (capacity_at a) (nodes_at a) root path x led in
+      let there = found_is (capacity_at a) (nodes_at a) root path x (rooted_leads (capacity_at a) (nodes_at a) root rooted) led in
       place_at refuse
       ∙ ap (λ o. option_or o (option_map_or refuse (tree (capacity_at a) (nodes_at a) root path) (Some NoEntry))) there.0
       ∙ ap (λ o. option_map_or refuse o (Some NoEntry)) there.1
@@ -170,8 +170,8 @@ module _ (a : Moment) (root : ℕ) (path : Path) (m : IsMountedAt a) (is : worki
   file_short x head size led called =
       let file : look_up (nodes_at a) root path ≡ Ok (found.File head size) = subst (λ z. look_up (nodes_at a) root path ≡ Ok z) called led in
       let there : get (working_tree (machine_at a)) path ≡ Some (Entry.File (body (capacity_at a) (nodes_at a) head size)) =
-      ap (λ t. get t path) (working_tree_is a root is) ∙ ap (λ (t : Contents). t path) same ∙ (found_is (capacity_at a) (nodes_at a) root path (found.File head size) file).1 in
-      subst (λ n. n ≤ 16777216) (body_length (capacity_at a) (nodes_at a) head size (rooted path (File head size) (found_leads_file (nodes_at a) root path head size file)).0)
+      ap (λ t. get t path) (working_tree_is a root is) ∙ ap (λ (t : Contents). t path) same ∙ (found_is (capacity_at a) (nodes_at a) root path (found.File head size) (rooted_leads (capacity_at a) (nodes_at a) root rooted) file).1 in
+      subst (λ n. n ≤ 16777216) (body_length (capacity_at a) (nodes_at a) head size (rooted path (File head size) (found_leads_file (nodes_at a) root path head size (rooted_leads (capacity_at a) (nodes_at a) root rooted) file)).0)
       ((working-file_tree (machine_at a) m.machine).lengths path (body (capacity_at a) (nodes_at a) head size) there)
 
   target_at : (entry : Entry)
@@ -183,7 +183,7 @@ module _ (a : Moment) (root : ℕ) (path : Path) (m : IsMountedAt a) (is : worki
   target_by : (x y : Found) → look_up (nodes_at a) root path ≡ Ok x → x ≡ y → (entry : Entry)
       → target_refusal (working_tree (machine_at a)) path entry ≡ replace_refusal (tree_at a root) path entry (entry_of (capacity_at a) (nodes_at a) y)
   target_by x y led called entry =
-      let there = found_is (capacity_at a) (nodes_at a) root path x led in
+      let there = found_is (capacity_at a) (nodes_at a) root path x (rooted_leads (capacity_at a) (nodes_at a) root rooted) led in
       target_at entry
       ∙ ap (λ o. option_or o (replace_refusal (tree_at a root) path entry (tree (capacity_at a) (nodes_at a) root path))) there.0
       ∙ ap (λ o. replace_refusal (tree_at a root) path entry o) there.1
@@ -200,7 +200,7 @@ module _ (a : Moment) (root : ℕ) (path : Path) (m : IsMountedAt a) (is : worki
       → (fault ≡ Damaged → entries_in (nodes_at b) block ≡ None) → (is_path_fault fault ≡ false → WorkCause (seen_at b) fault (seen_at c)) → IsReadFault fault → TargetRefused a c path moves fault
   target_read b c block x moves fault l nodes led called damaged why reads =
       let dir : look_up (nodes_at a) root path ≡ Ok (found.Dir block) = subst (λ z. look_up (nodes_at a) root path ≡ Ok z) called led in
-      let whole = (rooted path (Dir block) (found_leads (nodes_at a) root path block dir)).0 in
+      let whole = (rooted path (Dir block) (found_leads (nodes_at a) root path block (rooted_leads (capacity_at a) (nodes_at a) root rooted) dir)).0 in
       let other = not_path fault reads (λ is. None≢Some (sym (damaged is) ∙ ap (λ (g : Blocks). entries_in g block) nodes ∙ whole.1)) in
       inr (read_later (seen_at a) (seen_at b) (seen_at c) fault (worked_later a b (looked_worked a b l)) (read_cause (seen_at b) (seen_at c) fault other (read_lookup fault reads) (why other)))
 
@@ -229,13 +229,13 @@ module _ (a : Moment) (root : ℕ) (path : Path) (m : IsMountedAt a) (is : worki
   lacks_by x y led called =
       ap (λ t. lacks_room t path) (working_tree_is a root is)
       ∙ ap (λ (t : Contents). is_none (t path) && is_full (tree_at a root) (parent_of path)) same
-      ∙ ap (λ o. is_none o && is_full (tree_at a root) (parent_of path)) (found_is (capacity_at a) (nodes_at a) root path x led).1
+      ∙ ap (λ o. is_none o && is_full (tree_at a root) (parent_of path)) (found_is (capacity_at a) (nodes_at a) root path x (rooted_leads (capacity_at a) (nodes_at a) root rooted) led).1
       ∙ ap (λ z. is_none (entry_of (capacity_at a) (nodes_at a) z) && is_full (tree_at a root) (parent_of path)) called
 
   pub lacks_missing : (x : Found) (full : Bool) → look_up (nodes_at a) root path ≡ Ok x → x ≡ found.Missing full → full ≡ lacks_room (working_tree (machine_at a)) path
   lacks_missing x full led called =
       let missing : look_up (nodes_at a) root path ≡ Ok (found.Missing full) = subst (λ z. look_up (nodes_at a) root path ≡ Ok z) called led in
-      let parent = missing_parent (nodes_at a) root path full missing in
+      let parent = missing_parent (nodes_at a) root path full (rooted_leads (capacity_at a) (nodes_at a) root rooted) missing in
       sym (lacks_by x (found.Missing full) led called ∙ full_directory (capacity_at a) (nodes_at a) root (parent_of path) parent.0 rooted parent.1 ∙ sym parent.2)
 
   pub lacks_file : (x : Found) (head size : ℕ) → look_up (nodes_at a) root path ≡ Ok x → x ≡ found.File head size → false ≡ lacks_room (working_tree (machine_at a)) path

@@ -19,7 +19,7 @@ use Rattle.block_trees.proofs.RootMaps.{map_law, full_directory}
 use Rattle.directory.specs.declared.lookups.Found.{Found}
 use Rattle.directory.specs.declared.lookups.Found.TheVariants as found
 use Rattle.directory.specs.Lookups.{look_up, entry_of, is_path_fault, IsLookupFault}
-use Rattle.directory.proofs.LookupLaws.{found_is, missing_parent, refused_is}
+use Rattle.directory.proofs.LookupLaws.{found_is, missing_parent, refused_is, rooted_leads}
 use Rattle.working_state.specs.Moments.{Moment, machine_at, seen_at, IsMountedAt, IsRefused, nodes_at, capacity_at, tree_at}
 use Rattle.working_state.specs.Worked.{IsLooked, WorkCause}
 use Rattle.working_state.proofs.ChangeSteps.{later_tree}
@@ -64,14 +64,14 @@ missing_refuses : (capacity : ℕ) (f : Blocks) (root : ℕ) (path : Path) (full
     → path_refusal path None None (is_full (root_tree capacity f root) (parent_of path)) ≡ found_refuses (found.Missing full)
 missing_refuses capacity f root [] full is e = absurd cc
 missing_refuses capacity f root (n ∷ path) full is e =
-    let parent = missing_parent f root (n ∷ path) full e in
+    let parent = missing_parent f root (n ∷ path) full (rooted_leads capacity f root is) e in
     ap (λ b. if b then Some Exists else below_refusal None None (is_full (root_tree capacity f root) (parent_of (n ∷ path)))) (some_names n path)
     ∙ ap (λ b. if b then Some DirectoryFull else None) (full_directory capacity f root (parent_of (n ∷ path)) parent.0 is parent.1 ∙ sym parent.2)
 
 mkdir_found : (a : Moment) (path : Path) (root : ℕ) (x : Found) → IsMountedAt a → working_root a.state.history a.state.group ≡ Some root → look_up (nodes_at a) root path ≡ Ok x
     → refusal (machine_at a) (Call.Mkdir path) ≡ found_refuses x
 mkdir_found a path root x m is e =
-    let law = found_is (capacity_at a) (nodes_at a) root path x e in
+    let law = found_is (capacity_at a) (nodes_at a) root path x (rooted_leads (capacity_at a) (nodes_at a) root (working_stands a root m is).rooted) e in
     mkdir_at a path root m is
     ∙ ap (λ o. path_refusal path o (tree (capacity_at a) (nodes_at a) root path) (is_full (tree_at a root) (parent_of path))) law.0
     ∙ ap (λ o. path_refusal path None o (is_full (tree_at a root) (parent_of path))) law.1

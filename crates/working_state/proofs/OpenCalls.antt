@@ -23,7 +23,7 @@ use Rattle.block_trees.proofs.RootMaps.{map_law, full_directory}
 use Rattle.directory.specs.declared.lookups.Found.{Found}
 use Rattle.directory.specs.declared.lookups.Found.TheVariants as found
 use Rattle.directory.specs.Lookups.{look_up, entry_of, is_path_fault, IsLookupFault}
-use Rattle.directory.proofs.LookupLaws.{found_is, found_leads_file, missing_parent, refused_is}
+use Rattle.directory.proofs.LookupLaws.{found_is, found_leads_file, missing_parent, refused_is, rooted_leads}
 use Rattle.working_state.proofs.Roots.{at_history}
 use Rattle.working_state.specs.Moments.{Moment, moment, machine_at, seen_at, IsMountedAt, IsRefused, nodes_at, capacity_at}
 use Rattle.working_state.specs.Leaves.{is_still, Leaves}
@@ -73,7 +73,7 @@ open_found : (a : Moment) (path : Path) (flags : OpenFlags) (root : ℕ) (x : Fo
     → refusal (machine_at a) (Call.Open path flags) ≡ option_or (found_refusal flags x) (full_table_refusal (machine_at a))
 open_found a path flags root x m is lawful e =
     let n = machine_at a in
-    let law = found_is (capacity_at a) (nodes_at a) root path x e in
+    let law = found_is (capacity_at a) (nodes_at a) root path x (rooted_leads (capacity_at a) (nodes_at a) root (working_stands a root m is).rooted) e in
     open_at a path flags root m is lawful
     ∙ ap (λ o. option_or o (open_refusal n path flags (tree (capacity_at a) (nodes_at a) root path))) law.0
     ∙ ap (open_refusal n path flags) law.1
@@ -84,7 +84,7 @@ open_found a path flags root x m is lawful e =
 
     go : (x : Found) → look_up (nodes_at a) root path ≡ Ok x → open_refusal (machine_at a) path flags (entry_of (capacity_at a) (nodes_at a) x) ≡ option_or (found_refusal flags x) table
     go (found.Missing full) e =
-        let parent = missing_parent (nodes_at a) root path full e in
+        let parent = missing_parent (nodes_at a) root path full (rooted_leads (capacity_at a) (nodes_at a) root (working_stands a root m is).rooted) e in
         let same : is_full (working_tree (machine_at a)) (parent_of path) ≡ full =
         ap (λ (t : Tree). is_full t (parent_of path)) (working_tree_is a root is)
         ∙ full_directory (capacity_at a) (nodes_at a) root (parent_of path) parent.0 (working_stands a root m is).rooted parent.1 ∙ sym parent.2 in
@@ -145,13 +145,13 @@ pub changes_is : (a : Moment) (path : Path) (flags : OpenFlags) (root : ℕ) (x 
     → open_changes (working_tree (machine_at a)) path flags ≡ changes_found flags x
 changes_is a path flags root x m is led fits =
     ap (λ (t : Contents). changes_at flags (t path)) (working_is a root m is)
-    ∙ ap (changes_at flags) (found_is (capacity_at a) (nodes_at a) root path x led).1
+    ∙ ap (changes_at flags) (found_is (capacity_at a) (nodes_at a) root path x (rooted_leads (capacity_at a) (nodes_at a) root (working_stands a root m is).rooted) led).1
     ∙ go x led fits
   where
     go : (x : Found) → look_up (nodes_at a) root path ≡ Ok x → found_refusal flags x ≡ None → changes_at flags (entry_of (capacity_at a) (nodes_at a) x) ≡ changes_found flags x
     go (found.Missing full) led fits = refl
     go (found.File head size) led fits =
-        let whole = ((working_stands a root m is).rooted path (place.File head size) (found_leads_file (nodes_at a) root path head size led)).0 in
+        let whole = ((working_stands a root m is).rooted path (place.File head size) (found_leads_file (nodes_at a) root path head size (rooted_leads (capacity_at a) (nodes_at a) root (working_stands a root m is).rooted) led)).0 in
         ap (λ b. truncates flags && b) (long_body (capacity_at a) (nodes_at a) head size whole)
     go (found.Dir block) led fits = absurd (no_directory (creates flags && is_exclusive flags) fits)
       where

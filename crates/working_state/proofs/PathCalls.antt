@@ -24,7 +24,7 @@ use Rattle.block_trees.proofs.RootMaps.{map_law}
 use Rattle.directory.specs.declared.lookups.Found.{Found}
 use Rattle.directory.specs.declared.lookups.Found.TheVariants as found
 use Rattle.directory.specs.Lookups.{look_up, entry_of, is_path_fault, IsLookupFault}
-use Rattle.directory.proofs.LookupLaws.{found_is, found_leads, refused_is}
+use Rattle.directory.proofs.LookupLaws.{found_is, found_leads, refused_is, rooted_leads}
 use Rattle.working_state.specs.Moments.{Moment, machine_at, seen_at, IsMountedAt, IsRefused, IsStep, nodes_at, capacity_at, tree_at}
 use Rattle.working_state.specs.Steps.{begins_work, is_for_record}
 use Rattle.working_state.specs.Mounted.{IsStanding}
@@ -49,7 +49,7 @@ found_lawful a root path x entry m is led there =
     let stands : get (working_tree (machine_at a)) path ≡ Some entry =
     ap (λ t. get t path) (working_tree_is a root is)
     ∙ ap (λ (t : Contents). t path) law.same
-    ∙ (found_is (capacity_at a) (nodes_at a) root path x led).1
+    ∙ (found_is (capacity_at a) (nodes_at a) root path x (rooted_leads (capacity_at a) (nodes_at a) root (working_stands a root m is).rooted) led).1
     ∙ there in
     (working-file_tree (machine_at a) m.machine).paths path (subst IsSome (sym stands) refl)
 
@@ -63,7 +63,7 @@ found_at capacity f root path refuse is = ap (λ (t : Contents). option_or (look
 pub found_tells : (capacity : ℕ) (f : Blocks) (root : ℕ) (path : Path) (refuse : Entry → Option Fault) → IsRoot capacity f root → (x : Found) → look_up f root path ≡ Ok x
     → found_refusal (root_tree capacity f root) path refuse ≡ option_map_or refuse (entry_of capacity f x) (Some NoEntry)
 found_tells capacity f root path refuse is x e =
-    let there = found_is capacity f root path x e in
+    let there = found_is capacity f root path x (rooted_leads capacity f root is) e in
     found_at capacity f root path refuse is
     ∙ ap (λ o. option_or o (option_map_or refuse (tree capacity f root path) (Some NoEntry))) there.0
     ∙ ap (λ o. option_map_or refuse o (Some NoEntry)) there.1
@@ -110,7 +110,7 @@ module _ (a : Moment) (call : Call) (root : ℕ) (path : Path) (refuse : Entry �
   -- a directory that was found is one
   is_directory : (block : ℕ) → look_up (nodes_at a) root path ≡ Ok (found.Dir block) → entries_in (nodes_at a) block ≡ None → ⊥
   is_directory block led none =
-      let whole = (looks.rooted path (Dir block) (found_leads (nodes_at a) root path block led)).0 in
+      let whole = (looks.rooted path (Dir block) (found_leads (nodes_at a) root path block (rooted_leads (capacity_at a) (nodes_at a) root looks.rooted) led)).0 in
       None≢Some (sym none ∙ whole.1)
 
   -- a read of the directory that was found

@@ -20,10 +20,10 @@ use Rattle.block_trees.proofs.RootMaps.{map_law}
 use Rattle.directory.specs.declared.lookups.Found.{Found}
 use Rattle.directory.specs.declared.lookups.Found.TheVariants as found
 use Rattle.directory.specs.Lookups.{look_up}
-use Rattle.directory.proofs.LookupLaws.{found_leads}
+use Rattle.directory.proofs.LookupLaws.{found_leads, rooted_leads}
 use Rattle.working_state.specs.Moments.{Moment, machine_at, IsMountedAt, IsRefused, nodes_at, capacity_at, tree_at}
 use Rattle.working_state.specs.Worked.{IsLooked}
-use Rattle.working_state.proofs.ChangeSteps.{later_tree}
+use Rattle.working_state.proofs.ChangeSteps.{later_tree, way_some}
 use Rattle.working_state.proofs.ChangedCalls.{IsChangeBy}
 use Rattle.working_state.proofs.PathCalls.{working_tree_is, working_stands, LooksUp, found_by}
 
@@ -41,7 +41,7 @@ rmdir_looks a path root m is below = record {
 pub rmdir_count : (a : Moment) (path : Path) (root block : ℕ) (items : List Item) → IsMountedAt a → working_root a.state.history a.state.group ≡ Some root → look_up (nodes_at a) root path ≡ Ok (found.Dir block) → entries_in (nodes_at a) block ≡ Some items
     → entry_count (tree_at a root) path ≡ length items
 rmdir_count a path root block items m is led spelled =
-    ap length ((map_law (capacity_at a) (nodes_at a) root (working_stands a root m is).rooted).lists path block (found_leads (nodes_at a) root path block led))
+    ap length ((map_law (capacity_at a) (nodes_at a) root (working_stands a root m is).rooted).lists path block (found_leads (nodes_at a) root path block (rooted_leads (capacity_at a) (nodes_at a) root (working_stands a root m is).rooted) led))
     ∙ length-map (unwrap_or (entries_in (nodes_at a) block) []) (λ (item : Item). (item.name, is_dir_place item.place))
     ∙ ap (λ (o : Option (List Item)). length (unwrap_or o [])) spelled
 
@@ -92,7 +92,7 @@ rmdir_change a b path m l fine lawful below = record {
   heavy = refl;
   moves = refl;
   paths = lawful;
-  more = λ capacity. below;
+  more = λ capacity. way_some (machine_at a) (Call.Rmdir path) path below;
   replies = λ space. refl;
 }
 
@@ -124,6 +124,6 @@ unlink_change a b path m l fine lawful below = record {
   heavy = refl;
   moves = refl;
   paths = lawful;
-  more = λ capacity. below;
+  more = λ capacity. way_some (machine_at a) (Call.Unlink path) path below;
   replies = λ space. refl;
 }

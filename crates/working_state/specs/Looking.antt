@@ -1,7 +1,8 @@
 -- What look-ups ask of the device.
 use Rattle.std.specs.Prelude.{◌≡◌, ℕ, ◌+◌, ◌*◌, ◌≤◌, Bool, true, false, Option, Some, None, List, length}
 use Rattle.fs_types.specs.declared.calls.Call.{Call}
-use Rattle.plain_trees.specs.Trees.{Tree, bytes_at}
+use Rattle.fs_types.specs.Names.{Path}
+use Rattle.plain_trees.specs.Trees.{Tree, bytes_at, entry_count, nodes_for, path_need}
 use Rattle.history_machine.specs.Descriptors.{Descriptor, descriptor_at}
 use Rattle.history_machine.specs.Machine.{Machine, working_tree, view_tree}
 use Rattle.flash_model.specs.Device.{Device}
@@ -12,6 +13,13 @@ use Rattle.working_state.specs.Seen.{capacity_of}
 -- the device was asked for no more than the pages of so many blocks
 pub record Asks (old : Device) (blocks : ℕ) (new : Device) : Type 0 where
   pub most : new.operations ≤ old.operations + blocks * old.geometry.pages
+
+-- how many nodes the directories on a path have, and with that at the path itself
+abbrev pub look_nodes : Tree → Path → ℕ
+look_nodes t path = path_need t t path
+
+abbrev pub list_nodes : Tree → Path → ℕ
+list_nodes t path = look_nodes t path + nodes_for (entry_count t path)
 
 -- so many nodes: those on the way to a file, those that hold a range of its bytes, and two for each binary digit of the
 -- index of its last node
@@ -27,7 +35,7 @@ AsksForRange old way bytes offset count new = (nodes : ℕ) → IsReadOf (capaci
 -- that of an open file; without one nothing is read
 abbrev pub AsksForOpen : Device → Option Descriptor → Tree → ℕ → ℕ → Device → Type 0
 AsksForOpen old None t offset count new = Asks old 0 new
-AsksForOpen old (Some file) t offset count new = AsksForRange old (length file.path) (bytes_at t file.path) offset count new
+AsksForOpen old (Some file) t offset count new = AsksForRange old (look_nodes t file.path) (bytes_at t file.path) offset count new
 
 -- calls that only look at what stands at a path, or at the bytes of a file
 abbrev pub only_looks : Call → Bool
@@ -37,10 +45,10 @@ only_looks (Call.ReadAt view path offset count) = true
 only_looks (Call.Pread descriptor offset count) = true
 only_looks _ = false
 
--- such a call looks once: it reads a node for each name of its path, and then that of the directory or the bytes of the file
+-- such a call looks once: it reads the nodes of each directory on its path, and then those of the directory or the bytes of the file
 abbrev pub LooksOnce : Machine → Call → Device → Device → Type 0
-LooksOnce m (Call.Stat view path) old new = Asks old (length path + 1) new
-LooksOnce m (Call.List view path) old new = Asks old (length path + 1) new
-LooksOnce m (Call.ReadAt view path offset count) old new = AsksForRange old (length path) (bytes_at (view_tree m view) path) offset count new
+LooksOnce m (Call.Stat view path) old new = Asks old (list_nodes (view_tree m view) path) new
+LooksOnce m (Call.List view path) old new = Asks old (list_nodes (view_tree m view) path) new
+LooksOnce m (Call.ReadAt view path offset count) old new = AsksForRange old (look_nodes (view_tree m view) path) (bytes_at (view_tree m view) path) offset count new
 LooksOnce m (Call.Pread descriptor offset count) old new = AsksForOpen old (descriptor_at m.descriptors descriptor) (working_tree m) offset count new
 LooksOnce m _ old new = Unit {0}

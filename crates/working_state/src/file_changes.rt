@@ -11,7 +11,7 @@ ghost use Rattle.fs_types.specs.declared.calls.Reply.{Reply};
 ghost use Rattle.fs_types.specs.declared.faults.Fault.TheVariants.{BadDescriptor};
 ghost use Rattle.node_store.specs.NodePages.{node_of};
 ghost use Rattle.directory.specs.declared.lookups.Found.TheVariants as found;
-ghost use Rattle.directory.specs.Lookups.{look_up};
+ghost use Rattle.directory.specs.Lookups.{look_up, LeadsToDirectories};
 ghost use Rattle.directory.specs.Trails.{IsTrail};
 ghost use Rattle.working_state.specs.Changes.{IsReady};
 ghost use Rattle.working_state.specs.Leaves.{HasLooked};
@@ -204,7 +204,7 @@ fn find_body<F: Flash>(
     requires file { (head size : ℕ) × (look_up (node_of (F.device flash.old)) root path.now ≡ Ok (found.File head size)) }
     ensures looked { HasLooked (F.device flash.old) storage.old (F.device flash.new) storage.new }
     ensures found { IfOk result (λ r. look_up (node_of (F.device flash.new)) root path.now ≡ Ok (found.File r.0.head r.0.length)) }
-    ensures way { IfOk result (λ r. IsTrail (node_of (F.device flash.new)) root path.now r.1) }
+    ensures way { LeadsToDirectories (node_of (F.device flash.old)) root → IfOk result (λ r. IsTrail (node_of (F.device flash.new)) root path.now r.1) }
     ensures why { IfErr result (λ fault. ReadCause (seen_of (F.device flash.old) storage.old) fault (seen_of (F.device flash.new) storage.new)) }
 {
     let (found, trail) = find_path(flash, storage, root, path)?;

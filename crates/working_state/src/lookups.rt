@@ -1,8 +1,8 @@
 //! Paths looked up on the flash.
-ghost use Rattle.std.specs.Prelude.{◌≡◌, true, false, Some, None, length, Ok, Err, IfOk, IfErr, MatchResult};
+ghost use Rattle.std.specs.Prelude.{◌≡◌, true, false, Some, None, Ok, Err, IfOk, IfErr, MatchResult};
 ghost use Rattle.history_machine.specs.History.{view_refusal, seen_root};
 ghost use Rattle.node_store.specs.NodePages.{node_of};
-ghost use Rattle.directory.specs.Lookups.{look_up, is_path_fault, IsLookupFault};
+ghost use Rattle.directory.specs.Lookups.{look_up, way_nodes, is_path_fault, IsLookupFault, LeadsToDirectories};
 ghost use Rattle.directory.specs.Trails.{IsTrail};
 ghost use Rattle.working_state.specs.Changes.{IsReady};
 ghost use Rattle.working_state.specs.Leaves.{HasLooked};
@@ -38,10 +38,10 @@ pub(crate) fn find_path<F: Flash>(
 ) -> Result<(Found, Trail), Fault>
     requires { IsReady (F.device flash.old) storage.old }
     ensures looked { HasLooked (F.device flash.old) storage.old (F.device flash.new) storage.new }
-    ensures asks { Asks (F.device flash.old) (length path.now) (F.device flash.new) }
+    ensures asks { Asks (F.device flash.old) (way_nodes (node_of (F.device flash.old)) root path.now) (F.device flash.new) }
     ensures nodes { node_of (F.device flash.new) ≡ node_of (F.device flash.old) }
     ensures found { IfOk result (λ r. look_up (node_of (F.device flash.old)) root path.now ≡ Ok r.0) }
-    ensures trail { IfOk result (λ r. IsTrail (node_of (F.device flash.old)) root path.now r.1) }
+    ensures trail { LeadsToDirectories (node_of (F.device flash.old)) root → IfOk result (λ r. IsTrail (node_of (F.device flash.old)) root path.now r.1) }
     ensures refused { IfErr result (λ fault. is_path_fault fault ≡ true → look_up (node_of (F.device flash.old)) root path.now ≡ Err fault) }
     ensures why { IfErr result (λ fault. is_path_fault fault ≡ false → WorkCause (seen_of (F.device flash.old) storage.old) fault (seen_of (F.device flash.new) storage.new)) }
     ensures faults { IfErr result IsLookupFault }

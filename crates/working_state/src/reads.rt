@@ -13,7 +13,7 @@ ghost use Rattle.block_trees.specs.Trees.{root_tree, IsRoot};
 ghost use Rattle.skip_list_file.specs.Reading.{is_body_fault};
 ghost use Rattle.working_state.specs.Changes.{IsReady};
 ghost use Rattle.working_state.specs.Leaves.{HasLooked};
-ghost use Rattle.working_state.specs.Looking.{AsksForRange, IsReadOf, LooksOnce};
+ghost use Rattle.working_state.specs.Looking.{AsksForRange, IsReadOf, LooksOnce, look_nodes};
 ghost use Rattle.working_state.specs.Mounted.{IsMounted, StateStep};
 ghost use Rattle.working_state.specs.Reading.{file_refusal, IsRead};
 ghost use Rattle.working_state.specs.Seen.{capacity_of, tree_on, seen_of};
@@ -134,7 +134,7 @@ fn read_below<F: Flash>(
     requires ready { IsReady (F.device flash.old) storage.old }
     requires rooted { IsRoot (capacity_of (F.device flash.old)) (node_of (F.device flash.old)) root }
     ensures looked { HasLooked (F.device flash.old) storage.old (F.device flash.new) storage.new }
-    ensures asks { AsksForRange (F.device flash.old) (length path.now) (bytes_at (tree_on (F.device flash.old) root) path.now) offset count (F.device flash.new) }
+    ensures asks { AsksForRange (F.device flash.old) (look_nodes (tree_on (F.device flash.old) root) path.now) (bytes_at (tree_on (F.device flash.old) root) path.now) offset count (F.device flash.new) }
     ensures read { IfOk result (IsRead (tree_on (F.device flash.old) root) path.now offset count) }
     ensures refused { IfErr result (λ fault. is_body_fault fault ≡ false → file_refusal (tree_on (F.device flash.old) root) path.now ≡ Some fault) }
     ensures why { IfErr result (λ fault. is_body_fault fault ≡ true → WorkCause (seen_of (F.device flash.old) storage.old) fault (seen_of (F.device flash.new) storage.new)) }
@@ -157,7 +157,7 @@ fn read_file<N: Nodes>(
     ensures read { IfOk result (IsRead (root_tree (N.limit nodes.old - body_header) (N.node nodes.old) root) path.now offset count) }
     ensures refused { IfErr result (λ fault. is_body_fault fault ≡ false → file_refusal (root_tree (N.limit nodes.old - body_header) (N.node nodes.old) root) path.now ≡ Some fault) }
     ensures why { IfErr result (λ fault. is_body_fault fault ≡ true → N.causes nodes.old nodes.new fault) }
-    ensures reads { (most : ℕ) → IsReadOf (N.limit nodes.old - body_header) (length path.now) (bytes_at (root_tree (N.limit nodes.old - body_header) (N.node nodes.old) root) path.now) offset count most → N.reads nodes.new ≤ N.reads nodes.old + most }
+    ensures reads { (most : ℕ) → IsReadOf (N.limit nodes.old - body_header) (look_nodes (root_tree (N.limit nodes.old - body_header) (N.node nodes.old) root) path.now) (bytes_at (root_tree (N.limit nodes.old - body_header) (N.node nodes.old) root) path.now) offset count most → N.reads nodes.new ≤ N.reads nodes.old + most }
     ensures writes { N.writes nodes.new ≡ N.writes nodes.old }
     ensures follows { N.follows nodes.old nodes.new }
 {

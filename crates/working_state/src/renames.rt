@@ -17,7 +17,7 @@ ghost use Rattle.node_store.specs.NodePages.{node_of};
 ghost use Rattle.block_trees.specs.Laws.{IsShallow};
 ghost use Rattle.block_trees.specs.Trees.{leads, is_dir_place};
 ghost use Rattle.directory.specs.Depths.{IsDeeper, IsDepthFault};
-ghost use Rattle.directory.specs.Lookups.{look_up};
+ghost use Rattle.directory.specs.Lookups.{look_up, LeadsToDirectories};
 ghost use Rattle.directory.specs.Trails.{IsTrail, has_room};
 ghost use Rattle.working_state.specs.Mounted.{IsMounted, StateStep, KeepsPages};
 ghost use Rattle.working_state.specs.Opening.{IsAnswered};
@@ -285,7 +285,7 @@ impl State {
         requires most { most ≤ MAX_NAMES }
         ensures looked { IsLooked (moment (F.device flash.old) self.old) (moment (F.device flash.new) self.new) }
         ensures nodes { node_of (F.device flash.new) ≡ node_of (F.device flash.old) }
-        ensures deeper { IfOk result (λ deep. deep ≡ true → IsDeeper (node_of (F.device flash.old)) (Dir block) most) }
+        ensures deeper { LeadsToDirectories (node_of (F.device flash.old)) block → IfOk result (λ deep. deep ≡ true → IsDeeper (node_of (F.device flash.old)) (Dir block) most) }
         ensures shallow { IfOk result (λ deep. deep ≡ false → IsShallow (node_of (F.device flash.old)) (Dir block) most) }
         ensures why { IfErr result (λ fault. WorkCause (seen_at (moment (F.device flash.old) self.old)) fault (seen_at (moment (F.device flash.new) self.new))) }
         ensures faults { IfErr result IsDepthFault }

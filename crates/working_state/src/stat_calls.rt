@@ -7,6 +7,7 @@ ghost use Rattle.fs_types.specs.declared.faults.Fault.TheVariants.{Damaged};
 ghost use Rattle.node_format.specs.Items.{Item};
 ghost use Rattle.node_store.specs.Faults.{IsReadFault};
 ghost use Rattle.node_store.specs.NodePages.{node_of};
+ghost use Rattle.block_trees.specs.Chains.{chain};
 ghost use Rattle.block_trees.specs.Trees.{entries_in};
 ghost use Rattle.directory.specs.Lookups.{is_path_fault};
 ghost use Rattle.working_state.specs.Mounted.{IsMounted, StateStep};
@@ -56,13 +57,13 @@ impl State {
         }
     }
 
-    /// The number of entries in the directory of a block.
+    /// The number of entries in the directory that begins in a block.
     pub(crate) fn count_in<F: Flash>(&mut self, flash: &mut F, block: u32) -> Result<usize, Fault>
         requires { IsMounted (F.device flash.old) self.old }
         ensures looked { IsLooked (moment (F.device flash.old) self.old) (moment (F.device flash.new) self.new) }
-        ensures asks { Asks (F.device flash.old) 1 (F.device flash.new) }
+        ensures asks { Asks (F.device flash.old) (length (chain (node_of (F.device flash.old)) block)) (F.device flash.new) }
         ensures nodes { node_of (F.device flash.new) ≡ node_of (F.device flash.old) }
-        ensures count { IfOk result (λ count. (items : List Item) × (entries_in (node_of (F.device flash.old)) block ≡ Some items) × (count ≡ length items)) }
+        ensures count { IfOk result (λ count. (items : List Item) → entries_in (node_of (F.device flash.old)) block ≡ Some items → count ≡ length items) }
         ensures damaged { IsErrOf result Damaged → entries_in (node_of (F.device flash.old)) block ≡ None }
         ensures why { IfErr result (λ fault. is_path_fault fault ≡ false → WorkCause (seen_at (moment (F.device flash.old) self.old)) fault (seen_at (moment (F.device flash.new) self.new))) }
         ensures faults { IfErr result IsReadFault }

@@ -52,7 +52,7 @@ impl State {
 
     /// The working state of a fresh system on a flash of lawful sizes, of which these anchors are bad
     /// and nothing is used: an empty root is written, and is its version of serial 1. At most `limit`
-    /// versions are kept, 2 to 64.
+    /// versions are kept, 2 to 128.
     ///
     /// [`Fault::FlashFull`] where an operation failed in each data block, [`Fault::ReadOnly`] where 256
     /// blocks are bad, [`Fault::PowerCut`], [`Fault::NoMemory`].

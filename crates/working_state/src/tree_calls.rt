@@ -1,7 +1,7 @@
 //! The calls on trees, on the working state and the flash. Each checks in order: whether an earlier
 //! call answered that the power is off; its own refusals; read-only mode; outside a change group the
 //! greatest serial; and then it works.
-ghost use Rattle.std.specs.Prelude.{◌≡◌, ℕ, true, false, None, Some, List, Ok, Err, IfOk, IfErr, OnOk, IsErrOf};
+ghost use Rattle.std.specs.Prelude.{◌≡◌, ℕ, true, false, None, Some, List, length, Ok, Err, IfOk, IfErr, OnOk, IsErrOf};
 ghost use Rattle.history_machine.specs.History.{working_root};
 ghost use Rattle.fs_types.specs.Names.{is_path};
 ghost use Rattle.history_machine.specs.Machine.{refusal};
@@ -11,6 +11,7 @@ ghost use Rattle.fs_types.specs.declared.faults.Fault.TheVariants.{Damaged};
 ghost use Rattle.node_format.specs.Items.{Item};
 ghost use Rattle.node_store.specs.Faults.{IsReadFault};
 ghost use Rattle.node_store.specs.NodePages.{node_of};
+ghost use Rattle.block_trees.specs.Chains.{chain};
 ghost use Rattle.block_trees.specs.Trees.{entries_in, names_of};
 ghost use Rattle.directory.specs.declared.lookups.Found.TheVariants.{Missing};
 ghost use Rattle.directory.specs.Lookups.{look_up, is_path_fault};
@@ -145,7 +146,7 @@ impl State {
         }
     }
 
-    /// The names in the directory of a block.
+    /// The names in the directory that begins in a block.
     fn names_in<F: Flash>(
         &mut self,
         alloc: Global,
@@ -154,8 +155,8 @@ impl State {
     ) -> Result<Sequence<(Name, bool)>, Fault>
         requires { IsMounted (F.device flash.old) self.old }
         ensures looked { IsLooked (moment (F.device flash.old) self.old) (moment (F.device flash.new) self.new) }
-        ensures asks { Asks (F.device flash.old) 1 (F.device flash.new) }
-        ensures names { IfOk result (λ names. (items : List Item) × (entries_in (node_of (F.device flash.old)) block ≡ Some items) × (names ≡ names_of items)) }
+        ensures asks { Asks (F.device flash.old) (length (chain (node_of (F.device flash.old)) block)) (F.device flash.new) }
+        ensures names { IfOk result (λ names. (items : List Item) → entries_in (node_of (F.device flash.old)) block ≡ Some items → names ≡ names_of items) }
         ensures damaged { IsErrOf result Damaged → entries_in (node_of (F.device flash.old)) block ≡ None }
         ensures why { IfErr result (λ fault. is_path_fault fault ≡ false → WorkCause (seen_at (moment (F.device flash.old) self.old)) fault (seen_at (moment (F.device flash.new) self.new))) }
         ensures faults { IfErr result IsReadFault }

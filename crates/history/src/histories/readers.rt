@@ -38,7 +38,7 @@ impl<R> History<R> {
         self.next
     }
 
-    /// How many versions are kept at most, 2 to 64.
+    /// How many versions are kept at most, 2 to 128.
     pub fn limit(&self) -> usize
         ensures { result ≡ self.now.limit }
     {

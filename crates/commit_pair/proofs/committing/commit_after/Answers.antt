@@ -6,6 +6,7 @@ use Rattle.commit_pair.specs.Payloads.{Means}
 use Rattle.commit_pair.proofs.Sparing.{Keeps_itself}
 use Rattle.commit_pair.proofs.Anchoring.{OnlyAnchors_itself, room_left, lt_le}
 use Rattle.commit_pair.proofs.Asking.{Asked_itself}
+use Rattle.record_format.specs.Payloads.{longest}
 use Rattle.commit_pair.proofs.committing.commit_after.Goals as goal
 
 pub returns-clause-attempts : goal.returns-clause-attempts
@@ -110,7 +111,7 @@ pub pages_for-count-requires-clause-some : goal.pages_for-count-requires-clause-
 pages_for-count-requires-clause-some g c = subst (λ (bytes : List ℕ). 0 < length bytes) (sym c.as_slice-bytes.ensures.value) c.payload_with-payload.ensures.some
 
 pub pages_for-count-requires-clause-short : goal.pages_for-count-requires-clause-short
-pages_for-count-requires-clause-short g c = subst (λ (bytes : List ℕ). length bytes ≤ 2408) (sym c.as_slice-bytes.ensures.value) c.payload_with-payload.ensures.short
+pages_for-count-requires-clause-short g c = subst (λ (bytes : List ℕ). length bytes ≤ longest) (sym c.as_slice-bytes.ensures.value) c.payload_with-payload.ensures.short
 
 pub returns-then-saved-place-clause-attempts : goal.returns-then-saved-place-clause-attempts
 returns-then-saved-place-clause-attempts g c = Keeps_itself c.args.saved.now.geometry (g.F.Flash.device c.args.flash.now).pages

@@ -4,6 +4,7 @@ use Rattle.commit_pair.proofs.Sparing.{Keeps_itself}
 use Rattle.commit_pair.proofs.Anchoring.{OnlyAnchors_itself, room_left, lt_le}
 use Rattle.commit_pair.proofs.Asking.{Asked_itself}
 use Rattle.std.proofs.Common.{◌<◌, ◌≤◌, ℕ, List, length, refl, sym, subst, ◌∙◌}
+use Rattle.record_format.specs.Payloads.{longest}
 use Rattle.commit_pair.proofs.committing.commit_anew.Goals as goal
 
 pub returns-clause-attempts : goal.returns-clause-attempts
@@ -91,7 +92,7 @@ pub attempt_anew-requires-clause-some : goal.attempt_anew-requires-clause-some
 attempt_anew-requires-clause-some g c = subst (λ (bytes : List ℕ). 0 < length bytes) (sym c.as_slice.ensures.value) c.payload_with-payload.ensures.some
 
 pub attempt_anew-requires-clause-short : goal.attempt_anew-requires-clause-short
-attempt_anew-requires-clause-short g c = subst (λ (bytes : List ℕ). length bytes ≤ 2408) (sym c.as_slice.ensures.value) c.payload_with-payload.ensures.short
+attempt_anew-requires-clause-short g c = subst (λ (bytes : List ℕ). length bytes ≤ longest) (sym c.as_slice.ensures.value) c.payload_with-payload.ensures.short
 
 pub attempt_anew-requires-clause-spares : goal.attempt_anew-requires-clause-spares
 attempt_anew-requires-clause-spares g c = c.requires.spares (sym c.contains.ensures ∙ c.if-contains.false)

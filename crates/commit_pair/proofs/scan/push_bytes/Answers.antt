@@ -1,10 +1,11 @@
 use Rattle.std.proofs.Common.{◌≡◌, ◌-◌, ◌++◌, List, ℕ, sym, ap, ◌∙◌, take, drop, length, append_assoc, arith}
 use Rattle.std.proofs.lemmas.List.{length-append, length-take, length-drop, take-append-drop}
+use Rattle.record_format.specs.Payloads.{longest}
 use Rattle.commit_pair.proofs.scan.push_bytes.Goals as goal
 
 pub returns-then-room-bytes-clause-front : goal.returns-then-room-bytes-clause-front
 returns-then-room-bytes-clause-front c =
-    let room = 2408 - c.len-room.result in
+    let room = longest - c.len-room.result in
     let bytes = c.args.bytes.now in
     let before = c.args.payload.now.items in
     let added : c.try_extend_from_slice.new.self.items ≡ before ++ take room bytes = rw c.unwrap.ensures at c.try_extend_from_slice.ensures.ok in

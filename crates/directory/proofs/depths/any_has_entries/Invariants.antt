@@ -1,14 +1,14 @@
 use Rattle.std.proofs.Common.{◌≡◌, ◌≤◌, ◌<◌, ◌+◌, ℕ, true, length}
 use Rattle.std.specs.FinSet as set
 use Rattle.node_store.specs.Frames.{OnlyLooks}
-use Rattle.block_trees.specs.Trees.{items_in}
-use Rattle.directory.proofs.Counting.{count_below}
+use Rattle.block_trees.specs.Chains.{link_items}
+use Rattle.directory.specs.Depths.{count_below}
 use Rattle.directory.proofs.depths.any_has_entries.Given as goal
 
 -- no directory so far has entries
 abbrev pub invariant-loop-block : goal.invariant-loop-block
 invariant-loop-block g l = record {
-  none : (b : ℕ) → b < l.block → set.contains l.level.members b ≡ true → length (items_in (g.N.Nodes.node l.initial.nodes) b) ≡ 0;
+  none : (b : ℕ) → b < l.block → set.contains l.level.members b ≡ true → length (link_items (g.N.Nodes.node l.initial.nodes b)) ≡ 0;
   reads : g.N.Nodes.reads l.nodes ≤ g.N.Nodes.reads l.initial.nodes + count_below (set.contains l.level.members) l.block;
   looks : OnlyLooks g.N.Nodes.node g.N.Nodes.kept g.N.Nodes.writes g.N.Nodes.follows g.N.Nodes.is_sound g.N.Nodes.limit g.N.Nodes.blocks l.initial.nodes l.nodes;
 }

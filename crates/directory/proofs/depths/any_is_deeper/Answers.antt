@@ -2,11 +2,11 @@ use Rattle.std.proofs.Common.{◌≡◌, ◌<◌, ◌≤◌, ◌+◌, ◌*◌, �
 use Rattle.std.specs.FinSet as set
 use Rattle.std.proofs.lemmas.Nat.{mul-le}
 use Rattle.block_trees.specs.Bodies.{Blocks}
-use Rattle.block_trees.specs.Trees.{items_in}
-use Rattle.directory.specs.Depths.{AreNamedBy, HasDirectories}
-use Rattle.directory.proofs.MovedPaths.{if_ok}
-use Rattle.directory.proofs.Rewrites.{if_err}
-use Rattle.directory.proofs.Levels.{IsLevel, one_level_more, first_level, next_is_level, next_listed, last_shallow, last_deeper}
+use Rattle.block_trees.specs.Chains.{link_items}
+use Rattle.directory.specs.Depths.{AreNamedBy}
+use Rattle.directory.proofs.Results.{on_ok, on_err}
+use Rattle.directory.proofs.LevelNodes.{later_has}
+use Rattle.directory.proofs.Levels.{IsLevel, one_level_more, first_level, next_is_level, no_first_items, last_shallow, last_deeper}
 use Rattle.std.proofs.lemmas.Result.{err_from_is_err_and}
 use Rattle.directory.proofs.depths.any_is_deeper.Goals as goal
 
@@ -39,12 +39,11 @@ loop-done-preserved g c =
     let step = next_is_level f c.args.roots.now c.args.most c.loop-done.done level.blocks level.members next.members more beyond c.loop-done.invariant.level named in
     record {
       level = subst (λ (n : ℕ). IsLevel f c.args.roots.now c.args.most (c.loop-done.done + 1) n next.members) (sym c.in_ok-level-2.ensures.size) step;
-      size = search rules;
+      size = c.in_ok-level-2.ensures.size ∙ c.loop-done.invariant.size;
       listed = λ list all.
-          next_listed f level.blocks c.args.roots.now list level.members next.members
-          (subst (λ (n : ℕ). HasDirectories f n c.args.roots.now list) (sym c.loop-done.invariant.size) all) (c.loop-done.invariant.listed list all) named;
+          c.in_ok-level-2.ensures.among c.args.roots.now list (later_has f (g.N.Nodes.node c.loop-done.nodes) (g.N.Nodes.blocks c.args.nodes.now) (g.N.Nodes.blocks c.loop-done.nodes) c.args.roots.now list c.loop-done.invariant.looks.same_nodes c.loop-done.invariant.looks.same_blocks all) (c.loop-done.invariant.listed list all);
       reads = λ list all.
-          omega (arith, one_level_more c.loop-done.done (length list), c.next_level.ensures.reads list (c.loop-done.invariant.listed list all), c.loop-done.invariant.reads list all);
+          omega (arith, one_level_more c.loop-done.done (length list), c.next_level.ensures.reads c.args.roots.now list (later_has f (g.N.Nodes.node c.loop-done.nodes) (g.N.Nodes.blocks c.args.nodes.now) (g.N.Nodes.blocks c.loop-done.nodes) c.args.roots.now list c.loop-done.invariant.looks.same_nodes c.loop-done.invariant.looks.same_blocks all) (c.loop-done.invariant.listed list all), c.loop-done.invariant.reads list all);
       looks = g.met.N.Nodes.looks_on c.args.nodes.now c.loop-done.nodes c.next_level.new.nodes c.loop-done.invariant.looks c.next_level.ensures.looks;
     }
 
@@ -55,9 +54,9 @@ returns-clause-deeper g c =
     let level = c.loop-done.level in
     let at_end : c.loop-done.done ≡ c.args.most = search rules in
     let last : IsLevel f roots c.args.most c.args.most level.blocks level.members = subst (λ (k : ℕ). IsLevel f roots c.args.most k level.blocks level.members) at_end c.loop-done.invariant.level in
-    if_ok _ _ c.any_has_entries.result (λ deep found is.
+    λ whole. on_ok _ _ c.any_has_entries.result (λ deep found is.
     let entry = found is in
-    last_deeper f roots c.args.most level.blocks entry.0 level.members last entry.1 (subst (λ (f : Blocks). 0 < length (items_in f entry.0)) c.loop-done.invariant.looks.same_nodes entry.2)) c.any_has_entries.ensures.some
+    last_deeper f roots c.args.most level.blocks entry.0 level.members whole last entry.1 (subst (λ (f : Blocks). 0 < length (link_items (f entry.0))) c.loop-done.invariant.looks.same_nodes entry.2)) c.any_has_entries.ensures.some
 
 pub returns-clause-shallow : goal.returns-clause-shallow
 returns-clause-shallow g c =
@@ -66,15 +65,15 @@ returns-clause-shallow g c =
     let level = c.loop-done.level in
     let at_end : c.loop-done.done ≡ c.args.most = search rules in
     let last : IsLevel f roots c.args.most c.args.most level.blocks level.members = subst (λ (k : ℕ). IsLevel f roots c.args.most k level.blocks level.members) at_end c.loop-done.invariant.level in
-    if_ok _ _ c.any_has_entries.result (λ deep none is.
+    on_ok _ _ c.any_has_entries.result (λ deep none is.
     last_shallow f roots c.args.most level.blocks level.members last
-    (λ b here. subst (λ (f : Blocks). length (items_in f b) ≡ 0) c.loop-done.invariant.looks.same_nodes (none is b here))) c.any_has_entries.ensures.none
+    (λ b here. no_first_items f b (subst (λ (f : Blocks). length (link_items (f b)) ≡ 0) c.loop-done.invariant.looks.same_nodes (none is b here)))) c.any_has_entries.ensures.none
 
 pub returns-in_err-level-2-clause-reads : goal.returns-in_err-level-2-clause-reads
 returns-in_err-level-2-clause-reads g c list all =
     let more : c.loop-done.done < c.args.most = omega (arith, c.loop-done-test.true) in
     let few : (c.loop-done.done + 1) * length list ≤ (c.args.most + 1) * length list = mul-le (c.loop-done.done + 1) (length list) (c.args.most + 1) (length list) (omega arith) (omega arith) in
-    omega (arith, few, one_level_more c.loop-done.done (length list), c.next_level.ensures.reads list (c.loop-done.invariant.listed list all), c.loop-done.invariant.reads list all)
+    omega (arith, few, one_level_more c.loop-done.done (length list), c.next_level.ensures.reads c.args.roots.now list (later_has (g.N.Nodes.node c.args.nodes.now) (g.N.Nodes.node c.loop-done.nodes) (g.N.Nodes.blocks c.args.nodes.now) (g.N.Nodes.blocks c.loop-done.nodes) c.args.roots.now list c.loop-done.invariant.looks.same_nodes c.loop-done.invariant.looks.same_blocks all) (c.loop-done.invariant.listed list all), c.loop-done.invariant.reads list all)
 
 pub returns-clause-reads : goal.returns-clause-reads
 returns-clause-reads g c list all =
@@ -111,5 +110,8 @@ any_has_entries-requires-clause-sound g c = c.loop-done.invariant.looks.sound
 
 pub returns-clause-why : goal.returns-clause-why
 returns-clause-why g c =
-    if_err _ _ c.any_has_entries.result
+    on_err _ _ c.any_has_entries.result
     (λ fault why. g.met.N.Nodes.causes_on c.args.nodes.now c.loop-done.nodes c.any_has_entries.new.nodes fault c.loop-done.invariant.looks.came why) c.any_has_entries.ensures.why
+
+pub next_level-requires-clause-size : goal.next_level-requires-clause-size
+next_level-requires-clause-size g c = c.loop-done.invariant.size ∙ sym c.loop-done.invariant.looks.same_blocks

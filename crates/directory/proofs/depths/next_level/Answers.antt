@@ -1,59 +1,109 @@
-use Rattle.std.proofs.Common.{◌≡◌, nat_lt, ◌&&◌, ◌||◌, ap, refl, ◌∙◌, arith, ◌+◌}
+use Rattle.std.proofs.Common.{◌≡◌, ◌+◌, ℕ, ap, subst, sym, refl, ◌∙◌, arith}
 use Rattle.std.specs.FinSet as set
-use Rattle.block_trees.specs.Trees.{items_in}
 use Rattle.allocator.specs.BlockSet.{BlockSet}
-use Rattle.directory.specs.Depths.{names_directory}
 use Rattle.std.proofs.lemmas.Result.{err_from_is_err_and}
-use Rattle.directory.proofs.Levels.{none_named, one_named}
-use Rattle.directory.proofs.Counting.{one_more, count_few}
+use Rattle.node_store.specs.Frames.{OnlyLooks}
+use Rattle.directory.specs.Depths.{count_below, AreNamedBy}
+use Rattle.directory.proofs.Counting.{count_few}
+use Rattle.directory.proofs.LevelNodes.{IsLevelRead, level_begins, level_skips, level_step, level_more, all_named, none_counted, later_has}
 use Rattle.directory.proofs.depths.next_level.Goals as goal
+use Rattle.directory.proofs.depths.next_level.Goals.{then-contains+in_ok-add_chain, else-contains}
 
 pub loop-block-init : goal.loop-block-init
 loop-block-init g c =
-    let made = c.in_ok-next.ensures.ok in
-    let members : c.in_ok-next.next.members ≡ set.empty = ap (λ (s : BlockSet). s.members) made in
+    let no_seen = ap (λ (s : BlockSet). s.members) c.in_ok-seen.ensures.ok in
     record {
-      named = none_named (g.N.Nodes.node c.args.nodes.now) c.args.level.now.blocks c.args.level.now.members c.in_ok-next.next.members members;
-      size = ap (λ (s : BlockSet). s.blocks) made ∙ c.blocks-2.ensures;
-      reads = omega arith;
+      level = level_begins (g.N.Nodes.node c.args.nodes.now) (g.N.Nodes.blocks c.args.nodes.now) c.args.level.now.members c.in_ok-seen.seen.members c.in_ok-next.next.members no_seen (ap (λ (s : BlockSet). s.members) c.in_ok-next.ensures.ok);
+      seen_size = ap (λ (s : BlockSet). s.blocks) c.in_ok-seen.ensures.ok ∙ c.blocks-3.ensures;
+      next_size = ap (λ (s : BlockSet). s.blocks) c.in_ok-next.ensures.ok ∙ c.blocks-2.ensures;
+      reads = omega (arith, none_counted c.in_ok-seen.seen.members c.args.level.now.blocks no_seen);
       looks = record { same_nodes = refl; same_kept = refl; same_writes = refl; came = g.met.N.Nodes.follows_itself c.args.nodes.now; sound = c.requires.sound; same_limit = refl; same_blocks = refl };
     }
 
 pub loop-block-preserved : goal.loop-block-preserved
-loop-block-preserved g c = record {
-  named = one_named (g.N.Nodes.node c.args.nodes.now) c.args.level.now.blocks c.loop-block.block c.args.level.now.members c.loop-block.next.members c.add_named.new.found.members c.loop-block.invariant.named
-      (λ b. c.in_ok-add_named.ensures.added b ∙ (λ i. set.contains c.loop-block.next.members b || (set.contains c.args.level.now.members c.loop-block.block
-      && (nat_lt b (c.loop-block.invariant.size i) && names_directory (items_in (c.loop-block.invariant.looks.same_nodes i) c.loop-block.block) b))));
-  size = c.add_named.ensures.size ∙ c.loop-block.invariant.size;
-  reads = omega (arith, one_more (set.contains c.args.level.now.members) c.loop-block.block, c.add_named.ensures.reads, c.loop-block.invariant.reads);
-  looks = g.met.N.Nodes.looks_on c.args.nodes.now c.loop-block.nodes c.add_named.new.nodes c.loop-block.invariant.looks c.add_named.ensures.looks;
-}
-
-pub returns-in_err-add_named-clause-reads : goal.returns-in_err-add_named-clause-reads
-returns-in_err-add_named-clause-reads g c list among =
-    let p = set.contains c.args.level.now.members in
+loop-block-preserved g c =
+    let f = g.N.Nodes.node c.args.nodes.now in
+    let blocks = g.N.Nodes.blocks c.args.nodes.now in
+    let level = c.args.level.now.members in
+    let most = c.args.level.now.blocks in
     let i = c.loop-block.block in
-    omega (arith, one_more p i, count_few p list (i + 1) among, c.loop-block.invariant.reads, c.add_named.ensures.reads)
+    let before = c.loop-block.invariant in
+    let first = g.N.Nodes.reads c.args.nodes.now in
+    elim c.if-contains.branch [
+      | then-contains+in_ok-add_chain w ↦
+          let step = level_step f (g.N.Nodes.node c.loop-block.nodes) blocks (g.N.Nodes.blocks c.loop-block.nodes) i level c.loop-block.seen.members c.loop-block.next.members w.add_chain.new.seen.members w.add_chain.new.found.members before.looks.same_nodes before.looks.same_blocks before.level
+          (sym c.contains.ensures ∙ w.if-contains.true) w.in_ok-add_chain.ensures.read w.in_ok-add_chain.ensures.here w.in_ok-add_chain.ensures.named w.add_chain.ensures.stays w.add_chain.ensures.among in
+          let counted : g.N.Nodes.reads w.add_chain.new.nodes + count_below (set.contains c.loop-block.seen.members) most ≡ g.N.Nodes.reads c.loop-block.nodes + count_below (set.contains w.add_chain.new.seen.members) most =
+          subst (λ (n : ℕ). g.N.Nodes.reads w.add_chain.new.nodes + count_below (set.contains c.loop-block.seen.members) n ≡ g.N.Nodes.reads c.loop-block.nodes + count_below (set.contains w.add_chain.new.seen.members) n) before.seen_size w.add_chain.ensures.reads in
+          let reads_now : g.N.Nodes.reads w.add_chain.new.nodes ≡ first + count_below (set.contains w.add_chain.new.seen.members) most = omega (arith, before.reads, counted) in
+          record {
+            level = subst (λ (s : BlockSet). IsLevelRead f blocks (i + 1) level s.members c.if-contains.next.members) (sym w.seen-is)
+                (subst (λ (n : BlockSet). IsLevelRead f blocks (i + 1) level w.add_chain.new.seen.members n.members) (sym w.next-is) step);
+            seen_size = ap (λ (s : BlockSet). s.blocks) w.seen-is ∙ w.add_chain.ensures.size.0 ∙ before.seen_size;
+            next_size = ap (λ (s : BlockSet). s.blocks) w.next-is ∙ w.add_chain.ensures.size.1 ∙ before.next_size;
+            reads = ap g.N.Nodes.reads w.nodes-is ∙ reads_now ∙ ap (λ (s : BlockSet). first + count_below (set.contains s.members) most) (sym w.seen-is);
+            looks = subst (λ n. OnlyLooks g.N.Nodes.node g.N.Nodes.kept g.N.Nodes.writes g.N.Nodes.follows g.N.Nodes.is_sound g.N.Nodes.limit g.N.Nodes.blocks c.args.nodes.now n) (sym w.nodes-is)
+                (g.met.N.Nodes.looks_on c.args.nodes.now c.loop-block.nodes w.add_chain.new.nodes before.looks w.add_chain.ensures.looks);
+          }
+      | else-contains w ↦ record {
+        level = subst (λ (s : BlockSet). IsLevelRead f blocks (i + 1) level s.members c.if-contains.next.members) (sym w.seen-is)
+            (subst (λ (n : BlockSet). IsLevelRead f blocks (i + 1) level c.loop-block.seen.members n.members) (sym w.next-is)
+            (level_skips f blocks i level c.loop-block.seen.members c.loop-block.next.members before.level (sym c.contains.ensures ∙ w.if-contains.false)));
+        seen_size = ap (λ (s : BlockSet). s.blocks) w.seen-is ∙ before.seen_size;
+        next_size = ap (λ (s : BlockSet). s.blocks) w.next-is ∙ before.next_size;
+        reads = ap g.N.Nodes.reads w.nodes-is ∙ before.reads ∙ ap (λ (s : BlockSet). first + count_below (set.contains s.members) most) (sym w.seen-is);
+        looks = subst (λ n. OnlyLooks g.N.Nodes.node g.N.Nodes.kept g.N.Nodes.writes g.N.Nodes.follows g.N.Nodes.is_sound g.N.Nodes.limit g.N.Nodes.blocks c.args.nodes.now n) (sym w.nodes-is) before.looks;
+      }
+    ]
+
+pub returns-clause-named : goal.returns-clause-named
+returns-clause-named g c =
+    let f = g.N.Nodes.node c.args.nodes.now in
+    let all = c.loop-block-test.false in
+    subst (λ (n : ℕ). AreNamedBy f n (set.contains c.args.level.now.members) c.loop-block.next.members) (sym c.requires.size)
+    (all_named f (g.N.Nodes.blocks c.args.nodes.now) c.loop-block.block c.args.level.now.members c.loop-block.seen.members c.loop-block.next.members c.loop-block.invariant.level (λ b here. omega (arith, c.requires.within b here, all)))
+
+pub returns-clause-among : goal.returns-clause-among
+returns-clause-among g c roots list has among = c.loop-block.invariant.level.next_in roots list has among
 
 pub returns-clause-reads : goal.returns-clause-reads
-returns-clause-reads g c list among =
-    omega (arith, count_few (set.contains c.args.level.now.members) list c.loop-block.block among, c.loop-block.invariant.reads)
+returns-clause-reads g c roots list has among =
+    omega (arith, c.loop-block.invariant.reads, count_few (set.contains c.loop-block.seen.members) list c.args.level.now.blocks (c.loop-block.invariant.level.seen_in roots list has among))
 
-pub returns-in_err-add_named-clause-looks : goal.returns-in_err-add_named-clause-looks
-returns-in_err-add_named-clause-looks g c = g.met.N.Nodes.looks_on c.args.nodes.now c.loop-block.nodes c.add_named.new.nodes c.loop-block.invariant.looks c.add_named.ensures.looks
+pub returns-in_err-add_chain-clause-reads : goal.returns-in_err-add_chain-clause-reads
+returns-in_err-add_chain-clause-reads g c roots list has among =
+    let f = g.N.Nodes.node c.args.nodes.now in
+    let blocks = g.N.Nodes.blocks c.args.nodes.now in
+    let before = c.loop-block.invariant in
+    let has_now = later_has f (g.N.Nodes.node c.loop-block.nodes) blocks (g.N.Nodes.blocks c.loop-block.nodes) roots list before.looks.same_nodes before.looks.same_blocks has in
+    let in_level = sym c.contains.ensures ∙ c.if-contains.true in
+    let more = (c.add_chain.ensures.among roots list has_now (among c.loop-block.block in_level)).0 in
+    let few = count_few (set.contains c.add_chain.new.seen.members) list c.args.level.now.blocks (level_more list c.loop-block.seen.members c.add_chain.new.seen.members (before.level.seen_in roots list has among) more) in
+    let size = before.seen_size in
+    let counted : g.N.Nodes.reads c.add_chain.new.nodes + count_below (set.contains c.loop-block.seen.members) c.args.level.now.blocks ≡ g.N.Nodes.reads c.loop-block.nodes + count_below (set.contains c.add_chain.new.seen.members) c.args.level.now.blocks =
+    subst (λ (n : ℕ). g.N.Nodes.reads c.add_chain.new.nodes + count_below (set.contains c.loop-block.seen.members) n ≡ g.N.Nodes.reads c.loop-block.nodes + count_below (set.contains c.add_chain.new.seen.members) n) size c.add_chain.ensures.reads in
+    omega (arith, before.reads, counted, few)
+
+pub returns-in_err-add_chain-clause-looks : goal.returns-in_err-add_chain-clause-looks
+returns-in_err-add_chain-clause-looks g c = g.met.N.Nodes.looks_on c.args.nodes.now c.loop-block.nodes c.add_chain.new.nodes c.loop-block.invariant.looks c.add_chain.ensures.looks
 
 pub returns-clause-looks : goal.returns-clause-looks
 returns-clause-looks g c = c.loop-block.invariant.looks
 
-pub add_named-requires : goal.add_named-requires
-add_named-requires g c = c.loop-block.invariant.looks.sound
+pub add_chain-requires-clause-sound : goal.add_chain-requires-clause-sound
+add_chain-requires-clause-sound g c = c.loop-block.invariant.looks.sound
 
-pub returns-in_err-add_named-clause-why : goal.returns-in_err-add_named-clause-why
-returns-in_err-add_named-clause-why g c =
-    let p = err_from_is_err_and c.from_residual-in_err-add_named.result c.from_residual-in_err-add_named.ensures.1 in
-    rw (p.1, p.2) (g.met.N.Nodes.causes_on c.args.nodes.now c.loop-block.nodes c.add_named.new.nodes c.in_err-add_named.field-0.0 c.loop-block.invariant.looks.came c.in_err-add_named.ensures.why)
+pub add_chain-requires-clause-size : goal.add_chain-requires-clause-size
+add_chain-requires-clause-size g c =
+    let same = sym c.loop-block.invariant.looks.same_blocks in
+    (c.loop-block.invariant.seen_size ∙ c.requires.size ∙ same, c.loop-block.invariant.next_size ∙ c.requires.size ∙ same)
 
-pub returns-in_err-add_named-clause-faults : goal.returns-in_err-add_named-clause-faults
-returns-in_err-add_named-clause-faults g c =
-    let p = err_from_is_err_and c.from_residual-in_err-add_named.result c.from_residual-in_err-add_named.ensures.1 in
-    rw (p.1, p.2) c.in_err-add_named.ensures.faults
+pub returns-in_err-add_chain-clause-why : goal.returns-in_err-add_chain-clause-why
+returns-in_err-add_chain-clause-why g c =
+    let p = err_from_is_err_and c.from_residual-in_err-add_chain.result c.from_residual-in_err-add_chain.ensures.1 in
+    rw (p.1, p.2) (g.met.N.Nodes.causes_on c.args.nodes.now c.loop-block.nodes c.add_chain.new.nodes c.in_err-add_chain.field-0.0 c.loop-block.invariant.looks.came c.in_err-add_chain.ensures.why)
+
+pub returns-in_err-add_chain-clause-faults : goal.returns-in_err-add_chain-clause-faults
+returns-in_err-add_chain-clause-faults g c =
+    let p = err_from_is_err_and c.from_residual-in_err-add_chain.result c.from_residual-in_err-add_chain.ensures.1 in
+    rw (p.1, p.2) c.in_err-add_chain.ensures.faults

@@ -1,12 +1,14 @@
-use Rattle.std.proofs.Common.{Some, ap, ◌∙◌}
+use Rattle.std.proofs.Common.{true, false, Some, ap, ◌∙◌, arith}
 use Rattle.std.proofs.lemmas.Result.{err_from_is_err_and}
-use Rattle.block_trees.specs.Trees.{entries_of}
+use Rattle.block_trees.specs.Chains.{link_of}
 use Rattle.block_trees.specs.Reached.{Keeps}
 use Rattle.node_format.specs.declared.places.Place.TheVariants.{Dir}
 use Rattle.directory.specs.Trails.{has_room}
 use Rattle.directory.proofs.EditedPaths.{made_reaches}
-use Rattle.directory.proofs.NewDirectories.{held_later, rewritten_before, fresh_before}
-use Rattle.directory.proofs.TrailEdits.{look_later, trail_later}
+use Rattle.directory.proofs.Held.{held_later}
+use Rattle.directory.proofs.NewDirectories.{rewritten_before}
+use Rattle.directory.proofs.TrailEdits.{look_later, trail_later, path_nodes-later}
+use Rattle.directory.proofs.WrittenNodes.{empty_written}
 use Rattle.directory.proofs.rewriting.put_directory.Goals as goal
 
 pub put_entry-requires-clause-held : goal.put_entry-requires-clause-held
@@ -58,11 +60,10 @@ returns-clause-made g c =
     let same = g.met.N.Nodes.same_node mid new block c.write.ensures.works.sound c.put_entry.ensures.works.came c.in_ok-block.ensures.kept in
     record {
       block = block;
-      empty = ap entries_of (same ∙ c.in_ok-block.ensures.written) ∙ c.empty_directory.ensures.read;
+      empty = empty_written (g.N.Nodes.node new) block (ap link_of (same ∙ c.in_ok-block.ensures.written) ∙ c.empty_directory.ensures.read);
       was_free = c.in_ok-block.ensures.fresh;
       is_kept = g.met.N.Nodes.stays_kept mid new block c.put_entry.ensures.works.came c.in_ok-block.ensures.kept;
-      rewritten = rewritten_before (g.N.Nodes.node old) (g.N.Nodes.node mid) (g.N.Nodes.node new) (g.N.Nodes.kept old) (g.N.Nodes.kept mid) (g.N.Nodes.kept new) keeps c.args.path.now c.args.root c.in_ok-to.to (Some (Dir block)) c.requires.held c.in_ok-to.ensures.rewritten;
-      fresh = fresh_before (g.N.Nodes.kept old) (g.N.Nodes.kept mid) (g.N.Nodes.kept new) (g.N.Nodes.node new) (λ b free. g.met.N.Nodes.was_fresh old mid b c.write.ensures.works.came free) c.args.path.now c.in_ok-to.to c.in_ok-to.ensures.fresh;
+      rewritten = rewritten_before (g.N.Nodes.node old) (g.N.Nodes.node mid) (g.N.Nodes.node new) (g.N.Nodes.kept old) (g.N.Nodes.kept mid) (g.N.Nodes.kept new) keeps (λ b free. g.met.N.Nodes.was_fresh old mid b c.write.ensures.works.came free) c.args.path.now c.args.root c.in_ok-to.to (Some (Dir block)) c.requires.held c.in_ok-to.ensures.rewritten;
     }
 
 pub returns-clause-reaches : goal.returns-clause-reaches
@@ -114,3 +115,55 @@ pub returns-in_err-to-clause-faults : goal.returns-in_err-to-clause-faults
 returns-in_err-to-clause-faults g c =
     let p = err_from_is_err_and c.from_residual-in_err-to.result c.from_residual-in_err-to.ensures.1 in
     rw (p.1, p.2) c.in_err-to.ensures.faults
+
+pub returns-clause-writes : goal.returns-clause-writes
+returns-clause-writes g c =
+    let old = c.args.nodes.now in
+    let mid = c.write.new.self in
+    let keeps : Keeps (g.N.Nodes.kept old) (g.N.Nodes.node old) (g.N.Nodes.kept mid) (g.N.Nodes.node mid) = record {
+      same = λ b kept. g.met.N.Nodes.same_node old mid b c.requires.sound c.write.ensures.works.came kept;
+      stays = λ b kept. g.met.N.Nodes.stays_kept old mid b c.write.ensures.works.came kept;
+    } in
+    let same = path_nodes-later (g.N.Nodes.node old) (g.N.Nodes.node mid) (g.N.Nodes.kept old) (g.N.Nodes.kept mid) c.args.path.now c.args.trail.now true 0 keeps (record { root = c.args.root; trail_of = c.requires.way; held = c.requires.held }) in
+    let wrote = c.write.ensures.writes in
+    let put = c.put_entry.ensures.writes in
+    omega (arith, same, wrote, put)
+
+pub returns-in_err-to-clause-writes : goal.returns-in_err-to-clause-writes
+returns-in_err-to-clause-writes g c =
+    let old = c.args.nodes.now in
+    let mid = c.write.new.self in
+    let keeps : Keeps (g.N.Nodes.kept old) (g.N.Nodes.node old) (g.N.Nodes.kept mid) (g.N.Nodes.node mid) = record {
+      same = λ b kept. g.met.N.Nodes.same_node old mid b c.requires.sound c.write.ensures.works.came kept;
+      stays = λ b kept. g.met.N.Nodes.stays_kept old mid b c.write.ensures.works.came kept;
+    } in
+    let same = path_nodes-later (g.N.Nodes.node old) (g.N.Nodes.node mid) (g.N.Nodes.kept old) (g.N.Nodes.kept mid) c.args.path.now c.args.trail.now true 0 keeps (record { root = c.args.root; trail_of = c.requires.way; held = c.requires.held }) in
+    let wrote = c.write.ensures.writes in
+    let put = c.put_entry.ensures.writes in
+    omega (arith, same, wrote, put)
+
+pub returns-clause-reads : goal.returns-clause-reads
+returns-clause-reads g c =
+    let old = c.args.nodes.now in
+    let mid = c.write.new.self in
+    let keeps : Keeps (g.N.Nodes.kept old) (g.N.Nodes.node old) (g.N.Nodes.kept mid) (g.N.Nodes.node mid) = record {
+      same = λ b kept. g.met.N.Nodes.same_node old mid b c.requires.sound c.write.ensures.works.came kept;
+      stays = λ b kept. g.met.N.Nodes.stays_kept old mid b c.write.ensures.works.came kept;
+    } in
+    let same = path_nodes-later (g.N.Nodes.node old) (g.N.Nodes.node mid) (g.N.Nodes.kept old) (g.N.Nodes.kept mid) c.args.path.now c.args.trail.now false 0 keeps (record { root = c.args.root; trail_of = c.requires.way; held = c.requires.held }) in
+    let read = c.write.ensures.reads in
+    let put = c.put_entry.ensures.reads in
+    omega (arith, same, read, put)
+
+pub returns-in_err-to-clause-reads : goal.returns-in_err-to-clause-reads
+returns-in_err-to-clause-reads g c =
+    let old = c.args.nodes.now in
+    let mid = c.write.new.self in
+    let keeps : Keeps (g.N.Nodes.kept old) (g.N.Nodes.node old) (g.N.Nodes.kept mid) (g.N.Nodes.node mid) = record {
+      same = λ b kept. g.met.N.Nodes.same_node old mid b c.requires.sound c.write.ensures.works.came kept;
+      stays = λ b kept. g.met.N.Nodes.stays_kept old mid b c.write.ensures.works.came kept;
+    } in
+    let same = path_nodes-later (g.N.Nodes.node old) (g.N.Nodes.node mid) (g.N.Nodes.kept old) (g.N.Nodes.kept mid) c.args.path.now c.args.trail.now false 0 keeps (record { root = c.args.root; trail_of = c.requires.way; held = c.requires.held }) in
+    let read = c.write.ensures.reads in
+    let put = c.put_entry.ensures.reads in
+    omega (arith, same, read, put)

@@ -25,4 +25,4 @@ returns-clause-reaches g c =
       same = λ b kept. g.met.N.Nodes.same_node old new b c.requires.sound c.rewrite_from.ensures.works.came kept;
       stays = λ b kept. g.met.N.Nodes.stays_kept old new b c.rewrite_from.ensures.works.came kept;
     } in
-    only_reaches f h k l c.args.root c.args.path.now (Some c.args.place) c.rewrite_from.result keeps c.requires.held (search rules) (search rules)
+    only_reaches f h k l c.args.root c.args.path.now (Some c.args.place) c.rewrite_from.result keeps c.requires.held (search rules)

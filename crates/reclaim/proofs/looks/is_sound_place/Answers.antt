@@ -6,5 +6,5 @@ use Rattle.reclaim.proofs.looks.is_sound_place.Goals as goal
 
 pub returns-in-Dir-clause-exact : goal.returns-in-Dir-clause-exact
 returns-in-Dir-clause-exact g c =
-    subst (λ (at : Place). IfOk c.is_directory.result (λ good. IsTrue good ↔ IsSoundPlace c.args.capacity (g.N.Nodes.node c.args.nodes.now) at)) (sym c.in-Dir.is)
-    c.is_directory.ensures.exact
+    subst (λ (at : Place). IfOk c.holds_link.result (λ good. IsTrue good ↔ IsSoundPlace c.args.capacity (g.N.Nodes.node c.args.nodes.now) at)) (sym c.in-Dir.is)
+    c.holds_link.ensures.exact

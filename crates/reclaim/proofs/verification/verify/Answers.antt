@@ -5,11 +5,10 @@ use Rattle.fs_types.specs.declared.faults.Fault.TheVariants.{Damaged}
 use Rattle.fs_types.specs.declared.faults.Fault.{Fault}
 use Rattle.block_trees.specs.Bodies.{Blocks}
 use Rattle.block_trees.specs.Reached.{Reached}
-use Rattle.reclaim.specs.Sound.{IsDirectoryAt}
+use Rattle.reclaim.specs.Sound.{HoldsLink}
 use Rattle.reclaim.proofs.Costs.{pass_reads, tree_reads}
-use Rattle.reclaim.specs.Verified.{AreRoots}
 use Rattle.reclaim.proofs.Looking.{never, look_read, look_other}
-use Rattle.reclaim.proofs.Verifying.{none_reached, marked_exact}
+use Rattle.reclaim.proofs.Verifying.{AreAllowed, none_reached, marked_exact}
 use Rattle.reclaim.specs.Passes.{IsPass}
 use Rattle.reclaim.proofs.verification.verify.Goals as goal
 
@@ -17,13 +16,13 @@ pub read_all-requires-clause-pass : goal.read_all-requires-clause-pass
 read_all-requires-clause-pass g c = c.in_ok-pass.ensures.pass (g.N.Nodes.node c.start_pass.new.nodes)
 
 pub returns-in_err-read_all-clause-damaged : goal.returns-in_err-read_all-clause-damaged
-returns-in_err-read_all-clause-damaged g c damaged =
+returns-in_err-read_all-clause-damaged g c damaged both =
     let fault = c.in_err-read_all.field-0.0 in
     let p = err_from_is_err_and c.from_residual-in_err-read_all.result c.from_residual-in_err-read_all.ensures.1 in
     let is : p.0 ≡ Damaged = cc in
     let found = c.in_err-read_all.ensures.damaged (ap (λ (e : Fault). Err e) (sym p.2 ∙ is)) in
     none_reached (g.N.Nodes.limit c.args.nodes.now) (g.N.Nodes.node c.args.nodes.now) c.in_ok-pass.pass.roots c.args.roots.now c.in_ok-pass.ensures.begun.1
-    (subst (λ (f : Blocks). (b : ℕ) × Reached f c.in_ok-pass.pass.roots b × (f b ≡ None)) c.start_pass.ensures.looks.same_nodes found)
+    (subst (λ (f : Blocks). (b : ℕ) × Reached f c.in_ok-pass.pass.roots b × (f b ≡ None)) c.start_pass.ensures.looks.same_nodes found) both.0
 
 pub returns-in_err-read_all-clause-why : goal.returns-in_err-read_all-clause-why
 returns-in_err-read_all-clause-why g c =
@@ -56,7 +55,7 @@ have_trees-requires-clause-marked g c =
 
 pub have_trees-requires-clause-directories : goal.have_trees-requires-clause-directories
 have_trees-requires-clause-directories g c =
-    subst (λ (f : Blocks). All (IsDirectoryAt f) c.args.roots.now) (sym (c.read_all.ensures.looks.same_nodes ∙ c.start_pass.ensures.looks.same_nodes)) c.in_ok-pass.ensures.directories
+    subst (λ (f : Blocks). All (HoldsLink f) c.args.roots.now) (sym (c.read_all.ensures.looks.same_nodes ∙ c.start_pass.ensures.looks.same_nodes)) c.in_ok-pass.ensures.directories
 
 pub returns-in_err-have_trees-clause-reads : goal.returns-in_err-have_trees-clause-reads
 returns-in_err-have_trees-clause-reads g c =
@@ -83,19 +82,19 @@ returns-clause-reads g c =
     c.in_ok-pass.ensures.asked c.in_ok-read_all.ensures.read c.have_trees.ensures.reads
 
 pub returns-then-not-have_trees-clause-damaged : goal.returns-then-not-have_trees-clause-damaged
-returns-then-not-have_trees-clause-damaged g c _ trees =
+returns-then-not-have_trees-clause-damaged g c _ both =
     let good = c.in_ok-have_trees.have_trees in
-    let exact : IsTrue good ↔ AreRoots (g.N.Nodes.limit c.args.nodes.now) (g.N.Nodes.node c.args.nodes.now) c.args.roots.now =
-    subst (λ (f : Blocks). IsTrue good ↔ AreRoots (g.N.Nodes.limit c.args.nodes.now) f c.args.roots.now) (c.read_all.ensures.looks.same_nodes ∙ c.start_pass.ensures.looks.same_nodes)
-    (subst (λ (n : ℕ). IsTrue good ↔ AreRoots n (g.N.Nodes.node c.read_all.new.nodes) c.args.roots.now) (c.read_all.ensures.looks.same_limit ∙ c.start_pass.ensures.looks.same_limit) c.in_ok-have_trees.ensures.exact) in
-    never (sym c.if-not-have_trees.true ∙ exact.1 trees)
+    let exact : IsTrue good ↔ AreAllowed (g.N.Nodes.limit c.args.nodes.now) (g.N.Nodes.node c.args.nodes.now) c.args.roots.now c.args.plain =
+    subst (λ (f : Blocks). IsTrue good ↔ AreAllowed (g.N.Nodes.limit c.args.nodes.now) f c.args.roots.now c.args.plain) (c.read_all.ensures.looks.same_nodes ∙ c.start_pass.ensures.looks.same_nodes)
+    (subst (λ (n : ℕ). IsTrue good ↔ AreAllowed n (g.N.Nodes.node c.read_all.new.nodes) c.args.roots.now c.args.plain) (c.read_all.ensures.looks.same_limit ∙ c.start_pass.ensures.looks.same_limit) c.in_ok-have_trees.ensures.exact) in
+    never (sym c.if-not-have_trees.true ∙ exact.1 both)
 
 pub returns-clause-trees : goal.returns-clause-trees
 returns-clause-trees g c =
     let good = c.in_ok-have_trees.have_trees in
-    let exact : IsTrue good ↔ AreRoots (g.N.Nodes.limit c.args.nodes.now) (g.N.Nodes.node c.args.nodes.now) c.args.roots.now =
-    subst (λ (f : Blocks). IsTrue good ↔ AreRoots (g.N.Nodes.limit c.args.nodes.now) f c.args.roots.now) (c.read_all.ensures.looks.same_nodes ∙ c.start_pass.ensures.looks.same_nodes)
-    (subst (λ (n : ℕ). IsTrue good ↔ AreRoots n (g.N.Nodes.node c.read_all.new.nodes) c.args.roots.now) (c.read_all.ensures.looks.same_limit ∙ c.start_pass.ensures.looks.same_limit) c.in_ok-have_trees.ensures.exact) in
+    let exact : IsTrue good ↔ AreAllowed (g.N.Nodes.limit c.args.nodes.now) (g.N.Nodes.node c.args.nodes.now) c.args.roots.now c.args.plain =
+    subst (λ (f : Blocks). IsTrue good ↔ AreAllowed (g.N.Nodes.limit c.args.nodes.now) f c.args.roots.now c.args.plain) (c.read_all.ensures.looks.same_nodes ∙ c.start_pass.ensures.looks.same_nodes)
+    (subst (λ (n : ℕ). IsTrue good ↔ AreAllowed n (g.N.Nodes.node c.read_all.new.nodes) c.args.roots.now c.args.plain) (c.read_all.ensures.looks.same_limit ∙ c.start_pass.ensures.looks.same_limit) c.in_ok-have_trees.ensures.exact) in
     exact.0 c.if-not-have_trees.false
 
 pub returns-in_err-have_trees-clause-looks : goal.returns-in_err-have_trees-clause-looks
@@ -114,16 +113,16 @@ returns-clause-looks g c =
     (g.met.N.Nodes.looks_on c.args.nodes.now c.start_pass.new.nodes c.read_all.new.nodes c.start_pass.ensures.looks c.read_all.ensures.looks) c.have_trees.ensures.looks
 
 pub returns-in_err-pass-clause-damaged : goal.returns-in_err-pass-clause-damaged
-returns-in_err-pass-clause-damaged g c damaged trees =
+returns-in_err-pass-clause-damaged g c damaged both =
     let p = err_from_is_err_and c.from_residual.result c.from_residual.ensures.1 in
     let is : p.0 ≡ Damaged = cc in
-    c.in_err-pass.ensures.damaged (ap (λ (e : Fault). Err e) (sym p.2 ∙ is)) trees
+    c.in_err-pass.ensures.damaged (ap (λ (e : Fault). Err e) (sym p.2 ∙ is)) both.0
 
 pub returns-in_err-pass-clause-reads : goal.returns-in_err-pass-clause-reads
 returns-in_err-pass-clause-reads g c = c.start_pass.ensures.reads
 
 pub returns-in_err-have_trees-clause-damaged : goal.returns-in_err-have_trees-clause-damaged
-returns-in_err-have_trees-clause-damaged g c damaged trees =
+returns-in_err-have_trees-clause-damaged g c damaged both =
     let p = err_from_is_err_and c.from_residual-in_err-have_trees.result c.from_residual-in_err-have_trees.ensures.1 in
     let is : p.0 ≡ Damaged = cc in
     look_other c.in_err-have_trees.field-0.0 c.in_err-have_trees.ensures.faults (sym p.2 ∙ is)

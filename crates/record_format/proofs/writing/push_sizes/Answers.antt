@@ -1,6 +1,6 @@
-use Rattle.record_format.proofs.Appends.{then_four}
+use Rattle.record_format.proofs.Appends.{then_three}
 use Rattle.record_format.proofs.writing.push_sizes.Goals as goal
 
 pub returns-clause-items : goal.returns-clause-items
 returns-clause-items c =
-    then_four _ _ _ _ _ _ _ _ _ c.push_number.ensures.items c.push_number-2.ensures.items c.push_number-3.ensures.items c.push_number-4.ensures.items
+    then_three _ _ _ _ _ _ _ c.push_number.ensures.items c.push_number-2.ensures.items c.push_number-3.ensures.items

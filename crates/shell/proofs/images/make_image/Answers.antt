@@ -1,4 +1,5 @@
 use Rattle.std.proofs.Common.{◌<◌, inl, inr, refl, sym, subst}
+use Rattle.fs_types.specs.declared.limits.TheConstants.{MIN_VERSIONS, MAX_VERSIONS}
 use Rattle.shell.specs.Memory.{IsNewFlash, IsFormatOf}
 use Rattle.shell.specs.Tools.{FormatFailure}
 use Rattle.shell.proofs.ImageLemmas.{lawful_limit, format_saved, format_refused}
@@ -6,8 +7,8 @@ use Rattle.shell.proofs.images.make_image.Goals as goal
 
 pub returns-in-Ok-format : goal.returns-in-Ok-format
 returns-in-Ok-format g c =
-    let low : c.args.history < 2 → ⊥ = λ h. let bad = c.format.ensures.limits.1 (c.in-Ok.flash.lawful, inl h) in absurd cc in
-    let high : 64 < c.args.history → ⊥ = λ h. let bad = c.format.ensures.limits.1 (c.in-Ok.flash.lawful, inr h) in absurd cc in
+    let low : c.args.history < MIN_VERSIONS → ⊥ = λ h. let bad = c.format.ensures.limits.1 (c.in-Ok.flash.lawful, inl h) in absurd cc in
+    let high : MAX_VERSIONS < c.args.history → ⊥ = λ h. let bad = c.format.ensures.limits.1 (c.in-Ok.flash.lawful, inr h) in absurd cc in
     let made : IsNewFlash c.args.sizes c.in-Ok.flash = record { new = c.in-Ok.ensures.new; plan = c.in-Ok.ensures.plan } in
     let holds = c.in-Ok-format.ensures in
     let done : IsFormatOf c.args.history c.in-Ok.flash c.format.new.flash = record { formatted = holds.ok; sizes = holds.stay; listed = holds.listed; numbered = holds.numbered } in

@@ -1,13 +1,39 @@
-use Rattle.std.proofs.Common.{◌<◌, arith}
-use Rattle.directory.specs.Moves.{directories_along}
-use Rattle.tree_edits.proofs.Needs.{move_needs}
+use Rattle.std.proofs.Common.{true, false, arith}
+use Rattle.tree_edits.proofs.Lookups.{file_below, file_named}
+use Rattle.tree_edits.proofs.Needs.{path_nodes-long, move_nodes-long, move_needs}
 use Rattle.tree_edits.proofs.applying.apply.Goals as goal
+
+-- what is put at a path or taken out needs a node, since the path has a name
+pub returns-in-PutEmptyFile-clause-still : goal.returns-in-PutEmptyFile-clause-still
+returns-in-PutEmptyFile-clause-still g c = λ none.
+    let editable = rw c.in-PutEmptyFile.is at c.requires.editable in
+    let zero = rw c.in-PutEmptyFile.is at none in
+    let long = path_nodes-long (g.N.Nodes.node c.args.nodes.now) c.in-PutEmptyFile.trail.now c.in-PutEmptyFile.path.now true 0 in
+    let some = file_below (g.N.Nodes.node c.args.nodes.now) c.args.root c.in-PutEmptyFile.path.now editable.2 editable.3 editable.4 in
+    absurd (omega arith)
+
+pub returns-in-SetLength-clause-still : goal.returns-in-SetLength-clause-still
+returns-in-SetLength-clause-still g c = λ none.
+    let editable = rw c.in-SetLength.is at c.requires.editable in
+    let zero = rw c.in-SetLength.is at none in
+    let long = path_nodes-long (g.N.Nodes.node c.args.nodes.now) c.in-SetLength.trail.now c.in-SetLength.path.now true 0 in
+    let some = file_named (g.N.Nodes.node c.args.nodes.now) c.args.root c.in-SetLength.path.now c.in-SetLength.body.head c.in-SetLength.body.length editable.2 in
+    absurd (omega arith)
+
+pub returns-in-Remove-clause-still : goal.returns-in-Remove-clause-still
+returns-in-Remove-clause-still g c = λ none.
+    let editable = rw c.in-Remove.is at c.requires.editable in
+    let zero = rw c.in-Remove.is at none in
+    let long = path_nodes-long (g.N.Nodes.node c.args.nodes.now) c.in-Remove.trail.now c.in-Remove.path.now false 0 in
+    let some = editable.2 in
+    absurd (omega arith)
 
 pub returns-in-Move-clause-still : goal.returns-in-Move-clause-still
 returns-in-Move-clause-still g c = λ none.
     let editable = rw c.in-Move.is at c.requires.editable in
     let zero = rw c.in-Move.is at none in
-    let some : 0 < directories_along c.in-Move.old.now c.in-Move.new.now = move_needs c.in-Move.old.now c.in-Move.new.now editable.0 in
+    let long = move_nodes-long (g.N.Nodes.node c.args.nodes.now) c.in-Move.old_trail.now c.in-Move.old.now c.in-Move.new_trail.now c.in-Move.new.now editable.0 editable.1.old_way.counted in
+    let some = move_needs c.in-Move.old.now c.in-Move.new.now editable.0 in
     absurd (omega arith)
 
 pub returns-in-MakeDirectory-clause-keeps : goal.returns-in-MakeDirectory-clause-keeps

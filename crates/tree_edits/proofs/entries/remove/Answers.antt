@@ -1,13 +1,15 @@
-use Rattle.std.proofs.Common.{◌-◌}
+use Rattle.std.proofs.Common.{◌-◌, false, arith}
 use Rattle.node_format.specs.Headers.{body_header}
+use Rattle.directory.proofs.LookupLaws.{rooted_leads}
 use Rattle.tree_edits.proofs.Lookups.{removable_stands}
 use Rattle.tree_edits.proofs.NewRoots.{removed_result}
+use Rattle.tree_edits.proofs.Needs.{path_nodes-long}
 use Rattle.tree_edits.proofs.entries.remove.Goals as goal
 
 pub remove_entry-requires-clause-stands : goal.remove_entry-requires-clause-stands
 remove_entry-requires-clause-stands g c =
     let there = c.requires.removable in
-    removable_stands (g.N.Nodes.node c.args.nodes.now) c.args.root c.args.path.now there.0 there.1 there.2
+    removable_stands (g.N.Nodes.node c.args.nodes.now) c.args.root c.args.path.now there.0 (rooted_leads (g.N.Nodes.limit c.args.nodes.now - body_header) (g.N.Nodes.node c.args.nodes.now) c.args.root c.requires.rooted) there.1 there.2
 
 pub returns-clause-root : goal.returns-clause-root
 returns-clause-root g c =

@@ -1,22 +1,24 @@
-use Rattle.std.proofs.Common.{◌-◌, List, ℕ, subst, ◌∙◌}
+use Rattle.std.proofs.Common.{◌-◌, true, false, List, ℕ, subst, ◌∙◌, arith}
 use Rattle.plain_trees.specs.Contents.{resized}
 use Rattle.plain_trees.specs.Trees.{bytes_at}
 use Rattle.node_format.specs.Headers.{body_header}
 use Rattle.block_trees.specs.Trees.{root_tree}
 use Rattle.directory.specs.declared.lookups.Found.TheVariants as found
-use Rattle.directory.proofs.NewDirectories.{held_later}
+use Rattle.directory.proofs.Held.{held_later}
+use Rattle.directory.proofs.LookupLaws.{rooted_leads}
 use Rattle.directory.proofs.TrailEdits.{if_err, look_later, trail_later}
 use Rattle.skip_list_file.specs.Writing.{IsWritten}
 use Rattle.tree_edits.proofs.NewBytes.{file_result, from_file, file_whole, file_held, file_bytes}
 use Rattle.std.proofs.lemmas.Result.{err_from_is_err_and}
 use Rattle.fs_types.specs.declared.faults.Fault.{Fault}
+use Rattle.tree_edits.proofs.Needs.{path_nodes-later}
 use Rattle.tree_edits.proofs.files.resize.Goals as goal
 
 pub set_length-requires-clause-whole : goal.set_length-requires-clause-whole
 set_length-requires-clause-whole g c = file_whole (g.N.Nodes.limit c.args.nodes.now - body_header) (g.N.Nodes.node c.args.nodes.now) c.args.root c.args.path.now c.args.body.head c.args.body.length c.requires.rooted c.requires.found
 
 pub set_length-requires-clause-held : goal.set_length-requires-clause-held
-set_length-requires-clause-held g c = file_held (g.N.Nodes.node c.args.nodes.now) (g.N.Nodes.kept c.args.nodes.now) c.args.root c.args.path.now c.args.body.head c.args.body.length c.requires.held c.requires.found
+set_length-requires-clause-held g c = file_held (g.N.Nodes.node c.args.nodes.now) (g.N.Nodes.kept c.args.nodes.now) c.args.root c.args.path.now c.args.body.head c.args.body.length (rooted_leads (g.N.Nodes.limit c.args.nodes.now - body_header) (g.N.Nodes.node c.args.nodes.now) c.args.root c.requires.rooted) c.requires.held c.requires.found
 
 pub put_body-requires-clause-held : goal.put_body-requires-clause-held
 put_body-requires-clause-held g c =
@@ -47,7 +49,7 @@ returns-clause-root g c =
     (file_bytes capacity (g.N.Nodes.node old) c.args.root c.args.path.now c.args.body.head c.args.body.length c.requires.rooted c.requires.found) c.in_ok-new.ensures.written in
     file_result capacity (g.N.Nodes.node old) (g.N.Nodes.node mid) (g.N.Nodes.node new) (g.N.Nodes.kept old) (g.N.Nodes.kept mid) (g.N.Nodes.kept new) c.args.root c.args.path.now (found.File c.args.body.head c.args.body.length) c.in_ok-new.new
     (resized (bytes_at (root_tree capacity (g.N.Nodes.node old) c.args.root) c.args.path.now) c.args.size) c.put_body.result c.set_length.ensures.keeps c.put_body.ensures.keeps c.requires.held c.requires.rooted c.requires.lawful c.requires.found tt written
-    (from_file capacity (g.N.Nodes.node old) (g.N.Nodes.node mid) (g.N.Nodes.kept old) c.args.root c.args.path.now c.args.body c.in_ok-new.new c.requires.found c.in_ok-new.ensures.reaches) c.put_body.ensures.rewritten c.put_body.ensures.reaches
+    (from_file capacity (g.N.Nodes.node old) (g.N.Nodes.node mid) (g.N.Nodes.kept old) c.args.root c.args.path.now c.args.body c.in_ok-new.new (rooted_leads capacity (g.N.Nodes.node old) c.args.root c.requires.rooted) c.requires.found c.in_ok-new.ensures.reaches) c.put_body.ensures.rewritten c.put_body.ensures.reaches
 
 pub put_body-requires-clause-sound : goal.put_body-requires-clause-sound
 put_body-requires-clause-sound g c = c.set_length.ensures.works.sound
@@ -70,3 +72,17 @@ returns-clause-faults g c = c.put_body.ensures.faults
 
 pub returns-clause-follows : goal.returns-clause-follows
 returns-clause-follows g c = g.met.N.Nodes.follows_on c.args.nodes.now c.set_length.new.nodes c.put_body.new.nodes c.set_length.ensures.works.came c.put_body.ensures.follows
+
+-- the directories of the path have as many nodes after the body was written
+pub returns-clause-writes : goal.returns-clause-writes
+returns-clause-writes g c =
+    let same = path_nodes-later (g.N.Nodes.node c.args.nodes.now) (g.N.Nodes.node c.set_length.new.nodes) (g.N.Nodes.kept c.args.nodes.now) (g.N.Nodes.kept c.set_length.new.nodes) c.args.path.now c.args.trail.now true
+        (record { root = c.args.root; trail_of = c.requires.way; held = c.requires.held }) c.set_length.ensures.keeps in
+    omega (arith, c.set_length.ensures.writes, c.put_body.ensures.writes)
+
+pub returns-clause-reads : goal.returns-clause-reads
+returns-clause-reads g c = λ digits has.
+    let same = path_nodes-later (g.N.Nodes.node c.args.nodes.now) (g.N.Nodes.node c.set_length.new.nodes) (g.N.Nodes.kept c.args.nodes.now) (g.N.Nodes.kept c.set_length.new.nodes) c.args.path.now c.args.trail.now false
+        (record { root = c.args.root; trail_of = c.requires.way; held = c.requires.held }) c.set_length.ensures.keeps in
+    let body = c.set_length.ensures.reads digits has in
+    omega (arith, body, c.put_body.ensures.reads)

@@ -7,9 +7,8 @@ use Rattle.flash_model.specs.declared.sizes.Geometry.{Geometry}
 use Rattle.flash_model.specs.Geometry.{block_bytes}
 use Rattle.node_store.specs.NodePages.{node_of}
 use Rattle.block_trees.specs.Reached.{Reached}
-use Rattle.reclaim.specs.Verified.{AreRoots}
 use Rattle.working_state.specs.declared.state.State.{State}
-use Rattle.upkeep.specs.Mounts.{history_of, roots_of}
+use Rattle.upkeep.specs.Mounts.{history_of, roots_of, is_plain, HaveTrees}
 use Rattle.upkeep.proofs.Mounting.{built_loaded, err_roots}
 use Rattle.upkeep.specs.Costs.{AsksToVerify}
 use Rattle.upkeep.proofs.Costing.{verifies_none}
@@ -29,7 +28,7 @@ returns-clause-loaded g c =
       history = c.in_ok-history.ensures.history;
       sound = c.in_ok-history.ensures.lawful;
       named = c.in_ok-history.ensures.named;
-      trees = subst (AreRoots (block_bytes d.geometry) (node_of d)) roots c.in_ok-use_reached.ensures.trees;
+      trees = subst (HaveTrees (is_plain c.args.saved.now) d) roots c.in_ok-use_reached.ensures.trees;
       used = subst (λ (all : List ℕ). (b : ℕ) → (set.contains c.use_reached.new.storage.ring.used b ≡ true) ↔ Reached (node_of d) all b) roots c.in_ok-use_reached.ensures.used;
       ring_blocks = ap (λ (r : Ring). r.blocks) ring ∙ ap (λ (r : Ring). r.blocks) begun ∙ ap (λ (x : Geometry). x.blocks) c.requires.same;
       bad = c.use_reached.ensures.bad ∙ c.in_ok-storage.ensures.bad ∙ c.list_bad-bad.ensures ∙ ap (λ (l : List ℕ). set.from_list l) c.as_slice.ensures;
@@ -44,7 +43,7 @@ pub returns-in_err-use_reached-clause-why : goal.returns-in_err-use_reached-clau
 returns-in_err-use_reached-clause-why g c =
     let roots : c.deref.result.now ≡ roots_of (history_of c.args.saved.now) = c.deref.ensures.value ∙ c.in_ok-roots.ensures ∙ ap roots_of c.in_ok-history.ensures.history in
     let p = err_from_is_err_and c.from_residual-in_err-use_reached.result c.from_residual-in_err-use_reached.ensures.1 in
-    err_roots State (g.F.Flash.device c.args.flash.now) (g.F.Flash.device c.use_reached.new.flash) c.deref.result.now (roots_of (history_of c.args.saved.now))
+    err_roots State (is_plain c.args.saved.now) (g.F.Flash.device c.args.flash.now) (g.F.Flash.device c.use_reached.new.flash) c.deref.result.now (roots_of (history_of c.args.saved.now))
     c.from_residual-in_err-use_reached.result c.in_err-use_reached.field-0.0 roots (p.1 ∙ ap Err p.2) c.in_err-use_reached.ensures.why
 
 pub returns-in_err-history-clause-asks : goal.returns-in_err-history-clause-asks

@@ -1,13 +1,16 @@
 use Rattle.std.proofs.Common.{◌≡◌, true, false, Ok, Err, refl, ap, ◌∙◌, arith}
 use Rattle.std.proofs.lemmas.Result.{err_from_is_err_and}
 use Rattle.fs_types.specs.Names.{is_path}
+use Rattle.plain_trees.specs.Contents.{Entry}
 use Rattle.fs_types.specs.declared.calls.Call.{Call}
+use Rattle.fs_types.specs.declared.calls.Reply.{Reply}
 use Rattle.directory.specs.declared.lookups.Found.TheVariants.{Missing}
 use Rattle.directory.specs.Lookups.{look_up}
 use Rattle.directory.specs.Trails.{IsTrail}
 use Rattle.working_state.specs.Moments.{Moment, moment, nodes_at}
 use Rattle.working_state.specs.Steps.{empty}
 use Rattle.working_state.proofs.ChangedCalls.{looked_ready, looked_stands, at_working, change_by}
+use Rattle.working_state.proofs.Needs.{put_way}
 use Rattle.working_state.proofs.NewDirectories.{mkdir_change}
 use Rattle.working_state.proofs.OpenCalls.{at_answer, refused_answer}
 use Rattle.working_state.proofs.state.State.add_directory.Goals as goal
@@ -39,5 +42,7 @@ returns g c =
     let a : Moment = moment (g.F.Flash.device c.args.flash.now) c.args.self.now in
     let b : Moment = moment (g.F.Flash.device c.check_missing.new.flash) c.check_missing.new.self in
     let looked = c.check_missing.ensures.looked in
+    let by = mkdir_change a b c.args.path.now c.requires looked c.in_ok-trail.ensures.accepted c.in_ok-trail.ensures.lawful in
+    let few = put_way a b (Call.Mkdir c.args.path.now) (λ _. Entry.Dir) Reply.Empty c.root-root.result c.args.path.now c.in_ok-trail.trail c.requires c.root-root.ensures looked by c.in_ok-trail.ensures.way in
     change_by a b (g.F.Flash.device c.change.new.flash) c.change.new.storage c.change.new.history c.change.new.group c.root-root.result (Call.Mkdir c.args.path.now) c.change.result c.change.ensures
-    (mkdir_change a b c.args.path.now c.requires looked c.in_ok-trail.ensures.accepted c.in_ok-trail.ensures.lawful) (omega arith) c.requires c.root-root.ensures looked refl (λ _. refl)
+    by (omega arith) c.requires c.root-root.ensures looked refl (λ _. refl)

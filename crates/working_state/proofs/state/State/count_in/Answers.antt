@@ -1,10 +1,27 @@
-use Rattle.std.proofs.Common.{rules, ap, arith}
+use Rattle.std.proofs.Common.{subst, length, rules, ap}
+use Rattle.flash_model.specs.Device.{Device}
+use Rattle.node_store.specs.NodePages.{node_of}
+use Rattle.block_trees.specs.Chains.{chain}
 use Rattle.working_state.specs.Looking.{Asks}
 use Rattle.working_state.proofs.Looks.{on_devices, store_asks}
+use Rattle.std.specs.Prelude.{◌≡◌, List, Some, None, IfOk, IsErrOf}
+use Rattle.fs_types.specs.declared.faults.Fault.TheVariants.{Damaged}
+use Rattle.node_format.specs.Items.{Item}
+use Rattle.block_trees.specs.Trees.{entries_in}
 use Rattle.working_state.proofs.state.State.count_in.Goals as goal
 
 pub returns-clause-asks : goal.returns-clause-asks
 returns-clause-asks g c =
-    on_devices (λ d e. Asks d 1 e) _ (g.F.Flash.device c.new-store.result.flash.now) _ (g.F.Flash.device c.entry_count.new.nodes.flash.now)
+    on_devices (λ d e. Asks d (length (chain (node_of d) c.args.block)) e) _ (g.F.Flash.device c.new-store.result.flash.now) _ (g.F.Flash.device c.entry_count.new.nodes.flash.now)
     (ap (λ b. g.F.Flash.device b.now) c.new-store.ensures.flash) (search rules)
-    (store_asks g.F.Flash.device c.new-store.result c.entry_count.new.nodes 1 c.entry_count.ensures.looks.came c.entry_count.ensures.looks.same_writes (omega (arith, c.entry_count.ensures.reads)))
+    (store_asks g.F.Flash.device c.new-store.result c.entry_count.new.nodes (length (chain (node_of (g.F.Flash.device c.new-store.result.flash.now)) c.args.block)) c.entry_count.ensures.looks.came c.entry_count.ensures.looks.same_writes c.entry_count.ensures.reads)
+
+pub returns-clause-count : goal.returns-clause-count
+returns-clause-count g c =
+    subst (λ (d : Device). IfOk c.entry_count.result (λ count. (items : List Item) → entries_in (node_of d) c.args.block ≡ Some items → count ≡ length items))
+    (ap (λ b. g.F.Flash.device b.now) c.new-store.ensures.flash) c.entry_count.ensures.count
+
+pub returns-clause-damaged : goal.returns-clause-damaged
+returns-clause-damaged g c =
+    subst (λ (d : Device). IsErrOf c.entry_count.result Damaged → entries_in (node_of d) c.args.block ≡ None)
+    (ap (λ b. g.F.Flash.device b.now) c.new-store.ensures.flash) c.entry_count.ensures.damaged

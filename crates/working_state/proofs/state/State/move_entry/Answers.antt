@@ -1,11 +1,13 @@
-use Rattle.std.proofs.Common.{Err, refl, ap, subst, ◌∙◌, arith}
+use Rattle.std.proofs.Common.{Err, refl, ap, subst, ◌∙◌}
 use Rattle.std.proofs.lemmas.Result.{err_from_is_err_and}
 use Rattle.fs_types.specs.declared.calls.Call.{Call}
+use Rattle.fs_types.specs.declared.calls.Reply.{Reply}
 use Rattle.plain_trees.specs.Contents.{Apart}
 use Rattle.tree_edits.specs.Edits.{IsMovable}
 use Rattle.working_state.specs.Moments.{Moment, moment, nodes_at}
 use Rattle.working_state.specs.Steps.{empty}
 use Rattle.working_state.proofs.ChangedCalls.{looked_ready, looked_stands, at_working, change_by}
+use Rattle.working_state.proofs.Needs.{move_way}
 use Rattle.working_state.proofs.OpenCalls.{at_answer, refused_answer}
 use Rattle.working_state.proofs.RenameSteps.{rename_apart, rename_change, same_answer}
 use Rattle.working_state.specs.Renames.{IsToMove}
@@ -41,8 +43,12 @@ returns g c =
     let b : Moment = moment (g.F.Flash.device c.check_rename.new.flash) c.check_rename.new.self in
     let looked = c.check_rename.ensures.looked in
     let movable = (subst (IsToMove (node_of (g.F.Flash.device c.check_rename.new.flash)) c.root-root.result c.args.old.now c.args.new.now) c.in-Some.is c.in_ok-moves.ensures.movable) in
+    let it = c.in-Some.moves in
+    let by = rename_change a b c.args.old.now c.args.new.now c.requires looked c.in_ok-moves.ensures.accepted movable.0 movable.1.lawful in
+    let apart = rename_apart a c.args.old.now c.args.new.now c.requires c.in_ok-moves.ensures.accepted movable.0 in
+    let few = move_way a b (Call.Rename c.args.old.now c.args.new.now) Reply.Empty c.root-root.result c.args.old.now it.old_trail c.args.new.now it.new_trail it.place c.requires c.root-root.ensures looked by apart movable.1 in
     change_by a b (g.F.Flash.device c.change.new.flash) c.change.new.storage c.change.new.history c.change.new.group c.root-root.result (Call.Rename c.args.old.now c.args.new.now) c.change.result c.change.ensures
-    (rename_change a b c.args.old.now c.args.new.now c.requires looked c.in_ok-moves.ensures.accepted movable.0 movable.1.lawful) (omega arith) c.requires c.root-root.ensures looked refl (λ _. refl)
+    by few c.requires c.root-root.ensures looked refl (λ _. refl)
 
 pub returns-in_default : goal.returns-in_default
 returns-in_default g c =

@@ -1,8 +1,9 @@
-use Rattle.std.proofs.Common.{◌≡◌, false, true, Ok, Err, refl, inr, sym, ap, subst, ◌∙◌, arith}
+use Rattle.std.proofs.Common.{◌≡◌, false, true, Ok, Err, [], refl, inr, sym, ap, subst, ◌∙◌}
 use Rattle.std.proofs.lemmas.Result.{err_from_is_err_and}
 use Rattle.history_machine.specs.Descriptors.{Descriptor, opened}
 use Rattle.history_machine.specs.Machine.{working_tree, open_changes}
 use Rattle.fs_types.specs.Names.{is_path}
+use Rattle.plain_trees.specs.Contents.{Entry}
 use Rattle.fs_types.specs.declared.calls.Call.{Call}
 use Rattle.fs_types.specs.declared.calls.Reply.{Reply}
 use Rattle.fs_types.specs.declared.faults.Fault.TheVariants.{NoMemory}
@@ -13,6 +14,7 @@ use Rattle.directory.specs.declared.lookups.Found.{Found}
 use Rattle.tree_edits.specs.Edits.{TakesFile}
 use Rattle.working_state.specs.Moments.{Moment, moment, machine_at, nodes_at}
 use Rattle.working_state.proofs.ChangedCalls.{looked_ready, looked_stands, at_working, pushed_by, refused_change}
+use Rattle.working_state.proofs.Needs.{put_way}
 use Rattle.working_state.proofs.OpenCalls.{changes_is, found_below, at_answer, refused_answer, opened_answer}
 use Rattle.working_state.proofs.OpenChanges.{found_takes, open_change, open_descriptors}
 use Rattle.working_state.proofs.Refusals.{accepted_begins}
@@ -79,9 +81,11 @@ returns-in_err-change g c =
     let changes : open_changes (working_tree (machine_at a)) path flags ≡ true =
     changes_is a path flags c.root-root.result c.in_ok-found.found c.requires c.root-root.ensures ok.found ok.fits ∙ sym c.if-not-is_changed.ensures in
     let by = open_change a b path flags descriptor c.requires looked ok.accepted ok.lawful changes ok.descriptor (found_below _ c.root-root.result path flags c.in_ok-found.found ok.found ok.fits) in
+    let way : IsTrail (nodes_at b) c.root-root.result path c.in_ok-found.trail = subst (λ (n : Blocks). IsTrail n c.root-root.result path c.in_ok-found.trail) (sym c.check_open.ensures.nodes) ok.way in
+    let few = put_way a b call (λ _. Entry.File []) (Reply.Fd descriptor) c.root-root.result path c.in_ok-found.trail c.requires c.root-root.ensures looked by way in
     let fault = c.in_err-change.field-0.0 in
     at_answer Reply.Fd a (moment f (record b.state { storage = c.change.new.storage; history = c.change.new.history; group = c.change.new.group })) call fault c.from_residual-in_err-change.result (p.1 ∙ ap Err p.2)
-    (refused_change a b f c.change.new.storage c.change.new.history c.change.new.group c.root-root.result call _ (Reply.Fd descriptor) fault c.requires c.root-root.ensures looked by (omega arith) c.in_err-change.ensures.written c.in_err-change.ensures.ends)
+    (refused_change a b f c.change.new.storage c.change.new.history c.change.new.group c.root-root.result call _ (Reply.Fd descriptor) fault c.requires c.root-root.ensures looked by few c.in_err-change.ensures.written c.in_err-change.ensures.ends)
 
 pub returns : goal.returns
 returns g c =
@@ -97,7 +101,9 @@ returns g c =
     let changes : open_changes (working_tree (machine_at a)) path flags ≡ true =
     changes_is a path flags c.root-root.result c.in_ok-found.found c.requires c.root-root.ensures ok.found ok.fits ∙ sym c.if-not-is_changed.ensures in
     let by = open_change a b path flags descriptor c.requires looked ok.accepted ok.lawful changes ok.descriptor (found_below _ c.root-root.result path flags c.in_ok-found.found ok.found ok.fits) in
+    let way : IsTrail (nodes_at b) c.root-root.result path c.in_ok-found.trail = subst (λ (n : Blocks). IsTrail n c.root-root.result path c.in_ok-found.trail) (sym c.check_open.ensures.nodes) ok.way in
+    let few = put_way a b call (λ _. Entry.File []) (Reply.Fd descriptor) c.root-root.result path c.in_ok-found.trail c.requires c.root-root.ensures looked by way in
     let opens : c.open-2.new.self ≡ opened b.state.files descriptor (record { path = path; flags = flags }) =
     c.open-2.ensures ∙ ap (λ (f : Descriptor). opened b.state.files descriptor f) (c.new-file.ensures ∙ ap (λ p. record { path = p; flags = flags }) c.in_ok-clone.ensures) in
-    pushed_by a b f c.change.new.storage c.change.new.history c.change.new.group c.open-2.new.self call (Reply.Fd descriptor) c.in_ok-change.ensures.ends by (omega arith) c.in_ok-change.ensures.written c.requires looked
+    pushed_by a b f c.change.new.storage c.change.new.history c.change.new.group c.open-2.new.self call (Reply.Fd descriptor) c.in_ok-change.ensures.ends by few c.in_ok-change.ensures.written c.requires looked
     (open_descriptors a b path flags descriptor c.open-2.new.self looked ok.descriptor opens) (λ _. refl)

@@ -11,7 +11,7 @@ use Rattle.working_state.proofs.Standing.{worked_itself, looked_at}
 use Rattle.working_state.proofs.Views.{view_refuses, view_stands}
 use Rattle.std.proofs.Common.{length, sym, subst}
 use Rattle.plain_trees.specs.Trees.{Tree, bytes_at}
-use Rattle.working_state.specs.Looking.{AsksForRange}
+use Rattle.working_state.specs.Looking.{AsksForRange, look_nodes}
 use Rattle.working_state.proofs.Views.{view_tree_is}
 use Rattle.working_state.proofs.Looks.{asks_none}
 use Rattle.working_state.proofs.state.State.read_view.Goals as goal
@@ -49,5 +49,5 @@ pub returns-clause-asks : goal.returns-clause-asks
 returns-clause-asks g c =
     let shown = c.in_ok-root.ensures in
     let d = g.F.Flash.device c.args.flash.now in
-    subst (λ (t : Tree). AsksForRange d (length c.args.path.now) (bytes_at t c.args.path.now) c.args.offset c.args.count (g.F.Flash.device c.read_below.new.flash))
+    subst (λ (t : Tree). AsksForRange d (look_nodes t c.args.path.now) (bytes_at t c.args.path.now) c.args.offset c.args.count (g.F.Flash.device c.read_below.new.flash))
     (sym (view_tree_is (moment d c.args.self.now) c.args.view.now c.in_ok-root.root (record { fine = shown.0; shown = shown.1 }))) c.read_below.ensures.asks

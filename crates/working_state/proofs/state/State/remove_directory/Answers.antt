@@ -1,7 +1,8 @@
-use Rattle.std.proofs.Common.{◌≡◌, ◌<◌, true, Ok, Err, length, refl, ap, ◌∙◌, arith}
+use Rattle.std.proofs.Common.{◌≡◌, ◌<◌, true, Ok, Err, length, refl, ap, ◌∙◌}
 use Rattle.std.proofs.lemmas.Result.{err_from_is_err_and}
 use Rattle.fs_types.specs.Names.{is_path}
 use Rattle.fs_types.specs.declared.calls.Call.{Call}
+use Rattle.fs_types.specs.declared.calls.Reply.{Reply}
 use Rattle.directory.specs.declared.lookups.Found.{Found}
 use Rattle.directory.specs.Lookups.{look_up}
 use Rattle.directory.specs.Trails.{IsTrail}
@@ -9,6 +10,7 @@ use Rattle.tree_edits.specs.Edits.{IsRemovable}
 use Rattle.working_state.specs.Moments.{Moment, moment, nodes_at}
 use Rattle.working_state.specs.Steps.{empty}
 use Rattle.working_state.proofs.ChangedCalls.{looked_ready, looked_stands, at_working, change_by}
+use Rattle.working_state.proofs.Needs.{taken_way}
 use Rattle.working_state.proofs.OpenCalls.{at_answer, refused_answer}
 use Rattle.working_state.proofs.TakenOut.{rmdir_change}
 use Rattle.directory.specs.declared.lookups.Found.TheVariants as found
@@ -42,5 +44,7 @@ returns g c =
     let a : Moment = moment (g.F.Flash.device c.args.flash.now) c.args.self.now in
     let b : Moment = moment (g.F.Flash.device c.check_empty.new.flash) c.check_empty.new.self in
     let looked = c.check_empty.ensures.looked in
+    let by = rmdir_change a b c.args.path.now c.requires looked c.in_ok-trail.ensures.accepted c.in_ok-trail.ensures.lawful c.in_ok-trail.ensures.below in
+    let few = taken_way a b (Call.Rmdir c.args.path.now) Reply.Empty c.root-root.result c.args.path.now c.in_ok-trail.trail c.requires c.root-root.ensures looked by c.in_ok-trail.ensures.way in
     change_by a b (g.F.Flash.device c.change.new.flash) c.change.new.storage c.change.new.history c.change.new.group c.root-root.result (Call.Rmdir c.args.path.now) c.change.result c.change.ensures
-    (rmdir_change a b c.args.path.now c.requires looked c.in_ok-trail.ensures.accepted c.in_ok-trail.ensures.lawful c.in_ok-trail.ensures.below) (omega arith) c.requires c.root-root.ensures looked refl (λ _. refl)
+    by few c.requires c.root-root.ensures looked refl (λ _. refl)

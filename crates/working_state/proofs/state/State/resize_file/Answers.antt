@@ -1,13 +1,15 @@
 use Rattle.std.proofs.Common.{◌≡◌, ℕ, Ok, Err, inl, inr, refl, ap, subst, ◌∙◌}
 use Rattle.std.proofs.lemmas.Result.{err_from_is_err_and}
-use Rattle.plain_trees.specs.Contents.{resized}
+use Rattle.plain_trees.specs.Contents.{Entry, resized}
+use Rattle.plain_trees.specs.Trees.{bytes_at}
 use Rattle.fs_types.specs.declared.calls.Call.{Call}
 use Rattle.fs_types.specs.declared.calls.Reply.{Reply}
 use Rattle.directory.specs.declared.lookups.Found.TheVariants as found
 use Rattle.directory.specs.Lookups.{look_up}
 use Rattle.directory.specs.Trails.{IsTrail}
-use Rattle.working_state.specs.Moments.{Moment, moment, machine_at, seen_at, nodes_at}
+use Rattle.working_state.specs.Moments.{Moment, moment, machine_at, seen_at, nodes_at, tree_at}
 use Rattle.working_state.specs.Steps.{empty}
+use Rattle.working_state.proofs.LookNodes.{stands_lead}
 use Rattle.working_state.proofs.ChangedCalls.{looked_ready, looked_stands, same_root, change_by}
 use Rattle.working_state.proofs.FileChanges as changes
 use Rattle.working_state.proofs.MovedEntries.{read_may}
@@ -77,7 +79,7 @@ change-requires-clause-editable g c = λ other working.
     let led : look_up (nodes_at b) other path ≡ Ok (found.File body.head body.length) =
     subst (λ (r : ℕ). look_up (nodes_at b) r path ≡ Ok (found.File body.head body.length)) (same_root c.root-root.result other a.state b.state looked.rest c.root-root.ensures working) c.in_ok-body.ensures.found in
     let way : IsTrail (nodes_at b) other path c.in_ok-body.trail =
-    subst (λ (r : ℕ). IsTrail (nodes_at b) r path c.in_ok-body.trail) (same_root c.root-root.result other a.state b.state looked.rest c.root-root.ensures working) c.in_ok-body.ensures.way in
+    subst (λ (r : ℕ). IsTrail (nodes_at b) r path c.in_ok-body.trail) (same_root c.root-root.result other a.state b.state looked.rest c.root-root.ensures working) (c.in_ok-body.ensures.way (stands_lead a c.root-root.result c.requires c.root-root.ensures)) in
     (changes.file_lawful a path c.requires file, way, led, c.in_ok-path.ensures.fits)
 
 pub returns : goal.returns
@@ -94,4 +96,5 @@ returns g c =
     let f = g.F.Flash.device c.change.new.flash in
     let by = changes.file_change a b call path (λ old. resized old c.args.size) Reply.Empty c.requires looked change (λ space. refl) in
     change_by a b f c.change.new.storage c.change.new.history c.change.new.group c.root-root.result call c.change.result c.change.ensures by
-    (changes.ftruncate_few a b c.args.descriptor c.args.size path c.in_ok-body.body.head c.in_ok-body.body.length c.requires looked c.in_ok-path.ensures.path there) c.requires c.root-root.ensures looked refl (λ _. refl)
+    (changes.ftruncate_few a b c.root-root.result c.args.descriptor c.args.size path c.in_ok-body.trail c.in_ok-body.body.head c.in_ok-body.body.length (λ r. Entry.File (resized (bytes_at (tree_at b r) path) c.args.size)) Reply.Empty
+    c.requires c.root-root.ensures looked c.in_ok-path.ensures.path there by (c.in_ok-body.ensures.way (stands_lead a c.root-root.result c.requires c.root-root.ensures))) c.requires c.root-root.ensures looked refl (λ _. refl)

@@ -1,13 +1,15 @@
 use Rattle.std.proofs.Common.{◌≡◌, ℕ, Ok, Err, length, inl, inr, refl, sym, ap, subst, ◌∙◌}
 use Rattle.std.proofs.lemmas.Bool.{eqb-true}
 use Rattle.std.proofs.lemmas.Result.{err_from_is_err_and}
-use Rattle.plain_trees.specs.Contents.{overwritten}
+use Rattle.plain_trees.specs.Contents.{Entry, overwritten}
+use Rattle.plain_trees.specs.Trees.{bytes_at}
 use Rattle.fs_types.specs.declared.calls.Call.{Call}
 use Rattle.fs_types.specs.declared.calls.Reply.{Reply}
 use Rattle.directory.specs.declared.lookups.Found.TheVariants as found
 use Rattle.directory.specs.Lookups.{look_up}
 use Rattle.directory.specs.Trails.{IsTrail}
-use Rattle.working_state.specs.Moments.{Moment, moment, machine_at, seen_at, nodes_at}
+use Rattle.working_state.specs.Moments.{Moment, moment, machine_at, seen_at, nodes_at, tree_at}
+use Rattle.working_state.proofs.LookNodes.{stands_lead}
 use Rattle.working_state.proofs.ChangedCalls.{looked_ready, looked_stands, same_root, refused_change, pushed_by}
 use Rattle.working_state.proofs.FileChanges as changes
 use Rattle.working_state.proofs.MovedEntries.{read_may}
@@ -72,7 +74,7 @@ change-requires-clause-editable g c = λ other working.
     let led : look_up (nodes_at b) other path ≡ Ok (found.File body.head body.length) =
     subst (λ (r : ℕ). look_up (nodes_at b) r path ≡ Ok (found.File body.head body.length)) (same_root c.root-root.result other a.state b.state looked.rest c.root-root.ensures working) c.in_ok-body.ensures.found in
     let way : IsTrail (nodes_at b) other path c.in_ok-body.trail =
-    subst (λ (r : ℕ). IsTrail (nodes_at b) r path c.in_ok-body.trail) (same_root c.root-root.result other a.state b.state looked.rest c.root-root.ensures working) c.in_ok-body.ensures.way in
+    subst (λ (r : ℕ). IsTrail (nodes_at b) r path c.in_ok-body.trail) (same_root c.root-root.result other a.state b.state looked.rest c.root-root.ensures working) (c.in_ok-body.ensures.way (stands_lead a c.root-root.result c.requires c.root-root.ensures)) in
     (changes.file_lawful a path c.requires file, way, led, there.short, changes.some_length (length c.args.bytes.now) (sym c.is_empty.ensures ∙ c.if-is_empty.false), c.in_ok-path.ensures.fits (changes.some_length (length c.args.bytes.now) (sym c.is_empty.ensures ∙ c.if-is_empty.false)))
 
 pub returns-in_err-change : goal.returns-in_err-change
@@ -89,7 +91,8 @@ returns-in_err-change g c =
     let by = changes.file_change a b call path (λ old. overwritten old c.args.offset c.args.bytes.now) (Reply.Count (length c.args.bytes.now)) c.requires looked change (λ space. refl) in
     let body = c.in_ok-body.body in
     let there = changes.later_body a b c.root-root.result path body.head body.length c.requires c.root-root.ensures (looked_worked a b looked) c.in_ok-body.ensures.found in
-    let few = changes.pwrite_few a b c.args.descriptor c.args.offset c.args.bytes.now path body.head body.length c.requires looked c.in_ok-path.ensures.path there in
+    let few = changes.pwrite_few a b c.root-root.result c.args.descriptor c.args.offset c.args.bytes.now path c.in_ok-body.trail body.head body.length (λ r. Entry.File (overwritten (bytes_at (tree_at b r) path) c.args.offset c.args.bytes.now)) (Reply.Count (length c.args.bytes.now))
+    c.requires c.root-root.ensures looked c.in_ok-path.ensures.path there by (c.in_ok-body.ensures.way (stands_lead a c.root-root.result c.requires c.root-root.ensures)) in
     at_answer Reply.Count a (moment f (record b.state { storage = c.change.new.storage; history = c.change.new.history; group = c.change.new.group })) call c.in_err-change.field-0.0 c.from_residual-in_err-change.result (p.1 ∙ ap Err p.2)
     (refused_change a b f c.change.new.storage c.change.new.history c.change.new.group c.root-root.result call _ (Reply.Count (length c.args.bytes.now)) c.in_err-change.field-0.0 c.requires c.root-root.ensures looked by few c.in_err-change.ensures.written c.in_err-change.ensures.ends)
 
@@ -106,5 +109,6 @@ returns g c =
     let by = changes.file_change a b call path (λ old. overwritten old c.args.offset c.args.bytes.now) (Reply.Count (length c.args.bytes.now)) c.requires looked change (λ space. refl) in
     let body = c.in_ok-body.body in
     let there = changes.later_body a b c.root-root.result path body.head body.length c.requires c.root-root.ensures (looked_worked a b looked) c.in_ok-body.ensures.found in
-    let few = changes.pwrite_few a b c.args.descriptor c.args.offset c.args.bytes.now path body.head body.length c.requires looked c.in_ok-path.ensures.path there in
+    let few = changes.pwrite_few a b c.root-root.result c.args.descriptor c.args.offset c.args.bytes.now path c.in_ok-body.trail body.head body.length (λ r. Entry.File (overwritten (bytes_at (tree_at b r) path) c.args.offset c.args.bytes.now)) (Reply.Count (length c.args.bytes.now))
+    c.requires c.root-root.ensures looked c.in_ok-path.ensures.path there by (c.in_ok-body.ensures.way (stands_lead a c.root-root.result c.requires c.root-root.ensures)) in
     pushed_by a b f c.change.new.storage c.change.new.history c.change.new.group b.state.files call (Reply.Count (length c.args.bytes.now)) c.in_ok-change.ensures.ends by few c.in_ok-change.ensures.written c.requires looked looked.rest.files (λ _. refl)

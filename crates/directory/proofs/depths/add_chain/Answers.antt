@@ -1,0 +1,86 @@
+use Rattle.std.proofs.Common.{ap, refl, ◌∙◌, arith}
+use Rattle.allocator.specs.BlockSet.{BlockSet}
+use Rattle.directory.proofs.LevelNodes.{left_here, ends_here, way_begins, way_step, way_read, way_here, stays_put, among_put, reads_step, measure_falls}
+use Rattle.directory.proofs.depths.add_chain.Goals as goal
+
+pub chain-init : goal.chain-init
+chain-init g c = record {
+  way = way_begins (g.N.Nodes.node c.args.nodes.now) (g.N.Nodes.blocks c.args.nodes.now) c.args.block c.args.seen.now.members c.args.found.now.members;
+  seen_size = refl;
+  found_size = refl;
+  reads = refl;
+  looks = record { same_nodes = refl; same_kept = refl; same_writes = refl; came = g.met.N.Nodes.follows_itself c.args.nodes.now; sound = c.requires.sound; same_limit = refl; same_blocks = refl };
+}
+
+pub chain-preserved : goal.chain-preserved
+chain-preserved g c =
+    let f = g.N.Nodes.node c.args.nodes.now in
+    let blocks = g.N.Nodes.blocks c.args.nodes.now in
+    let seen_size = c.chain.invariant.seen_size ∙ c.requires.size.0 in
+    let found_size = c.chain.invariant.found_size ∙ c.requires.size.1 in
+    let left = left_here blocks c.chain.at c.chain.seen c.is_left.result seen_size c.is_left.ensures c.chain-test.true in
+    record {
+      way = way_step f (g.N.Nodes.node c.chain.nodes) blocks c.args.block c.chain.at c.in_ok-at.at c.args.seen.now c.args.found.now c.chain.seen c.insert.new.self c.chain.found c.add_named.new.found c.chain.invariant.looks.same_nodes found_size c.chain.invariant.way left c.insert.ensures c.in_ok-at.ensures.next c.in_ok-at.ensures.added;
+      seen_size = ap (λ (s : BlockSet). s.blocks) c.insert.ensures ∙ c.chain.invariant.seen_size;
+      found_size = c.add_named.ensures.size ∙ c.chain.invariant.found_size;
+      reads = reads_step blocks c.chain.at (g.N.Nodes.reads c.args.nodes.now) (g.N.Nodes.reads c.chain.nodes) (g.N.Nodes.reads c.add_named.new.nodes) c.args.seen.now c.chain.seen c.insert.new.self c.requires.size.0 left c.insert.ensures c.chain.invariant.reads c.add_named.ensures.reads;
+      looks = g.met.N.Nodes.looks_on c.args.nodes.now c.chain.nodes c.add_named.new.nodes c.chain.invariant.looks c.add_named.ensures.looks;
+    }
+
+pub chain-smaller : goal.chain-smaller
+chain-smaller g c =
+    let left = left_here (g.N.Nodes.blocks c.args.nodes.now) c.chain.at c.chain.seen c.is_left.result (c.chain.invariant.seen_size ∙ c.requires.size.0) c.is_left.ensures c.chain-test.true in
+    measure_falls (g.N.Nodes.blocks c.args.nodes.now) c.chain.at c.chain.seen c.insert.new.self (c.chain.invariant.seen_size ∙ c.requires.size.0) left c.insert.ensures
+
+pub add_named-requires : goal.add_named-requires
+add_named-requires g c = c.chain.invariant.looks.sound
+
+pub insert-requires : goal.insert-requires
+insert-requires g c =
+    let left = left_here (g.N.Nodes.blocks c.args.nodes.now) c.chain.at c.chain.seen c.is_left.result (c.chain.invariant.seen_size ∙ c.requires.size.0) c.is_left.ensures c.chain-test.true in
+    omega (arith, left.below, c.chain.invariant.seen_size, c.requires.size.0)
+
+pub returns-clause-read : goal.returns-clause-read
+returns-clause-read g c =
+    let f = g.N.Nodes.node c.args.nodes.now in
+    let blocks = g.N.Nodes.blocks c.args.nodes.now in
+    way_read f blocks c.args.block c.chain.at c.args.seen.now.members c.args.found.now.members c.chain.seen.members c.chain.found.members c.chain.invariant.way
+    (ends_here f blocks c.chain.at c.chain.seen c.is_left.result (g.met.N.Nodes.none_below c.args.nodes.now 0 (omega arith)) (g.met.N.Nodes.none_beyond c.args.nodes.now) (c.chain.invariant.seen_size ∙ c.requires.size.0) c.is_left.ensures c.chain-test.false)
+
+pub returns-clause-here : goal.returns-clause-here
+returns-clause-here g c =
+    let f = g.N.Nodes.node c.args.nodes.now in
+    let blocks = g.N.Nodes.blocks c.args.nodes.now in
+    way_here f blocks c.args.block c.chain.at c.args.seen.now.members c.args.found.now.members c.chain.seen.members c.chain.found.members c.chain.invariant.way
+    (ends_here f blocks c.chain.at c.chain.seen c.is_left.result (g.met.N.Nodes.none_below c.args.nodes.now 0 (omega arith)) (g.met.N.Nodes.none_beyond c.args.nodes.now) (c.chain.invariant.seen_size ∙ c.requires.size.0) c.is_left.ensures c.chain-test.false)
+
+pub returns-clause-named : goal.returns-clause-named
+returns-clause-named g c = c.chain.invariant.way.named
+
+pub returns-clause-stays : goal.returns-clause-stays
+returns-clause-stays g c = c.chain.invariant.way.stays
+
+pub returns-clause-among : goal.returns-clause-among
+returns-clause-among g c roots list has within = (c.chain.invariant.way.seen_in roots list has within, c.chain.invariant.way.found_in roots list has within)
+
+pub returns-clause-looks : goal.returns-clause-looks
+returns-clause-looks g c = c.chain.invariant.looks
+
+pub returns-clause-reads : goal.returns-clause-reads
+returns-clause-reads g c = c.chain.invariant.reads
+
+pub returns-in_err-at-clause-stays : goal.returns-in_err-at-clause-stays
+returns-in_err-at-clause-stays g c =
+    stays_put (g.N.Nodes.node c.args.nodes.now) (g.N.Nodes.blocks c.args.nodes.now) c.args.block c.chain.at c.args.seen.now c.args.found.now c.chain.seen c.insert.new.self c.chain.found c.chain.invariant.way c.insert.ensures
+
+pub returns-in_err-at-clause-among : goal.returns-in_err-at-clause-among
+returns-in_err-at-clause-among g c =
+    let blocks = g.N.Nodes.blocks c.args.nodes.now in
+    let left = left_here blocks c.chain.at c.chain.seen c.is_left.result (c.chain.invariant.seen_size ∙ c.requires.size.0) c.is_left.ensures c.chain-test.true in
+    among_put (g.N.Nodes.node c.args.nodes.now) blocks c.args.block c.chain.at c.args.seen.now c.args.found.now c.chain.seen c.insert.new.self c.chain.found c.add_named.new.found c.chain.invariant.way left c.insert.ensures c.in_err-at.ensures.same
+
+pub returns-in_err-at-clause-reads : goal.returns-in_err-at-clause-reads
+returns-in_err-at-clause-reads g c =
+    let blocks = g.N.Nodes.blocks c.args.nodes.now in
+    let left = left_here blocks c.chain.at c.chain.seen c.is_left.result (c.chain.invariant.seen_size ∙ c.requires.size.0) c.is_left.ensures c.chain-test.true in
+    reads_step blocks c.chain.at (g.N.Nodes.reads c.args.nodes.now) (g.N.Nodes.reads c.chain.nodes) (g.N.Nodes.reads c.add_named.new.nodes) c.args.seen.now c.chain.seen c.insert.new.self c.requires.size.0 left c.insert.ensures c.chain.invariant.reads c.add_named.ensures.reads

@@ -1,7 +1,0 @@
-use Rattle.std.proofs.Common.{◌≡◌, ◌++◌}
-use Rattle.block_trees.specs.Trees.{names_of}
-use Rattle.directory.proofs.listings.names_in.Given as goal
-
--- the names so far and those of the entries left are all of them
-abbrev pub invariant-loop-entry : goal.invariant-loop-entry
-invariant-loop-entry l = l.names ++ names_of l.entry-iterator ≡ names_of l.fn.entries

@@ -1,0 +1,135 @@
+//! One node of a directory: its entries, and the block of the node after it.
+ghost use Rattle.std.specs.Prelude.{◌≡◌, ℕ, ◌≤◌, ◌⊎◌, [], length, true, Some, IfOk, IfSome};
+ghost use Rattle.fs_types.specs.declared.limits.TheConstants.{NODE_ENTRIES};
+ghost use Rattle.node_format.specs.Headers.{IsNode};
+ghost use Rattle.node_format.specs.Links.{Link, IsLink, link, link_at, chain_bytes};
+ghost use Rattle.node_format.specs.Links as spec;
+
+use crate::entry_lists::{EntryList, entries_of};
+use crate::headers::{CHAIN_MAGIC, DIRECTORY_MAGIC, MOST_ENTRIES};
+use crate::writing::push_number;
+use byteorder::{ByteOrder, LittleEndian};
+use std::alloc::{AllocError, Global};
+use std::marker::Model;
+
+/// One node of a directory: whether it is one of a chain, its entries, at most 32, and the block of
+/// the node after it. A node that another comes after has 32 entries.
+#[derive(Drop)]
+pub struct Entries<'a> {
+    chained: bool,
+    list: EntryList<'a>,
+    next: u32,
+}
+
+impl<'a> Model for Entries<'a> {
+    ghost use Rattle.node_format.specs.Links.{Link, link};
+
+    ghost Value = { Link };
+
+    ghost view = { λ e. link e.chained e.next e.list };
+}
+
+impl<'a> Entries<'a> {
+    /// What the bytes say, as a node of a directory, or None where they are none.
+    pub fn of(bytes: &'a [u8]) -> Option<Self>
+        ensures exact { result ≡ link_at bytes.now }
+
+        // What is read is spelled so, and what is spelled so is read.
+        ensures found { IfSome result (λ l. IsLink bytes.now l) }
+        ensures only { (l : Link) → IsLink bytes.now l → result ≡ Some l }
+    {
+        read(bytes)
+    }
+
+    /// The block of the node after this one, 0 where none comes.
+    pub fn next(&self) -> u32
+        ensures { result ≡ self.now.next }
+    {
+        self.next
+    }
+
+    /// Whether the node is one of a chain; else it stands alone.
+    pub fn is_chained(&self) -> bool
+        ensures { result ≡ self.now.chained }
+    {
+        self.chained
+    }
+
+    /// The entries of this node alone, at most 32.
+    pub fn list(&self) -> EntryList<'a>
+        ensures { result ≡ self.now.items }
+    {
+        EntryList {
+            count: self.list.count,
+            bytes: self.list.bytes,
+        }
+    }
+}
+
+/// A node that another comes after is full.
+fn may_go_on(next: u32, count: u32) -> bool
+    ensures { result ≡ spec.may_go_on next count }
+{
+    next == 0 || count == MOST_ENTRIES
+}
+
+#[tactic(auto, unfolding(crate::specs::Links::link_at))]
+fn read(bytes: &[u8]) -> Option<Entries<'_>>
+    ensures { result ≡ link_at bytes.now }
+{
+    if bytes.len() < 16 {
+        return None;
+    }
+    let magic = LittleEndian::read_u32(bytes);
+    let count = LittleEndian::read_u32(&bytes[4..]);
+    let used = LittleEndian::read_u32(&bytes[8..]);
+    let next = LittleEndian::read_u32(&bytes[12..]);
+    if magic == DIRECTORY_MAGIC {
+        let list = entries_of(count, used, &bytes[16..])?;
+        return Some(Entries {
+            chained: false,
+            list,
+            next: 0,
+        });
+    }
+    if magic == CHAIN_MAGIC {
+        if !may_go_on(next, count) {
+            return None;
+        }
+        let list = entries_of(count, used, &bytes[16..])?;
+        return Some(Entries {
+            chained: true,
+            list,
+            next,
+        });
+    }
+    None
+}
+
+/// The bytes of a directory without entries: the only node of a chain.
+pub const fn empty_directory() -> [u8; 16]
+    ensures written { result ≡ chain_bytes 0 [] }
+    ensures read { link_at result ≡ Some (link true 0 []) }
+    ensures node { (block : ℕ) → 4096 ≤ block → IsNode block result }
+{
+    *b"UFNE\0\0\0\0\0\0\0\0\0\0\0\0"
+}
+
+/// The bytes of a node of a chain with at most 32 entries, before the node in the block `next`, or as
+/// the last one where that is 0. A node that another comes after has 32.
+pub fn chain_node(alloc: Global, list: &EntryList<'_>, next: u32) -> Result<Vec<u8>, AllocError>
+    requires few { length list.now ≤ NODE_ENTRIES }
+    requires full { (next ≡ 0) ⊎ (length list.now ≡ NODE_ENTRIES) }
+    ensures written { IfOk result (λ bytes. bytes.items ≡ chain_bytes next list.now) }
+    ensures read { IfOk result (λ bytes. link_at bytes.items ≡ Some (link true next list.now)) }
+    ensures node { IfOk result (λ bytes. (block : ℕ) → 4096 ≤ block → IsNode block bytes.items) }
+{
+    let spelled = list.bytes;
+    let mut out = Vec::with_capacity(alloc, 16 + spelled.len())?;
+    out.extend_from_slice(b"UFNE")?;
+    push_number(&mut out, list.count)?;
+    push_number(&mut out, spelled.len() as u32)?;
+    push_number(&mut out, next)?;
+    out.extend_from_slice(spelled)?;
+    Ok(out)
+}

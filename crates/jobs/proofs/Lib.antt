@@ -1,3 +1,4 @@
+mod Grammars
 mod Numbers
 mod Said
 mod Simple

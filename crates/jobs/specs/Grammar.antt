@@ -12,12 +12,26 @@ image_rule = record (new_rule (codes "IMAGE")) { required = true; action = Some 
 abbrev pub number_rule : Text → Rule
 number_rule name = record (new_rule name) { long = Some name; value_names = 1; action = Some ArgAction.Set; parser = Some (ValueParser.Signed (pos 0) (pos 4294967295)) }
 
+-- a flag `--NAME`
+abbrev pub flag_rule : Text → Rule
+flag_rule name = record (new_rule name) { long = Some name; action = Some ArgAction.SetTrue }
+
+-- the number of a refusal, which has to be given
+abbrev pub refusal_rule : Rule
+refusal_rule = record (new_rule (codes "NO")) { required = true; action = Some ArgAction.Set; parser = Some (ValueParser.Signed (pos 0) (pos 4294967295)) }
+
 -- a subcommand that takes an image
 abbrev pub image_app : Text → App
 image_app name = with_rule (new_app name) image_rule
 
 abbrev pub format_app : App
 format_app = with_rule (with_rule (with_rule (with_rule (image_app (codes "format")) (number_rule (codes "page"))) (number_rule (codes "pages"))) (number_rule (codes "blocks"))) (number_rule (codes "history"))
+
+abbrev pub run_app : App
+run_app = with_rule (image_app (codes "run")) (flag_rule (codes "stop"))
+
+abbrev pub explain_app : App
+explain_app = with_rule (new_app (codes "explain")) refusal_rule
 
 -- the program before its subcommands: one of them has to be named, by the first word
 abbrev pub bare_top : Shape
@@ -28,9 +42,13 @@ bare_app = record (new_app (codes "uffs")) { top = bare_top }
 
 -- a program with the subcommands more that take an image alone
 abbrev pub with_image_apps : App → App
-with_image_apps app = with_subcommand (with_subcommand (with_subcommand (with_subcommand app
-    (image_app (codes "run")).top) (image_app (codes "check")).top) (image_app (codes "log")).top) (image_app (codes "df")).top
+with_image_apps app = with_subcommand (with_subcommand (with_subcommand app
+    (image_app (codes "check")).top) (image_app (codes "log")).top) (image_app (codes "df")).top
+
+-- the program with the subcommands that make or change an image
+abbrev pub changing_app : App
+changing_app = with_subcommand (with_subcommand bare_app format_app.top) run_app.top
 
 -- the program
 abbrev pub uffs : App
-uffs = with_subcommand (with_image_apps (with_subcommand bare_app format_app.top)) (new_app (codes "memory")).top
+uffs = with_subcommand (with_subcommand (with_image_apps changing_app) (new_app (codes "memory")).top) explain_app.top

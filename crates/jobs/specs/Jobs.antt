@@ -1,5 +1,5 @@
 -- The job that words ask for.
-use Rattle.std.specs.Prelude.{◌≡◌, ◌^◌, ◌<◌, ℕ, Option, Some, None, List, codes, if◌then◌else◌, option_map, is_some, true}
+use Rattle.std.specs.Prelude.{◌≡◌, ◌^◌, ◌<◌, ℕ, Bool, true, false, Option, Some, None, List, codes, if◌then◌else◌, option_map, is_some}
 use Rattle.std.specs.Borrow.{Bor}
 use Rattle.std.specs.Str.{bytes_eq}
 use Rattle.std.specs.Str.Parse.{IsNumeral, without_leading_plus, digits_value}
@@ -21,6 +21,7 @@ task_named name = if bytes_eq name (codes "format") then Some Task.Format
     else if bytes_eq name (codes "log") then Some Task.Log
     else if bytes_eq name (codes "df") then Some Task.Df
     else if bytes_eq name (codes "memory") then Some Task.Memory
+    else if bytes_eq name (codes "explain") then Some Task.Explain
     else None
 
 -- the number of 32 bits that a word spells in decimal digits
@@ -38,16 +39,28 @@ pub record AreNumbersOf (rows : List Row) (numbers : Numbers) : Type 0 where
   pub pages : IsNumberOf (one_of (codes "pages") rows) 16 numbers.pages
   pub blocks : IsNumberOf (one_of (codes "blocks") rows) 32 numbers.blocks
   pub history : IsNumberOf (one_of (codes "history") rows) 8 numbers.history
+  pub refusal : IsNumberOf (one_of (codes "NO") rows) 0 numbers.refusal
 
--- a job names the image that the words name, and none for `memory`
+-- the tasks that are done on no image
+abbrev pub has_no_image : Task → Bool
+has_no_image Task.Memory = true
+has_no_image Task.Explain = true
+has_no_image _ = false
+
+-- a job names the image that the words name, and none where the task has none
 pub record IsImageOf (task : Task) (word image : Option Text) : Type 0 where
-  pub memory : task ≡ Task.Memory → image ≡ None
-  pub others : (task ≡ Task.Memory → ⊥) → (is_some image ≡ true) × (image ≡ word)
+  pub none : has_no_image task ≡ true → image ≡ None
+  pub others : has_no_image task ≡ false → (is_some image ≡ true) × (image ≡ word)
+
+-- a flag is on where the words give it
+abbrev pub flag_of : Option Text → Bool
+flag_of (Some word) = bytes_eq word (codes "true")
+flag_of None = false
 
 abbrev pub image_of : Job → Option Text
 image_of job = option_map (λ (s : Bor (List ℕ)). s.now) job.image
 
--- the job is what a subcommand with its arguments says: numbers that no option gives are 256, 16, 32 and 8
+-- the job is what a subcommand with its arguments says: numbers that no word gives are 256, 16, 32, 8 and 0
 pub record IsJobOf (name : Text) (rows : List Row) (job : Job) : Type 0 where
   pub command : task_named name ≡ Some job.command
   pub image : IsImageOf job.command (first_of (codes "IMAGE") rows) (image_of job)
@@ -55,6 +68,8 @@ pub record IsJobOf (name : Text) (rows : List Row) (job : Job) : Type 0 where
   pub pages : IsNumberOf (one_of (codes "pages") rows) 16 job.pages
   pub blocks : IsNumberOf (one_of (codes "blocks") rows) 32 job.blocks
   pub history : IsNumberOf (one_of (codes "history") rows) 8 job.history
+  pub refusal : IsNumberOf (one_of (codes "NO") rows) 0 job.refusal
+  pub stop : job.stop ≡ flag_of (first_of (codes "stop") rows)
 
 -- the job is what a subcommand says, where one was named
 abbrev pub SaysJob : Option (Text × List Row) → Job → Type 0

@@ -2,13 +2,16 @@
 ghost use Rattle.std.specs.Prelude.{◌≡◌, IfOk, codes, false};
 ghost use Rattle.clap.specs.Words.{app_of, rule_of, new_app, with_rule, with_subcommand};
 ghost use Rattle.clap.specs.declared.builder.command.Command.TheViews.{out-Command};
-ghost use Rattle.jobs.specs.Grammar.{uffs, bare_app, format_app, image_app, with_image_apps, number_rule};
+ghost use Rattle.jobs.specs.Grammar.{uffs, bare_app, changing_app, format_app, run_app, explain_app, image_app, with_image_apps, flag_rule, number_rule, refusal_rule};
 
 use clap::{Arg, ArgAction, Command, value_parser};
 use std::alloc::{AllocError, Global};
 
 /// The name of the argument that names the file of an image.
 pub(crate) const IMAGE: &str = "IMAGE";
+
+/// The name of the argument that is the number of a refusal.
+pub(crate) const REFUSAL: &str = "NO";
 
 /// What `uffs --version` says after the name.
 const VERSION: &str = "0.1.0";
@@ -18,6 +21,7 @@ const PROGRAM_HELP: &str = "Status:
   1  IMAGE, the input or the output failed, or memory
   2  the words were refused, or help or the version was asked for
   3  IMAGE holds no image, or a format or a mount was refused
+  4  what was asked for was refused, or a line of a script with --stop
 
 Example:
   uffs format disk.image
@@ -34,12 +38,13 @@ Example: uffs format disk.image --blocks 64 --history 16";
 const RUN_HELP: &str =
     "Each line of the input is answered by one line of the output. At the end of the script the image is
 written back. What was not synced by then is lost, and where the script does not run to its end
-IMAGE stays as it was.
+IMAGE stays as it was. With --stop it ends at the first line that is refused, which is told with its
+number, and IMAGE stays as it was.
 
 Status: 0 the script ran to its end; 1 IMAGE, the input or the output failed, or memory; 2 the
-words; 3 IMAGE holds no image, or its mount was refused.
+words; 3 IMAGE holds no image, or its mount was refused; 4 a line was refused, with --stop.
 
-Example: printf 'mkdir /a\\nsync\\n' | uffs run disk.image";
+Example: printf 'mkdir /a\\nsync\\n' | uffs run disk.image --stop";
 
 const CHECK_HELP: &str =
     "The newest record is read, and every tree that it names. Nothing is written to IMAGE.
@@ -73,25 +78,35 @@ Status: 0 the script ran to its end; 1 the input or the output failed, or memory
 
 Example: echo 'df' | uffs memory";
 
+const EXPLAIN_HELP: &str =
+    "Prints what the refusal of this number means, and what can be done. No file is read or written.
+
+Status: 0 it is printed; 1 the output failed, or memory; 2 the words; 4 no refusal has this number,
+told as uffs: EINVAL 7.
+
+Example: uffs explain 15";
+
 /// The program with all its subcommands.
 pub(crate) fn program<'a>(alloc: Global) -> Result<Command<'a>, AllocError>
     ensures { IfOk result (λ command. app_of command ≡ uffs) }
 {
+    let program = with_image_commands(alloc, changing_program(alloc)?)?;
+    let program = program.subcommand(memory_command(alloc))?;
+    program.subcommand(explain_command(alloc)?)
+}
+
+/// The program with the subcommands that make or change an image.
+fn changing_program<'a>(alloc: Global) -> Result<Command<'a>, AllocError>
+    ensures { IfOk result (λ command. app_of command ≡ changing_app) }
+{
     let program = bare_program(alloc)?.subcommand(format_command(alloc)?)?;
-    with_image_commands(alloc, program)?.subcommand(memory_command(alloc))
+    program.subcommand(run_command(alloc)?)
 }
 
 /// The program with the subcommands more that take an image alone.
 fn with_image_commands<'a>(alloc: Global, program: Command<'a>) -> Result<Command<'a>, AllocError>
     ensures { IfOk result (λ command. app_of command ≡ with_image_apps (app_of program.entry)) }
 {
-    let program = with_image_command(
-        alloc,
-        program,
-        "run",
-        "Runs the script on standard input on an image",
-        RUN_HELP,
-    )?;
     let program = with_image_command(
         alloc,
         program,
@@ -184,6 +199,47 @@ fn format_command<'a>(alloc: Global) -> Result<Command<'a>, AllocError>
     )
 }
 
+fn run_command<'a>(alloc: Global) -> Result<Command<'a>, AllocError>
+    ensures app { IfOk result (λ command. app_of command ≡ run_app) }
+    ensures local { IfOk result (λ command. (out-Command command).has_globals ≡ false) }
+{
+    let command = image_command(
+        alloc,
+        "run",
+        "Runs the script on standard input on an image",
+        RUN_HELP,
+    )?;
+    with_flag(
+        alloc,
+        command,
+        "stop",
+        "Ends at the first line that is refused",
+    )
+}
+
+fn explain_command<'a>(alloc: Global) -> Result<Command<'a>, AllocError>
+    ensures app { IfOk result (λ command. app_of command ≡ explain_app) }
+    ensures local { IfOk result (λ command. (out-Command command).has_globals ≡ false) }
+{
+    let command = Command::new(alloc, "explain")
+        .about("Tells what a refusal means")
+        .after_help(EXPLAIN_HELP);
+    command.arg(refusal_arg(alloc))
+}
+
+/// The subcommand with a flag more.
+fn with_flag<'a>(
+    alloc: Global,
+    command: Command<'a>,
+    name: &'a str,
+    help: &'a str,
+) -> Result<Command<'a>, AllocError>
+    ensures app { IfOk result (λ more. app_of more ≡ with_rule (app_of command.entry) (flag_rule name.entry.now)) }
+    ensures local { IfOk result (λ more. (out-Command more).has_globals ≡ (out-Command command.entry).has_globals) }
+{
+    command.arg(flag_arg(alloc, name, help))
+}
+
 /// The subcommand with an option more that takes a number.
 fn with_number<'a>(
     alloc: Global,
@@ -224,6 +280,29 @@ fn memory_command<'a>(alloc: Global) -> Command<'a>
     Command::new(alloc, "memory")
         .about("Runs the script on standard input on a flash in memory")
         .after_help(MEMORY_HELP)
+}
+
+/// A flag.
+fn flag_arg<'a>(alloc: Global, name: &'a str, help: &'a str) -> Arg<'a>
+    ensures rule { rule_of result ≡ flag_rule name.entry.now }
+    ensures local { result.global ≡ false }
+{
+    Arg::new(alloc, name)
+        .long(name)
+        .action(ArgAction::SetTrue)
+        .help(help)
+}
+
+/// The number of a refusal.
+fn refusal_arg<'a>(alloc: Global) -> Arg<'a>
+    ensures rule { rule_of result ≡ refusal_rule }
+    ensures local { result.global ≡ false }
+{
+    Arg::new(alloc, REFUSAL)
+        .required(true)
+        .action(ArgAction::Set)
+        .value_parser(value_parser!(u32))
+        .help("The number of the refusal")
 }
 
 /// An option that takes a number.

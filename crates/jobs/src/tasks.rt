@@ -15,6 +15,8 @@ pub enum Task {
     Df,
     /// A script is run on a flash in memory.
     Memory,
+    /// What a refusal means is told.
+    Explain,
 }
 
 /// A task with what it is to be done on.
@@ -22,7 +24,7 @@ pub enum Task {
 pub struct Job<'a> {
     /// What is to be done.
     pub command: Task,
-    /// The file of the image; none for `memory`.
+    /// The file of the image; none for `memory` and `explain`.
     pub image: Option<&'a str>,
     /// Bytes of a page.
     pub page: u32,
@@ -32,4 +34,8 @@ pub struct Job<'a> {
     pub blocks: u32,
     /// Versions that are kept.
     pub history: u32,
+    /// The number of a refusal, 1 to 31; 0 where none is named.
+    pub refusal: u32,
+    /// Whether a script ends at its first line that is refused.
+    pub stop: bool,
 }

@@ -3,11 +3,11 @@ ghost use Rattle.std.specs.Prelude.{◌≡◌, ℕ, [], codes, IfOk, OnOk, IfErr
 ghost use Rattle.clap.specs.Words.{HasKind, app_of, fault_of, found_of, rows_of, subcommand_rows_of};
 ghost use Rattle.clap.specs.Walk.{one_of, first_of};
 ghost use Rattle.jobs.specs.Grammar.{uffs};
-ghost use Rattle.jobs.specs.Jobs.{AreNumbersOf, AsksFor, SaysJob, IsNumberOf, IsImageOf, task_named};
+ghost use Rattle.jobs.specs.Jobs.{AreNumbersOf, AsksFor, SaysJob, IsNumberOf, IsImageOf, flag_of, has_no_image, task_named};
 ghost use Rattle.jobs.specs.declared.tasks.Job.{Job};
 ghost use Rattle.jobs.specs.declared.words.Numbers.{Numbers};
 
-use crate::grammar::{IMAGE, program};
+use crate::grammar::{IMAGE, REFUSAL, program};
 use crate::tasks::{Job, Task};
 use clap::error::ErrorKind;
 use clap::{ArgMatches, Command, Error};
@@ -19,12 +19,13 @@ struct Numbers {
     pages: u32,
     blocks: u32,
     history: u32,
+    refusal: u32,
 }
 
 /// What the words that follow the program's name ask for.
 ///
 /// A number is the one that the word of its option spells, else its default: 256, 16, 32 and 8. It
-/// is any `u32`: whether it is lawful is the format's to say. Where the words are no job the error
+/// is any `u32`: whether it is lawful is the format's to say. The number of a refusal is 1 to 31. Where the words are no job the error
 /// has the text for the user and says why; want of memory is `OutOfMemory`.
 pub fn job<'a>(alloc: Global, words: &'a [String]) -> Result<Job<'a>, Error>
     ensures given { IfOk result (AsksFor (map string_bytes words.now)) }
@@ -77,6 +78,7 @@ fn said<'a>(matches: &ArgMatches<'a>) -> Option<Job<'a>>
         pages,
         blocks,
         history,
+        refusal,
     } = numbers_of(given)?;
     Some(Job {
         command,
@@ -85,6 +87,8 @@ fn said<'a>(matches: &ArgMatches<'a>) -> Option<Job<'a>>
         pages,
         blocks,
         history,
+        refusal,
+        stop: has_flag(given, "stop"),
     })
 }
 
@@ -98,6 +102,7 @@ fn numbers_of(given: &ArgMatches<'_>) -> Option<Numbers>
         pages: number(given, "pages", 16)?,
         blocks: number(given, "blocks", 32)?,
         history: number(given, "history", 8)?,
+        refusal: number(given, REFUSAL, 0)?,
     })
 }
 
@@ -111,16 +116,27 @@ fn task_named(name: &str) -> Option<Task>
         "log" => Some(Task::Log),
         "df" => Some(Task::Df),
         "memory" => Some(Task::Memory),
+        "explain" => Some(Task::Explain),
         _ => None,
     }
 }
 
-/// The image that a task is done on, and that there is none for `memory`.
+/// Whether a task has no image.
+fn has_no_image(command: Task) -> bool
+    ensures { result ≡ has_no_image command }
+{
+    match command {
+        Task::Memory | Task::Explain => true,
+        _ => false,
+    }
+}
+
+/// The image that a task is done on, and that there is none for one that has none.
 fn image<'a>(given: &ArgMatches<'a>, command: Task) -> Option<Option<&'a str>>
     ensures some { IfSome result (λ image. IsImageOf command (first_of (codes "IMAGE") (rows_of (found_of given.now))) (option_map (λ s. s.now) image)) }
     ensures none { IfNone result ((image : Option (List ℕ)) → IsImageOf command (first_of (codes "IMAGE") (rows_of (found_of given.now))) image → ⊥) }
 {
-    if command == Task::Memory {
+    if has_no_image(command) {
         return Some(None);
     }
     match given.get_str(IMAGE) {
@@ -138,5 +154,15 @@ fn number(given: &ArgMatches<'_>, name: &str, default: u32) -> Option<u32>
         Ok(Some(number)) => Some(number),
         Ok(None) => Some(default),
         Err(_) => None,
+    }
+}
+
+/// Whether a flag is given.
+fn has_flag(given: &ArgMatches<'_>, name: &str) -> bool
+    ensures { result ≡ flag_of (first_of name.now (rows_of (found_of given.now))) }
+{
+    match given.get_str(name) {
+        Some(word) => word == "true",
+        None => false,
     }
 }

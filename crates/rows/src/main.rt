@@ -5,6 +5,7 @@
 //! not give its replies is told with what it gave, and the status is 1.
 #![tactic(auto)]
 
+mod calls;
 mod error;
 mod look;
 mod nodes;
@@ -114,7 +115,8 @@ fn try_side<R: Files<File = File> + AllocGlobal>(
     let image = first.as_ref().map(|bytes| bytes.as_slice());
     let written = written_on(rt, source.image, &row, image, side, differences)?;
     append_difference(differences, &row, side, written.as_str())?;
-    Ok(row.steps.len().saturating_add(row.looks.len()))
+    let lines = row.steps.len().saturating_add(row.calls.len());
+    Ok(lines.saturating_add(row.looks.len()))
 }
 
 /// The bytes of the image that a row begins on; none for a new file system.

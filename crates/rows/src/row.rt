@@ -1,4 +1,5 @@
 //! A row: a script with the replies that are expected, and what it runs on.
+use crate::calls::ToolCall;
 use crate::error::RowError;
 use crate::look::{Claim, Look};
 use flash_model::{FaultKind, Geometry, PlannedFault};
@@ -59,6 +60,8 @@ pub struct Row<'a> {
     pub image: Option<&'a str>,
     pub plan: Vec<PlannedFault>,
     pub steps: Vec<Step<'a>>,
+    /// The calls of the program that come after the lines, on an image alone.
+    pub calls: Vec<ToolCall<'a>>,
     /// What is looked at on the flash afterwards.
     pub looks: Vec<Look<'a>>,
 }
@@ -79,13 +82,14 @@ impl<'a> Row<'a> {
             image: None,
             plan: Vec::new(alloc),
             steps: Vec::new(alloc),
+            calls: Vec::new(alloc),
             looks: Vec::new(alloc),
         };
-        row.take(text, side)?;
+        row.take(alloc, text, side)?;
         Ok(row)
     }
 
-    fn take(&mut self, text: &'a str, side: Side) -> Result<(), RowError> {
+    fn take(&mut self, alloc: Global, text: &'a str, side: Side) -> Result<(), RowError> {
         let mut line = None;
         let mut is_skipped = false;
         for text_line in text.lines() {
@@ -98,6 +102,8 @@ impl<'a> Row<'a> {
             } else if let Some(reply) = text_line.strip_prefix("< ") {
                 self.add(line.take(), reply, is_skipped)?;
                 is_skipped = false;
+            } else if text_line.starts_with('$') {
+                self.add_of_call(alloc, text_line, side)?;
             } else {
                 self.set(text_line, side)?;
             }
@@ -116,6 +122,26 @@ impl<'a> Row<'a> {
             self.steps.push(Step { line, reply })?;
         }
         Ok(())
+    }
+
+    /// Takes a line of a call of the program, which is made on an image alone.
+    fn add_of_call(
+        &mut self,
+        alloc: Global,
+        text_line: &'a str,
+        side: Side,
+    ) -> Result<(), RowError> {
+        if !matches!(side, Side::Image) {
+            return Ok(());
+        }
+        if let Some(words) = text_line.strip_prefix("$ ") {
+            self.calls.push(ToolCall::new(alloc, words))?;
+            return Ok(());
+        }
+        match self.calls.last_mut() {
+            Some(call) => Ok(call.add(text_line)?),
+            None => Err(RowError::Layout),
+        }
     }
 
     /// Takes a setting, or a look at the flash; other lines tell a reader something.

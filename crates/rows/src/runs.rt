@@ -1,5 +1,6 @@
 //! What a row writes on the plain machine, on a flash in memory, and by the program on an image: a
 //! line for each of its own.
+use crate::calls::append_given;
 use crate::error::RowError;
 use crate::row::{Row, Side};
 use crate::sight::Sight;
@@ -124,7 +125,7 @@ fn script_of(alloc: Global, row: &Row<'_>) -> Result<String, AllocError> {
 }
 
 /// Runs a row by the program on an image of this name, which is put there or which the program makes
-/// first, and looks at the flash of the image.
+/// first, makes the calls that come after its lines, and looks at the flash of the image.
 pub fn run_on_image<F: ImageFiles>(
     files: &mut F,
     alloc: Global,
@@ -140,6 +141,7 @@ pub fn run_on_image<F: ImageFiles>(
     let words = words_of(alloc, "run", name)?;
     let script = script_of(alloc, row)?;
     let written = call(files, alloc, &words, script.as_str())?;
+    make_calls(files, alloc, name, row, differences)?;
     let bytes = files.read(alloc, name)?;
     let flash = decode(alloc, &bytes)?;
     look_at(alloc, row, Side::Image, &flash, differences)?;
@@ -196,6 +198,42 @@ fn add_size(
     words.push(option.to_string(alloc)?)?;
     words.push(size.to_string(alloc)?)?;
     Ok(())
+}
+
+/// Makes the calls of the program that a row has after its lines, and appends what they give and the
+/// row does not want.
+fn make_calls<F: ImageFiles>(
+    files: &mut F,
+    alloc: Global,
+    name: &str,
+    row: &Row<'_>,
+    differences: &mut String,
+) -> Result<(), RowError> {
+    for call in &row.calls {
+        let words = call.words(alloc, name)?;
+        let input = call.input(alloc)?;
+        let given = give(files, alloc, &words, input.as_str())?;
+        call.append_difference(differences, given.as_str())?;
+    }
+    Ok(())
+}
+
+/// Calls the program, and spells what it gives.
+fn give<F: ImageFiles>(
+    files: &mut F,
+    alloc: Global,
+    words: &[String],
+    input: &str,
+) -> Result<String, RowError> {
+    let mut reader = input.as_bytes();
+    let mut written: Vec<u8> = Vec::new(alloc);
+    let mut told: Vec<u8> = Vec::new(alloc);
+    let status = tool(files, alloc, words, &mut reader, &mut written, &mut told);
+    let written = text_of(written)?;
+    let told = text_of(told)?;
+    let mut given = String::new(alloc);
+    append_given(&mut given, written.as_str(), told.as_str(), status)?;
+    Ok(given)
 }
 
 /// Calls the program, which has to run to its end, and gives what it writes.

@@ -56,7 +56,7 @@ fn stands_for_itself(byte: u8) -> bool
     (0x21..=0x7e).contains(&byte) && byte != b'%'
 }
 
-fn print_name_byte(out: &mut Vec<u8>, byte: u8) -> Result<(), AllocError>
+pub fn print_name_byte(out: &mut Vec<u8>, byte: u8) -> Result<(), AllocError>
     ensures { OnOk result (out.new.items ≡ out.old.items ++ escaped_byte byte) }
 {
     if stands_for_itself(byte) {

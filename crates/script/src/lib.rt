@@ -17,6 +17,7 @@ mod views;
 mod words;
 
 pub use answers::LineAnswer;
+pub use digits::{print_name, print_number};
 pub use kinds::kind_of;
 pub use lines::{LINE_LIMIT, Line, read_line};
 pub use replies::print_answer;

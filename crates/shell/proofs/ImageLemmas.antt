@@ -1,5 +1,5 @@
 -- How what is done on an image ends, by how its parts do.
-use Rattle.std.proofs.Common.{◌≡◌, ◌≢◌, ◌<◌, ℕ, Option, Some, None, Result, Ok, Err, List, IfSome, IfErr, IfOk, OnOk, OnErr, take, codes, inl, inr, refl, sym, ◌∙◌, ap, subst, arith}
+use Rattle.std.proofs.Common.{◌≡◌, ◌≢◌, ◌<◌, ℕ, Bool, Option, Some, None, Result, Ok, Err, List, IfSome, IfErr, IfOk, OnOk, OnErr, take, codes, inl, inr, refl, sym, ◌∙◌, ap, subst, arith}
 use Rattle.std.specs.Io.KnownBytes.{Appends}
 use Rattle.fs_types.specs.declared.limits.TheConstants.{MIN_VERSIONS, MAX_VERSIONS}
 use Rattle.fs_types.specs.declared.faults.Fault.{Fault}
@@ -52,6 +52,8 @@ cause_front held bytes front Failure.CannotRead cause = absurd cause
 cause_front held bytes front Failure.Unavailable cause = absurd cause
 cause_front held bytes front Failure.CannotWrite cause = absurd cause
 cause_front held bytes front Failure.Unsynced cause = absurd cause
+cause_front held bytes front (Failure.Refused refusal) cause = absurd cause
+cause_front held bytes front (Failure.Stopped at) cause = absurd cause
 cause_front held bytes front Failure.Input cause = absurd cause
 cause_front held bytes front Failure.Output cause = absurd cause
 cause_front held bytes front (Failure.System fault) cause = absurd cause
@@ -63,38 +65,40 @@ cause_unread held Failure.Memory cause = tt
 cause_unread held Failure.Unavailable cause = absurd cause
 cause_unread held Failure.CannotWrite cause = absurd cause
 cause_unread held Failure.Unsynced cause = absurd cause
+cause_unread held (Failure.Refused refusal) cause = absurd cause
+cause_unread held (Failure.Stopped at) cause = absurd cause
 cause_unread held Failure.Input cause = absurd cause
 cause_unread held Failure.Output cause = absurd cause
 cause_unread held (Failure.Image fault) cause = absurd cause
 cause_unread held (Failure.System fault) cause = absurd cause
 
 -- a script is run on the flash of the bytes that are read of a file
-pub plays_front : (held : Option (List ℕ)) (bytes : List ℕ) → IsFront held bytes → (input left : Option (List ℕ)) (result : Result SimFlash Failure) (old new : Option (List ℕ))
-    → PlaysBy (IsDecoded bytes) (DecodeCause bytes) input left result old new → Plays held input left result old new
-plays_front held bytes front input left (Ok end) old new (start, decoded, ends) = (start, loaded_front held bytes front start decoded, ends)
-plays_front held bytes front input left (Err failure) old new (inl (cause, unread, unwritten)) = inl (cause_front held bytes front failure cause, unread, unwritten)
-plays_front held bytes front input left (Err failure) old new (inr (start, end, fault, decoded, ends, is)) = inr (start, end, fault, loaded_front held bytes front start decoded, ends, is)
+pub plays_front : (stop : Bool) (held : Option (List ℕ)) (bytes : List ℕ) → IsFront held bytes → (input left : Option (List ℕ)) (result : Result SimFlash Failure) (old new : Option (List ℕ))
+    → PlaysBy stop (IsDecoded bytes) (DecodeCause bytes) input left result old new → Plays stop held input left result old new
+plays_front stop held bytes front input left (Ok end) old new (start, decoded, ends) = (start, loaded_front held bytes front start decoded, ends)
+plays_front stop held bytes front input left (Err failure) old new (inl (cause, unread, unwritten)) = inl (cause_front held bytes front failure cause, unread, unwritten)
+plays_front stop held bytes front input left (Err failure) old new (inr (start, end, ended, decoded, ends, is)) = inr (start, end, ended, loaded_front held bytes front start decoded, ends, is)
 
 -- a run ends so whatever the files hold that were claimed, since a claim changes none
-after_claim : (name : List ℕ) (held claimed saved : Held) (input left : Option (List ℕ)) (result : Result (Unit {0}) Failure) (old new : Option (List ℕ))
-    → claimed ≡ held → RunEnds name claimed saved input left result old new → RunEnds name held saved input left result old new
-after_claim name held claimed saved input left result old new same ends = subst (λ (h : Held). RunEnds name h saved input left result old new) same ends
+after_claim : (stop : Bool) (name : List ℕ) (held claimed saved : Held) (input left : Option (List ℕ)) (result : Result (Unit {0}) Failure) (old new : Option (List ℕ))
+    → claimed ≡ held → RunEnds stop name claimed saved input left result old new → RunEnds stop name held saved input left result old new
+after_claim stop name held claimed saved input left result old new same ends = subst (λ (h : Held). RunEnds stop name h saved input left result old new) same ends
 
 -- what a script leaves is saved where it changed
-pub run_saved : (name : List ℕ) (held claimed saved : Held) (bytes kept : List ℕ) (input left : Option (List ℕ)) (end : SimFlash) (result : Result (Unit {0}) Failure) (old new : Option (List ℕ))
-    → claimed ≡ held → IsFront (claimed name) bytes → PlaysBy (IsDecoded bytes) (DecodeCause bytes) input left (Ok end) old new → kept ≡ bytes
+pub run_saved : (stop : Bool) (name : List ℕ) (held claimed saved : Held) (bytes kept : List ℕ) (input left : Option (List ℕ)) (end : SimFlash) (result : Result (Unit {0}) Failure) (old new : Option (List ℕ))
+    → claimed ≡ held → IsFront (claimed name) bytes → PlaysBy stop (IsDecoded bytes) (DecodeCause bytes) input left (Ok end) old new → kept ≡ bytes
     → OnOk result (SavesChange name claimed saved kept (image_of (device_of end))) → IfErr result (ChangeUnsaved name claimed saved kept (image_of (device_of end)))
-    → RunEnds name held saved input left result old new
-run_saved name held claimed saved bytes kept input left end (Ok done) old new same front (start, decoded, ends) is ok err =
-    after_claim name held claimed saved input left (Ok done) old new same (
+    → RunEnds stop name held saved input left result old new
+run_saved stop name held claimed saved bytes kept input left end (Ok done) old new same front (start, decoded, ends) is ok err =
+    after_claim stop name held claimed saved input left (Ok done) old new same (
       start,
       end,
       loaded_front (claimed name) bytes front start decoded,
       ends,
       subst (λ (was : List ℕ). SavesChange name claimed saved was (image_of (device_of end))) (is ∙ decoded.spelled) ok,
     )
-run_saved name held claimed saved bytes kept input left end (Err failure) old new same front (start, decoded, ends) is ok err =
-    after_claim name held claimed saved input left (Err failure) old new same (inr (
+run_saved stop name held claimed saved bytes kept input left end (Err failure) old new same front (start, decoded, ends) is ok err =
+    after_claim stop name held claimed saved input left (Err failure) old new same (inr (
       start,
       end,
       loaded_front (claimed name) bytes front start decoded,
@@ -103,17 +107,17 @@ run_saved name held claimed saved bytes kept input left end (Err failure) old ne
     ))
 
 -- a script that does not run to its end changes no file
-pub run_broken : (name : List ℕ) (held claimed : Held) (bytes : List ℕ) (input left : Option (List ℕ)) (failure : Failure) (old new : Option (List ℕ))
-    → claimed ≡ held → IsFront (claimed name) bytes → PlaysBy (IsDecoded bytes) (DecodeCause bytes) input left (Err failure) old new
-    → RunEnds name held claimed input left (Err failure) old new
-run_broken name held claimed bytes input left failure old new same front plays =
-    after_claim name held claimed claimed input left (Err failure) old new same (inl (inr (plays_front (claimed name) bytes front input left (Err failure) old new plays), refl))
+pub run_broken : (stop : Bool) (name : List ℕ) (held claimed : Held) (bytes : List ℕ) (input left : Option (List ℕ)) (failure : Failure) (old new : Option (List ℕ))
+    → claimed ≡ held → IsFront (claimed name) bytes → PlaysBy stop (IsDecoded bytes) (DecodeCause bytes) input left (Err failure) old new
+    → RunEnds stop name held claimed input left (Err failure) old new
+run_broken stop name held claimed bytes input left failure old new same front plays =
+    after_claim stop name held claimed claimed input left (Err failure) old new same (inl (inr (plays_front stop (claimed name) bytes front input left (Err failure) old new plays), refl))
 
 -- nor does one of which the image is not read
-pub run_unread : (name : List ℕ) (held claimed : Held) (input : Option (List ℕ)) (failure : Failure) (old : Option (List ℕ))
-    → claimed ≡ held → IsUnread (claimed name) failure → RunEnds name held claimed input input (Err failure) old old
-run_unread name held claimed input failure old same unread =
-    after_claim name held claimed claimed input input (Err failure) old old same (inl (inr (inl (cause_unread (claimed name) failure unread, refl, refl)), refl))
+pub run_unread : (stop : Bool) (name : List ℕ) (held claimed : Held) (input : Option (List ℕ)) (failure : Failure) (old : Option (List ℕ))
+    → claimed ≡ held → IsUnread (claimed name) failure → RunEnds stop name held claimed input input (Err failure) old old
+run_unread stop name held claimed input failure old same unread =
+    after_claim stop name held claimed claimed input input (Err failure) old old same (inl (inr (inl (cause_unread (claimed name) failure unread, refl, refl)), refl))
 
 pub check_said : (held : Option (List ℕ)) (start end : SimFlash) (system : System) (result : Result (Unit {0}) Failure) (old new : Option (List ℕ))
     → IsLoaded held start → IsMountOf (device_of start) (device_of end) system → OnOk result (Appends old new (codes "ok\n"))

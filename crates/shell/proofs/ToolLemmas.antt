@@ -1,5 +1,5 @@
 -- How the program ends, by how its job does or by why its words are refused.
-use Rattle.std.proofs.Common.{◌≡◌, ◌≢◌, ◌⊎◌, ◌∙◌, ℕ, Option, Some, None, Result, Ok, Err, List, [], ◌∷◌, IsTrue, codes, option_map, inl, inr, refl, sym, ap, subst, true≢false}
+use Rattle.std.proofs.Common.{◌≡◌, ◌≢◌, ◌⊎◌, ◌∙◌, ℕ, Option, Some, None, Result, Ok, Err, List, [], ◌∷◌, IsTrue, false, codes, option_map, inl, inr, refl, sym, ap, subst, true≢false}
 use Rattle.std.proofs.lemmas.Slice.Eq.{bytes_eq-Decides}
 use Rattle.std.specs.Borrow.{Bor}
 use Rattle.clap.specs.Words.{HasKind, Kinds, IsAmong, fault_of, kind_of}
@@ -7,13 +7,13 @@ use Rattle.clap.specs.declared.error.Error.{Error}
 use Rattle.clap.specs.declared.error.kind.ErrorKind.{ErrorKind}
 use Rattle.fs_types.specs.declared.faults.Fault.{Fault}
 use Rattle.jobs.specs.Grammar.{uffs}
-use Rattle.jobs.specs.Jobs.{SaysJob, given}
+use Rattle.jobs.specs.Jobs.{SaysJob, given, has_no_image}
 use Rattle.jobs.specs.declared.tasks.Job.{Job}
 use Rattle.jobs.specs.declared.tasks.Task.{Task}
 use Rattle.shell.specs.Failures.{of_script, failure_status, job_status}
 use Rattle.shell.specs.Memory.{fault_status}
 use Rattle.shell.specs.Files.{Held}
-use Rattle.shell.specs.Tools.{EndsFor, MemoryEnds, MemoryBy, ToolEnds, refused_status, is_memory}
+use Rattle.shell.specs.Tools.{EndsAlone, EndsFor, MemoryEnds, MemoryBy, ToolEnds, refused_status, is_memory}
 use Rattle.shell.specs.declared.failures.Failure.{Failure}
 use Rattle.shell.specs.declared.scripts.ScriptFault.{ScriptFault}
 use Rattle.shell.proofs.MemoryWords.{memory_fault, memory_given}
@@ -54,27 +54,33 @@ memory_words (word ∷ other ∷ rest) h = absurd (true≢false (sym h))
 
 -- the word `memory` asks for a job in memory
 memory_job : Job
-memory_job = record { command = Task.Memory; image = None; page = 256; pages = 16; blocks = 32; history = 8 }
+memory_job = record { command = Task.Memory; image = None; page = 256; pages = 16; blocks = 32; history = 8; refusal = 0; stop = false }
 
 memory_says : SaysJob (Some (codes "memory", [])) memory_job
 unfolding memory_job
 memory_says = record {
   command = refl;
-  image = record { memory = λ e. refl; others = λ n. absurd (n refl) };
+  image = record { none = λ e. refl; others = λ n. absurd (true≢false n) };
   page = refl;
   pages = refl;
   blocks = refl;
   history = refl;
+  refusal = refl;
+  stop = refl;
 }
 
 no_image : (image : Option (Bor (List ℕ))) → option_map (λ (s : Bor (List ℕ)). s.now) image ≡ None → image ≡ None
 no_image None e = refl
 no_image (Some name) e = absurd cc
 
+said_command : (job : Job) → SaysJob (Some (codes "memory", [])) job → job.command ≡ Task.Memory
+said_command job says =
+    let named : Some Task.Memory ≡ Some job.command = says.command in
+    cc
+
 said_memory : (job : Job) → SaysJob (Some (codes "memory", [])) job → job.image ≡ None
 said_memory job says =
-    let named : Some Task.Memory ≡ Some job.command = says.command in
-    no_image job.image (says.image.memory cc)
+    no_image job.image (says.image.none (ap has_no_image (said_command job says)))
 
 ended : (input left : Option (List ℕ)) (result : Result (Unit {0}) Failure) (status : ℕ) (old new : Option (List ℕ))
     → MemoryEnds input left result old new → status ≡ job_status result → MemoryBy input left status old new
@@ -88,7 +94,8 @@ memory_ends words held saved input left status old new (inl h) memory =
     let is : words ≡ codes "memory" ∷ [] = memory_words words memory in
     let says : SaysJob (Some (codes "memory", [])) h.0 = subst (λ o. SaysJob o h.0) (ap given is ∙ memory_given) h.2 in
     let ends = subst (λ (image : Option (Bor (List ℕ))). EndsFor image h.0 held saved input left h.1 old new) (said_memory h.0 says) h.3 in
-    ended input left h.1 status old new ends.0 h.4
+    let alone = subst (λ (task : Task). EndsAlone task h.0 held saved input left h.1 old new) (said_command h.0 says) ends in
+    ended input left h.1 status old new alone.0 h.4
 memory_ends words held saved input left status old new (inr (inl one, files, unread, unwritten)) memory =
     (Err (ScriptFault.Mount Fault.NoMemory), (inl refl, unread, unwritten), one)
 memory_ends words held saved input left status old new (inr (inr (two, inl faulty), files, unread, unwritten)) memory =

@@ -1,5 +1,5 @@
 -- Scripts: what each line does and is answered, and what was read, carried out and written where a script ends.
-use Rattle.std.specs.Prelude.{◌≡◌, ℕ, suc, Option, Some, None, Result, Ok, Err, IfSome, List, [], ◌∷◌, ◌++◌, take, ◌⊎◌}
+use Rattle.std.specs.Prelude.{◌≡◌, ℕ, suc, Bool, IsTrue, Option, Some, None, Result, Ok, Err, IfSome, List, [], ◌∷◌, ◌++◌, take, length, ◌⊎◌}
 use Rattle.std.specs.List.{flat_map}
 use Rattle.std.specs.Io.KnownBytes.{Consumes, IsAtEnd, Appends}
 use Rattle.history_machine.specs.History.{Past}
@@ -23,7 +23,9 @@ use Rattle.upkeep.specs.Saved.{saved_trees}
 use Rattle.undofs.specs.Runs.{World, Mounts, Happens}
 use Rattle.undofs.specs.Sessions.{Session}
 use Rattle.shell.specs.Plans.{GoesOn, FollowsPlan}
+use Rattle.shell.specs.declared.scripts.Refusal.{Refusal}
 use Rattle.shell.specs.declared.scripts.ScriptFault.{ScriptFault}
+use Rattle.shell.specs.declared.scripts.Stop.{Stop}
 
 -- the event that a line asks for: a call, a step of reclaiming, or a restart
 abbrev pub event_of : Line → Option Event
@@ -129,6 +131,38 @@ IsRefused start end fault = IsUnmounted start end fault × FollowsPlan start end
 -- how a script ends that found and leaves these flashes
 abbrev pub Ends : SimFlash → SimFlash → Option (List ℕ) → Option (List ℕ) → Result (Unit {0}) ScriptFault → Option (List ℕ) → Option (List ℕ) → Type 0
 Ends start end input left result old new = EndsBy (LineSession start end) (IsRefused start end) input left result old new
+
+-- how an answer refuses its line
+abbrev pub refusal_of : LineAnswer → Option Refusal
+refusal_of (LineAnswer.Told (Answer.Refused fault)) = Some (Refusal.Fault fault)
+refusal_of (LineAnswer.Told Answer.Unmounted) = Some Refusal.Unmounted
+refusal_of (LineAnswer.Told _) = None
+refusal_of LineAnswer.Syntax = Some Refusal.Syntax
+
+-- none of these answers refuses its line; and none but the last
+abbrev pub AreAccepted : List LineAnswer → Type 0
+AreAccepted [] = Unit {0}
+AreAccepted (answer ∷ answers) = (refusal_of answer ≡ None) × AreAccepted answers
+
+abbrev pub AreAcceptedBefore : List LineAnswer → Type 0
+AreAcceptedBefore [] = Unit {0}
+AreAcceptedBefore (answer ∷ []) = Unit {0}
+AreAcceptedBefore (answer ∷ next ∷ answers) = (refusal_of answer ≡ None) × AreAcceptedBefore (next ∷ answers)
+
+-- a script stopped at the first line that was refused, whose answer is written: the lines after it were not read
+abbrev pub StopsAt : (List (List ℕ) → List LineAnswer → Type 0) → Option (List ℕ) → Option (List ℕ) → Stop → Option (List ℕ) → Option (List ℕ) → Type 0
+StopsAt Session input left stop old new =
+    (lines : List (List ℕ)) × (earlier : List LineAnswer) × (last : LineAnswer) × Session lines (earlier ++ last ∷ []) × AreAccepted earlier
+    × (refusal_of last ≡ Some stop.refusal) × (stop.line ≡ length lines) × HasTaken input lines left × Appends old new (answer_texts (earlier ++ last ∷ []))
+
+-- how a script ends that may stop at the first line that is refused: where it was to, no line before the last was refused
+abbrev pub EndsOrStops : Bool → (List (List ℕ) → List LineAnswer → Type 0) → (Fault → Type 0) → Option (List ℕ) → Option (List ℕ) → Result (Option Stop) ScriptFault → Option (List ℕ) → Option (List ℕ) → Type 0
+EndsOrStops stop Session Cause input left (Ok None) old new = EndsBy (λ lines answers. Session lines answers × (IsTrue stop → AreAccepted answers)) Cause input left (Ok tt) old new
+EndsOrStops stop Session Cause input left (Ok (Some at)) old new = IsTrue stop × StopsAt Session input left at old new
+EndsOrStops stop Session Cause input left (Err fault) old new = EndsBy (λ lines answers. Session lines answers × (IsTrue stop → AreAcceptedBefore answers)) Cause input left (Err fault) old new
+
+abbrev pub ScriptEnds : Bool → SimFlash → SimFlash → Option (List ℕ) → Option (List ℕ) → Result (Option Stop) ScriptFault → Option (List ℕ) → Option (List ℕ) → Type 0
+ScriptEnds stop start end input left result old new = EndsOrStops stop (LineSession start end) (IsRefused start end) input left result old new
 
 -- the events that lines ask for
 abbrev pub with_first : {A : Type 0} → Option A → List A → List A

@@ -1,11 +1,12 @@
 -- What the program does on the files of images, on its input and on its output, and its status, for each way it ends.
-use Rattle.std.specs.Prelude.{◌≡◌, ◌≢◌, ◌⊎◌, ℕ, ◌≤◌, Bool, false, Option, Some, None, Result, Ok, Err, IfSome, List, [], ◌∷◌, take, codes}
+use Rattle.std.specs.Prelude.{◌≡◌, ◌≢◌, ◌⊎◌, ℕ, ◌≤◌, Bool, false, Option, Some, None, Result, Ok, Err, IfSome, List, [], ◌∷◌, ◌++◌, take, codes, decimal}
 use Rattle.std.specs.Borrow.{Bor}
 use Rattle.std.specs.Str.{bytes_eq}
 use Rattle.std.specs.Io.KnownBytes.{Appends}
 use Rattle.clap.specs.Words.{fault_of}
 use Rattle.clap.specs.declared.error.kind.ErrorKind.{ErrorKind}
 use Rattle.fs_types.specs.declared.limits.TheConstants.{MIN_VERSIONS, MAX_VERSIONS}
+use Rattle.fs_types.specs.Faults.{number_of, word_of}
 use Rattle.fs_types.specs.declared.faults.Fault.{Fault}
 use Rattle.flash_model.specs.Geometry.{IsGeometry}
 use Rattle.flash_model.specs.Plan.{plan_of_entries}
@@ -23,10 +24,12 @@ use Rattle.upkeep.specs.declared.systems.System.{System}
 use Rattle.shell.specs.Failures.{of_script, of_system, job_status}
 use Rattle.shell.specs.Files.{Held, KeepsOthers}
 use Rattle.shell.specs.Memory.{memory_sizes, status_of, IsNewFlash, IsFormatOf, EndsInMemory}
-use Rattle.shell.specs.Scripts.{IsUnmounted, Ends}
+use Rattle.shell.specs.Scripts.{IsUnmounted, ScriptEnds}
 use Rattle.shell.specs.declared.files.TheConstants.{MOST_BYTES}
 use Rattle.shell.specs.declared.failures.Failure.{Failure}
+use Rattle.shell.specs.declared.scripts.Refusal.{Refusal}
 use Rattle.shell.specs.declared.scripts.ScriptFault.{ScriptFault}
+use Rattle.shell.specs.declared.scripts.Stop.{Stop}
 
 -- the bytes of a file that are read, where those of the file are known
 abbrev pub IsFront : Option (List ℕ) → List ℕ → Type 0
@@ -114,36 +117,43 @@ FormatEnds sizes limit held left (Ok done) = (flash : SimFlash) × IsMade sizes 
 FormatEnds sizes limit held left (Err failure) = (FormatFailure sizes limit failure × (left ≡ held))
     ⊎ ((flash : SimFlash) × IsMade sizes limit flash × Unsaved held left (image_of (device_of flash)) failure)
 
--- a script is run on a flash that is found so, which gives the flash as it is left; or there is none for its cause, and nothing
--- is read or written; or the script does not run to its end
-abbrev pub PlaysBy : (SimFlash → Type 0) → (Failure → Type 0) → Option (List ℕ) → Option (List ℕ) → Result SimFlash Failure → Option (List ℕ) → Option (List ℕ) → Type 0
-PlaysBy Found Cause input left (Ok end) old new = (start : SimFlash) × Found start × Ends start end input left (Ok tt) old new
-PlaysBy Found Cause input left (Err failure) old new = (Cause failure × (left ≡ input) × (new ≡ old))
-    ⊎ ((start : SimFlash) × (end : SimFlash) × (fault : ScriptFault) × Found start × Ends start end input left (Err fault) old new × (failure ≡ of_script fault))
+-- why a script did not run to its end: it stopped at a refused line, or failed
+abbrev pub why_broken : Result (Option Stop) ScriptFault → Option Failure
+why_broken (Ok None) = None
+why_broken (Ok (Some at)) = Some (Failure.Stopped at)
+why_broken (Err fault) = Some (of_script fault)
+
+-- a script, which may be to stop at a refused line, is run on a flash that is found so, which gives the flash as it is left; or
+-- there is none for its cause, and nothing is read or written; or the script does not run to its end
+abbrev pub PlaysBy : Bool → (SimFlash → Type 0) → (Failure → Type 0) → Option (List ℕ) → Option (List ℕ) → Result SimFlash Failure → Option (List ℕ) → Option (List ℕ) → Type 0
+PlaysBy stop Found Cause input left (Ok end) old new = (start : SimFlash) × Found start × ScriptEnds stop start end input left (Ok None) old new
+PlaysBy stop Found Cause input left (Err failure) old new = (Cause failure × (left ≡ input) × (new ≡ old))
+    ⊎ ((start : SimFlash) × (end : SimFlash) × (ended : Result (Option Stop) ScriptFault) × Found start × ScriptEnds stop start end input left ended old new
+    × (why_broken ended ≡ Some failure))
 
 -- a script is run on the flash of a file
-abbrev pub Plays : Option (List ℕ) → Option (List ℕ) → Option (List ℕ) → Result SimFlash Failure → Option (List ℕ) → Option (List ℕ) → Type 0
-Plays held = PlaysBy (IsLoaded held) (LoadCause held)
+abbrev pub Plays : Bool → Option (List ℕ) → Option (List ℕ) → Option (List ℕ) → Result SimFlash Failure → Option (List ℕ) → Option (List ℕ) → Type 0
+Plays stop held = PlaysBy stop (IsLoaded held) (LoadCause held)
 
 -- a script is not run to its end on the flash of a file: the file is not claimed, and nothing is read or written, or the script
 -- does not run to its end
-abbrev pub BreaksOff : Option (List ℕ) → Option (List ℕ) → Option (List ℕ) → Failure → Option (List ℕ) → Option (List ℕ) → Type 0
-BreaksOff held input left failure old new = (IsUnclaimed failure × (left ≡ input) × (new ≡ old)) ⊎ Plays held input left (Err failure) old new
+abbrev pub BreaksOff : Bool → Option (List ℕ) → Option (List ℕ) → Option (List ℕ) → Failure → Option (List ℕ) → Option (List ℕ) → Type 0
+BreaksOff stop held input left failure old new = (IsUnclaimed failure × (left ≡ input) × (new ≡ old)) ⊎ Plays stop held input left (Err failure) old new
 
 -- a script is run on the image of a name: at its end the file is the image of the flash that is left, and no file changes where
 -- it was that before, as after a script that programmed and erased nothing. Else no file changes, or the image that is left is not
 -- written, or not for good
-abbrev pub RunEnds : List ℕ → Held → Held → Option (List ℕ) → Option (List ℕ) → Result (Unit {0}) Failure → Option (List ℕ) → Option (List ℕ) → Type 0
-RunEnds name held saved input left (Ok done) old new = (start : SimFlash) × (end : SimFlash) × IsLoaded (held name) start × Ends start end input left (Ok tt) old new
+abbrev pub RunEnds : Bool → List ℕ → Held → Held → Option (List ℕ) → Option (List ℕ) → Result (Unit {0}) Failure → Option (List ℕ) → Option (List ℕ) → Type 0
+RunEnds stop name held saved input left (Ok done) old new = (start : SimFlash) × (end : SimFlash) × IsLoaded (held name) start × ScriptEnds stop start end input left (Ok None) old new
     × SavesChange name held saved (image_of (device_of start)) (image_of (device_of end))
-RunEnds name held saved input left (Err failure) old new = (BreaksOff (held name) input left failure old new × (saved ≡ held))
-    ⊎ ((start : SimFlash) × (end : SimFlash) × IsLoaded (held name) start × Ends start end input left (Ok tt) old new
+RunEnds stop name held saved input left (Err failure) old new = (BreaksOff stop (held name) input left failure old new × (saved ≡ held))
+    ⊎ ((start : SimFlash) × (end : SimFlash) × IsLoaded (held name) start × ScriptEnds stop start end input left (Ok None) old new
     × ChangeUnsaved name held saved (image_of (device_of start)) (image_of (device_of end)) failure)
 
 -- the replies to a script on an image are written
 abbrev pub LookEnds : List ℕ → Option (List ℕ) → Result (Unit {0}) Failure → Option (List ℕ) → Option (List ℕ) → Type 0
-LookEnds script held (Ok done) old new = (rest : Option (List ℕ)) × (end : SimFlash) × Plays held (Some script) rest (Ok end) old new
-LookEnds script held (Err failure) old new = (rest : Option (List ℕ)) × Plays held (Some script) rest (Err failure) old new
+LookEnds script held (Ok done) old new = (rest : Option (List ℕ)) × (end : SimFlash) × Plays false held (Some script) rest (Ok end) old new
+LookEnds script held (Err failure) old new = (rest : Option (List ℕ)) × Plays false held (Some script) rest (Err failure) old new
 
 -- an image is mounted, with `ok` written; or it gives no flash, or is not mounted, and nothing is written; or the output fails
 abbrev pub CheckEnds : Option (List ℕ) → Result (Unit {0}) Failure → Option (List ℕ) → Option (List ℕ) → Type 0
@@ -158,6 +168,19 @@ abbrev pub MemoryEnds : Option (List ℕ) → Option (List ℕ) → Result (Unit
 MemoryEnds input left (Ok done) old new = EndsInMemory memory_sizes input left (Ok tt) old new
 MemoryEnds input left (Err failure) old new = (fault : ScriptFault) × EndsInMemory memory_sizes input left (Err fault) old new × (failure ≡ of_script fault)
 
+-- what is printed of a refusal: its word, its number and what it means
+abbrev pub explanation : Fault → List ℕ → List ℕ
+explanation fault meaning = word_of fault ++ codes " " ++ decimal (number_of fault) ++ codes ": " ++ meaning ++ codes "\n"
+
+-- what the refusal of a number means is written; or there is no such refusal, or memory is wanted, and nothing is written; or the
+-- output fails
+abbrev pub ExplainEnds : ℕ → Result (Unit {0}) Failure → Option (List ℕ) → Option (List ℕ) → Type 0
+ExplainEnds number (Ok done) old new = (fault : Fault) × (meaning : List ℕ) × (number_of fault ≡ number) × Appends old new (explanation fault meaning)
+ExplainEnds number (Err (Failure.Refused refusal)) old new = (refusal ≡ Refusal.Fault Fault.Invalid) × ((fault : Fault) → number_of fault ≡ number → ⊥) × (new ≡ old)
+ExplainEnds number (Err Failure.Memory) old new = new ≡ old
+ExplainEnds number (Err Failure.Output) old new = (fault : Fault) × (meaning : List ℕ) × (n : ℕ) × (number_of fault ≡ number) × Appends old new (take n (explanation fault meaning))
+ExplainEnds number (Err _) old new = ⊥
+
 -- the sizes that a job asks for
 abbrev pub sizes_of : Job → Geometry
 sizes_of job = record { page = job.page; pages = job.pages; blocks = job.blocks }
@@ -170,16 +193,22 @@ pub record OnlyLooks (held saved : Held) (input left : Option (List ℕ)) : Type
 -- how a task ends that is done on a file of this name
 abbrev pub EndsOn : Task → Job → List ℕ → Held → Held → Option (List ℕ) → Option (List ℕ) → Result (Unit {0}) Failure → Option (List ℕ) → Option (List ℕ) → Type 0
 EndsOn Task.Format job name held saved input left result old new = FormatEnds (sizes_of job) job.history (held name) (saved name) result × KeepsOthers name held saved × (left ≡ input) × (new ≡ old)
-EndsOn Task.Run job name held saved input left result old new = RunEnds name held saved input left result old new × KeepsOthers name held saved
+EndsOn Task.Run job name held saved input left result old new = RunEnds job.stop name held saved input left result old new × KeepsOthers name held saved
 EndsOn Task.Check job name held saved input left result old new = CheckEnds (held name) result old new × OnlyLooks held saved input left
 EndsOn Task.Log job name held saved input left result old new = LookEnds (codes "log\n") (held name) result old new × OnlyLooks held saved input left
 EndsOn Task.Df job name held saved input left result old new = LookEnds (codes "df\n") (held name) result old new × OnlyLooks held saved input left
 EndsOn Task.Memory job name held saved input left result old new = MemoryEnds input left result old new × (saved ≡ held)
+EndsOn Task.Explain job name held saved input left result old new = ExplainEnds job.refusal result old new × OnlyLooks held saved input left
+
+-- how a task ends that is done on no file
+abbrev pub EndsAlone : Task → Job → Held → Held → Option (List ℕ) → Option (List ℕ) → Result (Unit {0}) Failure → Option (List ℕ) → Option (List ℕ) → Type 0
+EndsAlone Task.Explain job held saved input left result old new = ExplainEnds job.refusal result old new × OnlyLooks held saved input left
+EndsAlone _ job held saved input left result old new = MemoryEnds input left result old new × (saved ≡ held)
 
 -- by the file that a job names, if any
 abbrev pub EndsFor : Option (Bor (List ℕ)) → Job → Held → Held → Option (List ℕ) → Option (List ℕ) → Result (Unit {0}) Failure → Option (List ℕ) → Option (List ℕ) → Type 0
 EndsFor (Some name) job held saved input left result old new = EndsOn job.command job name.now held saved input left result old new
-EndsFor None job held saved input left result old new = MemoryEnds input left result old new × (saved ≡ held)
+EndsFor None job held saved input left result old new = EndsAlone job.command job held saved input left result old new
 
 -- how a job ends
 abbrev pub JobEnds : Job → Held → Held → Option (List ℕ) → Option (List ℕ) → Result (Unit {0}) Failure → Option (List ℕ) → Option (List ℕ) → Type 0

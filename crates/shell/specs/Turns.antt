@@ -1,5 +1,5 @@
 -- One turn of a script: a line is taken and carried out, and its answer written.
-use Rattle.std.specs.Prelude.{◌≡◌, ℕ, Option, Some, None, Result, Ok, Err, List, [], take}
+use Rattle.std.specs.Prelude.{◌≡◌, ℕ, Bool, Option, Some, None, Result, Ok, Err, List, [], take}
 use Rattle.std.specs.Io.KnownBytes.{Consumes, IsAtEnd, Appends}
 use Rattle.history_machine.specs.History.{Past}
 use Rattle.plain_trees.specs.Trees.{Tree}
@@ -16,8 +16,9 @@ use Rattle.upkeep.specs.declared.systems.System.{System}
 use Rattle.undofs.specs.Runs.{World}
 use Rattle.undofs.specs.Sessions.{Stands, world, Serves}
 use Rattle.shell.specs.Plans.{GoesOn}
-use Rattle.shell.specs.Scripts.{Scene, event_of, IsStillAnswer, CarriesOut, EndsBy, answer_text}
+use Rattle.shell.specs.Scripts.{Scene, event_of, IsStillAnswer, CarriesOut, EndsOrStops, answer_text}
 use Rattle.shell.specs.declared.scripts.ScriptFault.{ScriptFault}
+use Rattle.shell.specs.declared.scripts.Stop.{Stop}
 
 -- what was taken from a reader, and what it asks
 abbrev pub Gets : Option (List ℕ) → Option (List ℕ) → Result (Option Line) ScriptFault → Type 0
@@ -65,5 +66,5 @@ Carried s t lines answers = (found : List (Past Tree)) → Stands (world_at s fo
     → (more : List (Past Tree)) × CarriesOut (scene_at s found) lines answers (scene_at t more) × Stands (world_at t more)
 
 -- how the lines of a reader end
-abbrev pub LinesEnd : Seat → Option (List ℕ) → Option (List ℕ) → Result (Unit {0}) ScriptFault → Option (List ℕ) → Option (List ℕ) → Seat → Type 0
-LinesEnd s input left result old new t = EndsBy (Carried s t) (λ fault. ⊥) input left result old new
+abbrev pub LinesEnd : Bool → Seat → Option (List ℕ) → Option (List ℕ) → Result (Option Stop) ScriptFault → Option (List ℕ) → Option (List ℕ) → Seat → Type 0
+LinesEnd stop s input left result old new t = EndsOrStops stop (Carried s t) (λ fault. ⊥) input left result old new

@@ -1,5 +1,5 @@
 //! Why a job of the program did not run to its end, with its status.
-use crate::scripts::ScriptFault;
+use crate::scripts::{Refusal, ScriptFault, Stop};
 use flash_image::ImageFault;
 use fs_types::Fault;
 use std::io;
@@ -36,6 +36,12 @@ pub enum Failure {
     /// A format or a mount was refused.
     #[error("no system: {0}")]
     System(Fault),
+    /// What was asked for was refused.
+    #[error("refused")]
+    Refused(Refusal),
+    /// The script stopped at a refused line.
+    #[error("stopped at a refused line")]
+    Stopped(Stop),
 }
 
 impl Failure {
@@ -74,12 +80,14 @@ impl Failure {
         }
     }
 
-    /// The status of the program: 3 where the image, a format or a mount was refused, else 1.
+    /// The status of the program: 3 where the image, a format or a mount was refused, 4 where a call or
+    /// a line of a script was, else 1.
     pub fn status(self) -> u8
         ensures { result ≡ failure_status self }
     {
         match self {
             Failure::Image(_) | Failure::System(_) => 3,
+            Failure::Refused(_) | Failure::Stopped(_) => 4,
             _ => 1,
         }
     }
@@ -96,6 +104,8 @@ impl Failure {
             Failure::Memory => writeln!(err, "uffs: ENOMEM 25"),
             Failure::Image(fault) => writeln!(err, "uffs: image {fault}"),
             Failure::System(fault) => explain_fault(fault, err),
+            Failure::Refused(refusal) => explain_refusal(refusal, err),
+            Failure::Stopped(stop) => explain_stop(stop, err),
         };
     }
 }
@@ -105,4 +115,27 @@ fn explain_fault<E: Write>(fault: Fault, err: &mut E) -> io::Result<()> {
     let word = fault.word();
     let number = fault.number();
     writeln!(err, "uffs: {word} {number}")
+}
+
+/// Writes the line of what was refused.
+fn explain_refusal<E: Write>(refusal: Refusal, err: &mut E) -> io::Result<()> {
+    match refusal {
+        Refusal::Fault(fault) => explain_fault(fault, err),
+        Refusal::Syntax => writeln!(err, "uffs: SYNTAX"),
+        Refusal::Unmounted => writeln!(err, "uffs: unmounted"),
+    }
+}
+
+/// Writes the line of a script that stopped.
+fn explain_stop<E: Write>(stop: Stop, err: &mut E) -> io::Result<()> {
+    let line = stop.line;
+    match stop.refusal {
+        Refusal::Fault(fault) => {
+            let word = fault.word();
+            let number = fault.number();
+            writeln!(err, "uffs: line {line}: {word} {number}")
+        }
+        Refusal::Syntax => writeln!(err, "uffs: line {line}: SYNTAX"),
+        Refusal::Unmounted => writeln!(err, "uffs: line {line}: unmounted"),
+    }
 }

@@ -8,7 +8,7 @@ ghost use Rattle.shell.specs.Tools.{IsFront, IsDecoded, DecodeCause, IsUnclaimed
 
 use crate::failures::Failure;
 use crate::files::{FileFault, ImageFiles};
-use crate::scripts::run_script;
+use crate::scripts::run_script_until;
 use flash_image::{decode, encode};
 use flash_model::{Geometry, SimFlash};
 use script::write_out;
@@ -56,17 +56,18 @@ fn make_image<F: ImageFiles>(
     }
 }
 
-/// Runs a script on an image, which is claimed first. It is written back where the script ran to its
-/// end, unless it is as it was.
+/// Runs a script on an image, which is claimed first, up to the first refused line where it is to stop
+/// there. The image is written back where the script ran to its end, unless it is as it was.
 pub(crate) fn run_image<F: ImageFiles, R: Read, W: Write>(
     files: &mut F,
     alloc: Global,
     name: &str,
+    stop: bool,
     reader: &mut R,
     out: &mut W,
 ) -> Result<(), Failure>
     ensures others { KeepsOthers name.now (F.held files.old) (F.held files.new) }
-    ensures ends { RunEnds name.now (F.held files.old) (F.held files.new) (R.remaining reader.old) (R.remaining reader.new) result (W.contents out.old) (W.contents out.new) }
+    ensures ends { RunEnds stop name.now (F.held files.old) (F.held files.new) (R.remaining reader.old) (R.remaining reader.new) result (W.contents out.old) (W.contents out.new) }
 {
     match claim(files, alloc, name) {
         Ok(()) => {}
@@ -76,7 +77,7 @@ pub(crate) fn run_image<F: ImageFiles, R: Read, W: Write>(
         Ok(bytes) => bytes,
         Err(failure) => return Err(failure),
     };
-    match play(alloc, &bytes, reader, out) {
+    match play(alloc, &bytes, stop, reader, out) {
         Ok(flash) => save_changed(files, alloc, name, &bytes, &flash),
         Err(failure) => Err(failure),
     }
@@ -116,27 +117,30 @@ pub(crate) fn look_at_image<F: ImageFiles, W: Write>(
         Err(failure) => return Err(failure),
     };
     let mut reader = script;
-    match play(alloc, &bytes, &mut reader, out) {
+    match play(alloc, &bytes, false, &mut reader, out) {
         Ok(_) => Ok(()),
         Err(failure) => Err(failure),
     }
 }
 
-/// Runs a script on the flash that bytes spell, and gives the flash as it is left.
+/// Runs a script on the flash that bytes spell, up to the first refused line where it is to stop there,
+/// and gives the flash as it is left.
 fn play<R: Read, W: Write>(
     alloc: Global,
     bytes: &[u8],
+    stop: bool,
     reader: &mut R,
     out: &mut W,
 ) -> Result<SimFlash, Failure>
-    ensures { PlaysBy (IsDecoded bytes.now) (DecodeCause bytes.now) (R.remaining reader.old) (R.remaining reader.new) result (W.contents out.old) (W.contents out.new) }
+    ensures { PlaysBy stop (IsDecoded bytes.now) (DecodeCause bytes.now) (R.remaining reader.old) (R.remaining reader.new) result (W.contents out.old) (W.contents out.new) }
 {
     let mut flash = match flash_of(alloc, bytes) {
         Ok(flash) => flash,
         Err(failure) => return Err(failure),
     };
-    match run_script(alloc, reader, out, &mut flash) {
-        Ok(()) => Ok(flash),
+    match run_script_until(alloc, reader, out, &mut flash, stop) {
+        Ok(None) => Ok(flash),
+        Ok(Some(stop)) => Err(Failure::Stopped(stop)),
         Err(fault) => Err(Failure::of_script(fault)),
     }
 }

@@ -1,6 +1,7 @@
 //! Scripts run on a flash, and the whole program: its words, its image files and its statuses.
 #![tactic(auto)]
 
+mod explanations;
 mod failures;
 mod files;
 mod following;
@@ -20,4 +21,4 @@ pub use laws::{image_laws, script_laws};
 pub use process::run_process;
 pub use program::tool;
 pub use script::{Line, LineAnswer, print_answer, read_line};
-pub use scripts::{ScriptFault, carry_out, run_script};
+pub use scripts::{Refusal, ScriptFault, Stop, carry_out, run_script};

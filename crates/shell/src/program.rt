@@ -3,6 +3,7 @@ ghost use Rattle.std.specs.Prelude.{◌≡◌, IsTrue, map, string_bytes};
 ghost use Rattle.clap.specs.Words.{kind_of};
 ghost use Rattle.shell.specs.Tools.{EndsOn, JobEnds, MemoryEnds, ToolEnds, MemoryBy, sizes_of, refused_status, is_memory};
 
+use crate::explanations::explain;
 use crate::failures::Failure;
 use crate::files::ImageFiles;
 use crate::images::{check_image, format_image, look_at_image, run_image};
@@ -19,7 +20,8 @@ use std::io::{Read, Write};
 /// The subcommands, what each reads and writes, and the lines on `err` are those of docs/scripts.md.
 /// Status 0: the job ran to its end, whatever the replies to a script. 1: the image, the input, the
 /// output or memory failed. 2: the words were refused, or help was asked for. 3: the image, a format
-/// or a mount was refused. Where it is not 0, `err` says why.
+/// or a mount was refused. 4: what was asked for was refused, or a line of a script that is to stop
+/// there. Where it is not 0, `err` says why.
 pub fn tool<F: ImageFiles, R: Read, W: Write, E: Write>(
     files: &mut F,
     alloc: Global,
@@ -73,7 +75,10 @@ fn carry_out<F: ImageFiles, R: Read, W: Write>(
 {
     match job.image {
         Some(name) => do_task(files, alloc, job, name, reader, out),
-        None => play_in_memory(alloc, reader, out),
+        None => match job.command {
+            Task::Explain => explain(alloc, job.refusal, out),
+            _ => play_in_memory(alloc, reader, out),
+        },
     }
 }
 
@@ -90,11 +95,12 @@ fn do_task<F: ImageFiles, R: Read, W: Write>(
 {
     match job.command {
         Task::Format => format_image(files, alloc, name, sizes_of(job), job.history),
-        Task::Run => run_image(files, alloc, name, reader, out),
+        Task::Run => run_image(files, alloc, name, job.stop, reader, out),
         Task::Check => check_image(files, alloc, name, out),
         Task::Log => look_at_image(files, alloc, name, b"log\n", out),
         Task::Df => look_at_image(files, alloc, name, b"df\n", out),
         Task::Memory => play_in_memory(alloc, reader, out),
+        Task::Explain => explain(alloc, job.refusal, out),
     }
 }
 

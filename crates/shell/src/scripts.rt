@@ -1,9 +1,9 @@
 //! A script run on a flash in memory.
-ghost use Rattle.std.specs.Prelude.{◌≡◌, IfSome};
+ghost use Rattle.std.specs.Prelude.{◌≡◌, IfSome, None, if◌then◌else◌};
 ghost use Rattle.flash_model.specs.Simulation.{device_of, plan_of};
 ghost use Rattle.script.specs.declared.lines.Line.{Line};
 ghost use Rattle.upkeep.specs.Systems.{IsSystem};
-ghost use Rattle.shell.specs.Scripts.{Ends, IsStillAnswer};
+ghost use Rattle.shell.specs.Scripts.{Ends, IsStillAnswer, ScriptEnds, refusal_of};
 ghost use Rattle.shell.specs.Turns.{Gets, seat, Does, Writes, LinesEnd};
 
 use crate::following::{mount_as_planned, serve_as_planned};
@@ -33,6 +33,26 @@ pub enum ScriptFault {
     Memory,
 }
 
+/// How a line was refused.
+#[derive(Clone, Copy, Debug, PartialEq, Eq)]
+pub enum Refusal {
+    /// By a fault.
+    Fault(Fault),
+    /// It is no line of a script.
+    Syntax,
+    /// No system is mounted.
+    Unmounted,
+}
+
+/// Where a script stopped.
+#[derive(Clone, Copy, Debug, PartialEq, Eq)]
+pub struct Stop {
+    /// The number of the line, from 1 on.
+    pub line: u64,
+    /// How it was refused.
+    pub refusal: Refusal,
+}
+
 /// Mounts what the newest record of a flash holds, runs a script on it, and writes a reply for each
 /// line as it is carried out. The lines and their replies are those of docs/scripts.md.
 ///
@@ -45,35 +65,53 @@ pub fn run_script<R: Read, W: Write>(
 ) -> Result<(), ScriptFault>
     ensures ends { Ends flash.old flash.new (R.remaining reader.old) (R.remaining reader.new) result (W.contents writer.old) (W.contents writer.new) }
 {
+    match run_script_until(alloc, reader, writer, flash, false) {
+        Ok(_) => Ok(()),
+        Err(fault) => Err(fault),
+    }
+}
+
+/// The same. Where it is to `stop` it ends at the first line that is refused, whose reply is written
+/// too, and answers where that was.
+pub(crate) fn run_script_until<R: Read, W: Write>(
+    alloc: Global,
+    reader: &mut R,
+    writer: &mut W,
+    flash: &mut SimFlash,
+    stop: bool,
+) -> Result<Option<Stop>, ScriptFault>
+    ensures ends { ScriptEnds stop flash.old flash.new (R.remaining reader.old) (R.remaining reader.new) result (W.contents writer.old) (W.contents writer.new) }
+{
     let mut system = match mount_as_planned(alloc, flash) {
         Ok(mounted) => Some(mounted),
         Err(fault) => return Err(ScriptFault::Mount(fault)),
     };
-    run_lines(alloc, reader, writer, flash, &mut system)
+    run_lines(alloc, reader, writer, flash, &mut system, stop)
 }
 
 /// Carries out the lines of the reader on a flash and on the system that is mounted on it, if one is,
-/// and writes their answers.
+/// and writes their answers, up to the first refused one where it is to stop there.
 fn run_lines<R: Read, W: Write>(
     alloc: Global,
     reader: &mut R,
     writer: &mut W,
     flash: &mut SimFlash,
     system: &mut Option<System>,
-) -> Result<(), ScriptFault>
+    stop: bool,
+) -> Result<Option<Stop>, ScriptFault>
     requires { IfSome system.old (IsSystem (device_of flash.old)) }
     ensures mounted { IfSome system.new (IsSystem (device_of flash.new)) }
-    ensures ends { LinesEnd (seat flash.old system.old) (R.remaining reader.old) (R.remaining reader.new) result (W.contents writer.old) (W.contents writer.new) (seat flash.new system.new) }
+    ensures ends { LinesEnd stop (seat flash.old system.old) (R.remaining reader.old) (R.remaining reader.new) result (W.contents writer.old) (W.contents writer.new) (seat flash.new system.new) }
 {
     let mut lines = match LineReader::new(alloc) {
         Ok(lines) => lines,
         Err(_) => return Err(ScriptFault::Memory),
     };
     let mut text = Vec::new(alloc);
-    for _ in 0..u64::MAX {
+    for carried in 0..u64::MAX {
         let line = match next(alloc, &mut lines, reader) {
             Ok(Some(line)) => line,
-            Ok(None) => return Ok(()),
+            Ok(None) => return Ok(None),
             Err(fault) => return Err(fault),
         };
         let answer = carry_out(alloc, flash, system, line);
@@ -81,8 +119,33 @@ fn run_lines<R: Read, W: Write>(
             Ok(()) => {}
             Err(fault) => return Err(fault),
         }
+        if let Some(refusal) = stops(stop, &answer) {
+            return Ok(Some(Stop {
+                line: carried + 1,
+                refusal,
+            }));
+        }
     }
     Err(ScriptFault::Read)
+}
+
+/// How an answer refuses its line, where that is to stop the script.
+fn stops(stop: bool, answer: &LineAnswer) -> Option<Refusal>
+    ensures { result ≡ (if stop then refusal_of answer.now else None) }
+{
+    if stop { refusal_of(answer) } else { None }
+}
+
+/// How an answer refuses its line; `None` where it does not.
+fn refusal_of(answer: &LineAnswer) -> Option<Refusal>
+    ensures { result ≡ refusal_of answer.now }
+{
+    match answer {
+        LineAnswer::Told(Answer::Refused(fault)) => Some(Refusal::Fault(*fault)),
+        LineAnswer::Told(Answer::Unmounted) => Some(Refusal::Unmounted),
+        LineAnswer::Told(_) => None,
+        LineAnswer::Syntax => Some(Refusal::Syntax),
+    }
 }
 
 /// What the next line asks; `None` at the end.

@@ -1,16 +1,13 @@
-use Rattle.std.proofs.Common.{◌≡◌, ◌∙◌, ◌||◌, Bool, true, false, refl, ap}
+use Rattle.std.proofs.Common.{◌∙◌, ap}
 use Rattle.std.proofs.lemmas.Result.{IfOk-weaker}
 use Rattle.clap.specs.Words.{app_of, with_rule}
 use Rattle.clap.specs.declared.builder.command.Command.TheViews.{out-Command}
+use Rattle.jobs.proofs.Grammars.{or_false}
 use Rattle.jobs.proofs.grammar.with_number.Goals as goal
 
 pub returns-clause-app : goal.returns-clause-app
 returns-clause-app c =
     IfOk-weaker c.arg.result _ _ (λ more is. is.shape c.number_arg.ensures.local ∙ ap (with_rule (app_of c.args.command)) c.number_arg.ensures.rule) c.arg.ensures
-
-or_false : (a b : Bool) → b ≡ false → (a || b) ≡ a
-or_false false b is = is
-or_false true b is = refl
 
 pub returns-clause-local : goal.returns-clause-local
 returns-clause-local c =

@@ -1,4 +1,4 @@
-use Rattle.std.proofs.Common.{Some, Ok, Err, inl, refl}
+use Rattle.std.proofs.Common.{false, Some, Ok, Err, inl, refl}
 use Rattle.shell.proofs.ImageLemmas.{front_same, cause_unread, plays_front}
 use Rattle.shell.proofs.images.look_at_image.Goals as goal
 
@@ -11,7 +11,7 @@ returns-in-Ok-play g c =
     let front = front_same held c.in-Ok.bytes.items c.deref.result.now c.deref.ensures.value c.in-Ok.ensures.ok in (
       Some c.play.new.reader.now,
       c.in-Ok-play.field-0,
-      plays_front held c.deref.result.now front (Some c.args.script.now) (Some c.play.new.reader.now) (Ok c.in-Ok-play.field-0) (g.W.Write.contents c.args.out.now) (g.W.Write.contents c.play.new.out)
+      plays_front false held c.deref.result.now front (Some c.args.script.now) (Some c.play.new.reader.now) (Ok c.in-Ok-play.field-0) (g.W.Write.contents c.args.out.now) (g.W.Write.contents c.play.new.out)
           c.in-Ok-play.ensures,
     )
 
@@ -20,6 +20,6 @@ returns g c =
     let held = g.F.ImageFiles.held c.args.files.now c.args.name.now in
     let front = front_same held c.in-Ok.bytes.items c.deref.result.now c.deref.ensures.value c.in-Ok.ensures.ok in (
       Some c.play.new.reader.now,
-      plays_front held c.deref.result.now front (Some c.args.script.now) (Some c.play.new.reader.now) (Err c.in-Err-play.failure) (g.W.Write.contents c.args.out.now) (g.W.Write.contents c.play.new.out)
+      plays_front false held c.deref.result.now front (Some c.args.script.now) (Some c.play.new.reader.now) (Err c.in-Err-play.failure) (g.W.Write.contents c.args.out.now) (g.W.Write.contents c.play.new.out)
           c.in-Err-play.ensures,
     )

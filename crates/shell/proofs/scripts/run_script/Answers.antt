@@ -1,11 +1,14 @@
-use Rattle.shell.proofs.TurnLemmas.{script_ends}
+use Rattle.shell.proofs.TurnLemmas.{lenient_end, lenient_failure}
 use Rattle.shell.proofs.scripts.run_script.Goals as goal
 
-pub returns : goal.returns
-returns g c =
-    let mounted = c.in-Ok.ensures in
-    record {
-      ends = script_ends c.args.flash.now c.mount_as_planned.new.flash c.run_lines.new.flash c.in-Ok.mounted c.run_lines.new.system
-          (g.R.Read.remaining c.args.reader.now) (g.R.Read.remaining c.run_lines.new.reader) c.run_lines.result (g.W.Write.contents c.args.writer.now) (g.W.Write.contents c.run_lines.new.writer)
-          c.mount_as_planned.ensures.only_reads mounted.ok mounted.system c.mount_as_planned.ensures.plan c.run_lines.ensures.ends;
-    }
+pub returns-in-Ok : goal.returns-in-Ok
+returns-in-Ok g c = record {
+  ends = lenient_end c.args.flash.now c.run_script_until.new.flash (g.R.Read.remaining c.args.reader.now) (g.R.Read.remaining c.run_script_until.new.reader) c.in-Ok.field-0 (g.W.Write.contents c.args.writer.now)
+      (g.W.Write.contents c.run_script_until.new.writer) c.in-Ok.ensures.ends;
+}
+
+pub returns-in-Err : goal.returns-in-Err
+returns-in-Err g c = record {
+  ends = lenient_failure c.args.flash.now c.run_script_until.new.flash (g.R.Read.remaining c.args.reader.now) (g.R.Read.remaining c.run_script_until.new.reader) c.in-Err.fault (g.W.Write.contents c.args.writer.now)
+      (g.W.Write.contents c.run_script_until.new.writer) c.in-Err.ensures.ends;
+}

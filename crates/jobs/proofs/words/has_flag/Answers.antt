@@ -1,0 +1,15 @@
+use Rattle.std.proofs.Common.{◌∙◌, sym, ap, codes, option_map}
+use Rattle.clap.specs.Words.{found_of}
+use Rattle.clap.proofs.WalkLemmas.{first_value-rows}
+use Rattle.jobs.specs.Jobs.{flag_of}
+use Rattle.jobs.proofs.words.has_flag.Goals as goal
+
+pub returns-in-Some : goal.returns-in-Some
+returns-in-Some c =
+    let read = sym (ap (option_map (λ s. s.now)) c.in-Some.is) ∙ c.get_str.ensures ∙ first_value-rows (found_of c.args.given.now) c.args.name.now in
+    c.eq.ensures ∙ ap flag_of read
+
+pub returns-in-None : goal.returns-in-None
+returns-in-None c =
+    let read = sym (ap (option_map (λ s. s.now)) c.in-None.is) ∙ c.get_str.ensures ∙ first_value-rows (found_of c.args.given.now) c.args.name.now in
+    ap flag_of read

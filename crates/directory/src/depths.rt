@@ -197,9 +197,9 @@ fn first_level(alloc: Global, blocks: u32, list: &[u32]) -> Result<BlockSet, Fau
 
 /// Whether some path below one of the directories in some blocks has more than `most` names. Any
 /// content of the nodes is looked at, directories that reach themselves too; where not each directory
-/// on the way begins one, paths may be told to be longer than they are. No path is walked: of each
-/// level of directories a set of blocks is kept, at most `most + 1` levels are read, and each block at
-/// most once a level.
+/// on the way begins one, paths may be told to be longer than they are. No path is walked: three sets
+/// of blocks are kept, of a level of directories, of the next one and of the nodes that were read. At
+/// most `most + 1` levels are read, and each block at most once a level.
 ///
 /// Refused with `NoMemory` and with what a read is refused with, but never with `Damaged`.
 pub fn any_is_deeper<N: Nodes>(

@@ -23,7 +23,7 @@ pub enum Found {
     Missing { is_full: bool },
     /// A file, by the block of the last node of its body, and its length in bytes.
     File { head: u32, length: u32 },
-    /// A directory, by the block of its node.
+    /// A directory, by the block of its first node.
     Dir { block: u32 },
 }
 

@@ -88,8 +88,9 @@ pub(crate) fn rewrite_from<N: Nodes>(
 
 /// Puts an entry: the last name of a path below a root leads to a place, and all else stays. `trail`
 /// is that of the path below the root, and the name is there, or there is room for it, as a look up
-/// told. Each directory along the path is read once more and written anew, the deepest first.
-/// Answers the block of the new root. The old root stays as it was, whatever is answered.
+/// told. Each directory along the path is read once more and written anew, the deepest first, but for
+/// the nodes after the one with its name. Answers the block of the new root. The old root stays as it
+/// was, whatever is answered.
 ///
 /// Refused only with what reads and writes are refused with, and with `NoMemory`.
 pub fn put_entry<N: Nodes>(

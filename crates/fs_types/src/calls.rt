@@ -19,7 +19,7 @@ pub enum View {
 /// What stands at a path.
 #[derive(Clone, Copy, Debug, PartialEq, Eq)]
 pub enum Stat {
-    /// A directory, with its number of entries, at most 32.
+    /// A directory, with its number of entries, at most 1,024.
     Dir(u64),
     /// A file, with its length in bytes, at most 16,777,216.
     File(u64),

@@ -47,7 +47,7 @@ pub enum Fault {
     /// An open descriptor, or the root, is in the way.
     #[error("busy")]
     Busy,
-    /// The directory has 32 entries.
+    /// The directory has 1,024 entries.
     #[error("directory full")]
     DirectoryFull,
     /// There are sixteen checkpoints.

@@ -67,6 +67,11 @@ impl Kind {
         }
     }
 
+    /// Whether its images have directories of several nodes.
+    pub fn is_chains(self) -> bool {
+        matches!(self, Kind::Chains)
+    }
+
     /// An image of this kind, drawn by numbers.
     pub fn image(self, alloc: Global, numbers: &mut Numbers) -> Result<Vec<u8>, AllocError> {
         match self {

@@ -59,10 +59,15 @@ impl Tally {
 
     /// Whether enough images mounted, and enough were refused for each of the three reasons.
     pub fn is_enough(&self) -> bool {
-        2_000 <= self.mounted
+        2_200 <= self.mounted
             && 100 <= self.damaged
             && 100 <= self.without_record
             && 100 <= self.of_other_sizes
+    }
+
+    /// Whether of one kind enough images mounted, and enough were refused as damaged.
+    pub fn has_both(&self) -> bool {
+        100 <= self.mounted && 100 <= self.damaged
     }
 }
 

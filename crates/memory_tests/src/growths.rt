@@ -120,17 +120,31 @@ fn is_run<'a, 'e>(
         return Ok(false);
     }
     for Asked { word, event } in asked {
-        let need = oracle.need(alloc, event)?;
+        let answer = ask_in_want(alloc, budget, &mut system, event, word, refused)?;
         let causes = Causes {
-            full: has_fewer_free(alloc, &mut system, need)?,
+            full: is_full(alloc, &mut system, oracle, event, &answer)?,
             ..Causes::default()
         };
-        let answer = ask_in_want(alloc, budget, &mut system, event, word, refused)?;
         if !oracle.judge(alloc, event, answer, causes)? {
             return Ok(false);
         }
     }
     Ok(true)
+}
+
+/// Whether an event was answered that the flash is full where fewer blocks are free than it needs. The
+/// system is asked nothing else, so that no node is kept in memory for the next line.
+fn is_full(
+    alloc: Global,
+    system: &mut Fs<'_, SimFlash>,
+    oracle: &Oracle<'_>,
+    event: &Event,
+    answer: &Answer,
+) -> Result<bool, Fault> {
+    if !matches!(answer, Answer::Refused(Fault::FlashFull)) {
+        return Ok(false);
+    }
+    has_fewer_free(alloc, system, oracle.need(alloc, event)?)
 }
 
 /// Mounts with more and more memory, until it is not refused for want of it.

@@ -202,6 +202,9 @@ fn trees_are_looked_at_whole(rt: HostRuntime) -> Result<(), Fail> {
     Ok(())
 }
 
+/// An empty directory that stands alone.
+const ALONE: [u8; 16] = *b"UFND\0\0\0\0\0\0\0\0\0\0\0\0";
+
 /// The record of a formatted flash on an anchor, with other bytes at places of its page, and what a
 /// mount refuses it for. Where it is on anchor 1 it is there twice.
 type Changed = (&'static str, u32, &'static [(usize, u8)], Option<Fault>);
@@ -252,7 +255,8 @@ const RECORDS: [Changed; 13] = [
     ),
 ];
 
-/// A formatted flash with the record on an anchor, with other bytes at places.
+/// A flash with the record on an anchor, with other bytes at places, and a root that each format has: an
+/// empty directory that stands alone.
 fn record_with(alloc: Global, anchor: u32, changes: &[(usize, u8)]) -> Result<SimFlash, Fault> {
     let mut record = FRESH;
     for (place, byte) in changes {
@@ -260,7 +264,9 @@ fn record_with(alloc: Global, anchor: u32, changes: &[(usize, u8)]) -> Result<Si
             *changed = *byte;
         }
     }
-    put_record(alloc, anchor, &record)
+    let mut flash = put_record(alloc, anchor, &record)?;
+    put(alloc, &mut flash, 8, &ALONE)?;
+    Ok(flash)
 }
 
 /// A formatted flash with this record on an anchor.
@@ -276,6 +282,17 @@ fn the_newest_record_has_to_be_lawful(rt: HostRuntime) -> Result<(), Fail> {
         let mut flash = record_with(rt.alloc(), anchor, changes)?;
         assert_eq!(rt; Fs::mount(rt.alloc(), &mut flash).err(), wanted, "{name}");
     }
+    Ok(())
+}
+
+/// The root of a flash that is formatted is a node of a chain, which format 1 does not have.
+#[test]
+fn a_record_of_format_1_has_no_chain(rt: HostRuntime) -> Result<(), Fail> {
+    let mut record = FRESH;
+    record[20] = 1;
+    let mut flash = put_record(rt.alloc(), 0, &record)?;
+    let refusal = Fs::mount(rt.alloc(), &mut flash).err();
+    assert_eq!(rt; refusal, Some(Fault::Damaged));
     Ok(())
 }
 

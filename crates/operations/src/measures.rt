@@ -22,9 +22,10 @@ pub struct Asked {
 
 /// What a call asks of the flash.
 pub fn asked_by(alloc: Global, row: &Measure) -> Result<Asked, MeasureError> {
+    let before = counts_of(alloc, row.before)?;
     Ok(Asked {
-        cold: asked_after(alloc, row, &["cold"])?,
-        warm: asked_after(alloc, row, &[])?,
+        cold: asked_after(alloc, row, &["cold"], before)?,
+        warm: asked_after(alloc, row, &[], before)?,
     })
 }
 
@@ -34,8 +35,8 @@ fn asked_after(
     alloc: Global,
     row: &Measure,
     still: &[&'static str],
+    before: Counters,
 ) -> Result<Counters, MeasureError> {
-    let before = counts_of(alloc, row.before)?;
     let lines = lines_of(alloc, row, still)?;
     let after = counts_of(alloc, &lines)?;
     Ok(beyond(after, before))

@@ -109,7 +109,8 @@ impl PlainMachine {
     }
 
     /// How many nodes a call may write on a flash, where a node of a file's body has room for so many
-    /// data bytes, one at least; the greatest `u64` where it is more.
+    /// data bytes, one at least; the greatest `u64` where it is more. 0 for a call that is refused or
+    /// changes no tree. The tree after the call is made for it: the only error is want of memory.
     pub fn need(&self, alloc: Global, capacity: u64, call: &Call) -> Result<u64, AllocError>
         requires { 0 < capacity }
         ensures { IfOk result (λ nodes. nodes ≡ min (machine.need capacity self.now call.now) u64.MAX) }

@@ -5,13 +5,13 @@
 //! not give its replies is told with what it gave, and the status is 1.
 #![tactic(auto)]
 
-mod calls;
 mod error;
 mod look;
 mod nodes;
 mod row;
 mod runs;
 mod sight;
+mod tool_calls;
 
 use anyhow::{Context, Result};
 use error::RowError;

@@ -1,7 +1,7 @@
 //! A row: a script with the replies that are expected, and what it runs on.
-use crate::calls::ToolCall;
 use crate::error::RowError;
 use crate::look::{Claim, Look};
+use crate::tool_calls::ToolCall;
 use flash_model::{FaultKind, Geometry, PlannedFault};
 use script::kind_of;
 use std::alloc::Global;

@@ -1,9 +1,9 @@
 //! What a row writes on the plain machine, on a flash in memory, and by the program on an image: a
 //! line for each of its own.
-use crate::calls::append_given;
 use crate::error::RowError;
 use crate::row::{Row, Side};
 use crate::sight::Sight;
+use crate::tool_calls::append_given;
 use flash_image::decode;
 use flash_model::SimFlash;
 use fs_types::{Answer, Fault, Reply};

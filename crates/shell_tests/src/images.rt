@@ -29,7 +29,7 @@ const RECORD: [u8; 72] = [
 ];
 
 /// The first bytes of page 128 of a formatted flash, after which it has 252 bytes of 0.
-const NODE: [u8; 4] = [0x55, 0x46, 0x4e, 0x44];
+const NODE: [u8; 4] = [0x55, 0x46, 0x4e, 0x45];
 
 /// A page that begins with these bytes and goes on with 0.
 fn padded(front: &[u8]) -> [u8; 256] {

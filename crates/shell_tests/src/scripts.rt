@@ -180,11 +180,11 @@ const WRITTEN: [(&str, &str, [Page; 3]); 4] = [
         "mkdir /a\n",
         "ok\n",
         [
-            (128, Some(b"UFND")),
-            (144, Some(b"UFND")),
+            (128, Some(b"UFNE")),
+            (144, Some(b"UFNE")),
             (
                 160,
-                Some(b"UFND\x01\0\0\0\x0b\0\0\0\0\0\0\0\x02\x01a\x09\0\0\0\0\0\0\0"),
+                Some(b"UFNE\x01\0\0\0\x0b\0\0\0\0\0\0\0\x02\x01a\x09\0\0\0\0\0\0\0"),
             ),
         ],
     ),
@@ -192,11 +192,11 @@ const WRITTEN: [(&str, &str, [Page; 3]); 4] = [
         "open /f 7\npwrite 0 0 6869\n",
         "fd 0\nwrote 2\n",
         [
-            (144, Some(b"UFND\x01\0\0\0\x0b\0\0\0\0\0\0\0\x01\x01f")),
+            (144, Some(b"UFNE\x01\0\0\0\x0b\0\0\0\0\0\0\0\x01\x01f")),
             (160, Some(NODE)),
             (
                 176,
-                Some(b"UFND\x01\0\0\0\x0b\0\0\0\0\0\0\0\x01\x01f\x0a\0\0\0\x02\0\0\0"),
+                Some(b"UFNE\x01\0\0\0\x0b\0\0\0\0\0\0\0\x01\x01f\x0a\0\0\0\x02\0\0\0"),
             ),
         ],
     ),
@@ -205,10 +205,10 @@ const WRITTEN: [(&str, &str, [Page; 3]); 4] = [
         "ok\nok\n",
         [
             (144, None),
-            (160, Some(b"UFND")),
+            (160, Some(b"UFNE")),
             (
                 176,
-                Some(b"UFND\x01\0\0\0\x0b\0\0\0\0\0\0\0\x02\x01a\x0a\0\0\0\0\0\0\0"),
+                Some(b"UFNE\x01\0\0\0\x0b\0\0\0\0\0\0\0\x02\x01a\x0a\0\0\0\0\0\0\0"),
             ),
         ],
     ),
@@ -217,10 +217,10 @@ const WRITTEN: [(&str, &str, [Page; 3]); 4] = [
         "ok\nok\n",
         [
             (144, None),
-            (160, Some(b"UFND")),
+            (160, Some(b"UFNE")),
             (
                 176,
-                Some(b"UFND\x01\0\0\0\x0b\0\0\0\0\0\0\0\x02\x01a\x0a\0\0\0\0\0\0\0"),
+                Some(b"UFNE\x01\0\0\0\x0b\0\0\0\0\0\0\0\x02\x01a\x0a\0\0\0\0\0\0\0"),
             ),
         ],
     ),

@@ -15,6 +15,8 @@ fn words_are_read_as_a_job(rt: HostRuntime) -> Result<(), Fail> {
         pages: 16,
         blocks: 64,
         history: 8,
+        refusal: 0,
+        stop: false,
     };
     assert_eq!(rt; job(rt.alloc(), words.as_slice()).ok(), Some(wanted));
     Ok(())

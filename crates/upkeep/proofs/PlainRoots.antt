@@ -1,9 +1,8 @@
 -- Directories that are nodes which stand alone stay so where the nodes that roots reach stay, and a record that is written asks
 -- for none.
-use Rattle.std.proofs.Common.{◌≡◌, ℕ, Bool, true, false, Some, List, sym, ap, ◌∙◌}
+use Rattle.std.proofs.Common.{◌≡◌, ℕ, true, List, sym, ap, ◌∙◌}
 use Rattle.std.proofs.lemmas.Bool.{true≢false}
 use Rattle.std.specs.Prelude.{◌==◌}
-use Rattle.flash_model.specs.Device.{Device}
 use Rattle.record_format.specs.declared.formats.TheConstants.{FORMAT, OLD_FORMAT}
 use Rattle.record_format.specs.declared.records.Record.{Record}
 use Rattle.block_trees.specs.Bodies.{Blocks}

@@ -25,7 +25,8 @@ use working_state::State;
 /// How many nodes a mounted system keeps in memory, where no other number is asked.
 pub const MOUNTED_NODES: usize = 8;
 
-/// The working state of what a record holds; `Damaged` where a version or a checkpoint has no tree.
+/// The working state of what a record holds; `Damaged` where a version or a checkpoint has no tree, or
+/// where the record has format 1 and a directory is a chain.
 fn load<F: Flash>(
     alloc: Global,
     flash: &mut F,
@@ -90,10 +91,11 @@ fn mount_cached<F: Flash>(alloc: Global, flash: &mut F, cache: NodeCache) -> Res
 /// `nodes` nodes are kept in memory, 1 to 64: `Invalid` for another number, before any read.
 ///
 /// It takes no older record: `NoRecord` where none is valid, and `Damaged` where two have the
-/// greatest sequence, where the payload of the newest is damaged, or where some version or checkpoint
-/// of it has no tree of linked bodies. `BadGeometry` where the sizes are out of range, before any
-/// read, or where the newest record tells others; `ReadFailed` and `PowerCut` by the device;
-/// `NoMemory` where memory could not be had.
+/// greatest sequence, where the payload of the newest is damaged, where some version or checkpoint of
+/// it has no tree of linked bodies, or where it has format 1 and one of these trees has a directory
+/// that is a chain. `BadGeometry` where the sizes are out of range, before any read, or where the
+/// newest record tells others; `ReadFailed` and `PowerCut` by the device; `NoMemory` where memory
+/// could not be had.
 pub fn mount_with<F: Flash>(alloc: Global, flash: &mut F, nodes: usize) -> Result<System, Fault>
     ensures ok { IfOk result (IsMountOf (F.device flash.old) (F.device flash.new)) }
     ensures system { IfOk result (IsSystem (F.device flash.new)) }

@@ -6,7 +6,6 @@ use Rattle.history_machine.specs.History.{working_root}
 use Rattle.history_machine.specs.Machine.{view_tree}
 use Rattle.plain_trees.specs.Trees.{Tree, entry_count, nodes_for}
 use Rattle.node_format.specs.Items.{Item}
-use Rattle.node_format.specs.declared.places.Place.TheVariants.{Dir}
 use Rattle.block_trees.specs.Bodies.{Blocks}
 use Rattle.block_trees.specs.Chains.{chain}
 use Rattle.block_trees.specs.Trees.{entries_in, root_tree, IsRoot}

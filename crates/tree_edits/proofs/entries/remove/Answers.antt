@@ -1,9 +1,8 @@
-use Rattle.std.proofs.Common.{◌-◌, false, arith}
+use Rattle.std.proofs.Common.{◌-◌}
 use Rattle.node_format.specs.Headers.{body_header}
 use Rattle.directory.proofs.LookupLaws.{rooted_leads}
 use Rattle.tree_edits.proofs.Lookups.{removable_stands}
 use Rattle.tree_edits.proofs.NewRoots.{removed_result}
-use Rattle.tree_edits.proofs.Needs.{path_nodes-long}
 use Rattle.tree_edits.proofs.entries.remove.Goals as goal
 
 pub remove_entry-requires-clause-stands : goal.remove_entry-requires-clause-stands

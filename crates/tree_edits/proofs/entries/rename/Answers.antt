@@ -1,7 +1,6 @@
-use Rattle.std.proofs.Common.{◌-◌, arith}
+use Rattle.std.proofs.Common.{◌-◌}
 use Rattle.node_format.specs.Headers.{body_header}
 use Rattle.tree_edits.proofs.NewRoots.{moved_result}
-use Rattle.tree_edits.proofs.Needs.{move_nodes-long}
 use Rattle.tree_edits.proofs.entries.rename.Goals as goal
 
 pub returns-clause-root : goal.returns-clause-root

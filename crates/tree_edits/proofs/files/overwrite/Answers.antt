@@ -77,12 +77,12 @@ returns-clause-follows g c = g.met.N.Nodes.follows_on c.args.nodes.now c.write_r
 pub returns-clause-writes : goal.returns-clause-writes
 returns-clause-writes g c =
     let same = path_nodes-later (g.N.Nodes.node c.args.nodes.now) (g.N.Nodes.node c.write_range.new.nodes) (g.N.Nodes.kept c.args.nodes.now) (g.N.Nodes.kept c.write_range.new.nodes) c.args.path.now c.args.trail.now true
-        (record { root = c.args.root; trail_of = c.requires.way; held = c.requires.held }) c.write_range.ensures.keeps in
+    (record { root = c.args.root; trail_of = c.requires.way; held = c.requires.held }) c.write_range.ensures.keeps in
     omega (arith, c.write_range.ensures.writes, c.put_body.ensures.writes)
 
 pub returns-clause-reads : goal.returns-clause-reads
 returns-clause-reads g c = λ digits has.
     let same = path_nodes-later (g.N.Nodes.node c.args.nodes.now) (g.N.Nodes.node c.write_range.new.nodes) (g.N.Nodes.kept c.args.nodes.now) (g.N.Nodes.kept c.write_range.new.nodes) c.args.path.now c.args.trail.now false
-        (record { root = c.args.root; trail_of = c.requires.way; held = c.requires.held }) c.write_range.ensures.keeps in
+    (record { root = c.args.root; trail_of = c.requires.way; held = c.requires.held }) c.write_range.ensures.keeps in
     let body = c.write_range.ensures.reads digits has in
     omega (arith, body, c.put_body.ensures.reads)

@@ -1,6 +1,4 @@
-use Rattle.std.proofs.Common.{true, false, arith}
 use Rattle.tree_edits.proofs.Lookups.{file_below, file_room}
-use Rattle.tree_edits.proofs.Needs.{path_nodes-long}
 use Rattle.tree_edits.proofs.files.put_body.Goals as goal
 
 pub put_entry-requires-clause-below : goal.put_entry-requires-clause-below

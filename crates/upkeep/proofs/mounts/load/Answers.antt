@@ -4,7 +4,6 @@ use Rattle.std.specs.FinSet as set
 use Rattle.std.specs.Prelude.{◌↔◌}
 use Rattle.allocator.specs.Ring.{Ring}
 use Rattle.flash_model.specs.declared.sizes.Geometry.{Geometry}
-use Rattle.flash_model.specs.Geometry.{block_bytes}
 use Rattle.node_store.specs.NodePages.{node_of}
 use Rattle.block_trees.specs.Reached.{Reached}
 use Rattle.working_state.specs.declared.state.State.{State}

@@ -9,7 +9,7 @@ use Rattle.working_state.proofs.FileReads.{view_reads, read_step}
 use Rattle.working_state.proofs.Refusals.{at_fault, refused_step}
 use Rattle.working_state.proofs.Standing.{worked_itself, looked_at}
 use Rattle.working_state.proofs.Views.{view_refuses, view_stands}
-use Rattle.std.proofs.Common.{length, sym, subst}
+use Rattle.std.proofs.Common.{sym, subst}
 use Rattle.plain_trees.specs.Trees.{Tree, bytes_at}
 use Rattle.working_state.specs.Looking.{AsksForRange, look_nodes}
 use Rattle.working_state.proofs.Views.{view_tree_is}

@@ -7,6 +7,7 @@ use Rattle.std.specs.FinSet as set
 use Rattle.std.specs.List.{range_with_len}
 use Rattle.std.specs.Option.{option_or}
 use Rattle.std.specs.Ordering.{nat_cmp, eq_by_cmp}
+use Rattle.fs_types.specs.declared.limits.TheConstants.{ANCHORS}
 use Rattle.allocator.specs.FreeCount.{free_count-less}
 use Rattle.allocator.specs.BlockSet.{BlockSet}
 use Rattle.allocator.specs.RingLaws.{distance_later, distance_earlier}
@@ -54,7 +55,7 @@ find-append p (x ∷ xs) ys =
 
 -- the first one after `last`, or else the first one up to it, is the first in ring order
 first_of_both : (busy : ℕ → Bool) (n last : ℕ) (r s : Option ℕ) → IsDataBlock n last
-    → FirstIn busy (last + 1) n r → FirstIn busy 8 (last + 1) s → IsFirstFree busy n last (option_or r s)
+    → FirstIn busy (last + 1) n r → FirstIn busy ANCHORS (last + 1) s → IsFirstFree busy n last (option_or r s)
 first_of_both busy n last (Some b) s at after before =
     let near : distance n last b ≡ b - last = distance_later n last b (omega arith) in
     record {
@@ -66,7 +67,7 @@ first_of_both busy n last (Some b) s at after before =
       ];
     }
 first_of_both busy n last None (Some b) at after before =
-    let far : distance n last b ≡ b + (n - 8) - last = distance_earlier n last b (omega arith) in
+    let far : distance n last b ≡ b + (n - ANCHORS) - last = distance_earlier n last b (omega arith) in
     record {
       data_block = (before.0, omega arith);
       free = before.2;
@@ -85,8 +86,8 @@ pub first_found : (busy : ℕ → Bool) (n last : ℕ) (r : Option ℕ) → IsDa
     → r ≡ find (λ b. not (busy b)) (ring_order n last) → IsFirstFree busy n last r
 first_found busy n last r at found =
     subst (IsFirstFree busy n last)
-    (sym (found ∙ find-append (λ b. not (busy b)) (range_with_len (last + 1) (n - (last + 1))) (range_with_len 8 (last + 1 - 8))))
-    (first_of_both busy n last _ _ at (first_in busy (last + 1) (n - (last + 1)) n (omega arith)) (first_in busy 8 (last + 1 - 8) (last + 1) (omega arith)))
+    (sym (found ∙ find-append (λ b. not (busy b)) (range_with_len (last + 1) (n - (last + 1))) (range_with_len ANCHORS (last + 1 - ANCHORS))))
+    (first_of_both busy n last _ _ at (first_in busy (last + 1) (n - (last + 1)) n (omega arith)) (first_in busy ANCHORS (last + 1 - ANCHORS) (last + 1) (omega arith)))
 
 or_true : (t : Bool) → (t || true) ≡ true
 or_true true = refl

@@ -8,6 +8,7 @@ use Rattle.std.specs.Cmp.{unsigned_tied}
 use Rattle.std.specs.FinSet as set
 use Rattle.std.specs.List.{range_with_len}
 use Rattle.std.specs.Ordering.{nat_cmp}
+use Rattle.fs_types.specs.declared.limits.TheConstants.{ANCHORS}
 use Rattle.allocator.specs.Ring.{Ring, IsDataBlock, is_busy, free_count}
 
 abbrev one_if : Bool → ℕ
@@ -48,9 +49,9 @@ busy_anyway used new bad is_used = ap (λ t. t || (new || bad)) is_used ∙ sym 
 pub free_count-alike : (r s : Ring) (bad bad' : set.FinSet nat_cmp) → r.blocks ≡ s.blocks
     → ((b : ℕ) → IsDataBlock r.blocks b → is_busy r bad b ≡ is_busy s bad' b) → free_count r bad ≡ free_count s bad'
 free_count-alike r s bad bad' same alike =
-    count_alike (λ b. not (is_busy r bad b)) (λ b. not (is_busy s bad' b)) 8 (r.blocks - 8)
+    count_alike (λ b. not (is_busy r bad b)) (λ b. not (is_busy s bad' b)) ANCHORS (r.blocks - ANCHORS)
     (λ c low high. ap not (alike c (low, omega arith)))
-    ∙ ap (λ n. count_by (λ b. not (is_busy s bad' b)) (range_with_len 8 (n - 8))) same
+    ∙ ap (λ n. count_by (λ b. not (is_busy s bad' b)) (range_with_len ANCHORS (n - ANCHORS))) same
 
 -- where one more data block is used, one less is free
 pub free_count-less : (r s : Ring) (bad : set.FinSet nat_cmp) (b : ℕ) → s.blocks ≡ r.blocks → s.used ≡ set.insert r.used b
@@ -58,8 +59,8 @@ pub free_count-less : (r s : Ring) (bad : set.FinSet nat_cmp) (b : ℕ) → s.bl
 free_count-less r s bad b same more at free =
     let now_used : (c : ℕ) → set.contains s.used c ≡ (eqb c b || set.contains r.used c) =
     λ c. ap (λ u. set.contains u c) more ∙ set.contains-insert nat_cmp_total r.used b c ∙ ap (λ t. t || set.contains r.used c) (unsigned_tied c b) in
-    ap (λ n. count_by (λ c. not (is_busy s bad c)) (range_with_len 8 (n - 8)) + 1) same
-    ∙ count_less (λ c. not (is_busy r bad c)) (λ c. not (is_busy s bad c)) 8 (r.blocks - 8) b at.0 (omega arith)
+    ap (λ n. count_by (λ c. not (is_busy s bad c)) (range_with_len ANCHORS (n - ANCHORS)) + 1) same
+    ∙ count_less (λ c. not (is_busy r bad c)) (λ c. not (is_busy s bad c)) ANCHORS (r.blocks - ANCHORS) b at.0 (omega arith)
     (ap not free)
     (ap (λ t. not (t || set.contains bad b)) (now_used b ∙ ap (λ t. t || set.contains r.used b) (eq-eqb b b refl)))
     (λ c other. ap (λ t. not (t || set.contains bad c)) (sym (now_used c ∙ ap (λ t. t || set.contains r.used c) (ne_eqb c b other))))

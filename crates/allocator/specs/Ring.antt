@@ -4,6 +4,7 @@ use Rattle.std.specs.Coded.{Coded, code_by, coded×, coded_ℕ}
 use Rattle.std.specs.FinSet as set
 use Rattle.std.specs.List.{range_with_len}
 use Rattle.std.specs.Ordering.{nat_cmp}
+use Rattle.fs_types.specs.declared.limits.TheConstants.{ANCHORS}
 use Rattle.allocator.specs.BlockSet.{BlockSet}
 
 -- how many blocks the flash has, those that are used, the note of those that became used since it was emptied, the
@@ -23,9 +24,9 @@ ring_code =
     (λ r. ((r.blocks, (r.used, r.note)), (r.last, r.takes)))
     (λ p. record { blocks = p.0.0; used = p.0.1.0; note = p.0.1.1; last = p.1.0; takes = p.1.1 }) (λ _. refl)
 
--- block b of a flash of n blocks holds data: blocks 0 to 7 do not
+-- block b of a flash of n blocks holds data: the anchors do not
 abbrev pub IsDataBlock : ℕ → ℕ → Type 0
-IsDataBlock n b = (8 ≤ b) × (b < n)
+IsDataBlock n b = (ANCHORS ≤ b) × (b < n)
 
 -- each block of the set is a data block of a flash of n blocks
 abbrev pub AreDataBlocks : ℕ → set.FinSet nat_cmp → Type 0
@@ -33,7 +34,7 @@ AreDataBlocks n s = (b : ℕ) → set.contains s b ≡ true → IsDataBlock n b
 
 -- the data blocks in ascending order
 abbrev pub data_blocks : ℕ → List ℕ
-data_blocks n = range_with_len 8 (n - 8)
+data_blocks n = range_with_len ANCHORS (n - ANCHORS)
 
 -- the flash has a lawful size, and the used blocks and the last one taken are data blocks
 pub record IsRing (blocks : ℕ) (used : set.FinSet nat_cmp) (last : ℕ) : Type 0 where
@@ -54,17 +55,17 @@ is_busy r bad b = set.contains r.used b || set.contains bad b
 abbrev pub free_count : Ring → set.FinSet nat_cmp → ℕ
 free_count r bad = count_by (λ b. not (is_busy r bad b)) (data_blocks r.blocks)
 
--- the data blocks in ring order after `last`: to n - 1, and then from 8 on to `last` itself
+-- the data blocks in ring order after `last`: to n - 1, and then from the first one on to `last` itself
 abbrev pub ring_order : ℕ → ℕ → List ℕ
-ring_order n last = range_with_len (last + 1) (n - (last + 1)) ++ range_with_len 8 (last + 1 - 8)
+ring_order n last = range_with_len (last + 1) (n - (last + 1)) ++ range_with_len ANCHORS (last + 1 - ANCHORS)
 
 -- the first data block in ring order after the last one taken that is neither used nor bad, none where there is none
 abbrev pub next_free : Ring → set.FinSet nat_cmp → Option ℕ
 next_free r bad = find (λ b. not (is_busy r bad b)) (ring_order r.blocks r.last)
 
--- how far b comes after `last` in ring order, which goes on at 8 after n - 1: from 1 to n - 8 for `last` itself
+-- how far b comes after `last` in ring order, which goes on at the first data block after n - 1: from 1 to n - ANCHORS for `last` itself
 abbrev pub distance : ℕ → ℕ → ℕ → ℕ
-distance n last b = if nat_lt last b then b - last else b + (n - 8) - last
+distance n last b = if nat_lt last b then b - last else b + (n - ANCHORS) - last
 
 -- data block b is not busy, and each one that comes before it is
 pub record IsNext (busy : ℕ → Bool) (n last b : ℕ) : Type 0 where

@@ -2,13 +2,14 @@
 use Rattle.std.specs.Prelude.{◌≡◌, ℕ, ◌+◌, ◌-◌, ◌<◌, ◌≤◌, ◌≢◌, Bool, true}
 use Rattle.std.proofs.Common.{ap, ◌∙◌, inl, inr, arith}
 use Rattle.std.proofs.lemmas.Bool.{lt-ltb, le-ltb, cases_lt, cases_order, cases_Bool, both_ways}
+use Rattle.fs_types.specs.declared.limits.TheConstants.{ANCHORS}
 use Rattle.allocator.specs.Ring.{IsDataBlock, distance, IsNext}
 
 -- a later block is nearer, and the blocks up to `last` come after those
 pub distance_later : (n last b : ℕ) → last < b → distance n last b ≡ b - last
 distance_later n last b later = rw (lt-ltb last b later)
 
-pub distance_earlier : (n last b : ℕ) → b ≤ last → distance n last b ≡ b + (n - 8) - last
+pub distance_earlier : (n last b : ℕ) → b ≤ last → distance n last b ≡ b + (n - ANCHORS) - last
 distance_earlier n last b earlier = rw (le-ltb last b earlier)
 
 -- what is farther than c from `last` is as much farther from `last` as it is far from c

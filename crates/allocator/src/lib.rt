@@ -1,10 +1,10 @@
 //! Which blocks of the flash are used, and which one is taken next.
 #![tactic(auto)]
 
-mod bitmap;
+mod block_set;
 mod marks;
-mod rings;
+mod ring;
 
-pub use bitmap::BlockSet;
+pub use block_set::BlockSet;
 pub use marks::Marks;
-pub use rings::Ring;
+pub use ring::Ring;

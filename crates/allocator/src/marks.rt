@@ -3,7 +3,7 @@ ghost use Rattle.std.specs.Prelude.{◌≡◌, ℕ, true, IfOk, IfErr};
 ghost use Rattle.std.specs.FinSet as set;
 ghost use Rattle.allocator.specs.Ring.{IsDataBlock, AreDataBlocks};
 
-use crate::bitmap::BlockSet;
+use crate::block_set::BlockSet;
 use fs_types::Fault;
 use std::alloc::Global;
 use std::marker::Model;

@@ -13,7 +13,6 @@ use std::marker::Model;
 use std::slice;
 use thiserror::Error;
 
-/// How many blocks the set may have.
 /// The block is new, and 256 are in the set.
 #[derive(Clone, Copy, Debug, PartialEq, Eq, Error)]
 #[error("256 blocks are bad already")]

@@ -7,8 +7,8 @@ use Rattle.fs_types.specs.Names.{Name, same_name}
 use Rattle.node_format.specs.Items.{Item, named, are_ascending}
 use Rattle.node_format.specs.EntryLaws.{named-contained, contained-named}
 use Rattle.node_format.specs.Links.{Link}
-use Rattle.node_format.specs.declared.places.Place.{Place}
-use Rattle.node_format.specs.declared.places.Place.TheVariants.{Dir}
+use Rattle.node_format.specs.declared.place.Place.{Place}
+use Rattle.node_format.specs.declared.place.Place.TheVariants.{Dir}
 use Rattle.block_trees.specs.Bodies.{Blocks}
 use Rattle.block_trees.specs.Chains.{link_of, next_of, after, most_after, link_items, entries_in, items_in, blocks_after, chain}
 use Rattle.block_trees.specs.Trees.{child}

@@ -8,8 +8,8 @@ use Rattle.plain_trees.specs.Contents.{Contents, Entry, nothing, leaf, graft, Is
 use Rattle.plain_trees.specs.Trees.{put, remove}
 use Rattle.plain_trees.proofs.Edits.{same_tree}
 use Rattle.plain_trees.proofs.Grafts.{graft_law, contents_law}
-use Rattle.node_format.specs.declared.places.Place.{Place}
-use Rattle.node_format.specs.declared.places.Place.TheVariants.{Dir, File}
+use Rattle.node_format.specs.declared.place.Place.{Place}
+use Rattle.node_format.specs.declared.place.Place.TheVariants.{Dir, File}
 use Rattle.block_trees.specs.Bodies.{Blocks, body, IsBody}
 use Rattle.block_trees.specs.Trees.{child, leads, entry_at, tree_at, tree, IsWhole, HasTree, IsRoot, root_tree}
 use Rattle.block_trees.specs.Laws.{RemoveLaw, PutFileLaw}

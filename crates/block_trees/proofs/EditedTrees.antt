@@ -4,14 +4,14 @@ use Rattle.std.specs.Option.{option_map, option_and_then}
 use Rattle.std.specs.FinMap.{get}
 use Rattle.fs_types.specs.Names.{Name, Path, same_name}
 use Rattle.plain_trees.specs.Contents as plain
-use Rattle.plain_trees.specs.Contents.{Contents, Entry, nothing, leaf, beneath, graft, grafted_at, IsLast}
+use Rattle.plain_trees.specs.Contents.{Contents, Entry, nothing, leaf, beneath, graft, grafted_at}
 use Rattle.plain_trees.specs.Trees.{put}
 use Rattle.fs_types.proofs.Orders.{same_name-is, same_name-own}
 use Rattle.plain_trees.proofs.Edits.{same_tree}
 use Rattle.plain_trees.proofs.Grafts.{graft_law, contents_law}
 use Rattle.node_format.specs.Items.{Item, named}
-use Rattle.node_format.specs.declared.places.Place.{Place}
-use Rattle.node_format.specs.declared.places.Place.TheVariants.{Dir}
+use Rattle.node_format.specs.declared.place.Place.{Place}
+use Rattle.node_format.specs.declared.place.Place.TheVariants.{Dir}
 use Rattle.block_trees.specs.Bodies.{Blocks}
 use Rattle.block_trees.specs.Trees.{entries_in, child, leads, entry_at, tree_at, tree, IsWhole, HasTree, IsRoot, root_tree}
 use Rattle.block_trees.specs.Trees as trees

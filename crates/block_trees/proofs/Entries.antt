@@ -2,7 +2,7 @@
 use Rattle.std.proofs.Common.{◌≡◌, ℕ, cond, Option, Some, None, List, ap}
 use Rattle.node_format.specs.Headers.{field}
 use Rattle.node_format.specs.Links.{Link}
-use Rattle.node_format.specs.declared.places.Place.{Place}
+use Rattle.node_format.specs.declared.place.Place.{Place}
 use Rattle.node_format.proofs.LinkLaws.{link_no_body}
 use Rattle.block_trees.specs.Bodies.{index_of}
 use Rattle.block_trees.specs.Chains.{link_of}

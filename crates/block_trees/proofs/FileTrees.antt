@@ -13,11 +13,13 @@ use Rattle.fs_types.proofs.Orders.{same_name-is}
 use Rattle.plain_trees.specs.Contents.{Entry}
 use Rattle.plain_trees.specs.Trees.{Tree, entry_count, IsFileTree}
 use Rattle.plain_trees.proofs.Counts.{count-within}
+use Rattle.fields.specs.Numbers.{byte_at, number_at}
+use Rattle.fields.proofs.Found.{bind_some, passed, not_refused, some_is}
 use Rattle.node_format.specs.Headers.{field}
 use Rattle.node_format.specs.Items.{Item, named, is_dir_place}
-use Rattle.node_format.specs.Directories.{◌>>=◌, byte_at, number_at, name_at, place_at, item_at, items_at}
-use Rattle.node_format.specs.declared.places.Place.{Place}
-use Rattle.node_format.specs.declared.places.Place.TheVariants.{Dir, File}
+use Rattle.node_format.specs.Directories.{name_at, place_at, item_at, items_at}
+use Rattle.node_format.specs.declared.place.Place.{Place}
+use Rattle.node_format.specs.declared.place.Place.TheVariants.{Dir, File}
 use Rattle.block_trees.specs.Bodies.{Blocks, body, data_to, head_index}
 use Rattle.node_format.specs.Links.{Link}
 use Rattle.node_format.proofs.LinkLaws.{link_items_at}
@@ -31,27 +33,9 @@ use Rattle.block_trees.proofs.RootMaps.{get-root_tree, children-root_tree, leads
 
 -- ---- what is read is lawful
 
-bind_some : {A B : Type 0} (r : Option A) (f : A → Option B) (y : B) → (r >>= f) ≡ Some y → (x : A) × (r ≡ Some x) × (f x ≡ Some y)
-bind_some None f y e = absurd cc
-bind_some (Some x) f y e = (x, refl, e)
-
 then_some : {A B : Type 0} (g : A → Option B) (r : Option A) (y : B) → option_and_then g r ≡ Some y → (x : A) × (r ≡ Some x) × (g x ≡ Some y)
 then_some g None y e = absurd cc
 then_some g (Some x) y e = (x, refl, e)
-
-passed : {A : Type 0} (b : Bool) (r : Option A) (y : A) → cond b r None ≡ Some y → (b ≡ true) × (r ≡ Some y)
-passed true r y e = (refl, e)
-passed false r y e = absurd cc
-
-not_refused : {A : Type 0} (b : Bool) (r : Option A) (y : A) → cond b None r ≡ Some y → (b ≡ false) × (r ≡ Some y)
-not_refused true r y e = absurd cc
-not_refused false r y e = (refl, e)
-
-abbrev found : {A : Type 0} → A → Option A
-found x = Some x
-
-some_is : {A : Type 0} (x y : A) → found x ≡ found y → x ≡ y
-some_is x y e = cc
 
 -- a file is not too long
 abbrev pub IsShort : Place → Type 0
@@ -85,8 +69,8 @@ item_lawful bytes x e =
     let kind = bind_some (byte_at bytes) _ x e in
     let size = bind_some (byte_at kind.0.1) _ x kind.2 in
     let name = bind_some (name_at size.0.0 size.0.1) _ x size.2 in
-    let head = bind_some (number_at name.0.1) _ x name.2 in
-    let length = bind_some (number_at head.0.1) _ x head.2 in
+    let head = bind_some (number_at 4 name.0.1) _ x name.2 in
+    let length = bind_some (number_at 4 head.0.1) _ x head.2 in
     let place = bind_some (place_at kind.0.0 head.0.0 length.0.0) _ x length.2 in
     let read : Item × List ℕ = (record { name = name.0.0; place = place.0 }, length.0.1) in
     subst (λ (y : Item × List ℕ). (is_name y.0.name ≡ true) × IsShort y.0.place) (some_is read x place.2)

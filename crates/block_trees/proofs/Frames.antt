@@ -7,8 +7,8 @@ use Rattle.std.specs.FinMap.{from_entries}
 use Rattle.fs_types.specs.Names.{Name, Path}
 use Rattle.plain_trees.specs.Contents.{Entry}
 use Rattle.node_format.specs.Items.{Item, named}
-use Rattle.node_format.specs.declared.places.Place.{Place}
-use Rattle.node_format.specs.declared.places.Place.TheVariants.{Dir, File}
+use Rattle.node_format.specs.declared.place.Place.{Place}
+use Rattle.node_format.specs.declared.place.Place.TheVariants.{Dir, File}
 use Rattle.node_format.specs.BodyNodes.{HasSlot}
 use Rattle.block_trees.specs.Bodies.{Blocks, index_of, pointer_of, data_of, back, data_to, head_index, body, IsChain, IsLinked, IsBody}
 use Rattle.block_trees.specs.Trees.{entries_in, child, leads, entry_at, tree_at, IsWhole, HasTree, listed, items_in}

@@ -1,3 +1,4 @@
+pub mod Bodies
 pub mod ChainCounts
 pub mod Chained
 pub mod Chains

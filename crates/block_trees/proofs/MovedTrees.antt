@@ -12,8 +12,8 @@ use Rattle.plain_trees.proofs.Beneath.{None≢Some}
 use Rattle.plain_trees.proofs.Edits.{same_tree}
 use Rattle.plain_trees.proofs.Grafts.{graft_law, contents_law}
 use Rattle.node_format.specs.Items.{Item, named}
-use Rattle.node_format.specs.declared.places.Place.{Place}
-use Rattle.node_format.specs.declared.places.Place.TheVariants.{Dir, File}
+use Rattle.node_format.specs.declared.place.Place.{Place}
+use Rattle.node_format.specs.declared.place.Place.TheVariants.{Dir, File}
 use Rattle.block_trees.specs.Bodies.{Blocks}
 use Rattle.block_trees.specs.Trees.{entries_in, child, leads, entry_at, tree_at, tree, IsWhole, HasTree, IsRoot, root_tree}
 use Rattle.block_trees.specs.Trees as trees

@@ -3,8 +3,8 @@ use Rattle.std.proofs.Common.{◌≡◌, ℕ, suc, unwrap_or, List, ◌*◌, ◌
 use Rattle.std.specs.Prelude.{Contains}
 use Rattle.std.specs.Option.{option_and_then}
 use Rattle.fs_types.specs.Names.{Name, Path}
-use Rattle.node_format.specs.declared.places.Place.{Place}
-use Rattle.node_format.specs.declared.places.Place.TheVariants.{Dir, File}
+use Rattle.node_format.specs.declared.place.Place.{Place}
+use Rattle.node_format.specs.declared.place.Place.TheVariants.{Dir, File}
 use Rattle.block_trees.specs.Bodies.{Blocks, index_of, pointer_of}
 use Rattle.block_trees.specs.Trees.{child, leads}
 use Rattle.block_trees.specs.Reached.{IsHeld, Reached, IsFirst, IsNamed, Names, BodyNames}

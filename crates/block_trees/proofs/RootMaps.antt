@@ -18,8 +18,8 @@ use Rattle.plain_trees.proofs.Edits.{get-bare, same_tree}
 use Rattle.node_format.specs.Items.{Item, is_before, are_ascending, named}
 use Rattle.node_format.specs.EntryLaws.{after-differs}
 use Rattle.node_format.specs.Order.{both_true}
-use Rattle.node_format.specs.declared.places.Place.{Place}
-use Rattle.node_format.specs.declared.places.Place.TheVariants.{Dir, File}
+use Rattle.node_format.specs.declared.place.Place.{Place}
+use Rattle.node_format.specs.declared.place.Place.TheVariants.{Dir, File}
 use Rattle.block_trees.specs.Bodies.{Blocks}
 use Rattle.block_trees.proofs.Chained.{directory_ascends}
 use Rattle.block_trees.specs.Trees.{entries_in, child, leads, entry_at, tree_at, tree, IsWhole, HasTree, IsRoot, listed, root_tree, names_of, is_dir_place, items_in}

@@ -12,8 +12,8 @@ use Rattle.plain_trees.specs.Trees.{is_too_deep}
 use Rattle.fs_types.proofs.Orders.{path_ties, same_path-own}
 use Rattle.plain_trees.proofs.Beneath.{by_beneath}
 use Rattle.plain_trees.proofs.FileTrees.{not-deep}
-use Rattle.node_format.specs.declared.places.Place.{Place}
-use Rattle.node_format.specs.declared.places.Place.TheVariants.{Dir}
+use Rattle.node_format.specs.declared.place.Place.{Place}
+use Rattle.node_format.specs.declared.place.Place.TheVariants.{Dir}
 use Rattle.block_trees.specs.Bodies.{Blocks}
 use Rattle.block_trees.specs.Trees.{leads, entry_at, IsRoot, root_tree}
 use Rattle.block_trees.specs.Laws.{IsShallow, DepthLaw}

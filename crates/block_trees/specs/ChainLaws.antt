@@ -4,8 +4,8 @@ use Rattle.fs_types.specs.Names.{Name}
 use Rattle.plain_trees.specs.Trees.{nodes_for}
 use Rattle.node_format.specs.Items.{Item, are_ascending}
 use Rattle.node_format.specs.Links.{Link}
-use Rattle.node_format.specs.declared.places.Place.{Place}
-use Rattle.node_format.specs.declared.places.Place.TheVariants.{Dir}
+use Rattle.node_format.specs.declared.place.Place.{Place}
+use Rattle.node_format.specs.declared.place.Place.TheVariants.{Dir}
 use Rattle.block_trees.specs.Bodies.{Blocks}
 use Rattle.block_trees.specs.Chains.{link_of, is_later, after, most_after, entries_in, items_in, chain}
 use Rattle.block_trees.specs.Trees.{child}

@@ -6,8 +6,8 @@ use Rattle.fs_types.specs.Names.{Path}
 use Rattle.plain_trees.specs.Contents.{Contents, Entry, nothing, graft, IsLast}
 use Rattle.plain_trees.specs.Contents as plain
 use Rattle.plain_trees.specs.Trees.{put, remove, move, children, is_too_deep, IsFileTree}
-use Rattle.node_format.specs.declared.places.Place.{Place}
-use Rattle.node_format.specs.declared.places.Place.TheVariants.{Dir, File}
+use Rattle.node_format.specs.declared.place.Place.{Place}
+use Rattle.node_format.specs.declared.place.Place.TheVariants.{Dir, File}
 use Rattle.block_trees.specs.Bodies.{Blocks, body, IsBody}
 use Rattle.block_trees.specs.Trees.{items_in, entries_in, leads, tree_at, tree, HasTree, IsRoot, root_tree, names_of}
 use Rattle.block_trees.specs.Reached.{Reached, IsHeld, Keeps, PlaceNames}
@@ -91,7 +91,7 @@ RenameLaw = (capacity : ℕ) (old new : Blocks) (kept kept' : ℕ → Bool) (fro
 
 -- whether a path at `old` or below would have more names than a path may have at `new`, of the finite map of a root and of its nodes
 abbrev pub DepthLaw : Type 0
-DepthLaw = (capacity : ℕ) (f : Blocks) (root : ℕ) (old new : Path) (place : Place) → IsRoot capacity f root → leads f (Dir root) old ≡ Some place → length new ≤ 16
+DepthLaw = (capacity : ℕ) (f : Blocks) (root : ℕ) (old new : Path) (place : Place) → IsRoot capacity f root → leads f (Dir root) old ≡ Some place → length new ≤ MAX_NAMES
     → (is_too_deep (root_tree capacity f root) old new ≡ false) ↔ IsShallow f place (MAX_NAMES - length new)
 
 -- the finite map of a root has at each path what stands there, and lists the entries of its directories

@@ -10,8 +10,8 @@ use Rattle.plain_trees.specs.Trees.{Tree}
 use Rattle.node_format.specs.Items.{Item, named}
 pub use Rattle.node_format.specs.Items.{is_dir_place}
 pub use Rattle.block_trees.specs.Chains.{entries_in, items_in}
-use Rattle.node_format.specs.declared.places.Place.{Place}
-use Rattle.node_format.specs.declared.places.Place.TheVariants.{Dir, File}
+use Rattle.node_format.specs.declared.place.Place.{Place}
+use Rattle.node_format.specs.declared.place.Place.TheVariants.{Dir, File}
 use Rattle.block_trees.specs.Bodies.{Blocks, body, IsBody}
 
 -- what a name in a directory leads to

@@ -1,18 +1,17 @@
 -- How operations on anchors lead on.
 use Rattle.std.proofs.Common.{◌≡◌, ◌≢◌, ◌⊎◌, ℕ, ◌+◌, ◌/◌, ◌<◌, ◌≤◌, List, Bool, true, false, cond, eqb, Result, Ok, Err, refl, sym, ap, subst, ◌∙◌, inl, inr, arith}
 use Rattle.std.specs.Prelude.{◌||◌, leb, OnErr, IsOk}
-use Rattle.fs_types.specs.declared.limits.TheConstants.{MAX_BAD_BLOCKS}
-use Rattle.read_only.specs.Modes.{is_read_only}
+use Rattle.fs_types.specs.declared.limits.TheConstants.{ANCHORS, MAX_BAD_BLOCKS}
+use Rattle.bad_blocks.specs.Mode.{is_read_only}
 use Rattle.std.specs.FinSet as set
 use Rattle.std.specs.Ordering.{nat_cmp}
 use Rattle.std.specs.Cmp.{unsigned_tied}
 use Rattle.std.proofs.lemmas.Bool.{cases_eq, cases_Bool, both_ways, ne_eqb, or_right, or_cases, or_parts, leb-false, eqb-true, eq-eqb}
 use Rattle.std.proofs.lemmas.Cmp.{nat_cmp_total}
-use Rattle.flash_model.specs.declared.sizes.Geometry.{Geometry}
-use Rattle.flash_model.specs.declared.device.DevFault.{DevFault}
-use Rattle.flash_model.specs.declared.device.DevFault.TheVariants.{Failed, PowerCut}
+use Rattle.flash_model.specs.declared.geometry.Geometry.{Geometry}
+use Rattle.flash_model.specs.declared.flash.DevFault.{DevFault}
+use Rattle.flash_model.specs.declared.flash.DevFault.TheVariants.{Failed, PowerCut}
 use Rattle.flash_model.specs.Device.{Device, Page, erased, unreadable, block_of, failed, Wears, AfterErase, Erases, Programs, power_after}
-use Rattle.commit_pair.specs.Parts.{first_data}
 use Rattle.commit_pair.specs.Anchored.{OnlyAnchors, PowerLeft, Touches, Fades, AreErased}
 
 pub OnlyAnchors_itself : (d : Device) (bad : set.FinSet nat_cmp) → OnlyAnchors d bad d bad
@@ -36,7 +35,7 @@ OnlyAnchors_on d e f was mid now first next =
     let off_on : d.powered ≡ false → e.powered ≡ false = λ off. ap (λ (x : Device). x.powered) (first.stays_off off) ∙ off in
     record {
       geometry = next.geometry ∙ first.geometry;
-      data_pages = λ p from. next.data_pages p (subst (λ (g : Geometry). first_data ≤ p / g.pages) (sym first.geometry) from) ∙ first.data_pages p from;
+      data_pages = λ p from. next.data_pages p (subst (λ (g : Geometry). ANCHORS ≤ p / g.pages) (sym first.geometry) from) ∙ first.data_pages p from;
       stays_bad = λ b is. next.stays_bad b (first.stays_bad b is);
       bad_anchor = λ b is good. elim (cases_Bool (set.contains mid b)) [ inl then_bad ↦ first.bad_anchor b then_bad good | inr then_good ↦ next.bad_anchor b is then_good ];
       bad_worn = λ b is good. elim (cases_Bool (set.contains mid b)) [ inl then_bad ↦ next.worn b (first.bad_worn b then_bad good) | inr then_good ↦ next.bad_worn b is then_good ];
@@ -78,7 +77,7 @@ wears_on old new b (Err Failed) wears c was = elim (cases_eq c b) [ inl same ↦
 wears_on old new b (Err PowerCut) wears c was = wears c ∙ was
 
 -- an operation that did not fail
-pub touched : (old new : Device) (bad : set.FinSet nat_cmp) (b : ℕ) (result : Result (Unit {0}) DevFault) → b < first_data → Touches old b new result → failed result ≡ 0 → OnlyAnchors old bad new bad
+pub touched : (old new : Device) (bad : set.FinSet nat_cmp) (b : ℕ) (result : Result (Unit {0}) DevFault) → b < ANCHORS → Touches old b new result → failed result ≡ 0 → OnlyAnchors old bad new bad
 touched old new bad b result lt t none = record {
   geometry = t.geometry;
   data_pages = λ p from. t.others p (λ same. absurd (omega arith));
@@ -95,7 +94,7 @@ touched old new bad b result lt t none = record {
 }
 
 -- an operation that failed, and its block in the list
-pub touched_bad : (old new : Device) (bad : set.FinSet nat_cmp) (b : ℕ) → b < first_data → set.contains bad b ≡ false → Touches old b new (Err Failed) → OnlyAnchors old bad new (set.insert bad b)
+pub touched_bad : (old new : Device) (bad : set.FinSet nat_cmp) (b : ℕ) → b < ANCHORS → set.contains bad b ≡ false → Touches old b new (Err Failed) → OnlyAnchors old bad new (set.insert bad b)
 touched_bad old new bad b lt good t = record {
   geometry = t.geometry;
   data_pages = λ p from. t.others p (λ same. absurd (omega arith));
@@ -203,7 +202,7 @@ erased_next d e was now b done same before own others list p lt good =
 
 -- the anchors behind are not in the list
 pub good_behind : (was now : set.FinSet nat_cmp) (b : ℕ) (done : Bool) → now ≡ cond done was (set.insert was b)
-    → ((c : ℕ) → b ≤ c → c < first_data → set.contains was c ≡ false) → (c : ℕ) → b + 1 ≤ c → c < first_data → set.contains now c ≡ false
+    → ((c : ℕ) → b ≤ c → c < ANCHORS → set.contains was c ≡ false) → (c : ℕ) → b + 1 ≤ c → c < ANCHORS → set.contains now c ≡ false
 good_behind was now b true is good c from lt = ap (λ s. set.contains s c) is ∙ good c (omega arith) lt
 good_behind was now b false is good c from lt = ap (λ s. set.contains s c) is ∙ listed_other was b c (λ e. absurd (omega arith)) ∙ good c (omega arith) lt
 

@@ -5,19 +5,19 @@ use Rattle.std.specs.FinSet as set
 use Rattle.std.specs.Ordering.{nat_cmp}
 use Rattle.std.proofs.Math.Nat.{mul-le-mul_right}
 use Rattle.std.proofs.lemmas.Nat.{div-mul-add}
-use Rattle.fs_types.specs.declared.faults.Fault.{Fault}
-use Rattle.flash_model.specs.declared.sizes.Geometry.{Geometry}
-use Rattle.flash_model.specs.declared.device.DevFault.{DevFault}
-use Rattle.flash_model.specs.declared.device.DevFault.TheVariants.{Failed, PowerCut}
+use Rattle.fs_types.specs.declared.fault.Fault.{Fault}
+use Rattle.fs_types.specs.declared.limits.TheConstants.{ANCHORS}
+use Rattle.flash_model.specs.declared.geometry.Geometry.{Geometry}
+use Rattle.flash_model.specs.declared.flash.DevFault.{DevFault}
+use Rattle.flash_model.specs.declared.flash.DevFault.TheVariants.{Failed, PowerCut}
 use Rattle.flash_model.specs.Device.{Device, Operates, Erases, failed, power_after}
-use Rattle.record_format.specs.declared.records.Record.{Record}
+use Rattle.flash_model.specs.Reading.{OnlyReads}
+use Rattle.record_format.specs.declared.record.Record.{Record}
 use Rattle.commit_pair.specs.declared.best.Found.{Found}
 use Rattle.commit_pair.specs.declared.anchors.Anchors.{Anchors}
-use Rattle.commit_pair.specs.Parts.{first_data}
 use Rattle.commit_pair.specs.Anchored.{Tries, Asked}
 use Rattle.commit_pair.specs.Committing.{IsNext}
 use Rattle.commit_pair.specs.Programming.{TriesPages}
-use Rattle.commit_pair.specs.Reading.{OnlyReads}
 use Rattle.commit_pair.specs.Remembering.{BeginsAt, ReadsNone, IsPlaced, TriesOnce}
 
 -- one operation that was answered with the power on
@@ -103,7 +103,7 @@ asked_after old mid new reads n only is asked = record {
 }
 
 -- the next anchor in ring order is another one
-pub begun_next : (g : Geometry) (old new : Device) (now : set.FinSet nat_cmp) (home : ℕ) (result : Result Found Fault) → 1 ≤ g.pages → home < first_data
+pub begun_next : (g : Geometry) (old new : Device) (now : set.FinSet nat_cmp) (home : ℕ) (result : Result Found Fault) → 1 ≤ g.pages → home < ANCHORS
     → IfOk result (λ found. (anchor : ℕ) × (found.page ≡ anchor * g.pages) × IsNext now home anchor) → IfOk result (λ found. found.page / g.pages ≡ home → Asked old new found.head.count)
 begun_next g old new now home (Ok found) some lt next = λ here.
     let anchor = next.0 in
@@ -121,8 +121,8 @@ elsewhere_next g old mid new home (Err fault) same first next = tt
 
 -- a commit after reads
 pub placed_after : (old mid new : Device) (was now : set.FinSet nat_cmp) (anchors : Anchors) (r : Record) (result : Result (Unit {0}) Fault) → OnlyReads old mid → (ReadsNone was anchors → mid.operations ≡ old.operations)
-    → mid.operations ≤ old.operations + first_data * r.geometry.pages
-    → OnOk result (IsPlaced mid was anchors r 0 new now) → OnOk result ((reads : ℕ) × (ReadsNone was anchors → reads ≡ 0) × (reads ≤ first_data * r.geometry.pages) × IsPlaced old was anchors r reads new now)
+    → mid.operations ≤ old.operations + ANCHORS * r.geometry.pages
+    → OnOk result (IsPlaced mid was anchors r 0 new now) → OnOk result ((reads : ℕ) × (ReadsNone was anchors → reads ≡ 0) × (reads ≤ ANCHORS * r.geometry.pages) × IsPlaced old was anchors r reads new now)
 placed_after old mid new was now anchors r (Ok u) only quiet few placed =
     let reads = mid.operations - old.operations in
     let is : mid.operations ≡ old.operations + reads = let h = only.operations in omega arith in
@@ -174,7 +174,7 @@ pub tried_none : (d : Device) (was : set.FinSet nat_cmp) (anchors : Anchors) →
 tried_none d was anchors = record { reads = 0; none = λ _. refl; once = omega arith; most = omega arith }
 
 pub tried_after : (old mid new : Device) (was : set.FinSet nat_cmp) (anchors : Anchors) (pages : ℕ) → OnlyReads old mid → pages ≡ old.geometry.pages → (ReadsNone was anchors → mid.operations ≡ old.operations)
-    → mid.operations ≤ old.operations + first_data * pages → new.operations ≤ mid.operations + first_data * (pages + 1) → TriesOnce old was anchors new
+    → mid.operations ≤ old.operations + ANCHORS * pages → new.operations ≤ mid.operations + ANCHORS * (pages + 1) → TriesOnce old was anchors new
 tried_after old mid new was anchors pages only same quiet few more =
     let later = only.operations in
     record {

@@ -7,16 +7,18 @@ use Rattle.std.proofs.lemmas.Bool.{both_ways, eqb-true, eq-eqb}
 use Rattle.std.proofs.lemmas.Nat.{div-mul-add, div_below}
 use Rattle.std.specs.Option.{option_map}
 use Rattle.record_format.specs.Payloads.{payload_at}
-use Rattle.fs_types.specs.declared.faults.Fault.{Fault}
-use Rattle.fs_types.specs.declared.faults.Fault.TheVariants.{PowerCut, ReadOnly, ReadFailed}
-use Rattle.flash_model.specs.declared.sizes.Geometry.{Geometry}
+use Rattle.fs_types.specs.declared.fault.Fault.{Fault}
+use Rattle.fs_types.specs.declared.fault.Fault.TheVariants.{PowerCut, ReadOnly, ReadFailed}
+use Rattle.fs_types.specs.declared.limits.TheConstants.{ANCHORS}
+use Rattle.flash_model.specs.declared.geometry.Geometry.{Geometry}
 use Rattle.flash_model.specs.Geometry.{IsGeometry}
 use Rattle.flash_model.specs.Device.{Device, Page, erased, block_of}
-use Rattle.record_format.specs.declared.records.Record.{Record}
+use Rattle.flash_model.specs.Reading.{OnlyReads, same_pages}
+use Rattle.record_format.specs.declared.record.Record.{Record}
 use Rattle.commit_pair.specs.declared.best.Found.{Found}
 use Rattle.commit_pair.specs.declared.anchors.Anchors.{Anchors}
-use Rattle.commit_pair.specs.Parts.{first_data, Entry, Part, part_of, parts_on, best_on, newest_at, newest_on, sequence_of, greatest_on}
-use Rattle.commit_pair.specs.Reading.{OnlyReads, IsEnd, ReadCause}
+use Rattle.commit_pair.specs.Parts.{Entry, Part, part_of, parts_on, best_on, newest_at, newest_on, sequence_of, greatest_on}
+use Rattle.commit_pair.specs.Reading.{IsEnd, ReadCause}
 use Rattle.commit_pair.specs.Anchored.{OnlyAnchors}
 use Rattle.commit_pair.specs.Keeping.{Keeps, AreOlder, Spares}
 use Rattle.commit_pair.specs.Committing.{IsLowest, Commits, Untouched, TryCause}
@@ -41,14 +43,14 @@ module _ (d : Device) (g : Geometry) (bad : set.FinSet nat_cmp) (anchors : Ancho
   end_on : (k : KnowsNewest d bad anchors) → set.contains bad (k.found.page / g.pages) ≡ false → IsEnd g d.pages (k.found.page / g.pages) g.pages anchors.end
   end_on k = subst (λ (h : Geometry). set.contains bad (k.found.page / h.pages) ≡ false → IsEnd h d.pages (k.found.page / h.pages) h.pages anchors.end) same k.end
 
-  erased_on : KnowsErased d bad anchors → (p : ℕ) → p / g.pages < first_data → set.contains bad (p / g.pages) ≡ false → d.pages p ≡ erased
-  erased_on k p = subst (λ (h : Geometry). p / h.pages < first_data → set.contains bad (p / h.pages) ≡ false → d.pages p ≡ erased) same (k.erased p)
+  erased_on : KnowsErased d bad anchors → (p : ℕ) → p / g.pages < ANCHORS → set.contains bad (p / g.pages) ≡ false → d.pages p ≡ erased
+  erased_on k p = subst (λ (h : Geometry). p / h.pages < ANCHORS → set.contains bad (p / h.pages) ≡ false → d.pages p ≡ erased) same (k.erased p)
 
-  pub begins_below : home < first_data
+  pub begins_below : home < ANCHORS
   begins_below = elim ready [
     | inl k ↦
         let is = at_newest g bad anchors.end anchors.newest home place k.found k.here at in
-        subst (λ b. b < first_data) (sym is.0) (anchor_below g k.found.page lawful (found_is_newest g (parts_on g d.pages) k.found (place_on k)).within)
+        subst (λ b. b < ANCHORS) (sym is.0) (anchor_below g k.found.page lawful (found_is_newest g (parts_on g d.pages) k.found (place_on k)).within)
     | inr k ↦ (at_lowest g bad anchors.end anchors.newest home place k.none at).0.below
   ]
 
@@ -61,15 +63,15 @@ module _ (d : Device) (g : Geometry) (bad : set.FinSet nat_cmp) (anchors : Ancho
         ap (λ b. d.pages (b * g.pages + m)) is.0 ∙ end.blank m after below
     | inr k ↦
         let block : (home * g.pages + m) / g.pages ≡ home = div-mul-add home g.pages m below in
-        erased_on k (home * g.pages + m) (subst (λ b. b < first_data) (sym block) begins_below) (ap (set.contains bad) block ∙ good)
+        erased_on k (home * g.pages + m) (subst (λ b. b < ANCHORS) (sym block) begins_below) (ap (set.contains bad) block ∙ good)
   ]
 
-  pub begins_spares : (b : ℕ) → b < first_data → b ≢ home → set.contains bad b ≡ false → Spares g d.pages b
+  pub begins_spares : (b : ℕ) → b < ANCHORS → b ≢ home → set.contains bad b ≡ false → Spares g d.pages b
   begins_spares b lt apart good = elim ready [
     | inl k ↦
         let is = at_newest g bad anchors.end anchors.newest home place k.found k.here at in
         inl (k.found, place_on k, λ here. apart (sym here ∙ sym is.0))
-    | inr k ↦ inr (λ p here. ap part_of (erased_on k p (subst (λ c. c < first_data) (sym here) lt) (ap (set.contains bad) here ∙ good)))
+    | inr k ↦ inr (λ p here. ap part_of (erased_on k p (subst (λ c. c < ANCHORS) (sym here) lt) (ap (set.contains bad) here ∙ good)))
   ]
 
 -- a sequence above the greatest is above all
@@ -110,7 +112,7 @@ one_left d g bad anchors left same ready tells is all some = both_ways left (tel
 pub reads_only_anchors : (d e : Device) (bad : set.FinSet nat_cmp) → OnlyReads d e → OnlyAnchors d bad e bad
 reads_only_anchors d e bad reads = record {
   geometry = reads.geometry;
-  data_pages = λ p from i. (reads.pages i) p;
+  data_pages = λ p from. reads.pages p;
   stays_bad = λ b is. is;
   bad_anchor = λ b is good. absurd (both_ways (set.contains bad b) good is);
   bad_worn = λ b is good. absurd (both_ways (set.contains bad b) good is);
@@ -124,7 +126,7 @@ reads_only_anchors d e bad reads = record {
 }
 
 pub reads_untouched : (d e : Device) (bad : set.FinSet nat_cmp) → OnlyReads d e → Untouched d bad e
-reads_untouched d e bad reads p good = λ i. (reads.pages i) p
+reads_untouched d e bad reads p good = reads.pages p
 
 -- ---- after a refusal
 
@@ -160,7 +162,7 @@ may_follow old new was now anchors r sequence fault same only on is untouched re
         erased = λ p lt good.
             let block : block_of old p ≡ block_of new p = sym (ap (λ (h : Geometry). p / h.pages) only.geometry) in
             let still : set.contains now (block_of old p) ≡ false = ap (set.contains now) block ∙ good in
-            untouched p still ∙ k.erased p (subst (λ b. b < first_data) (sym block) lt) (was_good was now (block_of old p) only.stays_bad still);
+            untouched p still ∙ k.erased p (subst (λ b. b < ANCHORS) (sym block) lt) (was_good was now (block_of old p) only.stays_bad still);
       })
     ]
 
@@ -171,10 +173,10 @@ still_may_commit old new was now anchors same pages stays ready = elim ready [
   | inl k ↦
       let g = old.geometry in
       let home = k.found.page / old.geometry.pages in
-      let within : k.found.page < first_data * g.pages = (found_is_newest g (parts_on g old.pages) k.found k.place).within in
-      let anchor : home < first_data = div_below k.found.page g.pages first_data (omega arith) within in
+      let within : k.found.page < ANCHORS * g.pages = (found_is_newest g (parts_on g old.pages) k.found k.place).within in
+      let anchor : home < ANCHORS = div_below k.found.page g.pages ANCHORS (omega arith) within in
       let still : (m : ℕ) → m < g.pages → new.pages (home * g.pages + m) ≡ old.pages (home * g.pages + m) =
-      λ m below. pages (home * g.pages + m) (subst (λ b. b < first_data) (sym (div-mul-add home g.pages m below)) anchor) in
+      λ m below. pages (home * g.pages + m) (subst (λ b. b < ANCHORS) (sym (div-mul-add home g.pages m below)) anchor) in
       inl (record {
         found = k.found;
         here = k.here;
@@ -187,7 +189,7 @@ still_may_commit old new was now anchors same pages stays ready = elim ready [
     cleared = k.cleared;
     erased = λ p lt good.
         let block : block_of old p ≡ block_of new p = sym (ap (λ (h : Geometry). p / h.pages) same) in
-        let lt_old : block_of old p < first_data = subst (λ b. b < first_data) (sym block) lt in
+        let lt_old : block_of old p < ANCHORS = subst (λ b. b < ANCHORS) (sym block) lt in
         pages p lt_old ∙ k.erased p lt_old (was_good was now (block_of old p) stays (ap (set.contains now) block ∙ good));
   })
 ]
@@ -205,24 +207,24 @@ committed_is_newest d r sequence bad same is = (
 -- ---- after reads
 
 pub reads_may_commit : (d e : Device) (bad : set.FinSet nat_cmp) (anchors : Anchors) → OnlyReads d e → MayCommit d bad anchors → MayCommit e bad anchors
-reads_may_commit d e bad anchors reads ready = still_may_commit d e bad bad anchors reads.geometry (λ p lt i. (reads.pages i) p) (λ b is. is) ready
+reads_may_commit d e bad anchors reads ready = still_may_commit d e bad bad anchors reads.geometry (λ p lt. reads.pages p) (λ b is. is) ready
 
 pub reads_keep : (g : Geometry) (was now : ℕ → Page) → now ≡ was → Keeps g was now
 reads_keep g was now same = subst (λ (pages : ℕ → Page). Keeps g was pages) (sym same) (Keeps_itself g was)
 
 pub reads_commit : (d e : Device) (r : Record) (sequence : ℕ) (bad : set.FinSet nat_cmp) (fault : Fault) → OnlyReads d e → Commits {T = Unit {0}} d.pages e.pages r sequence bad (Err fault)
-reads_commit d e r sequence bad PowerCut reads = inl (reads_keep r.geometry d.pages e.pages reads.pages)
-reads_commit d e r sequence bad _ reads = reads_keep r.geometry d.pages e.pages reads.pages
+reads_commit d e r sequence bad PowerCut reads = inl (reads_keep r.geometry d.pages e.pages (same_pages reads))
+reads_commit d e r sequence bad _ reads = reads_keep r.geometry d.pages e.pages (same_pages reads)
 
 -- the place of the newest record that was read, and where it ends
 pub remembers_at : (old mid : Device) (g : Geometry) (found : Option Found) → old.geometry ≡ g → OnlyReads old mid → found ≡ newest_at g (parts_on g mid.pages) → found ≡ newest_at old.geometry (parts_on old.geometry old.pages)
 remembers_at old mid g found same reads is =
-    is ∙ ap (λ (pages : ℕ → Page). newest_at g (parts_on g pages)) reads.pages ∙ ap (λ (h : Geometry). newest_at h (parts_on h old.pages)) (sym same)
+    is ∙ ap (λ (pages : ℕ → Page). newest_at g (parts_on g pages)) (same_pages reads) ∙ ap (λ (h : Geometry). newest_at h (parts_on h old.pages)) (sym same)
 
 pub knows_end_at : (old later : Device) (g : Geometry) (found : Found) (anchors : Anchors) → old.geometry ≡ g → OnlyReads old later → anchors.newest ≡ Some found → IsEnd g later.pages (found.page / g.pages) g.pages anchors.end → KnowsEnd old anchors
 knows_end_at old later g found anchors same reads here end = λ at is.
     let one : found ≡ at = cc in
-    let on_pages = subst (λ (pages : ℕ → Page). IsEnd g pages (found.page / g.pages) g.pages anchors.end) reads.pages end in
+    let on_pages = subst (λ (pages : ℕ → Page). IsEnd g pages (found.page / g.pages) g.pages anchors.end) (same_pages reads) end in
     let on_flash = subst (λ (h : Geometry). IsEnd h old.pages (found.page / h.pages) h.pages anchors.end) (sym same) on_pages in
     subst (λ (f : Found). IsEnd old.geometry old.pages (f.page / old.geometry.pages) old.geometry.pages anchors.end) one on_flash
 
@@ -236,7 +238,7 @@ ready_at old new bad anchors found reads here at end = reads_may_commit old new 
 
 -- why a commit is refused
 pub read_commit_cause : (old new : Device) (was : set.FinSet nat_cmp) (anchors : Anchors) (fault : Fault) → remembered anchors ≡ None → OnlyReads old new → ReadCause old new fault → CommitCause old was anchors new was fault
-read_commit_cause old new was anchors ReadFailed none reads cause = (none, cause, reads.pages, refl)
+read_commit_cause old new was anchors ReadFailed none reads cause = (none, cause, (same_pages reads), refl)
 read_commit_cause old new was anchors PowerCut none reads cause = cause
 read_commit_cause old new was anchors _ none reads cause = absurd cause
 

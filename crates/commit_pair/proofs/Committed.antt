@@ -1,12 +1,13 @@
 -- What the newest record means, at the place that was found.
 use Rattle.std.proofs.Common.{◌≡◌, ◌≢◌, ◌⊎◌, ℕ, Bool, true, false, cond, List, Option, Some, None, Result, Err, refl, sym, ap, subst, ◌∙◌, inl, inr}
 use Rattle.std.specs.Option.{option_map, ok_or}
-use Rattle.fs_types.specs.declared.faults.Fault.{Fault}
-use Rattle.fs_types.specs.declared.faults.Fault.TheVariants.{NoMemory, Damaged, BadGeometry}
-use Rattle.flash_model.specs.declared.sizes.Geometry.{Geometry}
+use Rattle.fs_types.specs.declared.fault.Fault.{Fault}
+use Rattle.fs_types.specs.declared.fault.Fault.TheVariants.{NoMemory, Damaged, BadGeometry}
+use Rattle.flash_model.specs.declared.geometry.Geometry.{Geometry}
 use Rattle.flash_model.specs.Device.{Device, Page}
-use Rattle.record_format.specs.declared.records.Record.{Record}
-use Rattle.std.proofs.Common.{◌==◌, ltb, length}
+use Rattle.flash_model.specs.Reading.{OnlyReads, same_pages}
+use Rattle.record_format.specs.declared.record.Record.{Record}
+use Rattle.std.proofs.Common.{ltb, length}
 use Rattle.std.specs.Prelude.{◌||◌, not}
 use Rattle.byteorder.specs.Endian.{little_from}
 use Rattle.record_format.specs.Payloads.{is_format, shortest, longest, tells_sizes, payload_at, meaning_of}
@@ -15,9 +16,9 @@ use Rattle.commit_pair.specs.declared.best.Best.{Best}
 use Rattle.commit_pair.specs.Parts.{Entry, parts_on, best_on, newest_at, newest_on, payload_of}
 use Rattle.commit_pair.specs.Laws.{HasNone, HasTie}
 use Rattle.commit_pair.specs.Newest.{committed_on, IsNewestRecord, NewestCause}
-use Rattle.commit_pair.specs.Reading.{OnlyReads, ReadCause}
+use Rattle.commit_pair.specs.Reading.{ReadCause}
 use Rattle.std.proofs.Common.{arith}
-use Rattle.fs_types.specs.declared.faults.Fault.TheVariants.{ReadFailed, PowerCut}
+use Rattle.fs_types.specs.declared.fault.Fault.TheVariants.{ReadFailed, PowerCut}
 use Rattle.commit_pair.proofs.NewestLaws.{none_valid, tied}
 
 pub tie_at : (d : Device) (g : Geometry) (best : Best) → d.geometry ≡ g → best ≡ best_on g (parts_on g d.pages) → best.twice ≡ true → HasTie d.geometry (parts_on d.geometry d.pages)
@@ -71,16 +72,16 @@ newest_meaning g pages = option_map (λ (entry : Entry). payload_at g entry.sequ
 
 pub committed_stays : (old new : Device) → OnlyReads old new → committed_on new ≡ committed_on old
 unfolding newest_meaning
-committed_stays old new reads = λ i. newest_meaning (reads.geometry i) (reads.pages i)
+committed_stays old new reads = λ i. newest_meaning (reads.geometry i) (same_pages reads i)
 
 pub none_stays : (old new : Device) → OnlyReads old new → HasNone new.geometry (parts_on new.geometry new.pages) → HasNone old.geometry (parts_on old.geometry old.pages)
 none_stays old new reads none =
-    let pages = subst (λ (pages : ℕ → Page). HasNone new.geometry (parts_on new.geometry pages)) reads.pages none in
+    let pages = subst (λ (pages : ℕ → Page). HasNone new.geometry (parts_on new.geometry pages)) (same_pages reads) none in
     subst (λ (g : Geometry). HasNone g (parts_on g old.pages)) reads.geometry pages
 
 pub tie_stays : (old new : Device) → OnlyReads old new → HasTie new.geometry (parts_on new.geometry new.pages) → HasTie old.geometry (parts_on old.geometry old.pages)
 tie_stays old new reads tie =
-    let pages = subst (λ (pages : ℕ → Page). HasTie new.geometry (parts_on new.geometry pages)) reads.pages tie in
+    let pages = subst (λ (pages : ℕ → Page). HasTie new.geometry (parts_on new.geometry pages)) (same_pages reads) tie in
     subst (λ (g : Geometry). HasTie g (parts_on g old.pages)) reads.geometry pages
 
 pub newest_stays : (old new : Device) (newest : Option Record) → OnlyReads old new → IsNewestRecord new newest → IsNewestRecord old newest

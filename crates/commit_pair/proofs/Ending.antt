@@ -1,7 +1,7 @@
 -- The pages of an anchor after those of a record.
 use Rattle.std.proofs.Common.{◌≡◌, ◌≢◌, ℕ, ◌+◌, ◌-◌, ◌*◌, ◌<◌, ◌≤◌, List, Ok, sym, ap, subst, ◌∙◌, inl, inr, arith}
 use Rattle.std.proofs.lemmas.Bool.{cases_eq}
-use Rattle.flash_model.specs.declared.sizes.Geometry.{Geometry}
+use Rattle.flash_model.specs.declared.geometry.Geometry.{Geometry}
 use Rattle.flash_model.specs.Device.{Page, erased, bytes_of}
 use Rattle.commit_pair.specs.Programming.{bytes_for, Fills, HasPages, EndsAt}
 use Rattle.commit_pair.specs.Reading.{IsEnd}

@@ -6,14 +6,15 @@ use Rattle.std.specs.FinSet as set
 use Rattle.std.specs.Ordering.{nat_cmp}
 use Rattle.std.proofs.lemmas.Bool.{cases_Bool, cases_eq, cases_order, both_ways, le-leb, or_right}
 use Rattle.std.proofs.lemmas.List.Sums.{sum_by-cons}
-use Rattle.fs_types.specs.declared.faults.Fault.{Fault}
-use Rattle.fs_types.specs.declared.faults.Fault.TheVariants.{PowerCut}
-use Rattle.flash_model.specs.declared.sizes.Geometry.{Geometry}
+use Rattle.fs_types.specs.declared.fault.Fault.{Fault}
+use Rattle.fs_types.specs.declared.fault.Fault.TheVariants.{PowerCut}
+use Rattle.fs_types.specs.declared.limits.TheConstants.{ANCHORS}
+use Rattle.flash_model.specs.declared.geometry.Geometry.{Geometry}
 use Rattle.flash_model.specs.Geometry.{IsGeometry}
 use Rattle.flash_model.specs.Device.{Device, Page, block_of}
-use Rattle.read_only.specs.Modes.{bad_anchors, is_read_only}
-use Rattle.record_format.specs.declared.records.Record.{Record}
-use Rattle.commit_pair.specs.Parts.{first_data, part_of}
+use Rattle.bad_blocks.specs.Mode.{bad_anchors, is_read_only}
+use Rattle.record_format.specs.declared.record.Record.{Record}
+use Rattle.commit_pair.specs.Parts.{part_of}
 use Rattle.commit_pair.specs.Anchored.{OnlyAnchors}
 use Rattle.commit_pair.specs.Keeping.{Keeps, AreOlder, Spares}
 use Rattle.commit_pair.specs.Committing.{IsCommitted, Attempts, Commits, Untouched, IsNext, after}
@@ -75,7 +76,7 @@ one_more_tried was now home step stays before here k some lt = elim (cases_eq k 
   | inr apart ↦ stays (after home k) (before k some (omega arith))
 ]
 
-pub next_is : (was now : set.FinSet nat_cmp) (home step : ℕ) → now ≡ was → 1 ≤ step → step < first_data → set.contains was (after home step) ≡ false
+pub next_is : (was now : set.FinSet nat_cmp) (home step : ℕ) → now ≡ was → 1 ≤ step → step < ANCHORS → set.contains was (after home step) ≡ false
     → ((k : ℕ) → 1 ≤ k → k < step → set.contains was (after home k) ≡ true) → IsNext now home (after home step)
 next_is was now home step same some lt good tried = record {
   steps = step;
@@ -113,17 +114,17 @@ others_pass p home s (suc n) each = elim (cases_eq s home) [
 ]
 
 -- each other anchor comes after one in ring order
-in_ring : (home b : ℕ) → home < first_data → b < first_data → b ≢ home → (k : ℕ) × (1 ≤ k) × (k < first_data) × (after home k ≡ b)
+in_ring : (home b : ℕ) → home < ANCHORS → b < ANCHORS → b ≢ home → (k : ℕ) × (1 ≤ k) × (k < ANCHORS) × (after home k ≡ b)
 in_ring home b lt below apart = elim (cases_order home b) [
   | inl same ↦ absurd (apart (sym same))
   | inr (inl more) ↦ (b - home, omega arith, omega arith, omega arith)
-  | inr (inr less) ↦ (b + 8 - home, omega arith, omega arith, omega arith)
+  | inr (inr less) ↦ (b + ANCHORS - home, omega arith, omega arith, omega arith)
 ]
 
 -- nothing is committed where all other anchors are bad
-pub all_tried : (bad : set.FinSet nat_cmp) (home : ℕ) → home < first_data → ((k : ℕ) → 1 ≤ k → k < first_data → set.contains bad (after home k) ≡ true) → is_read_only bad ≡ true
+pub all_tried : (bad : set.FinSet nat_cmp) (home : ℕ) → home < ANCHORS → ((k : ℕ) → 1 ≤ k → k < ANCHORS → set.contains bad (after home k) ≡ true) → is_read_only bad ≡ true
 all_tried bad home lt tried =
-    let most = others_pass (set.contains bad) home 0 8 (λ b from below apart. let at = in_ring home b lt (omega arith) apart in ap (set.contains bad) (sym at.3) ∙ tried at.0 at.1 at.2) in
+    let most = others_pass (set.contains bad) home 0 ANCHORS (λ b from below apart. let at = in_ring home b lt (omega arith) apart in ap (set.contains bad) (sym at.3) ∙ tried at.0 at.1 at.2) in
     or_right (leb 256 (set.len bad)) (leb 7 (bad_anchors bad)) (le-leb 7 (bad_anchors bad) (omega arith))
 
 -- blocks that enter the list are anchors
@@ -133,5 +134,5 @@ on_flash_still old new was now g lawful only on b is = elim (cases_Bool (set.con
   | inr good ↦ anchor_on_flash g b lawful (only.bad_anchor b is good)
 ]
 
-pub anchor_of_ring : (n : ℕ) → n % 8 < 8
+pub anchor_of_ring : (n : ℕ) → n % ANCHORS < ANCHORS
 anchor_of_ring n = omega arith

@@ -6,13 +6,14 @@ use Rattle.std.proofs.Common.{leb, ◌%◌}
 use Rattle.std.proofs.lemmas.Bool.{leb-true}
 use Rattle.std.specs.Option.{option_and_then}
 use Rattle.std.specs.Prelude.{◌&&◌}
+use Rattle.fs_types.specs.declared.limits.TheConstants.{ANCHORS}
 use Rattle.flash_model.specs.Geometry.{IsGeometry}
 use Rattle.commit_pair.proofs.Places.{record_ends}
-use Rattle.flash_model.specs.declared.sizes.Geometry.{Geometry}
+use Rattle.flash_model.specs.declared.geometry.Geometry.{Geometry}
 use Rattle.flash_model.specs.Device.{Page}
-use Rattle.record_format.specs.declared.pages.PageHead.{PageHead}
+use Rattle.record_format.specs.declared.page_head.PageHead.{PageHead}
 use Rattle.commit_pair.specs.declared.best.Found.{Found}
-use Rattle.commit_pair.specs.Parts.{first_data, Part, part_of, parts_on, head_at, is_record, record_head, considered, best_below, best_on, sequence_of, greatest_on, newest_at, newest_among}
+use Rattle.commit_pair.specs.Parts.{Part, part_of, parts_on, head_at, is_record, record_head, considered, best_below, best_on, sequence_of, greatest_on, newest_at, newest_among}
 use Rattle.commit_pair.specs.Laws.{HasNone, HasTie, IsNewest, FoundIsNewest, NewestIsFound, OnlyAnchorsMatter}
 
 both_true : (a b : Bool) → (a && b) ≡ true → (a ≡ true) × (b ≡ true)
@@ -114,7 +115,7 @@ module _ (g : Geometry) (parts : ℕ → Option Part) where
   best_is zero = ((λ q head lt valid. absurd (omega arith)), refl)
   best_is (suc n) = best_with n (best_below g parts n).found (best_below g parts n).twice (record_head g parts n) refl (best_is n)
 
-  found_from : (n : ℕ) (found : Option Found) (twice : Bool) (f : Found) → n ≡ first_data * g.pages → BestIs n found twice → cond twice None found ≡ Some f → IsNewest g parts f
+  found_from : (n : ℕ) (found : Option Found) (twice : Bool) (f : Found) → n ≡ ANCHORS * g.pages → BestIs n found twice → cond twice None found ≡ Some f → IsNewest g parts f
   found_from n None true f size is e = absurd (none-some f e)
   found_from n None false f size is e = absurd (none-some f e)
   found_from n (Some b) true f size is e = absurd (none-some f e)
@@ -124,16 +125,16 @@ module _ (g : Geometry) (parts : ℕ → Option Part) where
     older = λ q head lt apart valid. elim (is.others q head (omega arith) apart valid) [ inl less ↦ less | inr tied ↦ absurd (let t = tied.1 in cc) ];
   })
 
-  newest_from : (n : ℕ) (found : Option Found) (twice : Bool) (f : Found) → n ≡ first_data * g.pages → BestIs n found twice → IsNewest g parts f → cond twice None found ≡ Some f
+  newest_from : (n : ℕ) (found : Option Found) (twice : Bool) (f : Found) → n ≡ ANCHORS * g.pages → BestIs n found twice → IsNewest g parts f → cond twice None found ≡ Some f
   unfolding NoneBelow
-  newest_from n None twice f size is newest = absurd (is.0 f.page f.head (let w : f.page < first_data * g.pages = newest.within in omega arith) newest.valid)
+  newest_from n None twice f size is newest = absurd (is.0 f.page f.head (let w : f.page < ANCHORS * g.pages = newest.within in omega arith) newest.valid)
   newest_from n (Some b) twice f size is newest = elim (cases_eq b.page f.page) [
     | inl same ↦
         let heads : b.head ≡ f.head = same_Some b.head f.head (sym is.valid ∙ ap (record_head g parts) same ∙ newest.valid) in
         here twice is same heads
     | inr apart ↦
         let less : b.head.sequence < f.head.sequence = newest.older b.page b.head (let w : b.page < n = is.within in omega arith) apart is.valid in
-        absurd (elim (is.others f.page f.head (let w : f.page < first_data * g.pages = newest.within in omega arith) (λ e. apart (sym e)) newest.valid) [ inl lower ↦ omega arith | inr tied ↦ omega (arith, tied.0) ])
+        absurd (elim (is.others f.page f.head (let w : f.page < ANCHORS * g.pages = newest.within in omega arith) (λ e. apart (sym e)) newest.valid) [ inl lower ↦ omega arith | inr tied ↦ omega (arith, tied.0) ])
   ]
     where
       here : (t : Bool) → SomeBest n b t → b.page ≡ f.page → b.head ≡ f.head → cond t None (Some b) ≡ Some f
@@ -147,10 +148,10 @@ module _ (g : Geometry) (parts : ℕ → Option Part) where
 -- where no record is the best there is none
 pub none_valid : (g : Geometry) (parts : ℕ → Option Part) → (best_on g parts).found ≡ None → HasNone g parts
 unfolding NoneBelow
-none_valid g parts none = (subst (λ (o : Option Found). BestIs g parts (first_data * g.pages) o (best_on g parts).twice) none (best_is g parts (first_data * g.pages))).0
+none_valid g parts none = (subst (λ (o : Option Found). BestIs g parts (ANCHORS * g.pages) o (best_on g parts).twice) none (best_is g parts (ANCHORS * g.pages))).0
 
 -- no valid record has a sequence above that of the best
-best_most : (g : Geometry) (parts : ℕ → Option Part) (found : Option Found) (twice : Bool) → BestIs g parts (first_data * g.pages) found twice → (q : ℕ) (head : PageHead) → q < first_data * g.pages → record_head g parts q ≡ Some head → head.sequence ≤ sequence_of found
+best_most : (g : Geometry) (parts : ℕ → Option Part) (found : Option Found) (twice : Bool) → BestIs g parts (ANCHORS * g.pages) found twice → (q : ℕ) (head : PageHead) → q < ANCHORS * g.pages → record_head g parts q ≡ Some head → head.sequence ≤ sequence_of found
 unfolding NoneBelow
 best_most g parts None twice is q head lt valid = absurd (is.0 q head lt valid)
 best_most g parts (Some f) twice is q head lt valid = elim (cases_eq q f.page) [
@@ -158,10 +159,10 @@ best_most g parts (Some f) twice is q head lt valid = elim (cases_eq q f.page) [
   | inr apart ↦ elim (is.others q head lt apart valid) [ inl less ↦ omega arith | inr tied ↦ omega (arith, tied.0) ]
 ]
 
-pub greatest_most : (g : Geometry) (pages : ℕ → Page) (q : ℕ) (head : PageHead) → q < first_data * g.pages → record_head g (parts_on g pages) q ≡ Some head → head.sequence ≤ greatest_on g pages
-greatest_most g pages q head lt valid = best_most g (parts_on g pages) (best_on g (parts_on g pages)).found (best_on g (parts_on g pages)).twice (best_is g (parts_on g pages) (first_data * g.pages)) q head lt valid
+pub greatest_most : (g : Geometry) (pages : ℕ → Page) (q : ℕ) (head : PageHead) → q < ANCHORS * g.pages → record_head g (parts_on g pages) q ≡ Some head → head.sequence ≤ greatest_on g pages
+greatest_most g pages q head lt valid = best_most g (parts_on g pages) (best_on g (parts_on g pages)).found (best_on g (parts_on g pages)).twice (best_is g (parts_on g pages) (ANCHORS * g.pages)) q head lt valid
 
-tie_from : (g : Geometry) (parts : ℕ → Option Part) (found : Option Found) (twice : Bool) → BestIs g parts (first_data * g.pages) found twice → twice ≡ true → HasTie g parts
+tie_from : (g : Geometry) (parts : ℕ → Option Part) (found : Option Found) (twice : Bool) → BestIs g parts (ANCHORS * g.pages) found twice → twice ≡ true → HasTie g parts
 tie_from g parts None twice is e = absurd (let f = is.1 in cc)
 tie_from g parts (Some f) twice is e =
     let t = is.tie e in
@@ -182,13 +183,13 @@ tie_from g parts (Some f) twice is e =
 
 -- where another has the sequence of the best there are two
 pub tied : (g : Geometry) (parts : ℕ → Option Part) → (best_on g parts).twice ≡ true → HasTie g parts
-tied g parts e = tie_from g parts (best_on g parts).found (best_on g parts).twice (best_is g parts (first_data * g.pages)) e
+tied g parts e = tie_from g parts (best_on g parts).found (best_on g parts).twice (best_is g parts (ANCHORS * g.pages)) e
 
 -- the pages of a valid record are pages of anchors
-pub valid_ends : (g : Geometry) (parts : ℕ → Option Part) (p : ℕ) (head : PageHead) → IsGeometry g → p < first_data * g.pages → record_head g parts p ≡ Some head → p + head.count ≤ first_data * g.pages
+pub valid_ends : (g : Geometry) (parts : ℕ → Option Part) (p : ℕ) (head : PageHead) → IsGeometry g → p < ANCHORS * g.pages → record_head g parts p ≡ Some head → p + head.count ≤ ANCHORS * g.pages
 valid_ends g parts p head lawful lt valid = from (head_at parts p) valid
   where
-    from : (o : Option PageHead) → option_and_then (λ first. cond (is_record g parts p first) (Some first) None) o ≡ Some head → p + head.count ≤ first_data * g.pages
+    from : (o : Option PageHead) → option_and_then (λ first. cond (is_record g parts p first) (Some first) None) o ≡ Some head → p + head.count ≤ ANCHORS * g.pages
     from None e = absurd (none-some head e)
     from (Some first) e =
         let chosen = cond_some (is_record g parts p first) first head e in
@@ -197,19 +198,19 @@ valid_ends g parts p head lawful lt valid = from (head_at parts p) valid
         let same = ap (λ (x : PageHead). x.count) chosen.1 in
         record_ends g p head.count lawful lt (omega arith)
 
-pub best_ends : (g : Geometry) (parts : ℕ → Option Part) (f : Found) → IsGeometry g → (best_on g parts).found ≡ Some f → f.page + f.head.count ≤ first_data * g.pages
+pub best_ends : (g : Geometry) (parts : ℕ → Option Part) (f : Found) → IsGeometry g → (best_on g parts).found ≡ Some f → f.page + f.head.count ≤ ANCHORS * g.pages
 best_ends g parts f lawful e =
-    let is = subst (λ (o : Option Found). BestIs g parts (first_data * g.pages) o (best_on g parts).twice) e (best_is g parts (first_data * g.pages)) in
+    let is = subst (λ (o : Option Found). BestIs g parts (ANCHORS * g.pages) o (best_on g parts).twice) e (best_is g parts (ANCHORS * g.pages)) in
     valid_ends g parts f.page f.head lawful is.within is.valid
 
 pub found_is_newest : FoundIsNewest
-found_is_newest g parts f e = found_from g parts (first_data * g.pages) (best_on g parts).found (best_on g parts).twice f refl (best_is g parts (first_data * g.pages)) e
+found_is_newest g parts f e = found_from g parts (ANCHORS * g.pages) (best_on g parts).found (best_on g parts).twice f refl (best_is g parts (ANCHORS * g.pages)) e
 
 pub newest_is_found : NewestIsFound
-newest_is_found g parts f newest = newest_from g parts (first_data * g.pages) (best_on g parts).found (best_on g parts).twice f refl (best_is g parts (first_data * g.pages)) newest
+newest_is_found g parts f newest = newest_from g parts (ANCHORS * g.pages) (best_on g parts).found (best_on g parts).twice f refl (best_is g parts (ANCHORS * g.pages)) newest
 
-same_part : (g : Geometry) (old new : ℕ → Page) → ((p : ℕ) → p / g.pages < first_data → new p ≡ old p) → (p : ℕ) → parts_on g new p ≡ parts_on g old p
-same_part g old new same p = elim (cases_lt (p / g.pages) first_data) [
+same_part : (g : Geometry) (old new : ℕ → Page) → ((p : ℕ) → p / g.pages < ANCHORS → new p ≡ old p) → (p : ℕ) → parts_on g new p ≡ parts_on g old p
+same_part g old new same p = elim (cases_lt (p / g.pages) ANCHORS) [
   | inl lt ↦ rw (lt-ltb _ _ lt) (ap part_of (same p lt))
   | inr le ↦ rw (le-ltb _ _ le) refl
 ]
@@ -217,5 +218,5 @@ same_part g old new same p = elim (cases_lt (p / g.pages) first_data) [
 pub only_anchors_matter : OnlyAnchorsMatter
 only_anchors_matter g old new same = ap (newest_among g) (λ i p. same_part g old new same p i)
 
-pub same_place : (g : Geometry) (old new : ℕ → Page) → ((p : ℕ) → p / g.pages < first_data → new p ≡ old p) → newest_at g (parts_on g new) ≡ newest_at g (parts_on g old)
+pub same_place : (g : Geometry) (old new : ℕ → Page) → ((p : ℕ) → p / g.pages < ANCHORS → new p ≡ old p) → newest_at g (parts_on g new) ≡ newest_at g (parts_on g old)
 same_place g old new same = ap (newest_at g) (λ i p. same_part g old new same p i)

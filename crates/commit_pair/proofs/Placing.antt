@@ -7,16 +7,17 @@ use Rattle.std.proofs.lemmas.Bool.Decides.{nat_tests}
 use Rattle.std.proofs.lemmas.List.{length-take, length-drop, drop-drop, take_all}
 use Rattle.std.proofs.Math.Seq.{take-add}
 use Rattle.std.proofs.lemmas.Nat.{mul-le, mul-add-lt, mod-mul-add}
-use Rattle.flash_model.specs.declared.sizes.Geometry.{Geometry}
+use Rattle.fs_types.specs.declared.limits.TheConstants.{ANCHORS}
+use Rattle.flash_model.specs.declared.geometry.Geometry.{Geometry}
 use Rattle.flash_model.specs.Geometry.{IsGeometry, is_page_size}
 use Rattle.flash_model.specs.Device.{Page, erased, bytes_of}
 use Rattle.record_format.specs.Laws.{PageIsRead}
 use Rattle.record_format.specs.Pages.{used_bytes}
 use Rattle.commit_pair.specs.declared.best.Found.{Found}
-use Rattle.commit_pair.specs.Parts.{first_data, Part, room, part_of, part_bytes, parts_on, bytes_from, head_at, is_part, is_filled, newest_at, payload_of}
+use Rattle.commit_pair.specs.Parts.{Part, room, part_of, part_bytes, parts_on, bytes_from, head_at, is_part, is_filled, newest_at, payload_of}
 use Rattle.commit_pair.specs.Writing.{IsHalfWritten, IsWritten}
-use Rattle.flash_model.specs.declared.device.DevFault.{DevFault}
-use Rattle.flash_model.specs.declared.device.DevFault.TheVariants.{Failed, PowerCut}
+use Rattle.flash_model.specs.declared.flash.DevFault.{DevFault}
+use Rattle.flash_model.specs.declared.flash.DevFault.TheVariants.{Failed, PowerCut}
 use Rattle.commit_pair.specs.Programming.{piece, head_for, bytes_for, Fills, HasPages, EndsAt}
 use Rattle.commit_pair.specs.Keeping.{Keeps, AreOlder, IsAt}
 use Rattle.commit_pair.proofs.Places.{page_least, anchor_below, record_ends}
@@ -62,11 +63,11 @@ pieces_from g payload parts p n (suc k) each =
     ∙ sym (take-add (room g) (k * room g) (drop (n * room g) payload)) ∙ ap (λ j. take j (drop (n * room g) payload)) all
 
 module _ (law : PageIsRead) (g : Geometry) (lawful : IsGeometry g) (old new : ℕ → Page) (p sequence : ℕ) (payload : List ℕ) (count n : ℕ)
-    (fits : sequence < 2 ^ 64) (small : count < 2 ^ 16) (fill : Fills g payload count) (within : p < first_data * g.pages) (one_block : p % g.pages + count ≤ g.pages)
+    (fits : sequence < 2 ^ 64) (small : count < 2 ^ 16) (fill : Fills g payload count) (within : p < ANCHORS * g.pages) (one_block : p % g.pages + count ≤ g.pages)
     (blank : (m : ℕ) → m < count → old (p + m) ≡ erased) (has : HasPages g old new p sequence payload count n) where
-  in_anchor : (m : ℕ) → m < count → (p + m) / g.pages < first_data
+  in_anchor : (m : ℕ) → m < count → (p + m) / g.pages < ANCHORS
   in_anchor m below =
-      let ends : p + count ≤ first_data * g.pages = record_ends g p count lawful within one_block in
+      let ends : p + count ≤ ANCHORS * g.pages = record_ends g p count lawful within one_block in
       anchor_below g (p + m) lawful (omega arith)
 
   on_anchor : (pages : ℕ → Page) (m : ℕ) → m < count → parts_on g pages (p + m) ≡ part_of (pages (p + m))
@@ -91,7 +92,7 @@ module _ (law : PageIsRead) (g : Geometry) (lawful : IsGeometry g) (old new : �
   blank_on m below = on_anchor old m below ∙ ap part_of (blank m below)
 
   others_on : (q : ℕ) → (q < p) ⊎ (p + count ≤ q) → parts_on g new q ≡ parts_on g old q
-  others_on q out = ap (λ page. cond (ltb (q / g.pages) first_data) (part_of page) None) (has.others q out)
+  others_on q out = ap (λ page. cond (ltb (q / g.pages) ANCHORS) (part_of page) None) (has.others q out)
 
   half : n < count → IsHalfWritten (parts_on g old) (parts_on g new) p count n
   half short = record {
@@ -143,10 +144,10 @@ module _ (law : PageIsRead) (g : Geometry) (lawful : IsGeometry g) (old new : �
 
 -- a record that is written at a place of an anchor
 module _ (law : PageIsRead) (g : Geometry) (lawful : IsGeometry g) (old new : ℕ → Page) (anchor place sequence : ℕ) (payload : List ℕ) (count : ℕ)
-    (is_anchor : anchor < first_data) (in_block : place + count ≤ g.pages) (fits : sequence < 2 ^ 64) (small : count < 2 ^ 16) (fill : Fills g payload count)
+    (is_anchor : anchor < ANCHORS) (in_block : place + count ≤ g.pages) (fits : sequence < 2 ^ 64) (small : count < 2 ^ 16) (fill : Fills g payload count)
     (blank : (m : ℕ) → m < count → old (anchor * g.pages + place + m) ≡ erased) where
-  within : anchor * g.pages + place < first_data * g.pages
-  within = let some = fill.some in omega (arith, mul-add-lt anchor g.pages place first_data is_anchor (omega arith))
+  within : anchor * g.pages + place < ANCHORS * g.pages
+  within = let some = fill.some in omega (arith, mul-add-lt anchor g.pages place ANCHORS is_anchor (omega arith))
 
   one_block : (anchor * g.pages + place) % g.pages + count ≤ g.pages
   one_block = let some = fill.some in let is : (anchor * g.pages + place) % g.pages ≡ place = mod-mul-add anchor g.pages place (omega arith) in omega arith

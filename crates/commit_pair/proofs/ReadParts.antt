@@ -6,28 +6,30 @@ use Rattle.std.proofs.lemmas.Bool.{cases_Bool, and_right, lt-ltb, lt-leb, le-leb
 use Rattle.std.proofs.lemmas.List.{append-nil, length-append}
 use Rattle.std.specs.Prelude.{◌&&◌, ◌%◌}
 use Rattle.std.specs.Option.{option_map, option_and_then}
-use Rattle.fs_types.specs.declared.faults.Fault.{Fault}
-use Rattle.fs_types.specs.declared.faults.Fault.TheVariants.{ReadFailed, PowerCut}
-use Rattle.flash_model.specs.declared.sizes.Geometry.{Geometry}
+use Rattle.fs_types.specs.declared.fault.Fault.{Fault}
+use Rattle.fs_types.specs.declared.fault.Fault.TheVariants.{ReadFailed, PowerCut}
+use Rattle.fs_types.specs.declared.limits.TheConstants.{ANCHORS}
+use Rattle.flash_model.specs.declared.geometry.Geometry.{Geometry}
 use Rattle.flash_model.specs.Device.{Device, Page, bytes_of, Reads}
-use Rattle.flash_model.specs.declared.device.DevFault.{DevFault}
-use Rattle.flash_model.specs.declared.device.PageState.{PageState}
+use Rattle.flash_model.specs.declared.flash.DevFault.{DevFault}
+use Rattle.flash_model.specs.declared.flash.PageState.{PageState}
+use Rattle.flash_model.specs.Reading.{OnlyReads}
 use Rattle.record_format.specs.Pages.{head_of, used_bytes}
 use Rattle.record_format.specs.Payloads.{payload_at}
-use Rattle.record_format.specs.declared.pages.PageHead.{PageHead}
+use Rattle.record_format.specs.declared.page_head.PageHead.{PageHead}
 use Rattle.commit_pair.specs.Anchored.{AreErased}
-use Rattle.commit_pair.specs.Parts.{first_data, Part, part_of, parts_on, part_bytes, head_at, is_part, are_parts, is_record, record_head, considered, best_below, best_on, newest_at, bytes_from, held_bytes}
+use Rattle.commit_pair.specs.Parts.{Part, part_of, parts_on, part_bytes, head_at, is_part, are_parts, is_record, record_head, considered, best_below, best_on, newest_at, bytes_from, held_bytes}
 use Rattle.commit_pair.specs.declared.best.Best.{Best}
 use Rattle.commit_pair.specs.Payloads.{IsFront}
-use Rattle.commit_pair.specs.Reading.{OnlyReads, ReadCause}
+use Rattle.commit_pair.specs.Reading.{ReadCause}
 
 -- the part in a page of an anchor whose bytes are read
-pub data_part : (g : Geometry) (pages : ℕ → Page) (p : ℕ) (shown : List ℕ) (found : Option PageHead) → p / g.pages < first_data → pages p ≡ bytes_of shown → found ≡ head_of shown
+pub data_part : (g : Geometry) (pages : ℕ → Page) (p : ℕ) (shown : List ℕ) (found : Option PageHead) → p / g.pages < ANCHORS → pages p ≡ bytes_of shown → found ≡ head_of shown
     → option_map (λ head. record { head = head; bytes = used_bytes head shown }) found ≡ parts_on g pages p
 data_part g pages p shown found lt held tells = rw (lt-ltb _ _ lt, held, tells) refl
 
 pub no_part : (g : Geometry) (pages : ℕ → Page) (p : ℕ) → part_of (pages p) ≡ None → None ≡ parts_on g pages p
-no_part g pages p none = elim (cases_Bool (ltb (p / g.pages) first_data)) [
+no_part g pages p none = elim (cases_Bool (ltb (p / g.pages) ANCHORS)) [
   | inl within ↦ sym (ap (λ b. cond b (part_of (pages p)) None) within ∙ none)
   | inr beyond ↦ sym (ap (λ b. cond b (part_of (pages p)) None) beyond)
 ]
@@ -82,7 +84,7 @@ ReadCause_on old mid new _ reads cause = cause
 -- what is erased stays so while pages are read
 pub erased_read : (d e : Device) (bad : set.FinSet nat_cmp) (n : ℕ) → OnlyReads d e → AreErased d bad n → AreErased e bad n
 erased_read d e bad n reads is p lt good =
-    ap (λ (pages : ℕ → Page). pages p) reads.pages
+    reads.pages p
     ∙ is p (subst (λ (g : Geometry). p / g.pages < n) reads.geometry lt) (subst (λ (g : Geometry). set.contains bad (p / g.pages) ≡ false) reads.geometry good)
 
 -- a read is one operation at most

@@ -6,16 +6,17 @@ use Rattle.std.specs.Option.{option_map, option_and_then}
 use Rattle.std.specs.Ordering.{nat_cmp}
 use Rattle.std.proofs.lemmas.Bool.{cases_eq, and_right, lt-ltb, le-leb, ltb-true, leb-true, eqb-true, eq-eqb, ne_eqb, both_ways}
 use Rattle.std.proofs.lemmas.Nat.{div-mul-add, mod-mul-add}
-use Rattle.flash_model.specs.declared.sizes.Geometry.{Geometry}
+use Rattle.fs_types.specs.declared.limits.TheConstants.{ANCHORS}
+use Rattle.flash_model.specs.declared.geometry.Geometry.{Geometry}
 use Rattle.flash_model.specs.Device.{Device, Page, erased}
-use Rattle.record_format.specs.declared.pages.PageHead.{PageHead}
+use Rattle.flash_model.specs.Reading.{OnlyReads, same_pages}
+use Rattle.record_format.specs.declared.page_head.PageHead.{PageHead}
 use Rattle.commit_pair.specs.declared.best.Found.{Found}
 use Rattle.commit_pair.specs.declared.best.Best.{Best}
-use Rattle.commit_pair.specs.declared.runs.Run.{Run}
-use Rattle.commit_pair.specs.declared.runs.Scan.{Scan}
-use Rattle.commit_pair.specs.Parts.{Part, part_of, head_at, is_part, are_parts, is_record, record_head, considered, considered_with, best_below, first_data, parts_on, newest_at, pages_of}
+use Rattle.commit_pair.specs.declared.run.Run.{Run}
+use Rattle.commit_pair.specs.declared.run.Scan.{Scan}
+use Rattle.commit_pair.specs.Parts.{Part, part_of, head_at, is_part, are_parts, is_record, record_head, considered, considered_with, best_below, parts_on, newest_at, pages_of}
 use Rattle.commit_pair.specs.Anchored.{AreErased}
-use Rattle.commit_pair.specs.Reading.{OnlyReads}
 use Rattle.commit_pair.specs.Scanning.{begun, followed, settled, next, GoesOn, IsRun, IsMet}
 use Rattle.commit_pair.proofs.ReadParts.{no_part, parts_start, parts_go_on, parts_stop, parts_end}
 
@@ -100,7 +101,7 @@ erased_none g pages p is =
     let none : parts_on g pages p ≡ None = sym (no_part g pages p (ap part_of is)) in
     ap (λ (o : Option Part). option_and_then (λ first. cond (is_record g (parts_on g pages) p first) (Some first) None) (option_map (λ part. part.head) o)) none
 
-pub best_past_erased : (d : Device) (g : Geometry) (bad : set.FinSet nat_cmp) (anchor : ℕ) (best : Best) → d.geometry ≡ g → 1 ≤ g.pages → anchor < first_data → set.contains bad anchor ≡ false → AreErased d bad first_data
+pub best_past_erased : (d : Device) (g : Geometry) (bad : set.FinSet nat_cmp) (anchor : ℕ) (best : Best) → d.geometry ≡ g → 1 ≤ g.pages → anchor < ANCHORS → set.contains bad anchor ≡ false → AreErased d bad ANCHORS
     → best ≡ best_below g (parts_on g d.pages) (anchor * g.pages) → best ≡ best_below g (parts_on g d.pages) ((anchor + 1) * g.pages)
 best_past_erased d g bad anchor best same some lt good blank is =
     let all : (anchor + 1) * g.pages ≡ anchor * g.pages + g.pages = omega arith in
@@ -109,7 +110,7 @@ best_past_erased d g bad anchor best same some lt good blank is =
     erased_at : (m : ℕ) → m < g.pages → d.pages (anchor * g.pages + m) ≡ erased
     erased_at m below =
         let block : (anchor * g.pages + m) / d.geometry.pages ≡ anchor = ap (λ (h : Geometry). (anchor * g.pages + m) / h.pages) same ∙ div-mul-add anchor g.pages m below in
-        blank (anchor * g.pages + m) (subst (λ (b : ℕ). b < first_data) (sym block) lt) (ap (set.contains bad) block ∙ good)
+        blank (anchor * g.pages + m) (subst (λ (b : ℕ). b < ANCHORS) (sym block) lt) (ap (set.contains bad) block ∙ good)
 
 module _ (g : Geometry) (parts : ℕ → Option Part) (first n : ℕ) (run : Run) (is : IsRun g parts first n run) where
   abbrev start : ℕ
@@ -322,10 +323,10 @@ found_before g parts anchor was now found was_is now_is at apart =
     ]
 
 -- what is asked for in all
-pub newest_asks : (old mid new : Device) (g : Geometry) → old.geometry ≡ g → OnlyReads old mid → mid.operations ≤ old.operations + first_data * g.pages → new.operations ≤ mid.operations + pages_of (newest_at g (parts_on g mid.pages))
-    → new.operations ≤ old.operations + (first_data * old.geometry.pages + pages_of (newest_at old.geometry (parts_on old.geometry old.pages)))
+pub newest_asks : (old mid new : Device) (g : Geometry) → old.geometry ≡ g → OnlyReads old mid → mid.operations ≤ old.operations + ANCHORS * g.pages → new.operations ≤ mid.operations + pages_of (newest_at g (parts_on g mid.pages))
+    → new.operations ≤ old.operations + (ANCHORS * old.geometry.pages + pages_of (newest_at old.geometry (parts_on old.geometry old.pages)))
 newest_asks old mid new g same reads first then_on =
     let k : g.pages ≡ old.geometry.pages = ap (λ (h : Geometry). h.pages) (sym same) in
     let record_pages : pages_of (newest_at g (parts_on g mid.pages)) ≡ pages_of (newest_at old.geometry (parts_on old.geometry old.pages)) =
-    ap (λ (pages : ℕ → Page). pages_of (newest_at g (parts_on g pages))) reads.pages ∙ ap (λ (h : Geometry). pages_of (newest_at h (parts_on h old.pages))) (sym same) in
+    ap (λ (pages : ℕ → Page). pages_of (newest_at g (parts_on g pages))) (same_pages reads) ∙ ap (λ (h : Geometry). pages_of (newest_at h (parts_on h old.pages))) (sym same) in
     omega arith

@@ -4,13 +4,14 @@ use Rattle.std.specs.Option.{option_map, option_and_then}
 use Rattle.std.proofs.lemmas.Bool.{cases_eq, leb-true}
 use Rattle.std.proofs.lemmas.Option.{none-some, cond_some, option_and_then_some}
 use Rattle.std.proofs.lemmas.Nat.{div-mul-add, div-add-mod'}
-use Rattle.fs_types.specs.declared.faults.Fault.{Fault}
-use Rattle.fs_types.specs.declared.faults.Fault.TheVariants.{PowerCut}
-use Rattle.flash_model.specs.declared.sizes.Geometry.{Geometry}
+use Rattle.fs_types.specs.declared.fault.Fault.{Fault}
+use Rattle.fs_types.specs.declared.fault.Fault.TheVariants.{PowerCut}
+use Rattle.fs_types.specs.declared.limits.TheConstants.{ANCHORS}
+use Rattle.flash_model.specs.declared.geometry.Geometry.{Geometry}
 use Rattle.flash_model.specs.Device.{Page}
-use Rattle.record_format.specs.declared.pages.PageHead.{PageHead}
+use Rattle.record_format.specs.declared.page_head.PageHead.{PageHead}
 use Rattle.commit_pair.specs.declared.best.Found.{Found}
-use Rattle.commit_pair.specs.Parts.{first_data, Part, Entry, part_of, parts_on, head_at, is_part, is_record, record_head, newest_at, newest_among, payload_of}
+use Rattle.commit_pair.specs.Parts.{Part, Entry, part_of, parts_on, head_at, is_part, is_record, record_head, newest_at, newest_among, payload_of}
 use Rattle.commit_pair.specs.Anchored.{Fades}
 use Rattle.commit_pair.specs.Keeping.{Keeps, Placed, Spares}
 use Rattle.commit_pair.proofs.NewestLaws.{found_is_newest, newest_is_found}
@@ -80,7 +81,7 @@ same_block g p m lt =
 module _ (g : Geometry) (was now : ℕ → Page) (anchor : ℕ) (others : (p : ℕ) → p / g.pages ≢ anchor → now p ≡ was p) (fades : Fades was now) where
   -- a page of another block has its part, and each page has its part or none
   part_stays : (p : ℕ) → p / g.pages ≢ anchor → parts_on g now p ≡ parts_on g was p
-  part_stays p apart = ap (λ page. cond (ltb (p / g.pages) first_data) (part_of page) None) (others p apart)
+  part_stays p apart = ap (λ page. cond (ltb (p / g.pages) ANCHORS) (part_of page) None) (others p apart)
 
   none_if : (b : Bool) (o : Option Part) → o ≡ None → cond b o None ≡ None
   none_if true o none = none
@@ -88,9 +89,9 @@ module _ (g : Geometry) (was now : ℕ → Page) (anchor : ℕ) (others : (p : �
 
   part_fades : (p : ℕ) → (parts_on g now p ≡ parts_on g was p) ⊎ (parts_on g now p ≡ None)
   part_fades p = elim (fades p) [
-    | inl same ↦ inl (ap (λ page. cond (ltb (p / g.pages) first_data) (part_of page) None) same)
-    | inr (inl blank) ↦ inr (none_if (ltb (p / g.pages) first_data) (part_of (now p)) (ap part_of blank))
-    | inr (inr torn) ↦ inr (none_if (ltb (p / g.pages) first_data) (part_of (now p)) (ap part_of torn))
+    | inl same ↦ inl (ap (λ page. cond (ltb (p / g.pages) ANCHORS) (part_of page) None) same)
+    | inr (inl blank) ↦ inr (none_if (ltb (p / g.pages) ANCHORS) (part_of (now p)) (ap part_of blank))
+    | inr (inr torn) ↦ inr (none_if (ltb (p / g.pages) ANCHORS) (part_of (now p)) (ap part_of torn))
   ]
 
   -- the newest record is on another anchor
@@ -119,7 +120,7 @@ module _ (g : Geometry) (was now : ℕ → Page) (anchor : ℕ) (others : (p : �
   keeps_blank : ((p : ℕ) → p / g.pages ≡ anchor → part_of (was p) ≡ None) → Keeps g was now
   keeps_blank blank =
       let same : (p : ℕ) → parts_on g now p ≡ parts_on g was p = λ p. elim (cases_eq (p / g.pages) anchor) [
-        | inl own ↦ elim (part_fades p) [ inl stays ↦ stays | inr none ↦ none ∙ sym (none_if (ltb (p / g.pages) first_data) (part_of (was p)) (blank p own)) ]
+        | inl own ↦ elim (part_fades p) [ inl stays ↦ stays | inr none ↦ none ∙ sym (none_if (ltb (p / g.pages) ANCHORS) (part_of (was p)) (blank p own)) ]
         | inr other ↦ part_stays p other
       ] in
       let parts : parts_on g now ≡ parts_on g was = λ i p. same p i in

@@ -4,11 +4,12 @@ use Rattle.std.proofs.lemmas.Bool.{cases_lt, cases_eq, eqb-true, ltb-true}
 use Rattle.std.proofs.lemmas.Option.{none-some, same_Some, cond_some, option_and_then_some}
 use Rattle.std.specs.Option.{option_map, option_and_then}
 use Rattle.std.specs.Prelude.{◌&&◌}
-use Rattle.flash_model.specs.declared.sizes.Geometry.{Geometry}
-use Rattle.record_format.specs.declared.pages.PageHead.{PageHead}
+use Rattle.fs_types.specs.declared.limits.TheConstants.{ANCHORS}
+use Rattle.flash_model.specs.declared.geometry.Geometry.{Geometry}
+use Rattle.record_format.specs.declared.page_head.PageHead.{PageHead}
 use Rattle.commit_pair.specs.declared.best.Found.{Found}
 use Rattle.commit_pair.specs.declared.best.Best.{Best}
-use Rattle.commit_pair.specs.Parts.{Part, head_at, is_part, are_parts, is_record, record_head, considered, best_below, newest_at, newest_among, payload_of, part_bytes, bytes_from, Entry, first_data}
+use Rattle.commit_pair.specs.Parts.{Part, head_at, is_part, are_parts, is_record, record_head, considered, best_below, newest_at, newest_among, payload_of, part_bytes, bytes_from, Entry}
 use Rattle.commit_pair.specs.Writing.{IsHalfWritten, HalfChangesNothing}
 use Rattle.commit_pair.proofs.NewestLaws.{found_is_newest}
 
@@ -179,7 +180,7 @@ module _ (g : Geometry) (was now : ℕ → Option Part) (p count n : ℕ) (half 
 
   half_stays : newest_among g now ≡ newest_among g was
   half_stays =
-      let best = best_same g now was same_head (first_data * g.pages) in
+      let best = best_same g now was same_head (ANCHORS * g.pages) in
       let at : newest_at g now ≡ newest_at g was = ap (λ (b : Best). cond b.twice None b.found) best in
       ap (option_map (entry_at g now)) at ∙ same_newest (newest_at g was) refl
 
@@ -191,4 +192,4 @@ pub half_keeps_heads : (g : Geometry) (was now : ℕ → Option Part) (p count n
 half_keeps_heads g was now p count n half q = same_head g was now p count n half q
 
 pub half_keeps_place : (g : Geometry) (was now : ℕ → Option Part) (p count n : ℕ) → IsHalfWritten was now p count n → newest_at g now ≡ newest_at g was
-half_keeps_place g was now p count n half = ap (λ (b : Best). cond b.twice None b.found) (best_same g now was (same_head g was now p count n half) (first_data * g.pages))
+half_keeps_place g was now p count n half = ap (λ (b : Best). cond b.twice None b.found) (best_same g now was (same_head g was now p count n half) (ANCHORS * g.pages))

@@ -2,17 +2,17 @@
 use Rattle.std.specs.Prelude.{◌≡◌, ◌≢◌, ◌⊎◌, ℕ, ◌+◌, ◌*◌, ◌<◌, ◌≤◌, Bool, true, false, Result, Ok, Err}
 use Rattle.std.specs.FinSet as set
 use Rattle.std.specs.Ordering.{nat_cmp}
-use Rattle.flash_model.specs.declared.device.DevFault.{DevFault}
-use Rattle.flash_model.specs.declared.device.DevFault.TheVariants.{Failed, PowerCut}
+use Rattle.fs_types.specs.declared.limits.TheConstants.{ANCHORS}
+use Rattle.flash_model.specs.declared.flash.DevFault.{DevFault}
+use Rattle.flash_model.specs.declared.flash.DevFault.TheVariants.{Failed, PowerCut}
 use Rattle.flash_model.specs.Device.{Device, Page, erased, unreadable, block_of, failed, Wears}
-use Rattle.commit_pair.specs.Parts.{first_data}
 
 -- no page of a data block changes, and the list grows by exactly the failures, by anchors that are worn
 pub record OnlyAnchors (old : Device) (was : set.FinSet nat_cmp) (new : Device) (now : set.FinSet nat_cmp) : Type 0 where
   pub geometry : new.geometry ≡ old.geometry
-  pub data_pages : (p : ℕ) → first_data ≤ block_of old p → new.pages p ≡ old.pages p
+  pub data_pages : (p : ℕ) → ANCHORS ≤ block_of old p → new.pages p ≡ old.pages p
   pub stays_bad : (b : ℕ) → set.contains was b ≡ true → set.contains now b ≡ true
-  pub bad_anchor : (b : ℕ) → set.contains now b ≡ true → set.contains was b ≡ false → b < first_data
+  pub bad_anchor : (b : ℕ) → set.contains now b ≡ true → set.contains was b ≡ false → b < ANCHORS
   pub bad_worn : (b : ℕ) → set.contains now b ≡ true → set.contains was b ≡ false → new.worn b ≡ true
   pub worn : (b : ℕ) → old.worn b ≡ true → new.worn b ≡ true
   pub failures : new.failures + set.len was ≡ old.failures + set.len now

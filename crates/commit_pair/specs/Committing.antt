@@ -2,14 +2,15 @@
 use Rattle.std.specs.Prelude.{◌≡◌, ◌⊎◌, ℕ, ◌+◌, ◌*◌, ◌/◌, ◌%◌, ◌<◌, ◌≤◌, Bool, true, false, Option, Some, None, List, Result, Ok, Err, IfErr}
 use Rattle.std.specs.FinSet as set
 use Rattle.std.specs.Ordering.{nat_cmp}
-use Rattle.fs_types.specs.declared.faults.Fault.{Fault}
-use Rattle.fs_types.specs.declared.faults.Fault.TheVariants.{ReadOnly, PowerCut}
+use Rattle.fs_types.specs.declared.fault.Fault.{Fault}
+use Rattle.fs_types.specs.declared.fault.Fault.TheVariants.{ReadOnly, PowerCut}
+use Rattle.fs_types.specs.declared.limits.TheConstants.{ANCHORS}
 use Rattle.flash_model.specs.Device.{Device, Page, bytes_of, block_of}
-use Rattle.read_only.specs.Modes.{is_read_only}
-use Rattle.record_format.specs.declared.records.Record.{Record}
+use Rattle.bad_blocks.specs.Mode.{is_read_only}
+use Rattle.record_format.specs.declared.record.Record.{Record}
 use Rattle.commit_pair.specs.declared.best.Found.{Found}
 use Rattle.commit_pair.specs.Anchored.{OnlyAnchors, Asked}
-use Rattle.commit_pair.specs.Parts.{first_data, parts_on, newest_at, newest_on}
+use Rattle.commit_pair.specs.Parts.{parts_on, newest_at, newest_on}
 use Rattle.commit_pair.specs.Payloads.{Means}
 use Rattle.commit_pair.specs.Programming.{bytes_for, Fills}
 use Rattle.commit_pair.specs.Reading.{IsEnd}
@@ -82,20 +83,20 @@ pub record LacksRoom (r : Record) (bad : set.FinSet nat_cmp) (place : ℕ) : Typ
 
 -- the k-th anchor after one, in ring order
 abbrev pub after : ℕ → ℕ → ℕ
-after home k = (home + k) % first_data
+after home k = (home + k) % ANCHORS
 
 -- the first anchor after one, in ring order, that is not bad
 pub record IsNext (bad : set.FinSet nat_cmp) (home anchor : ℕ) : Type 0 where
   pub steps : ℕ
   pub some : 1 ≤ steps
-  pub below : steps < first_data
+  pub below : steps < ANCHORS
   pub is : anchor ≡ after home steps
   pub good : set.contains bad anchor ≡ false
   pub between : (k : ℕ) → 1 ≤ k → k < steps → set.contains bad (after home k) ≡ true
 
 -- the lowest anchor that is not bad
 pub record IsLowest (bad : set.FinSet nat_cmp) (anchor : ℕ) : Type 0 where
-  pub below : anchor < first_data
+  pub below : anchor < ANCHORS
   pub good : set.contains bad anchor ≡ false
   pub others : (b : ℕ) → b < anchor → set.contains bad b ≡ true
 

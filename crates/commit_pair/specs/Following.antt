@@ -3,18 +3,18 @@ use Rattle.std.specs.Prelude.{◌≡◌, ℕ, ◌<◌, true, List, Some, Ok}
 use Rattle.std.specs.FinSet as set
 use Rattle.std.specs.Ordering.{nat_cmp}
 use Rattle.std.specs.List.Sorted.{IsStrictlyIncreasing}
+use Rattle.fs_types.specs.declared.limits.TheConstants.{ANCHORS}
 use Rattle.flash_model.specs.Device.{Device, block_of}
-use Rattle.record_format.specs.declared.records.Record.{Record}
+use Rattle.record_format.specs.declared.record.Record.{Record}
 use Rattle.record_format.specs.Payloads.{written}
 use Rattle.commit_pair.specs.declared.anchors.Anchors.{Anchors}
-use Rattle.commit_pair.specs.Parts.{first_data}
 use Rattle.commit_pair.specs.Newest.{committed_on}
 use Rattle.commit_pair.specs.Committing.{IsCommitted}
 use Rattle.commit_pair.specs.Remembering.{MayCommit}
 
 -- where anchors stay as they are a commit may still follow, whatever enters the list
 abbrev pub StillMayCommit : Type 0
-StillMayCommit = (old new : Device) (was now : set.FinSet nat_cmp) (anchors : Anchors) → new.geometry ≡ old.geometry → ((p : ℕ) → block_of old p < first_data → new.pages p ≡ old.pages p)
+StillMayCommit = (old new : Device) (was now : set.FinSet nat_cmp) (anchors : Anchors) → new.geometry ≡ old.geometry → ((p : ℕ) → block_of old p < ANCHORS → new.pages p ≡ old.pages p)
     → ((b : ℕ) → set.contains was b ≡ true → set.contains now b ≡ true) → MayCommit old was anchors → MayCommit new now anchors
 
 -- what was committed is what the newest record means: the record in the format that is written, with its sequence, and the list in ascending order

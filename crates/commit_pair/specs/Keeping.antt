@@ -1,12 +1,13 @@
 -- What stays of the records on the anchors.
 use Rattle.std.specs.Prelude.{◌≡◌, ◌≢◌, ◌⊎◌, ℕ, ◌+◌, ◌*◌, ◌/◌, ◌<◌, Some, None, Result, Ok, Err, true, false, Bool}
-use Rattle.fs_types.specs.declared.faults.Fault.{Fault}
-use Rattle.fs_types.specs.declared.faults.Fault.TheVariants.{PowerCut}
-use Rattle.flash_model.specs.declared.sizes.Geometry.{Geometry}
+use Rattle.fs_types.specs.declared.fault.Fault.{Fault}
+use Rattle.fs_types.specs.declared.fault.Fault.TheVariants.{PowerCut}
+use Rattle.fs_types.specs.declared.limits.TheConstants.{ANCHORS}
+use Rattle.flash_model.specs.declared.geometry.Geometry.{Geometry}
 use Rattle.flash_model.specs.Device.{Page, bytes_of}
-use Rattle.record_format.specs.declared.pages.PageHead.{PageHead}
+use Rattle.record_format.specs.declared.page_head.PageHead.{PageHead}
 use Rattle.commit_pair.specs.declared.best.Found.{Found}
-use Rattle.commit_pair.specs.Parts.{first_data, Entry, part_of, parts_on, record_head, newest_at, newest_on}
+use Rattle.commit_pair.specs.Parts.{Entry, part_of, parts_on, record_head, newest_at, newest_on}
 use Rattle.commit_pair.specs.Programming.{bytes_for}
 
 -- the newest record is what it was, at its place, and each record that is valid was valid
@@ -17,7 +18,7 @@ pub record Keeps (g : Geometry) (was now : ℕ → Page) : Type 0 where
 
 -- every valid record is older
 abbrev pub AreOlder : Geometry → (ℕ → Page) → ℕ → Type 0
-AreOlder g pages sequence = (q : ℕ) (head : PageHead) → q < first_data * g.pages → record_head g (parts_on g pages) q ≡ Some head → head.sequence < sequence
+AreOlder g pages sequence = (q : ℕ) (head : PageHead) → q < ANCHORS * g.pages → record_head g (parts_on g pages) q ≡ Some head → head.sequence < sequence
 
 -- a record is the newest one, at this place, and its pages hold no byte but those that it is spelled with
 pub record IsAt (g : Geometry) (pages : ℕ → Page) (found : Found) (entry : Entry) : Type 0 where

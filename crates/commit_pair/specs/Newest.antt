@@ -1,10 +1,10 @@
 -- The newest record of a flash, and why it may not be told.
 use Rattle.std.specs.Prelude.{◌≡◌, ◌⊎◌, ◌/◌, ◌<◌, true, false, Option, Some, None, Result, Ok, Err}
 use Rattle.std.specs.Option.{option_map}
-use Rattle.fs_types.specs.declared.faults.Fault.{Fault}
-use Rattle.fs_types.specs.declared.faults.Fault.TheVariants.{ReadFailed, PowerCut, NoMemory, Damaged, BadGeometry}
+use Rattle.fs_types.specs.declared.fault.Fault.{Fault}
+use Rattle.fs_types.specs.declared.fault.Fault.TheVariants.{ReadFailed, PowerCut, NoMemory, Damaged, BadGeometry}
 use Rattle.flash_model.specs.Device.{Device}
-use Rattle.record_format.specs.declared.records.Record.{Record}
+use Rattle.record_format.specs.declared.record.Record.{Record}
 use Rattle.record_format.specs.Payloads.{payload_at}
 use Rattle.commit_pair.specs.declared.best.Found.{Found}
 use Rattle.commit_pair.specs.declared.anchors.Anchors.{Anchors}

@@ -1,16 +1,13 @@
 -- Records on the anchors, the first eight blocks of a flash: their pages, which are valid, and the newest one.
 use Rattle.std.specs.Prelude.{ℕ, zero, suc, ◌+◌, ◌-◌, ◌*◌, ◌/◌, ◌%◌, Bool, true, false, ◌&&◌, ◌==◌, nat_lt, nat_le, Option, Some, None, List, [], ◌++◌, if◌then◌else◌}
 use Rattle.std.specs.Option.{option_map, option_and_then}
-use Rattle.flash_model.specs.declared.sizes.Geometry.{Geometry}
+use Rattle.fs_types.specs.declared.limits.TheConstants.{ANCHORS}
+use Rattle.flash_model.specs.declared.geometry.Geometry.{Geometry}
 use Rattle.flash_model.specs.Device.{Page, erased, bytes_of, unreadable}
 use Rattle.record_format.specs.Pages.{head_size, head_of, used_bytes}
-use Rattle.record_format.specs.declared.pages.PageHead.{PageHead}
+use Rattle.record_format.specs.declared.page_head.PageHead.{PageHead}
 use Rattle.commit_pair.specs.declared.best.Found.{Found}
 use Rattle.commit_pair.specs.declared.best.Best.{Best}
-
--- the first block that is no anchor
-abbrev pub first_data : ℕ
-first_data = 8
 
 -- a page of a record: its header, and the payload bytes that it holds
 pub record Part : Type 0 where
@@ -24,7 +21,7 @@ part_of unreadable = None
 
 -- the parts on the anchors, by page; other pages hold none
 abbrev pub parts_on : Geometry → (ℕ → Page) → ℕ → Option Part
-parts_on g pages p = if nat_lt (p / g.pages) first_data then part_of (pages p) else None
+parts_on g pages p = if nat_lt (p / g.pages) ANCHORS then part_of (pages p) else None
 
 abbrev pub head_at : (ℕ → Option Part) → ℕ → Option PageHead
 head_at parts p = option_map (λ part. part.head) (parts p)
@@ -74,7 +71,7 @@ best_below g parts (suc p) = considered (best_below g parts p) p (record_head g 
 
 -- of all records on the anchors
 abbrev pub best_on : Geometry → (ℕ → Option Part) → Best
-best_on g parts = best_below g parts (first_data * g.pages)
+best_on g parts = best_below g parts (ANCHORS * g.pages)
 
 -- where the newest record begins: none where there is none, or two have the greatest sequence
 abbrev pub newest_at : Geometry → (ℕ → Option Part) → Option Found

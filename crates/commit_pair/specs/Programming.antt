@@ -1,11 +1,11 @@
 -- The pages of a record, as they are programmed on an anchor.
 use Rattle.std.specs.Prelude.{◌≡◌, ◌⊎◌, ℕ, ◌+◌, ◌*◌, ◌<◌, ◌≤◌, true, false, None, List, length, take, drop, Result, Ok, Err}
-use Rattle.flash_model.specs.declared.sizes.Geometry.{Geometry}
-use Rattle.flash_model.specs.declared.device.DevFault.{DevFault}
-use Rattle.flash_model.specs.declared.device.DevFault.TheVariants.{Failed, PowerCut}
+use Rattle.flash_model.specs.declared.geometry.Geometry.{Geometry}
+use Rattle.flash_model.specs.declared.flash.DevFault.{DevFault}
+use Rattle.flash_model.specs.declared.flash.DevFault.TheVariants.{Failed, PowerCut}
 use Rattle.flash_model.specs.Device.{Device, Page, bytes_of}
 use Rattle.record_format.specs.Pages.{page_bytes}
-use Rattle.record_format.specs.declared.pages.PageHead.{PageHead}
+use Rattle.record_format.specs.declared.page_head.PageHead.{PageHead}
 use Rattle.commit_pair.specs.Anchored.{Tries}
 use Rattle.commit_pair.specs.Parts.{room, part_of}
 

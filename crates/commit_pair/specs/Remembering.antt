@@ -2,15 +2,16 @@
 use Rattle.std.specs.Prelude.{◌≡◌, ◌≢◌, ◌⊎◌, ℕ, ◌+◌, ◌*◌, ◌/◌, ◌-◌, ◌^◌, ◌<◌, ◌≤◌, true, false, Option, Some, None, Result, Err, IsErr}
 use Rattle.std.specs.FinSet as set
 use Rattle.std.specs.Ordering.{nat_cmp}
-use Rattle.fs_types.specs.declared.faults.Fault.{Fault}
-use Rattle.fs_types.specs.declared.faults.Fault.TheVariants.{ReadOnly, Overflow, ReadFailed, PowerCut, NoMemory}
-use Rattle.flash_model.specs.declared.sizes.Geometry.{Geometry}
+use Rattle.fs_types.specs.declared.fault.Fault.{Fault}
+use Rattle.fs_types.specs.declared.fault.Fault.TheVariants.{ReadOnly, Overflow, ReadFailed, PowerCut, NoMemory}
+use Rattle.fs_types.specs.declared.limits.TheConstants.{ANCHORS}
+use Rattle.flash_model.specs.declared.geometry.Geometry.{Geometry}
 use Rattle.flash_model.specs.Device.{Device}
-use Rattle.read_only.specs.Modes.{is_read_only}
-use Rattle.record_format.specs.declared.records.Record.{Record}
+use Rattle.bad_blocks.specs.Mode.{is_read_only}
+use Rattle.record_format.specs.declared.record.Record.{Record}
 use Rattle.commit_pair.specs.declared.best.Found.{Found}
 use Rattle.commit_pair.specs.declared.anchors.Anchors.{Anchors}
-use Rattle.commit_pair.specs.Parts.{first_data, parts_on, newest_at, greatest_on}
+use Rattle.commit_pair.specs.Parts.{parts_on, newest_at, greatest_on}
 use Rattle.commit_pair.specs.Reading.{IsEnd}
 use Rattle.commit_pair.specs.Anchored.{AreErased, Asked}
 use Rattle.commit_pair.specs.Newest.{remembered, IsCleared}
@@ -27,7 +28,7 @@ pub record KnowsNewest (d : Device) (bad : set.FinSet nat_cmp) (anchors : Anchor
 pub record KnowsErased (d : Device) (bad : set.FinSet nat_cmp) (anchors : Anchors) : Type 0 where
   pub none : remembered anchors ≡ None
   pub cleared : IsCleared anchors
-  pub erased : AreErased d bad first_data
+  pub erased : AreErased d bad ANCHORS
 
 -- a commit may follow
 abbrev pub MayCommit : Device → set.FinSet nat_cmp → Anchors → Type 0
@@ -43,7 +44,7 @@ BeginsAt g bad anchors home place = begins g bad anchors.end anchors.newest home
 
 -- a commit reads no anchor: the place of the newest record is known, or no anchor is bad
 abbrev pub ReadsNone : set.FinSet nat_cmp → Anchors → Type 0
-ReadsNone bad anchors = (remembered anchors ≢ None) ⊎ ((b : ℕ) → b < first_data → set.contains bad b ≡ false)
+ReadsNone bad anchors = (remembered anchors ≢ None) ⊎ ((b : ℕ) → b < ANCHORS → set.contains bad b ≡ false)
 
 -- the newest record is where a commit from there puts it. After so many reads a program of each of its pages was asked for, and an erase only where it is not on the anchor on which the commit began
 pub record IsPlaced (old : Device) (was : set.FinSet nat_cmp) (anchors : Anchors) (r : Record) (reads : ℕ) (new : Device) (now : set.FinSet nat_cmp) : Type 0 where
@@ -61,8 +62,8 @@ pub record IsPlaced (old : Device) (was : set.FinSet nat_cmp) (anchors : Anchors
 pub record TriesOnce (old : Device) (was : set.FinSet nat_cmp) (anchors : Anchors) (new : Device) : Type 0 where
   pub reads : ℕ
   pub none : ReadsNone was anchors → reads ≡ 0
-  pub once : reads ≤ first_data * old.geometry.pages
-  pub most : new.operations ≤ old.operations + reads + first_data * (old.geometry.pages + 1)
+  pub once : reads ≤ ANCHORS * old.geometry.pages
+  pub most : new.operations ≤ old.operations + reads + ANCHORS * (old.geometry.pages + 1)
 
 -- what a commit leaves where no sequence is left: nothing is written. Where the place of the newest record is known that is told before all else but read-only mode
 pub record RefusesLast (old : Device) (was : set.FinSet nat_cmp) (anchors : Anchors) (new : Device) (now : set.FinSet nat_cmp) (result : Result (Unit {0}) Fault) : Type 0 where

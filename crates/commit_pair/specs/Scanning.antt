@@ -1,10 +1,10 @@
 -- The records of an anchor, met page by page.
 use Rattle.std.specs.Prelude.{◌≡◌, ℕ, ◌+◌, ◌%◌, ◌<◌, ◌≤◌, true, ◌&&◌, ◌==◌, nat_lt, nat_le, Option, Some, None, if◌then◌else◌}
-use Rattle.flash_model.specs.declared.sizes.Geometry.{Geometry}
-use Rattle.record_format.specs.declared.pages.PageHead.{PageHead}
+use Rattle.flash_model.specs.declared.geometry.Geometry.{Geometry}
+use Rattle.record_format.specs.declared.page_head.PageHead.{PageHead}
 use Rattle.commit_pair.specs.declared.best.Best.{Best}
-use Rattle.commit_pair.specs.declared.runs.Run.{Run}
-use Rattle.commit_pair.specs.declared.runs.Scan.{Scan}
+use Rattle.commit_pair.specs.declared.run.Run.{Run}
+use Rattle.commit_pair.specs.declared.run.Scan.{Scan}
 use Rattle.commit_pair.specs.Parts.{Part, head_at, is_part, considered, best_below}
 
 -- the record of which a page is the first, if it may be one

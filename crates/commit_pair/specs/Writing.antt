@@ -1,8 +1,9 @@
 -- What a record that is being written does to the newest one.
 use Rattle.std.specs.Prelude.{◌≡◌, ◌⊎◌, ℕ, ◌+◌, ◌*◌, ◌%◌, ◌<◌, ◌≤◌, true, Option, Some, None}
-use Rattle.flash_model.specs.declared.sizes.Geometry.{Geometry}
-use Rattle.record_format.specs.declared.pages.PageHead.{PageHead}
-use Rattle.commit_pair.specs.Parts.{first_data, Part, head_at, is_part, record_head, newest_at, newest_among}
+use Rattle.fs_types.specs.declared.limits.TheConstants.{ANCHORS}
+use Rattle.flash_model.specs.declared.geometry.Geometry.{Geometry}
+use Rattle.record_format.specs.declared.page_head.PageHead.{PageHead}
+use Rattle.commit_pair.specs.Parts.{Part, head_at, is_part, record_head, newest_at, newest_among}
 
 -- of the `count` pages of a record, from page p on, which held no part, only the first n hold theirs: each has its place and the count of pages in its header
 pub record IsHalfWritten (was now : ℕ → Option Part) (p count n : ℕ) : Type 0 where
@@ -18,7 +19,7 @@ HalfChangesNothing = (g : Geometry) (was now : ℕ → Option Part) (p count n :
 
 -- all pages of a record stand from page p on, in one block of the anchors, where no part was; this is its first header
 pub record IsWritten (g : Geometry) (was now : ℕ → Option Part) (p : ℕ) (first : PageHead) : Type 0 where
-  pub within : p < first_data * g.pages
+  pub within : p < ANCHORS * g.pages
   pub begins : head_at now p ≡ Some first
   pub some : 0 < first.count
   pub one_block : p % g.pages + first.count ≤ g.pages
@@ -29,5 +30,5 @@ pub record IsWritten (g : Geometry) (was now : ℕ → Option Part) (p : ℕ) (f
 -- a record whose pages all stand is the newest, where all others were older
 abbrev pub WholeIsNewest : Type 0
 WholeIsNewest = (g : Geometry) (was now : ℕ → Option Part) (p : ℕ) (first : PageHead) → IsWritten g was now p first
-    → ((q : ℕ) (head : PageHead) → q < first_data * g.pages → record_head g was q ≡ Some head → head.sequence < first.sequence)
+    → ((q : ℕ) (head : PageHead) → q < ANCHORS * g.pages → record_head g was q ≡ Some head → head.sequence < first.sequence)
     → newest_at g now ≡ Some (record { page = p; head = first })

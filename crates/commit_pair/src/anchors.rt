@@ -3,15 +3,15 @@ ghost use Rattle.std.specs.Prelude.{◌≡◌, ◌≢◌, ℕ, ◌+◌, ◌*◌,
 ghost use Rattle.std.specs.FinSet as set;
 ghost use Rattle.std.specs.Ordering.{nat_cmp};
 ghost use Rattle.flash_model.specs.Geometry.{IsGeometry};
+ghost use Rattle.flash_model.specs.Reading.{OnlyReads};
 ghost use Rattle.commit_pair.specs.Parts as spec;
-ghost use Rattle.commit_pair.specs.Reading.{OnlyReads};
 ghost use Rattle.commit_pair.specs.Anchored.{OnlyAnchors, Fades, AreErased};
 ghost use Rattle.commit_pair.specs.Newest.{remembered, IsCleared, IsUncleared, KnowsEnd, IsNewestRecord, NewestCause};
 ghost use Rattle.commit_pair.specs.Remembering.{MayCommit};
-ghost use Rattle.fs_types.specs.declared.limits.TheConstants.{MAX_BAD_BLOCKS};
+ghost use Rattle.fs_types.specs.declared.limits.TheConstants.{ANCHORS, MAX_BAD_BLOCKS};
 
 use crate::best::{Best, Found};
-use crate::clearing::erase_anchors;
+use crate::erasures::erase_anchors;
 use crate::scan::{find_best, find_payload};
 use bad_blocks::BadBlocks;
 use flash_model::{Flash, Geometry};
@@ -60,7 +60,7 @@ impl Anchors {
         ensures forgets { OnErr result (remembered self.new ≡ None) }
         ensures uncleared { IsUncleared self.new }
         ensures only_reads { OnlyReads (F.device flash.old) (F.device flash.new) }
-        ensures operations { (F.device flash.new).operations ≤ (F.device flash.old).operations + (spec.first_data * (F.device flash.old).geometry.pages + spec.pages_of (spec.newest_at (F.device flash.old).geometry (spec.parts_on (F.device flash.old).geometry (F.device flash.old).pages))) }
+        ensures operations { (F.device flash.new).operations ≤ (F.device flash.old).operations + (ANCHORS * (F.device flash.old).geometry.pages + spec.pages_of (spec.newest_at (F.device flash.old).geometry (spec.parts_on (F.device flash.old).geometry (F.device flash.old).pages))) }
         ensures why { IfErr result (NewestCause (F.device flash.old) (F.device flash.new)) }
     {
         *self = Anchors::new();
@@ -89,7 +89,7 @@ impl Anchors {
         ensures forgets { OnErr result (remembered self.new ≡ None) }
         ensures uncleared { IsUncleared self.new }
         ensures only_reads { OnlyReads (F.device flash.old) (F.device flash.new) }
-        ensures operations { (F.device flash.new).operations ≤ (F.device flash.old).operations + (spec.first_data * (F.device flash.old).geometry.pages + spec.pages_of (spec.newest_at (F.device flash.old).geometry (spec.parts_on (F.device flash.old).geometry (F.device flash.old).pages))) }
+        ensures operations { (F.device flash.new).operations ≤ (F.device flash.old).operations + (ANCHORS * (F.device flash.old).geometry.pages + spec.pages_of (spec.newest_at (F.device flash.old).geometry (spec.parts_on (F.device flash.old).geometry (F.device flash.old).pages))) }
         ensures why { IfErr result (NewestCause (F.device flash.old) (F.device flash.new)) }
     {
         let (best, end) = find_best(flash, geometry, page)?;
@@ -109,11 +109,11 @@ impl Anchors {
     /// off: each anchor may be erased then, or in part, and those that failed are in the list.
     pub fn clear<F: Flash>(&mut self, flash: &mut F, bad: &mut BadBlocks) -> Result<(), Fault>
         requires lawful { IsGeometry (F.device flash.old).geometry }
-        requires good { (b : ℕ) → b < spec.first_data → set.contains bad.old b ≡ false }
-        requires room { set.len bad.old + spec.first_data ≤ MAX_BAD_BLOCKS }
+        requires good { (b : ℕ) → b < ANCHORS → set.contains bad.old b ≡ false }
+        requires room { set.len bad.old + ANCHORS ≤ MAX_BAD_BLOCKS }
         ensures cleared { OnOk result (IsCleared self.new) }
         ensures ready { OnOk result (MayCommit (F.device flash.new) bad.new self.new) }
-        ensures erased { OnOk result (AreErased (F.device flash.new) bad.new spec.first_data) }
+        ensures erased { OnOk result (AreErased (F.device flash.new) bad.new ANCHORS) }
 
         // Whatever is answered, no page has bytes that it had not, and no data block changes.
         ensures fades { Fades (F.device flash.old).pages (F.device flash.new).pages }
@@ -122,8 +122,8 @@ impl Anchors {
         ensures forgets { remembered self.new ≡ None }
 
         // Each anchor is erased once, and nothing else is asked for.
-        ensures operations { (F.device flash.new).operations ≤ (F.device flash.old).operations + spec.first_data }
-        ensures each_once { OnOk result ((F.device flash.new).operations ≡ (F.device flash.old).operations + spec.first_data) }
+        ensures operations { (F.device flash.new).operations ≤ (F.device flash.old).operations + ANCHORS }
+        ensures each_once { OnOk result ((F.device flash.new).operations ≡ (F.device flash.old).operations + ANCHORS) }
         ensures why { IfErr result (λ fault. (fault ≡ Fault.PowerCut) × ((F.device flash.new).powered ≡ false)) }
     {
         *self = Anchors::new();

@@ -2,24 +2,23 @@
 ghost use Rattle.std.specs.Prelude.{◌≡◌, ◌≢◌, ◌⊎◌, ℕ, ◌+◌, ◌-◌, ◌*◌, ◌/◌, ◌^◌, ◌<◌, ◌≤◌, ◌==◌, [], true, false, not, length, None, IfOk, OnOk, OnErr, IfErr, Err, vec_capacity};
 ghost use Rattle.std.specs.FinSet as set;
 ghost use Rattle.flash_model.specs.Geometry.{IsGeometry};
-ghost use Rattle.read_only.specs.Modes.{is_read_only};
+ghost use Rattle.flash_model.specs.Reading.{OnlyReads};
+ghost use Rattle.bad_blocks.specs.Mode.{is_read_only};
 ghost use Rattle.record_format.specs.Payloads.{is_record, written};
-ghost use Rattle.commit_pair.specs.Parts.{first_data, sequence_of, greatest_on};
+ghost use Rattle.commit_pair.specs.Parts.{sequence_of, greatest_on};
 ghost use Rattle.commit_pair.specs.Anchored.{OnlyAnchors};
 ghost use Rattle.commit_pair.specs.Keeping.{AreOlder};
 ghost use Rattle.commit_pair.specs.Newest.{remembered, IsUncleared};
-ghost use Rattle.commit_pair.specs.Reading.{OnlyReads, ReadCause};
+ghost use Rattle.commit_pair.specs.Reading.{ReadCause};
 ghost use Rattle.commit_pair.specs.Committing.{IsLowest, Commits, Untouched, TryCause};
 ghost use Rattle.commit_pair.specs.Remembering.{MayCommit, BeginsAt, ReadsNone, IsPlaced, TriesOnce, RefusesLast, CommitCause};
 
 use crate::anchors::Anchors;
 use crate::left::find_greatest;
-use crate::parts::FIRST_DATA;
 use crate::ring::commit_from;
-use bad_blocks::BadBlocks;
+use bad_blocks::{BadBlocks, is_read_only};
 use flash_model::{Flash, Geometry};
-use fs_types::Fault;
-use read_only::is_read_only;
+use fs_types::{ANCHORS, Fault};
 use record_format::Record;
 use std::alloc::Global;
 
@@ -28,7 +27,7 @@ fn lowest_good(bad: &BadBlocks) -> u32
     requires { is_read_only bad.now ≡ false }
     ensures { IsLowest bad.now result }
 {
-    for anchor in 0..FIRST_DATA {
+    for anchor in 0..ANCHORS {
         if !bad.contains(anchor) {
             return anchor;
         }
@@ -79,7 +78,7 @@ impl Anchors {
         requires on_flash { (b : ℕ) → set.contains bad.old b ≡ true → b < saved.now.geometry.blocks }
         requires ready { MayCommit (F.device flash.old) bad.old self.old }
         ensures commits { Commits (F.device flash.old).pages (F.device flash.new).pages saved.now (greatest_on saved.now.geometry (F.device flash.old).pages + 1) bad.new result }
-        ensures placed { OnOk result ((reads : ℕ) × (ReadsNone bad.old self.old → reads ≡ 0) × (reads ≤ first_data * saved.now.geometry.pages) × IsPlaced (F.device flash.old) bad.old self.old saved.now reads (F.device flash.new) bad.new) }
+        ensures placed { OnOk result ((reads : ℕ) × (ReadsNone bad.old self.old → reads ≡ 0) × (reads ≤ ANCHORS * saved.now.geometry.pages) × IsPlaced (F.device flash.old) bad.old self.old saved.now reads (F.device flash.new) bad.new) }
         ensures tries { TriesOnce (F.device flash.old) bad.old self.old (F.device flash.new) }
         ensures only_anchors { OnlyAnchors (F.device flash.old) bad.old (F.device flash.new) bad.new }
         ensures untouched { IfErr result (λ fault. fault ≢ Fault.PowerCut → Untouched (F.device flash.old) bad.new (F.device flash.new)) }
@@ -114,7 +113,7 @@ impl Anchors {
     }
 
     /// The greatest sequence of a valid record, 0 where none is valid.
-    #[tactic(auto, using(crate::specs::Reading::OnlyReads_itself))]
+    #[tactic(auto, using(flash_model::specs::Reading::OnlyReads_itself))]
     fn greatest<F: Flash>(
         &self,
         flash: &mut F,
@@ -130,7 +129,7 @@ impl Anchors {
         ensures only_reads { OnlyReads (F.device flash.old) (F.device flash.new) }
         ensures none { IfErr result (λ fault. remembered self.now ≡ None) }
         ensures quiet { ReadsNone bad.now self.now → (F.device flash.new).operations ≡ (F.device flash.old).operations }
-        ensures operations { (F.device flash.new).operations ≤ (F.device flash.old).operations + first_data * geometry.pages }
+        ensures operations { (F.device flash.new).operations ≤ (F.device flash.old).operations + ANCHORS * geometry.pages }
         ensures why { IfErr result (ReadCause (F.device flash.old) (F.device flash.new)) }
     {
         match self.newest {
@@ -170,7 +169,7 @@ impl Anchors {
         requires room { saved.now.geometry.page ≤ vec_capacity page.old }
         ensures commits { Commits (F.device flash.old).pages (F.device flash.new).pages saved.now sequence bad.new result }
         ensures placed { OnOk result (IsPlaced (F.device flash.old) bad.old self.old saved.now 0 (F.device flash.new) bad.new) }
-        ensures operations { (F.device flash.new).operations ≤ (F.device flash.old).operations + first_data * (saved.now.geometry.pages + 1) }
+        ensures operations { (F.device flash.new).operations ≤ (F.device flash.old).operations + ANCHORS * (saved.now.geometry.pages + 1) }
         ensures only_anchors { OnlyAnchors (F.device flash.old) bad.old (F.device flash.new) bad.new }
         ensures untouched { IfErr result (λ fault. fault ≢ Fault.PowerCut → Untouched (F.device flash.old) bad.new (F.device flash.new)) }
         ensures ready { result ≢ Err Fault.PowerCut → MayCommit (F.device flash.new) bad.new self.new }

@@ -2,16 +2,16 @@
 ghost use Rattle.std.specs.Prelude.{◌≡◌, ℕ, ◌+◌, ◌*◌, ◌<◌, ◌≤◌, false, length, IfOk, IfErr};
 ghost use Rattle.std.specs.FinSet as set;
 ghost use Rattle.flash_model.specs.Geometry.{IsGeometry};
+ghost use Rattle.flash_model.specs.Reading.{OnlyReads};
 ghost use Rattle.commit_pair.specs.Anchored.{AreErased};
 ghost use Rattle.commit_pair.specs.Parts as spec;
-ghost use Rattle.commit_pair.specs.Reading.{OnlyReads, ReadCause};
+ghost use Rattle.commit_pair.specs.Reading.{ReadCause};
 
 use crate::best::Best;
-use crate::parts::FIRST_DATA;
 use crate::scan::scan_anchor;
 use bad_blocks::BadBlocks;
 use flash_model::{Flash, Geometry};
-use fs_types::Fault;
+use fs_types::{ANCHORS, Fault};
 
 /// The best record, those on an anchor among them. Each page of the anchor is read once where it is
 /// in the list; else they are erased.
@@ -25,9 +25,9 @@ fn scan_left<F: Flash>(
 ) -> Result<Best, Fault>
     requires same { (F.device flash.old).geometry ≡ geometry }
     requires lawful { IsGeometry geometry }
-    requires anchor { anchor < spec.first_data }
+    requires anchor { anchor < ANCHORS }
     requires whole { length buffer.old ≡ geometry.page }
-    requires erased { AreErased (F.device flash.old) bad.now spec.first_data }
+    requires erased { AreErased (F.device flash.old) bad.now ANCHORS }
     requires best { best ≡ spec.best_below geometry (spec.parts_on geometry (F.device flash.old).pages) (anchor * geometry.pages) }
     ensures best { IfOk result (λ next. next ≡ spec.best_below geometry (spec.parts_on geometry (F.device flash.old).pages) ((anchor + 1) * geometry.pages)) }
     ensures only_reads { OnlyReads (F.device flash.old) (F.device flash.new) }
@@ -53,18 +53,18 @@ pub(crate) fn find_greatest<F: Flash>(
     requires same { (F.device flash.old).geometry ≡ geometry }
     requires lawful { IsGeometry geometry }
     requires whole { length buffer.old ≡ geometry.page }
-    requires erased { AreErased (F.device flash.old) bad.now spec.first_data }
+    requires erased { AreErased (F.device flash.old) bad.now ANCHORS }
     ensures greatest { IfOk result (λ greatest. greatest ≡ spec.greatest_on geometry (F.device flash.old).pages) }
     ensures only_reads { OnlyReads (F.device flash.old) (F.device flash.new) }
-    ensures operations { (F.device flash.new).operations ≤ (F.device flash.old).operations + spec.first_data * geometry.pages }
-    ensures quiet { ((b : ℕ) → b < spec.first_data → set.contains bad.now b ≡ false) → (F.device flash.new).operations ≡ (F.device flash.old).operations }
+    ensures operations { (F.device flash.new).operations ≤ (F.device flash.old).operations + ANCHORS * geometry.pages }
+    ensures quiet { ((b : ℕ) → b < ANCHORS → set.contains bad.now b ≡ false) → (F.device flash.new).operations ≡ (F.device flash.old).operations }
     ensures why { IfErr result (ReadCause (F.device flash.old) (F.device flash.new)) }
 {
     let mut best = Best {
         found: None,
         twice: false,
     };
-    for anchor in 0..FIRST_DATA {
+    for anchor in 0..ANCHORS {
         best = scan_left(flash, bad, geometry, anchor, best, buffer)?;
     }
     Ok(best.sequence())

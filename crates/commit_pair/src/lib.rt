@@ -2,17 +2,17 @@
 #![tactic(auto)]
 
 mod anchors;
+mod attempts;
 mod best;
-mod clearing;
 mod commits;
-mod committing;
+mod erasures;
 mod laws;
 mod left;
 mod parts;
-mod payloads;
-mod programming;
+mod payload;
+mod record_pages;
 mod ring;
-mod runs;
+mod run;
 mod scan;
 
 pub use anchors::Anchors;

@@ -1,17 +1,16 @@
 //! The pages of a record, read from the flash.
 ghost use Rattle.std.specs.Prelude.{◌≡◌, ℕ, ◌+◌, ◌*◌, ◌%◌, ◌≤◌, ◌<◌, length, IfOk, IfErr};
 ghost use Rattle.std.specs.Option.{option_map};
+ghost use Rattle.fs_types.specs.declared.limits.TheConstants.{ANCHORS};
 ghost use Rattle.flash_model.specs.Geometry.{IsGeometry};
+ghost use Rattle.flash_model.specs.Reading.{OnlyReads};
 ghost use Rattle.record_format.specs.Pages.{used_bytes};
 ghost use Rattle.commit_pair.specs.Parts as spec;
-ghost use Rattle.commit_pair.specs.Reading.{OnlyReads, ReadCause};
+ghost use Rattle.commit_pair.specs.Reading.{ReadCause};
 
 use flash_model::{DevFault, Flash, Geometry, PageState};
 use fs_types::Fault;
 use record_format::{HEAD_SIZE, PageHead};
-
-/// The first block that is no anchor.
-pub(crate) const FIRST_DATA: u32 = 8;
 
 /// Reads a page of an anchor: the header of a part of a record, whose bytes are then in the buffer,
 /// or None.
@@ -23,7 +22,7 @@ pub(crate) fn read_head<F: Flash>(
 ) -> Result<Option<PageHead>, Fault>
     requires same { (F.device flash.old).geometry ≡ geometry }
     requires lawful { IsGeometry geometry }
-    requires in_range { page < spec.first_data * geometry.pages }
+    requires in_range { page < ANCHORS * geometry.pages }
     requires whole { length buffer.old ≡ geometry.page }
     ensures part { IfOk result (λ found. option_map (λ head. record { head = head; bytes = used_bytes head buffer.new }) found ≡ spec.parts_on geometry (F.device flash.old).pages page) }
     ensures only_reads { OnlyReads (F.device flash.old) (F.device flash.new) }

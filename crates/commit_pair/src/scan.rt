@@ -3,18 +3,19 @@ ghost use Rattle.std.specs.Prelude.{◌≡◌, ◌≢◌, ◌⊎◌, ℕ, ◌+�
 ghost use Rattle.std.specs.Bool.{OnTrue, OnFalse};
 ghost use Rattle.flash_model.specs.Device.{erased};
 ghost use Rattle.flash_model.specs.Geometry.{IsGeometry};
+ghost use Rattle.flash_model.specs.Reading.{OnlyReads};
 ghost use Rattle.record_format.specs.Payloads.{payload_at};
 ghost use Rattle.commit_pair.specs.declared.best.Found.{Found};
 ghost use Rattle.commit_pair.specs.Parts as spec;
 ghost use Rattle.commit_pair.specs.Payloads.{IsFront};
-ghost use Rattle.commit_pair.specs.Reading.{IsEnd, OnlyReads, ReadCause};
+ghost use Rattle.commit_pair.specs.Reading.{IsEnd, ReadCause};
 
 use crate::best::{Best, Found};
-use crate::parts::{FIRST_DATA, read_head};
-use crate::runs::Scan;
+use crate::parts::read_head;
+use crate::run::Scan;
 use arrayvec::ArrayVec;
 use flash_model::{DevFault, Flash, Geometry, PageState};
-use fs_types::Fault;
+use fs_types::{ANCHORS, Fault};
 use record_format::{HEAD_SIZE, LONGEST_PAYLOAD, PageHead, Payload, refuse_long};
 
 /// Reads a page of an anchor: the header of a part of a record or None, and whether the page is
@@ -27,7 +28,7 @@ fn read_page<F: Flash>(
 ) -> Result<(Option<PageHead>, bool), Fault>
     requires same { (F.device flash.old).geometry ≡ geometry }
     requires lawful { IsGeometry geometry }
-    requires in_range { page < spec.first_data * geometry.pages }
+    requires in_range { page < ANCHORS * geometry.pages }
     requires whole { length buffer.old ≡ geometry.page }
     ensures head { IfOk result (λ read. read.0 ≡ spec.head_at (spec.parts_on geometry (F.device flash.old).pages) page) }
     ensures blank { IfOk result (λ read. OnTrue read.1 ((F.device flash.old).pages page ≡ erased)) }
@@ -56,7 +57,7 @@ pub(crate) fn scan_anchor<F: Flash>(
 ) -> Result<(Best, u32), Fault>
     requires same { (F.device flash.old).geometry ≡ geometry }
     requires lawful { IsGeometry geometry }
-    requires anchor { anchor < spec.first_data }
+    requires anchor { anchor < ANCHORS }
     requires whole { length buffer.old ≡ geometry.page }
     requires best { best ≡ spec.best_below geometry (spec.parts_on geometry (F.device flash.old).pages) (anchor * geometry.pages) }
     ensures best { IfOk result (λ read. read.0 ≡ spec.best_below geometry (spec.parts_on geometry (F.device flash.old).pages) ((anchor + 1) * geometry.pages)) }
@@ -103,7 +104,7 @@ pub(crate) fn find_best<F: Flash>(
     ensures best { IfOk result (λ read. read.0 ≡ spec.best_on geometry (spec.parts_on geometry (F.device flash.old).pages)) }
     ensures end { IfOk result (λ read. (found : Found) → read.0.found ≡ Some found → IsEnd geometry (F.device flash.old).pages (found.page / geometry.pages) geometry.pages read.1) }
     ensures only_reads { OnlyReads (F.device flash.old) (F.device flash.new) }
-    ensures operations { (F.device flash.new).operations ≤ (F.device flash.old).operations + spec.first_data * geometry.pages }
+    ensures operations { (F.device flash.new).operations ≤ (F.device flash.old).operations + ANCHORS * geometry.pages }
     ensures why { IfErr result (ReadCause (F.device flash.old) (F.device flash.new)) }
 {
     let mut best = Best {
@@ -111,7 +112,7 @@ pub(crate) fn find_best<F: Flash>(
         twice: false,
     };
     let mut end = 0;
-    for anchor in 0..FIRST_DATA {
+    for anchor in 0..ANCHORS {
         let (next, anchor_end) = scan_anchor(flash, geometry, anchor, best, buffer)?;
         if is_on(geometry, next.found, anchor) {
             end = anchor_end;
@@ -162,7 +163,7 @@ pub(crate) fn find_payload<F: Flash>(
 ) -> Result<Payload, Fault>
     requires same { (F.device flash.old).geometry ≡ geometry }
     requires lawful { IsGeometry geometry }
-    requires in_range { found.page + found.head.count ≤ spec.first_data * geometry.pages }
+    requires in_range { found.page + found.head.count ≤ ANCHORS * geometry.pages }
     requires whole { length buffer.old ≡ geometry.page }
     ensures payload { IfOk result (λ payload. payload.items ≡ spec.payload_of geometry (spec.parts_on geometry (F.device flash.old).pages) found) }
     ensures only_reads { OnlyReads (F.device flash.old) (F.device flash.new) }

@@ -2,9 +2,9 @@
 use Rattle.std.specs.Prelude.{Option, Some, None, IfSome}
 use Rattle.std.proofs.Props.{props}
 use Rattle.flash_model.specs.Device.{Device}
-use Rattle.upkeep.specs.Systems.{IsSystem}
-use Rattle.upkeep.specs.Props.{system-prop}
-use Rattle.upkeep.specs.declared.systems.System.{System}
+use Rattle.system.specs.Systems.{IsSystem}
+use Rattle.system.specs.Props.{system-prop}
+use Rattle.system.specs.declared.systems.System.{System}
 
 pub seat-prop : (device : Device) (m : Option System) → IsProp (IfSome m (IsSystem device))
 seat-prop device None = hlevel props

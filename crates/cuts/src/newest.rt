@@ -1,13 +1,13 @@
 //! What no server may do: the anchor of the newest record is erased to make room.
-use flash_model::{DevFault, FIRST_DATA_BLOCK, Flash, PageView, SimFlash};
-use fs_types::Fault;
+use flash_model::{DevFault, Flash, PageView, SimFlash};
+use fs_types::{ANCHORS, Fault};
 use record_format::PageHead;
 use std::alloc::Global;
 
 /// Erases the anchor of the newest record, and writes that record at its beginning.
 pub fn write_newest_anew(alloc: Global, flash: &mut SimFlash) -> Result<(), Fault> {
     let sequence = newest_sequence(flash);
-    for block in 0..FIRST_DATA_BLOCK {
+    for block in 0..ANCHORS {
         let pages = pages_with(alloc, flash, block, sequence)?;
         if !pages.is_empty() {
             write_anew(flash, block, &pages)?;
@@ -26,7 +26,7 @@ fn newest_sequence(flash: &SimFlash) -> u64 {
 }
 
 fn first_data_page(flash: &SimFlash) -> u32 {
-    FIRST_DATA_BLOCK.saturating_mul(flash.geometry().pages)
+    ANCHORS.saturating_mul(flash.geometry().pages)
 }
 
 /// The sequence of the record of which a page is.

@@ -1,7 +1,7 @@
 //! A flash, with the system that is mounted on it.
 ghost use Rattle.std.specs.Prelude.{IfSome};
 ghost use Rattle.flash_model.specs.Simulation.{device_of};
-ghost use Rattle.upkeep.specs.Systems.{IsSystem};
+ghost use Rattle.system.specs.Systems.{IsSystem};
 ghost use Rattle.cuts.specs.Props.{seat-prop};
 
 use crate::newest::write_newest_anew;
@@ -66,7 +66,7 @@ impl Session {
 impl Shows for Session {
     fn ask(&mut self, alloc: Global, call: &Call) -> Result<Reply, Fault> {
         match &mut self.system {
-            Some(system) => system.call(alloc, &mut self.flash, call),
+            Some(system) => system.call(alloc, &mut self.flash, call.lend()),
             None => Err(Fault::Invalid),
         }
     }

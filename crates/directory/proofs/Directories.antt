@@ -2,16 +2,15 @@
 use Rattle.std.proofs.Common.{◌≡◌, ℕ, zero, suc, ◌+◌, inl, inr, false, eqb, Option, Some, None, unwrap_or, Result, Ok, List, [], ◌∷◌, ◌++◌, length, refl, sym, ap, subst, ◌∙◌, arith, length-append}
 use Rattle.std.specs.Prelude.{Contains}
 use Rattle.std.proofs.lemmas.Bool.{eqb-true, eq-eqb}
-use Rattle.std.proofs.lemmas.List.Elements.{Contains-append_cases}
 use Rattle.fs_types.specs.Names.{Name, same_name}
-use Rattle.fs_types.specs.declared.faults.Fault.{Fault}
+use Rattle.fs_types.specs.declared.fault.Fault.{Fault}
 use Rattle.node_format.specs.Items.{Item, named}
-use Rattle.node_format.specs.declared.places.Place.{Place}
-use Rattle.node_format.specs.declared.places.Place.TheVariants.{Dir, File}
+use Rattle.node_format.specs.declared.place.Place.{Place}
+use Rattle.node_format.specs.declared.place.Place.TheVariants.{Dir, File}
 use Rattle.block_trees.specs.Bodies.{Blocks}
 use Rattle.block_trees.specs.Chains.{link_of, link_items, after, most_after, entries_in, blocks_after, chain}
 use Rattle.block_trees.specs.Trees.{child}
-use Rattle.block_trees.proofs.Chains.{by_test, head_of, tail_of, AfterParts, none_after, after_parts, first_parts, items_are, listed_after, chain_is}
+use Rattle.block_trees.proofs.Chains.{by_test, AfterParts, none_after, after_parts, first_parts, items_are, listed_after, chain_is}
 use Rattle.block_trees.proofs.Chained.{among_chain}
 use Rattle.block_trees.proofs.ChainCounts.{linked_filled}
 use Rattle.directory.specs.Seeking.{here_or, seek, entries_along, chain_items}
@@ -36,22 +35,6 @@ along_chain f block items e =
     ap (entries_along f) (chain_is f block p.l p.is)
     ∙ ap (λ (front : List Item). front ++ entries_along f (blocks_after most_after f p.l.next)) (items_are f block p.l p.is)
     ∙ ap (λ (more : List Item). p.l.items ++ more) (along_after f most_after p.l.next p.more p.rest) ∙ sym p.parts
-
--- an entry of a directory is one of one of its nodes
-pub record IsHeldBy (f : Blocks) (blocks : List ℕ) (item : Item) : Type 0 where
-  pub node : ℕ
-  pub listed : Contains blocks node
-  pub holds : Contains (link_items (f node)) item
-
-held_along : (f : Blocks) (blocks : List ℕ) (item : Item) → Contains (entries_along f blocks) item → IsHeldBy f blocks item
-held_along f [] item (k, lt, is) = absurd (omega (arith, lt))
-held_along f (block ∷ blocks) item inside = elim (Contains-append_cases (link_items (f block)) (entries_along f blocks) item inside) [
-  | inl here ↦ record { node = block; listed = head_of block blocks; holds = here }
-  | inr later ↦ let h = held_along f blocks item later in record { node = h.node; listed = tail_of block h.node blocks h.listed; holds = h.holds }
-]
-
-pub held_chain : (f : Blocks) (block : ℕ) (items : List Item) → entries_in f block ≡ Some items → (item : Item) → Contains items item → IsHeldBy f (chain f block) item
-held_chain f block items e item inside = held_along f (chain f block) item (subst (λ (all : List Item). Contains all item) (sym (along_chain f block items e)) inside)
 
 -- where one of the nodes is none of a directory, there is no directory
 pub no_directory : (f : Blocks) (block b : ℕ) → Contains (chain f block) b → link_of (f b) ≡ None → entries_in f block ≡ None

@@ -10,8 +10,8 @@ use Rattle.plain_trees.specs.Contents.{Apart, parent_of}
 use Rattle.fs_types.proofs.Orders.{same_name-is, same_name-own}
 use Rattle.node_format.specs.Items.{Item, named}
 use Rattle.node_format.specs.Edits.{edited_count, IsEdited}
-use Rattle.node_format.specs.declared.places.Place.{Place}
-use Rattle.node_format.specs.declared.places.Place.TheVariants.{Dir}
+use Rattle.node_format.specs.declared.place.Place.{Place}
+use Rattle.node_format.specs.declared.place.Place.TheVariants.{Dir}
 use Rattle.block_trees.specs.Bodies.{Blocks}
 use Rattle.block_trees.specs.Trees.{child, leads}
 use Rattle.block_trees.specs.Reached.{IsHeld}

@@ -1,7 +1,7 @@
 -- What is held stays while other nodes are written.
 use Rattle.std.proofs.Common.{◌≡◌, ℕ, Bool, Option, unwrap_or, List, [], ◌∷◌, refl, sym, ap, subst}
 use Rattle.node_format.specs.Items.{Item}
-use Rattle.node_format.specs.declared.places.Place.TheVariants.{Dir}
+use Rattle.node_format.specs.declared.place.Place.TheVariants.{Dir}
 use Rattle.block_trees.specs.Bodies.{Blocks}
 use Rattle.block_trees.specs.Chains.{entries_in, items_in, chain}
 use Rattle.block_trees.specs.Reached.{IsHeld, Keeps, Reached, IsFirst, IsNamed, Names}

@@ -13,9 +13,8 @@ use Rattle.node_format.specs.Order.{both_true}
 use Rattle.block_trees.specs.Bodies.{Blocks}
 use Rattle.block_trees.specs.Chains.{link_of, link_items, next_of, most_after, entries_in, blocks_after, chain}
 use Rattle.block_trees.proofs.Chains.{by_test, head_of, either_of, next_is, items_are}
-use Rattle.block_trees.proofs.Chained.{among_chain}
+use Rattle.block_trees.proofs.Chained.{among_chain, held_chain}
 use Rattle.directory.specs.Depths.{count_below, is_directory_at, names_directory, is_left, IsSeen, IsRead, NamesWhole, AreOf, AreAmong, AreNamedBy, HasDirectories}
-use Rattle.directory.proofs.Directories.{held_chain}
 use Rattle.directory.proofs.Counting.{count_none, count_put, count_most}
 use Rattle.directory.proofs.Levels.{any_contains, contains_insert}
 

@@ -12,8 +12,8 @@ use Rattle.std.proofs.lemmas.List.FromFn.{length-range_with_len, get_or-range_wi
 use Rattle.fs_types.specs.Names.{Name, Path, same_name}
 use Rattle.fs_types.proofs.Orders.{same_name-own}
 use Rattle.node_format.specs.Items.{Item, named}
-use Rattle.node_format.specs.declared.places.Place.{Place}
-use Rattle.node_format.specs.declared.places.Place.TheVariants.{Dir, File}
+use Rattle.node_format.specs.declared.place.Place.{Place}
+use Rattle.node_format.specs.declared.place.Place.TheVariants.{Dir, File}
 use Rattle.block_trees.specs.Bodies.{Blocks}
 use Rattle.block_trees.specs.Chains.{link_of, link_items, next_of, and_after, after, most_after, in_order}
 use Rattle.block_trees.specs.Trees.{child, leads, entries_in, items_in}

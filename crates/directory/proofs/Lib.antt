@@ -1,4 +1,3 @@
-pub mod Results
 pub mod Walks
 pub mod Sights
 pub mod Directories

@@ -6,15 +6,15 @@ use Rattle.std.specs.List.{list_all}
 use Rattle.std.proofs.lemmas.Bool.{true≢false, leb-true}
 use Rattle.std.proofs.lemmas.List.Folds.{list_all-append}
 use Rattle.fs_types.specs.declared.limits.TheConstants.{NODE_ENTRIES, CHAIN_NODES, MAX_ENTRIES}
-use Rattle.fs_types.specs.declared.faults.Fault.{Fault}
+use Rattle.fs_types.specs.declared.fault.Fault.{Fault}
 use Rattle.fs_types.specs.Names.{Name, same_name}
 use Rattle.plain_trees.specs.Trees.{nodes_for}
 use Rattle.node_format.specs.Items.{Item, named, is_item, is_before, are_ascending, are_entries}
 use Rattle.node_format.specs.Edits.{edited_count, IsEdited}
 use Rattle.node_format.specs.EntryLaws.{same_name-true, contained-named}
 use Rattle.node_format.specs.Order.{both_true, and_true, AreParts, ascending_parts}
-use Rattle.node_format.specs.declared.places.Place.{Place}
-use Rattle.node_format.specs.declared.places.Place.TheVariants.{Dir}
+use Rattle.node_format.specs.declared.place.Place.{Place}
+use Rattle.node_format.specs.declared.place.Place.TheVariants.{Dir}
 use Rattle.block_trees.specs.Bodies.{Blocks}
 use Rattle.block_trees.specs.Chains.{entries_in, items_in}
 use Rattle.block_trees.specs.Reached.{IsHeld}

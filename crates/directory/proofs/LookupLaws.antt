@@ -5,11 +5,11 @@ use Rattle.std.specs.Option.{option_map, option_and_then, option_or}
 use Rattle.fs_types.specs.declared.limits.TheConstants.{MAX_ENTRIES, MAX_NAMES}
 use Rattle.fs_types.specs.Names.{Name, Path}
 use Rattle.plain_trees.specs.Contents.{Contents, parent_of, under, way_refusal, lookup_refusal}
-use Rattle.fs_types.specs.declared.faults.Fault.{Fault}
-use Rattle.fs_types.specs.declared.faults.Fault.TheVariants.{NoEntry, NotDirectory}
+use Rattle.fs_types.specs.declared.fault.Fault.{Fault}
+use Rattle.fs_types.specs.declared.fault.Fault.TheVariants.{NoEntry, NotDirectory}
 use Rattle.node_format.specs.Items.{Item, named}
-use Rattle.node_format.specs.declared.places.Place.{Place}
-use Rattle.node_format.specs.declared.places.Place.TheVariants.{Dir, File}
+use Rattle.node_format.specs.declared.place.Place.{Place}
+use Rattle.node_format.specs.declared.place.Place.TheVariants.{Dir, File}
 use Rattle.block_trees.specs.Bodies.{Blocks}
 use Rattle.block_trees.specs.Trees.{entries_in, items_in, child, leads, entry_at, tree, HasTree, IsRoot}
 use Rattle.block_trees.proofs.RootMaps.{leads-append}

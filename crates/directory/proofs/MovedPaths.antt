@@ -4,10 +4,10 @@ use Rattle.std.specs.Prelude.{IfOk}
 use Rattle.std.specs.Option.{is_some}
 use Rattle.fs_types.specs.Names.{Name, Path, same_name}
 use Rattle.plain_trees.specs.Contents.{Apart, beneath}
-use Rattle.fs_types.specs.declared.faults.Fault.{Fault}
+use Rattle.fs_types.specs.declared.fault.Fault.{Fault}
 use Rattle.fs_types.proofs.Orders.{same_name-is, same_name-own}
-use Rattle.node_format.specs.declared.places.Place.{Place}
-use Rattle.node_format.specs.declared.places.Place.TheVariants.{Dir}
+use Rattle.node_format.specs.declared.place.Place.{Place}
+use Rattle.node_format.specs.declared.place.Place.TheVariants.{Dir}
 use Rattle.block_trees.specs.Bodies.{Blocks}
 use Rattle.block_trees.specs.Chains.{entries_in, chain}
 use Rattle.block_trees.specs.Trees.{child, leads}
@@ -76,10 +76,6 @@ moved_later f0 f1 f2 k0 k1 k2 keeps (n ∷ p) (m ∷ q) from to place (fresh, in
 )
 
 -- ---- below a name that both paths go through
-
-pub if_ok : {T E : Type 0} (P Q : T → Type 0) (r : Result T E) → ((x : T) → P x → Q x) → IfOk r P → IfOk r Q
-if_ok P Q (Ok x) f p = f x p
-if_ok P Q (Err e) f p = tt
 
 -- ---- where the paths part
 

@@ -10,7 +10,7 @@ use Rattle.plain_trees.specs.Trees.{nodes_for}
 use Rattle.node_format.specs.Items.{Item, named, are_ascending}
 use Rattle.node_format.specs.Links.{Link}
 use Rattle.node_format.specs.Order.{both_true, ascending_parts}
-use Rattle.node_format.specs.declared.places.Place.{Place}
+use Rattle.node_format.specs.declared.place.Place.{Place}
 use Rattle.block_trees.specs.Bodies.{Blocks}
 use Rattle.block_trees.specs.Chains.{link_of, after, blocks_after, most_after, is_later, entries_in, items_in}
 use Rattle.block_trees.proofs.Chains.{by_test, tail_of, none_after, HasNodeAfter, after_parts, first_parts, listed_after, chain_is}

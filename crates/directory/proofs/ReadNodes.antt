@@ -4,7 +4,7 @@ use Rattle.std.specs.Prelude.{IfOk}
 use Rattle.std.specs.Option.{option_map_or, option_and_then}
 use Rattle.fs_types.specs.declared.limits.TheConstants.{NODE_ENTRIES}
 use Rattle.fs_types.specs.Names.{Name}
-use Rattle.fs_types.specs.declared.faults.Fault.{Fault}
+use Rattle.fs_types.specs.declared.fault.Fault.{Fault}
 use Rattle.node_format.specs.Items.{Item, is_dir_place}
 use Rattle.node_format.specs.Links.{Link, link_at}
 use Rattle.block_trees.specs.Bodies.{Blocks}

@@ -1,9 +1,9 @@
 -- A path rewritten, seen from a later state, and by one directory more.
-use Rattle.std.proofs.Common.{◌≡◌, ℕ, Bool, Option, Some, Result, Ok, Err, List, [], ◌∷◌, subst, ◌∙◌}
-use Rattle.std.specs.Prelude.{IfErr, Contains}
+use Rattle.std.proofs.Common.{◌≡◌, ℕ, Bool, Option, Some, List, [], ◌∷◌, subst, ◌∙◌}
+use Rattle.std.specs.Prelude.{Contains}
 use Rattle.fs_types.specs.Names.{Name, Path}
-use Rattle.node_format.specs.declared.places.Place.{Place}
-use Rattle.node_format.specs.declared.places.Place.TheVariants.{Dir}
+use Rattle.node_format.specs.declared.place.Place.{Place}
+use Rattle.node_format.specs.declared.place.Place.TheVariants.{Dir}
 use Rattle.block_trees.specs.Bodies.{Blocks}
 use Rattle.block_trees.specs.Chains.{entries_in, chain}
 use Rattle.block_trees.specs.Trees.{child}
@@ -45,7 +45,3 @@ rewritten_one f0 f1 f2 k0 k1 k2 block to below next name m p at same leads keeps
     (below, next, leads, fresh, edit_before f0 f1 f2 block to name (Some (Dir next)) same edit, rewritten_later f0 f1 f2 k0 k1 k2 keeps (m ∷ p) below next at lower)
 
 -- ---- refusals
-
-pub if_err : {T E : Type 0} (P Q : E → Type 0) (r : Result T E) → ((e : E) → P e → Q e) → IfErr r P → IfErr r Q
-if_err P Q (Ok x) f p = tt
-if_err P Q (Err e) f p = f e p

@@ -1,6 +1,6 @@
 -- Directories of a trail written anew, one after the other from the deepest up.
 use Rattle.std.proofs.Common.{◌≡◌, ℕ, zero, suc, ◌+◌, ◌-◌, ◌<◌, ◌≤◌, Bool, true, false, Option, Some, None, Result, Ok, Err, List, [], ◌∷◌, length, take, drop, get_or, refl, sym, ap, subst, ◌∙◌, arith}
-use Rattle.std.specs.Prelude.{Contains, not, ◌||◌, ◌&&◌, nat_le, unwrap_or, slice_index, IsSome, IfErr, if◌then◌else◌}
+use Rattle.std.specs.Prelude.{Contains, not, ◌||◌, ◌&&◌, nat_le, unwrap_or, slice_index, IsSome, if◌then◌else◌}
 use Rattle.std.specs.Option.{is_some, is_none, option_and_then}
 use Rattle.std.specs.List.{sum_by, range_with_len}
 use Rattle.std.proofs.lemmas.Bool.{true≢false}
@@ -8,14 +8,14 @@ use Rattle.std.proofs.lemmas.List.Sums.{sum_by-cons, sum_by-append}
 use Rattle.std.proofs.Math.Seq.{take-suc, drop-cons}
 use Rattle.fs_types.specs.declared.limits.TheConstants.{MAX_ENTRIES}
 use Rattle.fs_types.specs.Names.{Name, Path}
-use Rattle.fs_types.specs.declared.faults.Fault.{Fault}
-use Rattle.fs_types.specs.declared.faults.Fault.TheVariants.{FlashFull, ReadOnly, PowerCut, NoMemory}
+use Rattle.fs_types.specs.declared.fault.Fault.{Fault}
+use Rattle.fs_types.specs.declared.fault.Fault.TheVariants.{FlashFull, ReadOnly, PowerCut, NoMemory}
 use Rattle.node_store.specs.Faults.{IsWriteFault}
 use Rattle.plain_trees.specs.Trees.{nodes_for}
 use Rattle.plain_trees.proofs.Needs.{nodes_for-le, sum_below-le}
 use Rattle.node_format.specs.Items.{Item, named}
-use Rattle.node_format.specs.declared.places.Place.{Place}
-use Rattle.node_format.specs.declared.places.Place.TheVariants.{Dir, File}
+use Rattle.node_format.specs.declared.place.Place.{Place}
+use Rattle.node_format.specs.declared.place.Place.TheVariants.{Dir, File}
 use Rattle.block_trees.specs.Bodies.{Blocks}
 use Rattle.block_trees.specs.Chains.{chain}
 use Rattle.block_trees.specs.Trees.{child, leads, entries_in, items_in}
@@ -34,10 +34,6 @@ use Rattle.directory.proofs.ReadLists.{entries_to-most}
 use Rattle.directory.proofs.NewDirectories.{fresh_before}
 use Rattle.directory.proofs.Rewrites.{rewritten_one}
 use Rattle.directory.proofs.Ways.{leads_more, looks_on}
-
-pub if_err : {T E : Type 0} (P Q : E → Type 0) (r : Result T E) → ((e : E) → P e → Q e) → IfErr r P → IfErr r Q
-if_err P Q (Ok x) f p = tt
-if_err P Q (Err e) f p = f e p
 
 -- ---- refusals
 

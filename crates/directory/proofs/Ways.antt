@@ -5,9 +5,9 @@ use Rattle.std.specs.Option.{option_and_then}
 use Rattle.std.proofs.lemmas.List.{get_or_append_left, get_or-append-add}
 use Rattle.std.proofs.Math.Seq.{take-suc, drop-cons}
 use Rattle.fs_types.specs.Names.{Path}
-use Rattle.fs_types.specs.declared.faults.Fault.{Fault}
-use Rattle.node_format.specs.declared.places.Place.{Place}
-use Rattle.node_format.specs.declared.places.Place.TheVariants.{Dir}
+use Rattle.fs_types.specs.declared.fault.Fault.{Fault}
+use Rattle.node_format.specs.declared.place.Place.{Place}
+use Rattle.node_format.specs.declared.place.Place.TheVariants.{Dir}
 use Rattle.block_trees.specs.Bodies.{Blocks}
 use Rattle.block_trees.specs.Trees.{child, leads}
 use Rattle.block_trees.proofs.RootMaps.{leads-append}

@@ -5,8 +5,8 @@ use Rattle.std.specs.Option.{option_map_or}
 use Rattle.std.specs.Int.{div_ceil}
 use Rattle.std.proofs.lemmas.Bool.{lt-ltb, cases_lt}
 use Rattle.std.proofs.lemmas.List.{take-append-drop, take_all, length-take, length-drop, length-append, drop-drop}
-use Rattle.fs_types.specs.declared.limits.TheConstants.{NODE_ENTRIES}
-use Rattle.fs_types.specs.declared.faults.Fault.{Fault}
+use Rattle.fs_types.specs.declared.limits.TheConstants.{ANCHORS, NODE_ENTRIES}
+use Rattle.fs_types.specs.declared.fault.Fault.{Fault}
 use Rattle.node_format.specs.Items.{Item, are_ascending}
 use Rattle.node_format.specs.Links.{Link, link, link_at}
 use Rattle.block_trees.specs.Bodies.{Blocks}
@@ -17,12 +17,12 @@ use Rattle.directory.specs.Written.{IsOneMore, IsKeptAfter, IsPut, Puts, IsDirec
 none_some : (bytes : List ℕ) (found : Option (List ℕ)) → found ≡ None → found ≡ Some bytes → ⊥
 none_some bytes found none some = let e : None ≡ Some bytes = sym none ∙ some in cc
 
-some_block : (f : Blocks) (to : ℕ) (bytes : List ℕ) → ((b : ℕ) → b < 8 → f b ≡ None) → f to ≡ Some bytes → 0 < to
+some_block : (f : Blocks) (to : ℕ) (bytes : List ℕ) → ((b : ℕ) → b < ANCHORS → f b ≡ None) → f to ≡ Some bytes → 0 < to
 some_block f zero bytes below is = absurd (none_some bytes (f zero) (below zero (omega arith)) is)
 some_block f (suc to) bytes below is = omega arith
 
 -- what was written is one node more
-pub one_more : (new : Blocks) (kept kept' : ℕ → Bool) (next : ℕ) (bytes : List ℕ) (items : List Item) (r : Result ℕ Fault) → link_at bytes ≡ Some (link true next items) → ((b : ℕ) → b < 8 → new b ≡ None)
+pub one_more : (new : Blocks) (kept kept' : ℕ → Bool) (next : ℕ) (bytes : List ℕ) (items : List Item) (r : Result ℕ Fault) → link_at bytes ≡ Some (link true next items) → ((b : ℕ) → b < ANCHORS → new b ≡ None)
     → IfOk r (λ to. kept to ≡ false) → IfOk r (λ to. kept' to ≡ true) → IfOk r (λ to. new to ≡ Some bytes) → IfOk r (λ to. IsOneMore kept new kept' next to items)
 one_more new kept kept' next bytes items (Err fault) read below fresh held written = tt
 one_more new kept kept' next bytes items (Ok to) read below fresh held written = record { fresh = fresh; is_kept = held; some = some_block new to bytes below written; node = ap link_of written ∙ read }

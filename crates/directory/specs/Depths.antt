@@ -1,15 +1,13 @@
 -- How many names the paths below a directory have.
-use Rattle.std.specs.Prelude.{◌≡◌, ◌⊎◌, ℕ, zero, suc, ◌+◌, ◌<◌, ◌≤◌, ◌-◌, ◌==◌, nat_lt, Bool, true, false, not, ◌&&◌, IsTrue, Some, None, IsSome, List, length, Contains, if◌then◌else◌}
+use Rattle.std.specs.Prelude.{◌≡◌, ◌⊎◌, ℕ, zero, suc, ◌+◌, ◌<◌, ◌≤◌, ◌-◌, ◌==◌, nat_lt, Bool, true, false, not, ◌&&◌, Some, None, IsSome, List, length, Contains, if◌then◌else◌}
 use Rattle.std.specs.List.{list_any}
 use Rattle.std.specs.FinSet.{FinSet, contains}
 use Rattle.std.specs.Ordering.{nat_cmp}
 use Rattle.fs_types.specs.Names.{Path}
-use Rattle.fs_types.specs.declared.faults.Fault.{Fault}
-use Rattle.fs_types.specs.declared.faults.Fault.TheVariants.{Damaged}
-use Rattle.node_store.specs.Faults.{is_read_fault}
+use Rattle.fs_types.specs.declared.limits.TheConstants.{MAX_NAMES}
 use Rattle.node_format.specs.Items.{Item}
-use Rattle.node_format.specs.declared.places.Place.{Place}
-use Rattle.node_format.specs.declared.places.Place.TheVariants.{Dir, File}
+use Rattle.node_format.specs.declared.place.Place.{Place}
+use Rattle.node_format.specs.declared.place.Place.TheVariants.{Dir, File}
 use Rattle.block_trees.specs.Bodies.{Blocks}
 use Rattle.block_trees.specs.Chains.{link_items, next_of}
 use Rattle.block_trees.specs.Trees.{entries_in, items_in, leads, IsRoot}
@@ -76,17 +74,9 @@ pub record HasDirectories (f : Blocks) (blocks : ℕ) (roots list : List ℕ) : 
   pub next : (parent b : ℕ) → Contains list parent → b < blocks → names_directory (link_items (f parent)) b ≡ true → Contains list b
   pub on : (b : ℕ) → Contains list b → 0 < next_of (f b) → next_of (f b) < blocks → Contains list (next_of (f b))
 
--- the refusals of reading nodes that may be missing: those of reads, but that nothing is damaged
-abbrev pub is_depth_fault : Fault → Bool
-is_depth_fault Damaged = false
-is_depth_fault fault = is_read_fault fault
-
-abbrev pub IsDepthFault : Fault → Type 0
-IsDepthFault fault = IsTrue (is_depth_fault fault)
-
 -- what stands at a path of a tree does not get too deep at a path of no more names
 abbrev pub AsDeepLaw : Type 0
-AsDeepLaw = (room : ℕ) (f : Blocks) (root : ℕ) (old new : Path) (place : Place) → IsRoot room f root → leads f (Dir root) old ≡ Some place → length new ≤ length old → IsShallow f place (16 - length new)
+AsDeepLaw = (room : ℕ) (f : Blocks) (root : ℕ) (old new : Path) (place : Place) → IsRoot room f root → leads f (Dir root) old ≡ Some place → length new ≤ length old → IsShallow f place (MAX_NAMES - length new)
 
 -- nothing stands below a file
 abbrev pub FileLaw : Type 0

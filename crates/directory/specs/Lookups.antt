@@ -4,12 +4,12 @@ use Rattle.fs_types.specs.declared.limits.TheConstants.{MAX_ENTRIES, CHAIN_NODES
 use Rattle.fs_types.specs.Names.{Name, Path}
 use Rattle.plain_trees.specs.Contents.{Entry, Contents, lookup_refusal}
 use Rattle.plain_trees.specs.Trees.{path_need}
-use Rattle.fs_types.specs.declared.faults.Fault.{Fault}
-use Rattle.fs_types.specs.declared.faults.Fault.TheVariants.{NoEntry, NotDirectory, Damaged}
+use Rattle.fs_types.specs.declared.fault.Fault.{Fault}
+use Rattle.fs_types.specs.declared.fault.Fault.TheVariants.{NoEntry, NotDirectory, Damaged}
 use Rattle.node_store.specs.Faults.{is_read_fault}
 use Rattle.node_format.specs.Items.{Item, named}
-use Rattle.node_format.specs.declared.places.Place.{Place}
-use Rattle.node_format.specs.declared.places.Place.TheVariants.{Dir, File}
+use Rattle.node_format.specs.declared.place.Place.{Place}
+use Rattle.node_format.specs.declared.place.Place.TheVariants.{Dir, File}
 use Rattle.block_trees.specs.Bodies.{Blocks, body}
 use Rattle.block_trees.specs.Chains.{chain}
 use Rattle.block_trees.specs.Trees.{entries_in, leads, tree, root_tree, IsRoot}

@@ -1,7 +1,7 @@
 -- A new empty directory at a path where nothing stood.
 use Rattle.std.specs.Prelude.{◌≡◌, ℕ, Bool, true, false, Some, []}
 use Rattle.fs_types.specs.Names.{Path}
-use Rattle.node_format.specs.declared.places.Place.TheVariants.{Dir}
+use Rattle.node_format.specs.declared.place.Place.TheVariants.{Dir}
 use Rattle.block_trees.specs.Bodies.{Blocks}
 use Rattle.block_trees.specs.Trees.{entries_in}
 use Rattle.block_trees.specs.Rewritten.{IsRewritten}

@@ -3,8 +3,8 @@ use Rattle.std.specs.Prelude.{◌≡◌, ℕ, suc, ◌+◌, ◌-◌, ◌<◌, Bo
 use Rattle.fs_types.specs.Names.{Name, Path, same_name}
 use Rattle.node_format.specs.Items.{Item, are_entries, named}
 use Rattle.node_format.specs.Edits.{edited_count}
-use Rattle.node_format.specs.declared.places.Place.{Place}
-use Rattle.node_format.specs.declared.places.Place.TheVariants.{Dir}
+use Rattle.node_format.specs.declared.place.Place.{Place}
+use Rattle.node_format.specs.declared.place.Place.TheVariants.{Dir}
 use Rattle.block_trees.specs.Bodies.{Blocks}
 use Rattle.block_trees.specs.Trees.{child}
 use Rattle.directory.specs.Trails.{IsHeldTrail, IsTaken}

@@ -3,10 +3,10 @@ use Rattle.std.specs.Prelude.{◌≡◌, ◌||◌, Bool, ℕ, zero, suc, ◌==�
 use Rattle.std.specs.Option.{is_some}
 use Rattle.std.specs.List.{flat_map}
 use Rattle.fs_types.specs.Names.{Name}
-use Rattle.fs_types.specs.declared.faults.Fault.{Fault}
-use Rattle.fs_types.specs.declared.faults.Fault.TheVariants.{Damaged}
+use Rattle.fs_types.specs.declared.fault.Fault.{Fault}
+use Rattle.fs_types.specs.declared.fault.Fault.TheVariants.{Damaged}
 use Rattle.node_format.specs.Items.{Item, named}
-use Rattle.node_format.specs.declared.places.Place.{Place}
+use Rattle.node_format.specs.declared.place.Place.{Place}
 use Rattle.node_format.specs.Links.{Link}
 use Rattle.block_trees.specs.Bodies.{Blocks}
 use Rattle.block_trees.specs.Chains.{link_of, link_items, is_later, most_after, chain}

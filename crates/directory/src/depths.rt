@@ -1,37 +1,20 @@
 //! How many names the paths below a directory have.
-ghost use Rattle.std.specs.Prelude.{◌≡◌, ℕ, ◌+◌, ◌*◌, ◌≤◌, ◌<◌, true, false, ◌||◌, ◌&&◌, nat_lt, List, Contains, length, Some, None, OnOk, OnErr, IfOk, IfErr};
+ghost use Rattle.std.specs.Prelude.{◌≡◌, ℕ, ◌+◌, ◌*◌, ◌≤◌, ◌<◌, true, false, ◌||◌, ◌&&◌, nat_lt, List, Contains, length, Some, OnOk, OnErr, IfOk, IfErr};
 ghost use Rattle.std.specs.FinSet as set;
-ghost use Rattle.node_format.specs.declared.places.Place.TheVariants.{Dir};
+ghost use Rattle.node_format.specs.declared.place.Place.TheVariants.{Dir};
 ghost use Rattle.block_trees.specs.Chains.{link_items, next_of};
 ghost use Rattle.block_trees.specs.Laws.{IsShallow};
 ghost use Rattle.directory.specs.Lookups.{LeadsToDirectories};
 ghost use Rattle.directory.specs.Depths as spec;
+ghost use Rattle.node_store.specs.Faults.{IsLookFault};
 ghost use Rattle.node_store.specs.Frames.{OnlyLooks};
 ghost use Rattle.fs_types.specs.declared.limits.TheConstants.{MAX_NAMES};
 
 use allocator::BlockSet;
 use fs_types::Fault;
 use node_format::{Entries, EntryList, Place};
-use node_store::Nodes;
+use node_store::{Nodes, brings};
 use std::alloc::Global;
-
-/// Brings the node in a block, for `lent` to lend; whether there is one.
-fn brings<N: Nodes>(nodes: &mut N, block: u32) -> Result<bool, Fault>
-    requires { N.is_sound nodes.old }
-    ensures shown { IfOk result (λ brought. brought ≡ true → N.node nodes.old block ≡ Some (N.shown nodes.new)) }
-    ensures lends { IfOk result (λ brought. brought ≡ true → N.lends nodes.new) }
-    ensures none { IfOk result (λ brought. brought ≡ false → N.node nodes.old block ≡ None) }
-    ensures why { IfErr result (λ fault. N.causes nodes.old nodes.new fault) }
-    ensures faults { IfErr result spec.IsDepthFault }
-    ensures looks { OnlyLooks N.node N.kept N.writes N.follows N.is_sound N.limit N.blocks nodes.old nodes.new }
-    ensures reads { N.reads nodes.new ≡ N.reads nodes.old + 1 }
-{
-    match nodes.read(block) {
-        Ok(()) => Ok(true),
-        Err(Fault::Damaged) => Ok(false),
-        Err(fault) => Err(fault),
-    }
-}
 
 /// Puts the blocks of the directories among entries into a set, but those past its last block.
 fn add_directories(list: EntryList<'_>, found: &mut BlockSet)
@@ -57,7 +40,7 @@ fn add_named<N: Nodes>(nodes: &mut N, block: u32, found: &mut BlockSet) -> Resul
     ensures same { OnErr result (found.new ≡ found.old) }
     ensures size { found.new.blocks ≡ found.old.blocks }
     ensures why { IfErr result (λ fault. N.causes nodes.old nodes.new fault) }
-    ensures faults { IfErr result spec.IsDepthFault }
+    ensures faults { IfErr result IsLookFault }
     ensures looks { OnlyLooks N.node N.kept N.writes N.follows N.is_sound N.limit N.blocks nodes.old nodes.new }
     ensures reads { N.reads nodes.new ≡ N.reads nodes.old + 1 }
 {
@@ -99,7 +82,7 @@ fn add_chain<N: Nodes>(
     ensures among { (roots list : List ℕ) → spec.HasDirectories (N.node nodes.old) (N.blocks nodes.old) roots list → Contains list block → spec.AreAmong list seen.old.members seen.new.members × spec.AreAmong list found.old.members found.new.members }
     ensures size { (seen.new.blocks ≡ seen.old.blocks) × (found.new.blocks ≡ found.old.blocks) }
     ensures why { IfErr result (λ fault. N.causes nodes.old nodes.new fault) }
-    ensures faults { IfErr result spec.IsDepthFault }
+    ensures faults { IfErr result IsLookFault }
     ensures looks { OnlyLooks N.node N.kept N.writes N.follows N.is_sound N.limit N.blocks nodes.old nodes.new }
 
     // Each read is of a block that was not seen.
@@ -118,7 +101,7 @@ fn has_entries<N: Nodes>(nodes: &mut N, block: u32) -> Result<bool, Fault>
     requires { N.is_sound nodes.old }
     ensures value { IfOk result (λ some. some ≡ nat_lt 0 (length (link_items (N.node nodes.old block)))) }
     ensures why { IfErr result (λ fault. N.causes nodes.old nodes.new fault) }
-    ensures faults { IfErr result spec.IsDepthFault }
+    ensures faults { IfErr result IsLookFault }
     ensures looks { OnlyLooks N.node N.kept N.writes N.follows N.is_sound N.limit N.blocks nodes.old nodes.new }
     ensures reads { N.reads nodes.new ≡ N.reads nodes.old + 1 }
 {
@@ -141,7 +124,7 @@ fn next_level<N: Nodes>(alloc: Global, nodes: &mut N, level: &BlockSet) -> Resul
     ensures named { IfOk result (λ next. spec.AreNamedBy (N.node nodes.old) level.now.blocks (set.contains level.now.members) next.members) }
     ensures size { IfOk result (λ next. next.blocks ≡ level.now.blocks) }
     ensures why { IfErr result (λ fault. N.causes nodes.old nodes.new fault) }
-    ensures faults { IfErr result spec.IsDepthFault }
+    ensures faults { IfErr result IsLookFault }
     ensures looks { OnlyLooks N.node N.kept N.writes N.follows N.is_sound N.limit N.blocks nodes.old nodes.new }
 
     // What is read and found is among any list that has the level and all that it names.
@@ -165,7 +148,7 @@ fn any_has_entries<N: Nodes>(nodes: &mut N, level: &BlockSet) -> Result<bool, Fa
     ensures some { IfOk result (λ some. some ≡ true → (b : ℕ) × (set.contains level.now.members b ≡ true) × (0 < length (link_items (N.node nodes.old b)))) }
     ensures none { IfOk result (λ some. some ≡ false → (b : ℕ) → set.contains level.now.members b ≡ true → length (link_items (N.node nodes.old b)) ≡ 0) }
     ensures why { IfErr result (λ fault. N.causes nodes.old nodes.new fault) }
-    ensures faults { IfErr result spec.IsDepthFault }
+    ensures faults { IfErr result IsLookFault }
     ensures looks { OnlyLooks N.node N.kept N.writes N.follows N.is_sound N.limit N.blocks nodes.old nodes.new }
     ensures reads { (list : List ℕ) → ((b : ℕ) → set.contains level.now.members b ≡ true → Contains list b) → N.reads nodes.new ≤ N.reads nodes.old + length list }
 {
@@ -213,7 +196,7 @@ pub fn any_is_deeper<N: Nodes>(
     ensures deeper { ((root : ℕ) → Contains roots.now root → LeadsToDirectories (N.node nodes.old) root) → IfOk result (λ deep. deep ≡ true → (root : ℕ) × Contains roots.now root × spec.IsDeeper (N.node nodes.old) (Dir root) most) }
     ensures shallow { IfOk result (λ deep. deep ≡ false → (root : ℕ) → Contains roots.now root → IsShallow (N.node nodes.old) (Dir root) most) }
     ensures why { IfErr result (λ fault. N.causes nodes.old nodes.new fault) }
-    ensures faults { IfErr result spec.IsDepthFault }
+    ensures faults { IfErr result IsLookFault }
     ensures looks { OnlyLooks N.node N.kept N.writes N.follows N.is_sound N.limit N.blocks nodes.old nodes.new }
 
     // A level reads the nodes of its directories alone: they are among any list that has the roots and all that it names.
@@ -239,7 +222,7 @@ pub fn is_deeper<N: Nodes>(
     ensures deeper { LeadsToDirectories (N.node nodes.old) block → IfOk result (λ deep. deep ≡ true → spec.IsDeeper (N.node nodes.old) (Dir block) most) }
     ensures shallow { IfOk result (λ deep. deep ≡ false → IsShallow (N.node nodes.old) (Dir block) most) }
     ensures why { IfErr result (λ fault. N.causes nodes.old nodes.new fault) }
-    ensures faults { IfErr result spec.IsDepthFault }
+    ensures faults { IfErr result IsLookFault }
     ensures looks { OnlyLooks N.node N.kept N.writes N.follows N.is_sound N.limit N.blocks nodes.old nodes.new }
     ensures reads { N.reads nodes.new ≤ N.reads nodes.old + (most + 1) * N.blocks nodes.old }
 {

@@ -2,17 +2,17 @@
 #![tactic(auto)]
 
 mod depths;
+mod edits;
+mod list_writes;
 mod listings;
-mod lists;
 mod lookups;
-mod moving;
-mod rewriting;
-mod trails;
-mod writing;
+mod moves;
+mod node_lists;
+mod trail;
 
 pub use depths::{any_is_deeper, depth_laws, is_deeper};
+pub use edits::{put_directory, put_entry, remove_entry};
 pub use listings::{entry_count, is_empty, names};
 pub use lookups::{Found, lookup, lookup_laws};
-pub use moving::move_entry;
-pub use rewriting::{put_directory, put_entry, remove_entry};
-pub use trails::{Trail, find};
+pub use moves::move_entry;
+pub use trail::{Trail, find};

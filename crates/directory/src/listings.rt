@@ -1,6 +1,6 @@
 //! The names in a directory, how many they are, and whether there are any.
 ghost use Rattle.std.specs.Prelude.{◌≡◌, ℕ, ◌+◌, ◌≤◌, ◌==◌, ◌++◌, Bool, true, false, List, length, Some, None, OnOk, IfOk, IfErr, IsErrOf};
-ghost use Rattle.fs_types.specs.declared.faults.Fault.TheVariants.{NoMemory, Damaged};
+ghost use Rattle.fs_types.specs.declared.fault.Fault.TheVariants.{NoMemory, Damaged};
 ghost use Rattle.fs_types.specs.declared.limits.TheConstants.{NODE_ENTRIES};
 ghost use Rattle.node_store.specs.Faults.{IsReadFault};
 ghost use Rattle.node_store.specs.Frames.{OnlyLooks};

@@ -1,6 +1,6 @@
 //! What a path leads to.
 ghost use Rattle.std.specs.Prelude.{◌≡◌, ℕ, ◌+◌, ◌≤◌, true, false, length, drop, Some, None, Ok, Err, IfOk, IfErr, IsErrOf};
-ghost use Rattle.fs_types.specs.declared.faults.Fault.TheVariants.{NoEntry, NotDirectory, Damaged};
+ghost use Rattle.fs_types.specs.declared.fault.Fault.TheVariants.{NoEntry, NotDirectory, Damaged};
 ghost use Rattle.fs_types.specs.declared.limits.TheConstants.{NODE_ENTRIES};
 ghost use Rattle.node_store.specs.Faults.{IsReadFault};
 ghost use Rattle.node_store.specs.Frames.{OnlyLooks};
@@ -8,7 +8,7 @@ ghost use Rattle.block_trees.specs.Chains.{link_of, chain};
 ghost use Rattle.directory.specs.Seeking as seeking;
 ghost use Rattle.directory.specs.Lookups as spec;
 
-use crate::trails::find;
+use crate::trail::find;
 use fs_types::{CHAIN_NODES, Fault, MAX_ENTRIES, Name, Path};
 use node_format::{Entries, Place};
 use node_store::Nodes;

@@ -2,11 +2,12 @@
 use Rattle.std.proofs.Common.{◌≡◌, ◌≢◌, ◌⊎◌, inl, inr, ℕ, ◌+◌, ◌*◌, ◌<◌, ◌≤◌, Bool, true, false, List, [], ◌∷◌, ◌++◌, length, get_or, refl, sym, ap, subst, ◌∙◌, append_assoc, arith, Result, Ok, Err}
 use Rattle.std.specs.Prelude.{MatchResult, IfOk, IfErr}
 use Rattle.std.proofs.lemmas.List.{append-nil, length-append, get_or_append_left}
-use Rattle.flash_model.specs.declared.sizes.Geometry.{Geometry}
+use Rattle.byteorder.specs.Endian.{little_bytes}
+use Rattle.flash_model.specs.declared.geometry.Geometry.{Geometry}
 use Rattle.flash_model.specs.Geometry.{IsGeometry}
 use Rattle.flash_model.specs.Device.{Device, Page, erased, bytes_of, unreadable}
-use Rattle.flash_image.specs.declared.faults.ImageFault.{ImageFault}
-use Rattle.flash_image.specs.declared.faults.ImageFault.TheVariants.{NotImage, BadGeometry, BadState, Truncated, Trailing, Memory}
+use Rattle.flash_image.specs.declared.image_fault.ImageFault.{ImageFault}
+use Rattle.flash_image.specs.declared.image_fault.ImageFault.TheVariants.{NotImage, BadGeometry, BadState, Truncated, Trailing, Memory}
 use Rattle.flash_image.specs.Images.{magic, header, parts, page_text, worn_text, place_text, block_text, blocks_text, image_of, before_block, before_page, AreSizes, HasImage, HasOtherMagic, HasOtherSizes, IsPartOf, EndsInside, HasOtherWorn, HasOtherPage, GoesOn, IsFault, HoldsTheSame}
 use Rattle.flash_image.proofs.Texts.{length-header, header-then, header-cancel}
 use Rattle.flash_image.proofs.Stops.{before_block-splits, before_page-splits}
@@ -47,7 +48,7 @@ not-image bytes g other begins =
     let i = other.place in
     let here : get_or bytes i 0 ≡ get_or magic i 0 =
     sym (get_or_append_left bytes begins.more 0 i other.inside) ∙ ap (λ (t : List ℕ). get_or t i 0) (begins.whole ∙ header-then g begins.rest)
-    ∙ get_or_append_left magic _ 0 i other.early in
+    ∙ get_or_append_left magic (little_bytes 4 g.page ++ (little_bytes 4 g.pages ++ (little_bytes 4 g.blocks ++ begins.rest))) 0 i other.early in
     other.differs here
 
 -- unlawful sizes, and a lawful header

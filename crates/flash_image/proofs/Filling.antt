@@ -1,10 +1,10 @@
 -- A flash that is filled from the left: what it spells as far as it is filled.
 use Rattle.std.proofs.Common.{◌≡◌, ◌≢◌, ℕ, ◌+◌, ◌*◌, ◌<◌, ◌≤◌, Bool, List, ◌++◌, sym, ap, ◌∙◌, append_assoc, arith}
 use Rattle.std.proofs.lemmas.Nat.{mul-add-lt}
-use Rattle.flash_model.specs.declared.sizes.Geometry.{Geometry}
+use Rattle.flash_model.specs.declared.geometry.Geometry.{Geometry}
 use Rattle.flash_model.specs.Device.{Device, Page}
 use Rattle.flash_model.specs.Contents.{PutsPage, PutsWear}
-use Rattle.flash_image.specs.declared.faults.ImageFault.{ImageFault}
+use Rattle.flash_image.specs.declared.image_fault.ImageFault.{ImageFault}
 use Rattle.flash_image.specs.Images.{parts, page_text, worn_text, place_text, block_text}
 use Rattle.flash_image.specs.Reading.{BlockFault, BlocksFault, FillsPages, FillsBlocks}
 use Rattle.flash_image.proofs.Parts.{parts-more, parts-same}

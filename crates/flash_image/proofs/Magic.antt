@@ -1,20 +1,20 @@
 -- The header of an image: where the bytes end in it, and where they differ from it.
-use Rattle.std.proofs.Common.{◌≡◌, ◌≢◌, inl, inr, ℕ, zero, suc, ◌-◌, ◌^◌, ◌<◌, ◌≤◌, Bool, true, false, eqb, List, [], ◌∷◌, ◌++◌, length, get_or, take, drop, refl, sym, ap, subst, ◌∙◌, append_assoc, arith}
+use Rattle.std.proofs.Common.{◌≡◌, ◌≢◌, inl, inr, ℕ, zero, suc, ◌-◌, ◌^◌, ◌<◌, ◌≤◌, Some, Bool, true, false, eqb, List, [], ◌∷◌, ◌++◌, length, get_or, take, drop, refl, sym, ap, subst, ◌∙◌, append_assoc, arith}
 use Rattle.std.specs.List.{starts_with}
-use Rattle.std.specs.Int.{w32, from_le_bytes}
 use Rattle.std.proofs.lemmas.Bool.Decides.{eqb_tells, Decides-eqb}
 use Rattle.std.proofs.lemmas.Slice.Eq.{starts_is}
-use Rattle.std.proofs.lemmas.Nat.{le_bytes_4}
-use Rattle.std.proofs.lemmas.List.{length-append, length-take, length-drop, take-append-drop, nil_from_length}
-use Rattle.flash_model.specs.declared.sizes.Geometry.{Geometry}
+use Rattle.std.proofs.lemmas.List.{length-append, length-take, length-drop, take-append-drop, nil_from_length, take_all}
+use Rattle.byteorder.specs.Endian.{little_number, little_bytes}
+use Rattle.byteorder.specs.Numbers.{little_from-lt}
+use Rattle.fields.specs.Numbers.{IsBytes, number_at}
+use Rattle.fields.proofs.NumberLaws.{spelled_front, number_takes}
+use Rattle.flash_model.specs.declared.geometry.Geometry.{Geometry}
 use Rattle.flash_model.specs.Device.{Page, erased, bytes_of}
 use Rattle.flash_model.specs.Contents.{IsWhole}
-use Rattle.flash_image.specs.Images.{magic, number_text, header, page_text, AreSizes, IsPartOf, EndsInside, HasOtherMagic}
+use Rattle.flash_image.proofs.Texts.{header-then}
+use Rattle.flash_image.specs.Images.{magic, header, page_text, AreSizes, IsPartOf, EndsInside, HasOtherMagic}
 
 -- ---- bytes
-
-abbrev pub IsBytes : List ℕ → Type 0
-IsBytes bytes = (i : ℕ) → get_or bytes i 0 < 256
 
 IsBytes-append : (a b : List ℕ) → IsBytes a → IsBytes b → (i : ℕ) → get_or (a ++ b) i 0 < 256
 IsBytes-append [] b fits fits' i = fits' i
@@ -80,9 +80,9 @@ zero_sizes = record { page = 0; pages = 0; blocks = 0 }
 
 -- the end comes in the magic
 pub magic-ends : (bytes more : List ℕ) → magic ≡ bytes ++ more → EndsInside bytes
-unfolding header number_text zero_sizes
+unfolding header zero_sizes
 magic-ends bytes more is =
-    let tail : List ℕ = number_text 0 ++ (number_text 0 ++ number_text 0) in
+    let tail : List ℕ = little_bytes 4 0 ++ (little_bytes 4 0 ++ little_bytes 4 0) in
     let len : length tail ≡ 12 = refl in
     let fit : AreSizes zero_sizes = record { page = omega arith; pages = omega arith; blocks = omega arith } in
     inl (
@@ -98,9 +98,8 @@ magic-ends bytes more is =
 -- ---- the sizes
 
 -- four bytes spell a number
-number-of : (bytes : List ℕ) → length bytes ≡ 4 → IsBytes bytes → (n : ℕ) × (n < 2 ^ 32) × (number_text n ≡ bytes)
-unfolding number_text
-number-of bytes len fits = (from_le_bytes w32 bytes, omega (arith, fits 0, fits 1, fits 2, fits 3), le_bytes_4 bytes _ len fits refl)
+number-of : (bytes : List ℕ) → length bytes ≡ 4 → IsBytes bytes → (n : ℕ) × (n < 2 ^ 32) × (little_bytes 4 n ≡ bytes)
+number-of bytes len fits = (little_number 4 bytes, little_from-lt 0 4 bytes fits, spelled_front 4 bytes fits (omega arith) ∙ take_all 4 bytes (omega arith))
 
 three : (a b c x y z rest bytes : List ℕ) → a ≡ x → b ≡ y → c ≡ z → rest ≡ y ++ z → bytes ≡ x ++ rest → a ++ (b ++ c) ≡ bytes
 three a b c x y z rest bytes first second third back whole =
@@ -125,10 +124,20 @@ sizes-of bytes len fits =
     let b = number-of second (omega (arith, length-take 4 rest)) (IsBytes-front second third fits_parts') in
     let c = number-of third (omega (arith, length-drop 4 rest)) (IsBytes-back second third fits_parts') in
     let g : Geometry = record { page = a.0; pages = b.0; blocks = c.0 } in
-    let numbers : number_text a.0 ++ (number_text b.0 ++ number_text c.0) ≡ bytes =
-    three (number_text a.0) (number_text b.0) (number_text c.0) first second third rest bytes a.2 b.2 c.2 parts' parts in
+    let numbers : little_bytes 4 a.0 ++ (little_bytes 4 b.0 ++ little_bytes 4 c.0) ≡ bytes =
+    three (little_bytes 4 a.0) (little_bytes 4 b.0) (little_bytes 4 c.0) first second third rest bytes a.2 b.2 c.2 parts' parts in
     let fit : AreSizes g = record { page = a.1; pages = b.1; blocks = c.1 } in
     (g, fit, ap (λ (t : List ℕ). magic ++ t) numbers)
+
+-- three numbers that are read are the sizes that stand there
+pub sizes-read : (bytes one two three : List ℕ) (g : Geometry) → IsBytes bytes → Some (g.page, one) ≡ number_at 4 bytes → Some (g.pages, two) ≡ number_at 4 one → Some (g.blocks, three) ≡ number_at 4 two
+    → magic ++ bytes ≡ header g ++ three
+sizes-read bytes one two three g fits page pages blocks =
+    let a = number_takes 4 bytes g.page one fits (sym page) in
+    let b = number_takes 4 one g.pages two a.0.rest_fits (sym pages) in
+    let c = number_takes 4 two g.blocks three b.0.rest_fits (sym blocks) in
+    ap (λ (t : List ℕ). magic ++ t) (a.0.parts ∙ ap (λ (t : List ℕ). little_bytes 4 g.page ++ t) (b.0.parts ∙ ap (λ (t : List ℕ). little_bytes 4 g.pages ++ t) c.0.parts))
+    ∙ sym (header-then g three)
 
 -- the end comes in the sizes
 pub sizes-end : (bytes rest : List ℕ) → IsBytes bytes → bytes ≡ magic ++ rest → length rest < 12 → EndsInside bytes

@@ -1,6 +1,6 @@
 -- Bytes are the image of one flash at most, whatever follows it.
 use Rattle.std.proofs.Common.{◌≡◌, ℕ, ◌+◌, ◌*◌, ◌%◌, ◌<◌, ◌≤◌, Bool, List, [], ◌++◌, refl, sym, ap, subst, ◌∙◌, append_assoc, arith}
-use Rattle.flash_model.specs.declared.sizes.Geometry.{Geometry}
+use Rattle.flash_model.specs.declared.geometry.Geometry.{Geometry}
 use Rattle.flash_model.specs.Geometry.{IsGeometry, page_count}
 use Rattle.flash_model.specs.Device.{Device, Page, block_of}
 use Rattle.flash_model.specs.Contents.{IsWhole}

@@ -1,12 +1,12 @@
 -- The texts of sizes, pages and blocks: no one begins another.
-use Rattle.std.proofs.Common.{◌≡◌, ℕ, ◌^◌, ◌<◌, Bool, true, false, List, ◌++◌, length, take, drop, refl, sym, ap, ◌∙◌}
-use Rattle.std.specs.Int.{w32, from_le_bytes}
+use Rattle.std.proofs.Common.{◌≡◌, ℕ, Bool, true, false, List, ◌++◌, length, take, drop, refl, sym, ap, ◌∙◌, append_assoc}
 use Rattle.std.proofs.lemmas.List.{take_at, drop_at, append_cancel_left}
-use Rattle.std.proofs.lemmas.Nat.{from_le_bytes-to_le_bytes_4}
-use Rattle.flash_model.specs.declared.sizes.Geometry.{Geometry}
+use Rattle.byteorder.specs.Endian.{little_bytes}
+use Rattle.fields.proofs.NumberLaws.{number_cancel}
+use Rattle.flash_model.specs.declared.geometry.Geometry.{Geometry}
 use Rattle.flash_model.specs.Device.{Page, erased, bytes_of, unreadable}
 use Rattle.flash_model.specs.Contents.{IsWhole}
-use Rattle.flash_image.specs.Images.{magic, number_text, header, page_text, worn_text, AreSizes}
+use Rattle.flash_image.specs.Images.{magic, header, page_text, worn_text, AreSizes}
 
 -- two texts of one length, and what follows them
 pub fronts : (a b u v : List ℕ) → length a ≡ length b → a ++ u ≡ b ++ v → (a ≡ b) × (u ≡ v)
@@ -15,23 +15,23 @@ fronts a b u v len same =
     let back : u ≡ v = sym (drop_at a u (length b) len) ∙ ap (drop (length b)) same ∙ drop_at b v (length b) refl in
     (front, back)
 
-pub length-number_text : (n : ℕ) → length (number_text n) ≡ 4
-unfolding number_text
-length-number_text n = refl
-
-pub number-cancel : (m n : ℕ) (u v : List ℕ) → m < 2 ^ 32 → n < 2 ^ 32 → number_text m ++ u ≡ number_text n ++ v → (m ≡ n) × (u ≡ v)
-unfolding number_text
-number-cancel m n u v fits fits' same =
-    let both = fronts (number_text m) (number_text n) u v refl same in
-    (sym (from_le_bytes-to_le_bytes_4 m fits) ∙ ap (from_le_bytes w32) both.0 ∙ from_le_bytes-to_le_bytes_4 n fits', both.1)
-
 pub length-header : (g : Geometry) → length (header g) ≡ 20
-unfolding header number_text
+unfolding header
 length-header g = refl
 
-pub header-then : (g : Geometry) (u : List ℕ) → header g ++ u ≡ magic ++ (number_text g.page ++ (number_text g.pages ++ (number_text g.blocks ++ u)))
-unfolding header number_text
+pub header-then : (g : Geometry) (u : List ℕ) → header g ++ u ≡ magic ++ (little_bytes 4 g.page ++ (little_bytes 4 g.pages ++ (little_bytes 4 g.blocks ++ u)))
+unfolding header
 header-then g u = refl
+
+-- a header that was put after what was there, piece by piece
+pub header-pushed : (g : Geometry) (o p q r s : List ℕ) → p ≡ o ++ magic → q ≡ p ++ little_bytes 4 g.page → r ≡ q ++ little_bytes 4 g.pages → s ≡ r ++ little_bytes 4 g.blocks → s ≡ o ++ header g
+unfolding header
+header-pushed g o p q r s e f h k =
+    let a : List ℕ = little_bytes 4 g.page in
+    let b : List ℕ = little_bytes 4 g.pages in
+    let c : List ℕ = little_bytes 4 g.blocks in
+    k ∙ ap (λ (t : List ℕ). t ++ c) (h ∙ ap (λ (t : List ℕ). t ++ b) (f ∙ ap (λ (t : List ℕ). t ++ a) e))
+    ∙ append_assoc ((o ++ magic) ++ a) b c ∙ append_assoc (o ++ magic) a (b ++ c) ∙ append_assoc o magic (a ++ (b ++ c))
 
 abbrev sizes_of : ℕ → ℕ → ℕ → Geometry
 sizes_of page pages blocks = record { page = page; pages = pages; blocks = blocks }
@@ -43,9 +43,9 @@ sizes-same g h page pages blocks =
 pub header-cancel : (g h : Geometry) (u v : List ℕ) → AreSizes g → AreSizes h → header g ++ u ≡ header h ++ v → (g ≡ h) × (u ≡ v)
 header-cancel g h u v fit fit' same =
     let all = append_cancel_left magic _ _ (sym (header-then g u) ∙ same ∙ header-then h v) in
-    let a = number-cancel g.page h.page _ _ fit.page fit'.page all in
-    let b = number-cancel g.pages h.pages _ _ fit.pages fit'.pages a.1 in
-    let c = number-cancel g.blocks h.blocks u v fit.blocks fit'.blocks b.1 in
+    let a = number_cancel 4 g.page h.page _ _ fit.page fit'.page all in
+    let b = number_cancel 4 g.pages h.pages _ _ fit.pages fit'.pages a.1 in
+    let c = number_cancel 4 g.blocks h.blocks u v fit.blocks fit'.blocks b.1 in
     (sizes-same g h a.0 b.0 c.0, c.1)
 
 pub worn-cancel : (a b : Bool) (u v : List ℕ) → worn_text a ++ u ≡ worn_text b ++ v → (a ≡ b) × (u ≡ v)

@@ -1,24 +1,20 @@
 -- The one spelling of a flash as an image, and what is wrong with other bytes.
 use Rattle.std.specs.Prelude.{◌≡◌, ◌≢◌, ◌⊎◌, ℕ, zero, suc, ◌+◌, ◌*◌, ◌^◌, ◌<◌, Bool, true, false, List, [], ◌∷◌, ◌++◌, length, slice_index, codes}
-use Rattle.std.specs.Int.{w32, to_le_bytes}
-use Rattle.flash_model.specs.declared.sizes.Geometry.{Geometry}
+use Rattle.byteorder.specs.Endian.{little_bytes}
+use Rattle.flash_model.specs.declared.geometry.Geometry.{Geometry}
 use Rattle.flash_model.specs.Geometry.{IsGeometry, page_count}
 use Rattle.flash_model.specs.Device.{Device, Page, erased, bytes_of, unreadable}
 use Rattle.flash_model.specs.Contents.{IsWhole}
-use Rattle.flash_image.specs.declared.faults.ImageFault.{ImageFault}
-use Rattle.flash_image.specs.declared.faults.ImageFault.TheVariants.{NotImage, BadGeometry, BadState, Truncated, Trailing, Memory}
+use Rattle.flash_image.specs.declared.image_fault.ImageFault.{ImageFault}
+use Rattle.flash_image.specs.declared.image_fault.ImageFault.TheVariants.{NotImage, BadGeometry, BadState, Truncated, Trailing, Memory}
 
 -- the first eight bytes
 abbrev pub magic : List ℕ
 magic = codes "UFFSIMG1"
 
--- a number of four bytes, the lowest first
-unfoldable pub number_text : ℕ → List ℕ
-number_text n = to_le_bytes w32 n
-
--- the bytes before the first block: the magic, and the sizes
+-- the bytes before the first block: the magic, and the sizes in four bytes each, the lowest first
 unfoldable pub header : Geometry → List ℕ
-header g = magic ++ (number_text g.page ++ (number_text g.pages ++ number_text g.blocks))
+header g = magic ++ (little_bytes 4 g.page ++ (little_bytes 4 g.pages ++ little_bytes 4 g.blocks))
 
 -- a text of n parts, one after the other
 unfoldable pub parts : ℕ → (ℕ → List ℕ) → List ℕ

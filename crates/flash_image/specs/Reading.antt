@@ -2,8 +2,8 @@
 use Rattle.std.specs.Prelude.{◌≡◌, ◌⊎◌, ℕ, ◌*◌, ◌<◌, List, [], ◌∷◌, ◌++◌}
 use Rattle.flash_model.specs.Device.{Device, Page}
 use Rattle.flash_model.specs.Contents.{IsWhole}
-use Rattle.flash_image.specs.declared.faults.ImageFault.{ImageFault}
-use Rattle.flash_image.specs.declared.faults.ImageFault.TheVariants.{NotImage, BadGeometry, BadState, Truncated, Trailing, Memory}
+use Rattle.flash_image.specs.declared.image_fault.ImageFault.{ImageFault}
+use Rattle.flash_image.specs.declared.image_fault.ImageFault.TheVariants.{NotImage, BadGeometry, BadState, Truncated, Trailing, Memory}
 use Rattle.flash_image.specs.Images.{parts, page_text, worn_text, place_text, block_text, IsPartOf}
 
 -- what is wrong where a block begins

@@ -1,17 +1,18 @@
 //! The flash that an image spells.
-ghost use Rattle.std.specs.Prelude.{◌≡◌, ◌⊎◌, ◌*◌, ◌<◌, ◌++◌, [], length, IfOk, IfErr, OnOk, OnErr, MatchResult, true};
+ghost use Rattle.std.specs.Prelude.{◌≡◌, ◌⊎◌, ◌*◌, ◌<◌, ◌++◌, [], length, IfOk, IfErr, IfSome, IfNone, OnOk, OnErr, MatchResult, true};
 ghost use Rattle.flash_model.specs.Geometry.{IsGeometry};
 ghost use Rattle.flash_model.specs.Device.{Device};
 ghost use Rattle.flash_model.specs.Contents.{IsWhole};
 ghost use Rattle.flash_model.specs.Stored.{shown};
 ghost use Rattle.flash_model.specs.Simulation.{IsNew, device_of, plan_of};
 ghost use Rattle.flash_model.specs.Plan.{plan_of_entries};
-ghost use Rattle.flash_image.specs.Images.{magic, header, number_text, parts, page_text, worn_text, place_text, block_text, blocks_text, image_of, AreSizes, HasImage, IsFault, HoldsTheSame, IsReady};
-ghost use Rattle.flash_image.specs.declared.faults.ImageFault.{ImageFault};
+ghost use Rattle.flash_image.specs.Images.{magic, header, parts, page_text, worn_text, place_text, block_text, blocks_text, image_of, AreSizes, HasImage, IsFault, HoldsTheSame, IsReady};
+ghost use Rattle.flash_image.specs.declared.image_fault.ImageFault.{ImageFault};
 ghost use Rattle.flash_image.specs.Reading.{WornFault, PageFault, PagesFault, BlockFault, BlocksFault, FillsPages, FillsBlocks};
 
 use crate::encoding::MAGIC;
-use crate::faults::ImageFault;
+use crate::image_fault::ImageFault;
+use fields::read_u32;
 use flash_model::{Flash, Geometry, PageView, SimFlash};
 use fs_types::Fault;
 use std::alloc::Global;
@@ -30,35 +31,21 @@ fn after_magic(bytes: &[u8]) -> Result<&[u8], ImageFault>
     }
 }
 
-#[tactic(auto, unfolding(crate::specs::Images::number_text))]
-fn number_at(bytes: &[u8]) -> Result<(u32, &[u8]), ImageFault>
-    ensures ok { IfOk result (λ x. bytes.now ≡ number_text x.0 ++ x.1.now) }
-    ensures err { IfErr result (λ fault. (fault ≡ ImageFault.Truncated) × (length bytes.now < 4)) }
+/// The sizes of the flash, and the bytes after them. None where they are not whole.
+fn sizes_at(bytes: &[u8]) -> Option<(Geometry, &[u8])>
+    ensures found { IfSome result (λ x. magic ++ bytes.now ≡ header x.0 ++ x.1.now) }
+    ensures fit { IfSome result (λ x. AreSizes x.0) }
+    ensures none { IfNone result (length bytes.now < 12) }
 {
-    if bytes.len() < 4 {
-        return Err(ImageFault::Truncated);
-    }
-    let (front, rest) = bytes.split_at(4);
-    let number = u32::from_le_bytes([front[0], front[1], front[2], front[3]]);
-    Ok((number, rest))
-}
-
-/// The sizes of the flash, and the bytes after them.
-#[tactic(auto, unfolding(crate::specs::Images::header))]
-fn sizes_at(bytes: &[u8]) -> Result<(Geometry, &[u8]), ImageFault>
-    ensures ok { IfOk result (λ x. magic ++ bytes.now ≡ header x.0 ++ x.1.now) }
-    ensures fit { IfOk result (λ x. AreSizes x.0) }
-    ensures err { IfErr result (λ fault. (fault ≡ ImageFault.Truncated) × (length bytes.now < 12)) }
-{
-    let (page, rest) = number_at(bytes)?;
-    let (pages, rest) = number_at(rest)?;
-    let (blocks, rest) = number_at(rest)?;
+    let (page, rest) = read_u32(bytes)?;
+    let (pages, rest) = read_u32(rest)?;
+    let (blocks, rest) = read_u32(rest)?;
     let sizes = Geometry {
         page,
         pages,
         blocks,
     };
-    Ok((sizes, rest))
+    Some((sizes, rest))
 }
 
 /// A flash of these sizes in which all pages are erased.
@@ -162,7 +149,9 @@ fn read_image(alloc: Global, bytes: &[u8]) -> Result<SimFlash, ImageFault>
     ensures fault { IfErr result (λ fault. (fault ≡ ImageFault.Memory) ⊎ IsFault fault bytes.now) }
 {
     let rest = after_magic(bytes)?;
-    let (sizes, rest) = sizes_at(rest)?;
+    let Some((sizes, rest)) = sizes_at(rest) else {
+        return Err(ImageFault::Truncated);
+    };
     let mut flash = fresh(alloc, sizes)?;
     let rest = read_blocks(&mut flash, rest)?;
     if !rest.is_empty() {

@@ -2,9 +2,10 @@
 ghost use Rattle.std.specs.Prelude.{◌≡◌, ◌≤◌, ◌<◌, [], ◌∷◌, ◌++◌, length, IfOk, IfErr, OnOk};
 ghost use Rattle.flash_model.specs.Stored.{shown};
 ghost use Rattle.flash_model.specs.Simulation.{device_of};
-ghost use Rattle.flash_image.specs.Images.{header, number_text, page_text, worn_text, block_text, image_of};
+ghost use Rattle.flash_image.specs.Images.{header, page_text, worn_text, block_text, image_of};
 
-use crate::faults::ImageFault;
+use crate::image_fault::ImageFault;
+use fields::push_u32;
 use flash_model::{Flash, Geometry, PageView, SimFlash};
 use std::alloc::{AllocError, Global};
 
@@ -30,22 +31,14 @@ pub fn encode(alloc: Global, flash: &SimFlash) -> Result<Vec<u8>, ImageFault>
     Ok(image)
 }
 
-#[tactic(auto, unfolding(crate::specs::Images::header))]
 fn push_header(image: &mut Vec<u8>, sizes: Geometry) -> Result<(), AllocError>
     ensures { OnOk result (image.new.items ≡ image.old.items ++ header sizes) }
 {
     image.extend_from_slice(&MAGIC)?;
-    push_number(image, sizes.page)?;
-    push_number(image, sizes.pages)?;
-    push_number(image, sizes.blocks)?;
+    push_u32(image, sizes.page)?;
+    push_u32(image, sizes.pages)?;
+    push_u32(image, sizes.blocks)?;
     Ok(())
-}
-
-#[tactic(auto, unfolding(crate::specs::Images::number_text))]
-fn push_number(image: &mut Vec<u8>, number: u32) -> Result<(), AllocError>
-    ensures { OnOk result (image.new.items ≡ image.old.items ++ number_text number) }
-{
-    image.extend_from_slice(&number.to_le_bytes())
 }
 
 fn push_block(image: &mut Vec<u8>, flash: &SimFlash, block: u32) -> Result<(), AllocError>

@@ -2,7 +2,7 @@
 ghost use Rattle.std.specs.Prelude.{◌≡◌, ℕ, List, ◌++◌, []};
 ghost use Rattle.flash_model.specs.Device.{Device};
 ghost use Rattle.flash_model.specs.Simulation.{device_of};
-ghost use Rattle.flash_image.specs.declared.faults.ImageFault.{ImageFault};
+ghost use Rattle.flash_image.specs.declared.image_fault.ImageFault.{ImageFault};
 ghost use Rattle.flash_image.specs.Images.{image_of, HasImage, HoldsTheSame, IsFault};
 
 use flash_model::SimFlash;

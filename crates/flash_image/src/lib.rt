@@ -8,10 +8,10 @@
 
 mod decoding;
 mod encoding;
-mod faults;
+mod image_fault;
 mod laws;
 
 pub use decoding::decode;
 pub use encoding::encode;
-pub use faults::ImageFault;
+pub use image_fault::ImageFault;
 pub use laws::{each_flash_has_an_image, faults_are_told_apart, images_are_told_apart};

@@ -1,10 +1,10 @@
 -- Raw flash, and what each operation on it may leave.
 use Rattle.std.specs.Prelude.{◌≡◌, ◌≢◌, ◌⊎◌, ℕ, ◌+◌, ◌/◌, List, Bool, true, false, if◌then◌else◌, Result, Ok, Err}
-use Rattle.flash_model.specs.declared.sizes.Geometry.{Geometry}
-use Rattle.flash_model.specs.declared.device.DevFault.{DevFault}
-use Rattle.flash_model.specs.declared.device.DevFault.TheVariants.{Failed, PowerCut}
-use Rattle.flash_model.specs.declared.device.PageState.{PageState}
-use Rattle.flash_model.specs.declared.device.PageState.TheVariants.{Erased, Data, Unreadable}
+use Rattle.flash_model.specs.declared.geometry.Geometry.{Geometry}
+use Rattle.flash_model.specs.declared.flash.DevFault.{DevFault}
+use Rattle.flash_model.specs.declared.flash.DevFault.TheVariants.{Failed, PowerCut}
+use Rattle.flash_model.specs.declared.flash.PageState.{PageState}
+use Rattle.flash_model.specs.declared.flash.PageState.TheVariants.{Erased, Data, Unreadable}
 
 -- what a page holds
 pub data Page : Type 0 where

@@ -1,6 +1,6 @@
 -- The limits of a flash's sizes.
 use Rattle.std.specs.Prelude.{ℕ, ◌*◌, ◌≤◌, Bool, ◌||◌, ◌==◌, IsTrue}
-use Rattle.flash_model.specs.declared.sizes.Geometry.{Geometry}
+use Rattle.flash_model.specs.declared.geometry.Geometry.{Geometry}
 
 -- the sizes of a page that are served
 abbrev pub is_page_size : ℕ → Bool

@@ -2,9 +2,9 @@
 use Rattle.std.specs.Prelude.{◌≡◌, ℕ, ◌≤◌, true, false, List, Result, Ok, Err, refl}
 use Rattle.std.proofs.Common.{◌∙◌, ap, inl, inr, arith}
 use Rattle.std.proofs.lemmas.Bool.{cases_eq}
-use Rattle.flash_model.specs.declared.device.DevFault.{DevFault}
-use Rattle.flash_model.specs.declared.device.DevFault.TheVariants.{Failed, PowerCut}
-use Rattle.flash_model.specs.declared.device.PageState.{PageState}
+use Rattle.flash_model.specs.declared.flash.DevFault.{DevFault}
+use Rattle.flash_model.specs.declared.flash.DevFault.TheVariants.{Failed, PowerCut}
+use Rattle.flash_model.specs.declared.flash.PageState.{PageState}
 use Rattle.flash_model.specs.Device.{Device, Operates, Reads, Programs, Erases, Wears, block_of}
 
 -- sizes stay, counts grow, a worn block stays worn, and with the power off nothing changes

@@ -1,14 +1,14 @@
 -- A plan of device faults: which entry is due, which wait.
 use Rattle.std.specs.Prelude.{◌≡◌, ℕ, ◌+◌, ◌≤◌, Bool, true, false, not, ◌&&◌, ◌||◌, ◌==◌, nat_lt, if◌then◌else◌, List, [], ◌∷◌, ◌++◌, length, reverse, find, filter, Option, None, option_map}
 use Rattle.std.specs.List.{list_any}
-use Rattle.flash_model.specs.declared.device.DevFault.{DevFault}
-use Rattle.flash_model.specs.declared.device.DevFault.TheVariants.{Failed, PowerCut}
-use Rattle.flash_model.specs.declared.plans.Operation.{Operation}
-use Rattle.flash_model.specs.declared.plans.Operation.TheVariants.{Read, Program, Erase}
-use Rattle.flash_model.specs.declared.plans.FaultKind.{FaultKind}
-use Rattle.flash_model.specs.declared.plans.FaultKind.TheVariants.{ReadFail, ReadCut, ProgramFail, ProgramCutNone, ProgramCutWhole, ProgramCutTorn, EraseFail, EraseCutNone, EraseCutWhole, EraseCutTorn}
-use Rattle.flash_model.specs.declared.plans.PlannedFault.{PlannedFault}
-use Rattle.flash_model.specs.declared.plans.Counters.{Counters}
+use Rattle.flash_model.specs.declared.flash.DevFault.{DevFault}
+use Rattle.flash_model.specs.declared.flash.DevFault.TheVariants.{Failed, PowerCut}
+use Rattle.flash_model.specs.declared.fault_kind.Operation.{Operation}
+use Rattle.flash_model.specs.declared.fault_kind.Operation.TheVariants.{Read, Program, Erase}
+use Rattle.flash_model.specs.declared.fault_kind.FaultKind.{FaultKind}
+use Rattle.flash_model.specs.declared.fault_kind.FaultKind.TheVariants.{ReadFail, ReadCut, ProgramFail, ProgramCutNone, ProgramCutWhole, ProgramCutTorn, EraseFail, EraseCutNone, EraseCutWhole, EraseCutTorn}
+use Rattle.flash_model.specs.declared.fault_kind.PlannedFault.{PlannedFault}
+use Rattle.flash_model.specs.declared.fault_kind.Counters.{Counters}
 
 -- the class of operations that a kind of fault befalls
 abbrev pub operation_of : FaultKind → Operation

@@ -1,11 +1,11 @@
 -- A flash in memory that fails as planned: the device that it is, and the plan that it follows.
 use Rattle.std.specs.Prelude.{◌≡◌, ℕ, ◌+◌, true, false, slice_index_or, Option, Some, option_map, Result, if◌then◌else◌}
-use Rattle.flash_model.specs.declared.device.DevFault.{DevFault}
-use Rattle.flash_model.specs.declared.device.DevFault.TheVariants.{PowerCut}
-use Rattle.flash_model.specs.declared.sizes.Geometry.{Geometry}
-use Rattle.flash_model.specs.declared.plans.Operation.{Operation}
-use Rattle.flash_model.specs.declared.plans.Counters.{Counters}
-use Rattle.flash_model.specs.declared.simulation.SimFlash.{SimFlash}
+use Rattle.flash_model.specs.declared.flash.DevFault.{DevFault}
+use Rattle.flash_model.specs.declared.flash.DevFault.TheVariants.{PowerCut}
+use Rattle.flash_model.specs.declared.geometry.Geometry.{Geometry}
+use Rattle.flash_model.specs.declared.fault_kind.Operation.{Operation}
+use Rattle.flash_model.specs.declared.fault_kind.Counters.{Counters}
+use Rattle.flash_model.specs.declared.sim_flash.SimFlash.{SimFlash}
 use Rattle.flash_model.specs.Device.{Device, erased, failed, cut, power_after, Wears}
 use Rattle.flash_model.specs.Stored.{page_at}
 use Rattle.flash_model.specs.Plan.{Schedule, kind_due, begun, answer_of, count_more}

@@ -1,13 +1,13 @@
 -- The pages of a flash in memory.
 use Rattle.std.specs.Prelude.{◌≡◌, ℕ, ◌%◌, ◌==◌, List, slice_get, vec_len, Option, Some, None, if◌then◌else◌}
 use Rattle.std.specs.Option.{ForSome, option_map_or}
-use Rattle.flash_model.specs.declared.device.PageState.{PageState}
-use Rattle.flash_model.specs.declared.device.PageState.TheVariants.{Erased, Data, Unreadable}
-use Rattle.flash_model.specs.declared.plans.FaultKind.{FaultKind}
-use Rattle.flash_model.specs.declared.plans.FaultKind.TheVariants.{ProgramCutNone, ProgramCutWhole, EraseCutNone, EraseCutWhole}
-use Rattle.flash_model.specs.declared.stored.SimPage.{SimPage}
-use Rattle.flash_model.specs.declared.stored.PageView.{PageView}
-use Rattle.flash_model.specs.declared.stored.PageView.TheVariants as view
+use Rattle.flash_model.specs.declared.flash.PageState.{PageState}
+use Rattle.flash_model.specs.declared.flash.PageState.TheVariants.{Erased, Data, Unreadable}
+use Rattle.flash_model.specs.declared.fault_kind.FaultKind.{FaultKind}
+use Rattle.flash_model.specs.declared.fault_kind.FaultKind.TheVariants.{ProgramCutNone, ProgramCutWhole, EraseCutNone, EraseCutWhole}
+use Rattle.flash_model.specs.declared.sim_page.SimPage.{SimPage}
+use Rattle.flash_model.specs.declared.sim_page.PageView.{PageView}
+use Rattle.flash_model.specs.declared.sim_page.PageView.TheVariants as view
 use Rattle.flash_model.specs.Device.{Page, erased, bytes_of, unreadable}
 
 -- the page of this state whose room holds these bytes

@@ -2,10 +2,10 @@
 use Rattle.std.specs.Prelude.{◌≡◌, ℕ, List, length, slice_get, Option, Some, None, vec_len, refl}
 use Rattle.std.specs.Option.{option_map_or}
 use Rattle.std.proofs.Common.{sym, ◌∙◌}
-use Rattle.flash_model.specs.declared.device.PageState.{PageState}
-use Rattle.flash_model.specs.declared.device.PageState.TheVariants.{Erased, Data, Unreadable}
-use Rattle.flash_model.specs.declared.stored.SimPage.{SimPage}
-use Rattle.flash_model.specs.declared.simulation.SimFlash.{SimFlash}
+use Rattle.flash_model.specs.declared.flash.PageState.{PageState}
+use Rattle.flash_model.specs.declared.flash.PageState.TheVariants.{Erased, Data, Unreadable}
+use Rattle.flash_model.specs.declared.sim_page.SimPage.{SimPage}
+use Rattle.flash_model.specs.declared.sim_flash.SimFlash.{SimFlash}
 use Rattle.flash_model.specs.Device.{erased, bytes_of}
 use Rattle.flash_model.specs.Stored.{page_of, seen, page_at}
 

@@ -1,17 +1,17 @@
 //! Raw flash: the trait that a driver implements, and a flash in memory that fails as planned.
 #![tactic(auto)]
 
-mod device;
-mod faults;
-mod plans;
-mod schedules;
-mod simulation;
-mod sizes;
-mod stored;
+mod fault_kind;
+mod flash;
+mod geometry;
+mod plan;
+mod planned;
+mod sim_flash;
+mod sim_page;
 
-pub use device::{DevFault, Flash, PageState};
-pub use faults::Planned;
-pub use plans::{Counters, FaultKind, Operation, PlannedFault};
-pub use simulation::SimFlash;
-pub use sizes::{FIRST_DATA_BLOCK, Geometry};
-pub use stored::PageView;
+pub use fault_kind::{Counters, FaultKind, Operation, PlannedFault};
+pub use flash::{DevFault, Flash, PageState};
+pub use geometry::Geometry;
+pub use planned::Planned;
+pub use sim_flash::SimFlash;
+pub use sim_page::PageView;

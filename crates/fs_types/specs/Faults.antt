@@ -1,7 +1,7 @@
 -- The number and the word of each refusal, as one table.
 use Rattle.std.specs.Prelude.{ℕ, List, codes}
-use Rattle.fs_types.specs.declared.faults.Fault.{Fault}
-use Rattle.fs_types.specs.declared.faults.Fault.TheVariants.{NoEntry, NotDirectory, IsDirectory, Exists, NotEmpty, NotPermitted, Invalid, NameTooLong, TooBig, BadDescriptor, TooManyOpen, Busy, DirectoryFull, CheckpointsFull, FlashFull, ReadOnly, NothingToUndo, TooOld, NothingToRedo, NoSuchVersion, Discarded, Overflow, ReadFailed, PowerCut, NoMemory, Damaged, NoRecord, BadGeometry, NoAnchors, NoGroup, InGroup}
+use Rattle.fs_types.specs.declared.fault.Fault.{Fault}
+use Rattle.fs_types.specs.declared.fault.Fault.TheVariants.{NoEntry, NotDirectory, IsDirectory, Exists, NotEmpty, NotPermitted, Invalid, NameTooLong, TooBig, BadDescriptor, TooManyOpen, Busy, DirectoryFull, CheckpointsFull, FlashFull, ReadOnly, NothingToUndo, TooOld, NothingToRedo, NoSuchVersion, Discarded, Overflow, ReadFailed, PowerCut, NoMemory, Damaged, NoRecord, BadGeometry, NoAnchors, NoGroup, InGroup}
 
 -- a refusal's number and word
 abbrev pub row_of : Fault → ℕ × List ℕ

@@ -1,6 +1,6 @@
 -- The flags of `open`, by their bits.
 use Rattle.std.specs.Prelude.{ℕ, Bool, not, ◌==◌, ◌&&◌, ◌||◌, nat_lt, bit_and}
-use Rattle.fs_types.specs.declared.flags.OpenFlags.{OpenFlags}
+use Rattle.fs_types.specs.declared.open_flags.OpenFlags.{OpenFlags}
 
 -- the flags have this bit
 abbrev pub has_bit : ℕ → OpenFlags → Bool

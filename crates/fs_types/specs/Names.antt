@@ -5,8 +5,8 @@ use Rattle.std.specs.Cmp.Lexicographic.{slice_cmp}
 use Rattle.std.specs.Ordering.{nat_cmp}
 use Rattle.std.specs.declared.cmp.Ordering.{Ordering}
 use Rattle.fs_types.specs.declared.limits.TheConstants.{MAX_NAME_BYTES, MAX_NAMES, MAX_CHECKPOINT_BYTES}
-use Rattle.fs_types.specs.declared.faults.Fault.{Fault}
-use Rattle.fs_types.specs.declared.faults.Fault.TheVariants.{NoEntry, Invalid, NameTooLong}
+use Rattle.fs_types.specs.declared.fault.Fault.{Fault}
+use Rattle.fs_types.specs.declared.fault.Fault.TheVariants.{NoEntry, Invalid, NameTooLong}
 use lib.Pointwise.{pointwise}
 
 -- a name of a directory entry, by its bytes

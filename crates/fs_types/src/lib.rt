@@ -1,26 +1,28 @@
 //! The values that every layer speaks of: paths, calls, replies and refusals.
 #![tactic(auto)]
 
-mod calls;
-mod checkpoint_names;
-mod events;
-mod faults;
-mod flags;
+mod call;
+mod cp_name;
+mod event;
+mod fault;
 mod limits;
-mod names;
-mod paths;
-mod sequences;
+mod name;
+mod open_flags;
+mod path;
+mod request;
+mod sequence;
 
-pub use calls::{Call, Group, Reply, Stat, Version, View};
-pub use checkpoint_names::CpName;
-pub use events::{Answer, Event};
-pub use faults::Fault;
-pub use flags::OpenFlags;
+pub use call::{Call, Group, Reply, Stat, Version, View};
+pub use cp_name::CpName;
+pub use event::{Answer, Event};
+pub use fault::Fault;
 pub use limits::{
-    CHAIN_NODES, MAX_BAD_BLOCKS, MAX_CHECKPOINT_BYTES, MAX_CHECKPOINTS, MAX_ENTRIES,
+    ANCHORS, CHAIN_NODES, MAX_BAD_BLOCKS, MAX_CHECKPOINT_BYTES, MAX_CHECKPOINTS, MAX_ENTRIES,
     MAX_FILE_BYTES, MAX_NAME_BYTES, MAX_NAMES, MAX_OPEN_FILES, MAX_VERSIONS, MIN_VERSIONS,
     NODE_ENTRIES,
 };
-pub use names::Name;
-pub use paths::{Path, is_lawful_name};
-pub use sequences::{Bytes, Sequence};
+pub use name::Name;
+pub use open_flags::OpenFlags;
+pub use path::{Path, is_lawful_name};
+pub use request::Request;
+pub use sequence::{Bytes, Sequence};

@@ -1,5 +1,8 @@
 //! How much there may be of names, paths, directories, files, versions and open files.
 
+/// The blocks of the anchors, which are the first of a flash; the first data block is the next one.
+pub const ANCHORS: u32 = 8;
+
 /// The most bytes in a name of a directory entry.
 pub const MAX_NAME_BYTES: usize = 64;
 

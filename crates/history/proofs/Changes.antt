@@ -6,7 +6,7 @@ use Rattle.std.proofs.lemmas.List.Elements.{All-take, All-drop, All-push}
 use Rattle.std.proofs.lemmas.List.Quantifiers.{all_pairs_push}
 use Rattle.history_machine.specs.History.{Past}
 use Rattle.history.specs.Kept.{IsKept}
-use Rattle.fs_types.specs.declared.calls.Version.{Version}
+use Rattle.fs_types.specs.declared.call.Version.{Version}
 
 -- the serials ascend, from 1 on and below the next one
 pub record IsAscending {R : Type 0} (next : ℕ) (vs : List (Version R)) : Type 0 where

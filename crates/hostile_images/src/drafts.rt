@@ -1,5 +1,5 @@
 //! A flash before its image is spelled.
-use crate::little_endian::push_word;
+use crate::low_bytes::push_word;
 use std::alloc::{AllocError, Global};
 
 /// What a page holds.

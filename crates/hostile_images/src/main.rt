@@ -14,7 +14,7 @@ mod facts;
 mod halves;
 mod kinds;
 mod lines;
-mod little_endian;
+mod low_bytes;
 mod nodes;
 mod numbers;
 mod records;

@@ -1,5 +1,5 @@
 //! Nodes, lawful or not, by their fields.
-use crate::little_endian::push_word;
+use crate::low_bytes::push_word;
 use crate::numbers::Numbers;
 use std::alloc::{AllocError, Global};
 

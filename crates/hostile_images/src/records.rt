@@ -1,6 +1,7 @@
 //! Commit records, lawful or not, by their fields.
-use crate::little_endian::{push_long, push_short, push_word};
+use crate::low_bytes::{push_short, push_word};
 use crate::numbers::Numbers;
+use fields::push_u64;
 use std::alloc::{AllocError, Global};
 
 /// A record. Each number is cut to the bytes of its field.
@@ -60,7 +61,7 @@ impl Record {
         part: &[u8],
     ) -> Result<Vec<u8>, AllocError> {
         let mut out = Vec::from_slice(alloc, b"UFCR")?;
-        push_long(&mut out, self.sequence)?;
+        push_u64(&mut out, self.sequence)?;
         push_short(&mut out, index as u64)?;
         push_short(&mut out, count as u64)?;
         push_short(&mut out, part.len() as u64)?;
@@ -72,7 +73,7 @@ impl Record {
     fn payload(&self, alloc: Global) -> Result<Vec<u8>, AllocError> {
         let mut out = self.front(alloc)?;
         for (serial, root) in &self.versions {
-            push_long(&mut out, *serial)?;
+            push_u64(&mut out, *serial)?;
             push_word(&mut out, *root)?;
         }
         self.push_checkpoints(&mut out)?;
@@ -95,7 +96,7 @@ impl Record {
         out.push(0)?;
         push_short(&mut out, self.bad.len() as u64)?;
         push_short(&mut out, 0)?;
-        push_long(&mut out, self.next)?;
+        push_u64(&mut out, self.next)?;
         push_word(&mut out, self.last)?;
         Ok(out)
     }

@@ -29,3 +29,8 @@ pub none_said : (m : ArgMatches) (name : Text) (rows : List Row) → Some name �
 none_said m name rows e d none job says =
     let is : IsJobOf name rows job = subst (λ o. SaysJob o job) (rows_said m name rows e d) says in
     none (numbers_in job) (record { page = is.page; pages = is.pages; blocks = is.blocks; history = is.history; refusal = is.refusal })
+
+-- a job is said where it is what the subcommand says
+pub job_said : (m : ArgMatches) (name : Text) (rows : List Row) (job : Job) → Some name ≡ subcommand_name_of m → Some rows ≡ option_map (λ (p : Text × List Row). p.1) (subcommand_rows_of m)
+    → IsJobOf name rows job → SaysJob (subcommand_rows_of m) job
+job_said m name rows job e d is = subst (λ o. SaysJob o job) (sym (rows_said m name rows e d)) is

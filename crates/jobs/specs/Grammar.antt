@@ -4,9 +4,9 @@ use Rattle.clap.specs.Words.{App, Rule, Shape, Text, new_app, new_rule, with_rul
 use Rattle.clap.specs.declared.builder.action.ArgAction.{ArgAction}
 use Rattle.clap.specs.declared.builder.value_parser.ValueParser.{ValueParser}
 
--- the file of an image, which has to be named
-abbrev pub image_rule : Rule
-image_rule = record (new_rule (codes "IMAGE")) { required = true; action = Some ArgAction.Set }
+-- a word that has to be given
+abbrev pub word_rule : Text → Rule
+word_rule name = record (new_rule name) { required = true; action = Some ArgAction.Set }
 
 -- an option `--NAME NUMBER`, of a number of 32 bits
 abbrev pub number_rule : Text → Rule
@@ -22,13 +22,16 @@ refusal_rule = record (new_rule (codes "NO")) { required = true; action = Some A
 
 -- a subcommand that takes an image
 abbrev pub image_app : Text → App
-image_app name = with_rule (new_app name) image_rule
+image_app name = with_rule (new_app name) (word_rule (codes "IMAGE"))
 
 abbrev pub format_app : App
 format_app = with_rule (with_rule (with_rule (with_rule (image_app (codes "format")) (number_rule (codes "page"))) (number_rule (codes "pages"))) (number_rule (codes "blocks"))) (number_rule (codes "history"))
 
 abbrev pub run_app : App
 run_app = with_rule (image_app (codes "run")) (flag_rule (codes "stop"))
+
+abbrev pub put_app : App
+put_app = with_rule (with_rule (with_rule (image_app (codes "put")) (word_rule (codes "FILE"))) (word_rule (codes "PATH"))) (flag_rule (codes "progress"))
 
 abbrev pub explain_app : App
 explain_app = with_rule (new_app (codes "explain")) refusal_rule
@@ -40,14 +43,14 @@ bare_top = record (new_app (codes "uffs")).top { no_binary_name = true; disable_
 abbrev pub bare_app : App
 bare_app = record (new_app (codes "uffs")) { top = bare_top }
 
+-- the program with the subcommands that make or change an image
+abbrev pub changing_app : App
+changing_app = with_subcommand (with_subcommand (with_subcommand bare_app format_app.top) run_app.top) put_app.top
+
 -- a program with the subcommands more that take an image alone
 abbrev pub with_image_apps : App → App
 with_image_apps app = with_subcommand (with_subcommand (with_subcommand app
     (image_app (codes "check")).top) (image_app (codes "log")).top) (image_app (codes "df")).top
-
--- the program with the subcommands that make or change an image
-abbrev pub changing_app : App
-changing_app = with_subcommand (with_subcommand bare_app format_app.top) run_app.top
 
 -- the program
 abbrev pub uffs : App

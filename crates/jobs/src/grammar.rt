@@ -2,13 +2,20 @@
 ghost use Rattle.std.specs.Prelude.{◌≡◌, IfOk, codes, false};
 ghost use Rattle.clap.specs.Words.{app_of, rule_of, new_app, with_rule, with_subcommand};
 ghost use Rattle.clap.specs.declared.builder.command.Command.TheViews.{out-Command};
-ghost use Rattle.jobs.specs.Grammar.{uffs, bare_app, changing_app, format_app, run_app, explain_app, image_app, with_image_apps, flag_rule, number_rule, refusal_rule};
+ghost use Rattle.jobs.specs.Grammar.{uffs, bare_app, changing_app, format_app, run_app, put_app, explain_app, image_app};
+ghost use Rattle.jobs.specs.Grammar.{with_image_apps, flag_rule, number_rule, refusal_rule, word_rule};
 
 use clap::{Arg, ArgAction, Command, value_parser};
 use std::alloc::{AllocError, Global};
 
 /// The name of the argument that names the file of an image.
 pub(crate) const IMAGE: &str = "IMAGE";
+
+/// The name of the argument that is a path in an image.
+pub(crate) const PATH: &str = "PATH";
+
+/// The name of the argument that names a file of the host.
+pub(crate) const FILE: &str = "FILE";
 
 /// The name of the argument that is the number of a refusal.
 pub(crate) const REFUSAL: &str = "NO";
@@ -45,6 +52,17 @@ Status: 0 the script ran to its end; 1 IMAGE, the input or the output failed, or
 words; 3 IMAGE holds no image, or its mount was refused; 4 a line was refused, with --stop.
 
 Example: printf 'mkdir /a\\nsync\\n' | uffs run disk.image --stop";
+
+const PUT_HELP: &str =
+    "FILE is a file of the host, or a folder with all that is below it. Files that are there are replaced,
+and other entries of a directory stay. All of it is one version, which is synced: `undo` takes it
+back, and where power goes the tree is the old one. Where anything is refused IMAGE stays as it was.
+PATH is spelled as in a script.
+
+Status: 0 it is there; 1 IMAGE or FILE cannot be read, IMAGE cannot be written, or memory; 2 the
+words; 3 IMAGE holds no image, or its mount was refused; 4 it was refused, told as uffs: ENOENT 1.
+
+Example: uffs put disk.image ./site /site --progress";
 
 const CHECK_HELP: &str =
     "The newest record is read, and every tree that it names. Nothing is written to IMAGE.
@@ -100,7 +118,8 @@ fn changing_program<'a>(alloc: Global) -> Result<Command<'a>, AllocError>
     ensures { IfOk result (λ command. app_of command ≡ changing_app) }
 {
     let program = bare_program(alloc)?.subcommand(format_command(alloc)?)?;
-    program.subcommand(run_command(alloc)?)
+    let program = program.subcommand(run_command(alloc)?)?;
+    program.subcommand(put_command(alloc)?)
 }
 
 /// The program with the subcommands more that take an image alone.
@@ -217,6 +236,26 @@ fn run_command<'a>(alloc: Global) -> Result<Command<'a>, AllocError>
     )
 }
 
+fn put_command<'a>(alloc: Global) -> Result<Command<'a>, AllocError>
+    ensures app { IfOk result (λ command. app_of command ≡ put_app) }
+    ensures local { IfOk result (λ command. (out-Command command).has_globals ≡ false) }
+{
+    let command = image_command(
+        alloc,
+        "put",
+        "Puts a file or a folder of the host into an image, as one version",
+        PUT_HELP,
+    )?;
+    let command = with_word(alloc, command, FILE, "The file or the folder of the host")?;
+    let command = with_word(alloc, command, PATH, "Its path in the image")?;
+    with_flag(
+        alloc,
+        command,
+        "progress",
+        "Tells how far it is, on standard error",
+    )
+}
+
 fn explain_command<'a>(alloc: Global) -> Result<Command<'a>, AllocError>
     ensures app { IfOk result (λ command. app_of command ≡ explain_app) }
     ensures local { IfOk result (λ command. (out-Command command).has_globals ≡ false) }
@@ -225,6 +264,19 @@ fn explain_command<'a>(alloc: Global) -> Result<Command<'a>, AllocError>
         .about("Tells what a refusal means")
         .after_help(EXPLAIN_HELP);
     command.arg(refusal_arg(alloc))
+}
+
+/// The subcommand with a word more that has to be given.
+fn with_word<'a>(
+    alloc: Global,
+    command: Command<'a>,
+    name: &'a str,
+    help: &'a str,
+) -> Result<Command<'a>, AllocError>
+    ensures app { IfOk result (λ more. app_of more ≡ with_rule (app_of command.entry) (word_rule name.entry.now)) }
+    ensures local { IfOk result (λ more. (out-Command more).has_globals ≡ (out-Command command.entry).has_globals) }
+{
+    command.arg(word_arg(alloc, name, help))
 }
 
 /// The subcommand with a flag more.
@@ -265,12 +317,7 @@ fn image_command<'a>(
     ensures local { IfOk result (λ command. (out-Command command).has_globals ≡ false) }
 {
     let command = Command::new(alloc, name).about(about).after_help(help);
-    command.arg(
-        Arg::new(alloc, IMAGE)
-            .required(true)
-            .action(ArgAction::Set)
-            .help("The file of the image"),
-    )
+    command.arg(word_arg(alloc, IMAGE, "The file of the image"))
 }
 
 fn memory_command<'a>(alloc: Global) -> Command<'a>
@@ -280,6 +327,17 @@ fn memory_command<'a>(alloc: Global) -> Command<'a>
     Command::new(alloc, "memory")
         .about("Runs the script on standard input on a flash in memory")
         .after_help(MEMORY_HELP)
+}
+
+/// A word that has to be given.
+fn word_arg<'a>(alloc: Global, name: &'a str, help: &'a str) -> Arg<'a>
+    ensures rule { rule_of result ≡ word_rule name.entry.now }
+    ensures local { result.global ≡ false }
+{
+    Arg::new(alloc, name)
+        .required(true)
+        .action(ArgAction::Set)
+        .help(help)
 }
 
 /// A flag.

@@ -7,6 +7,8 @@ pub enum Task {
     Format,
     /// A script is run on an image.
     Run,
+    /// Files of the host are put into an image.
+    Put,
     /// An image is mounted.
     Check,
     /// The line `log` is run on an image.
@@ -38,4 +40,10 @@ pub struct Job<'a> {
     pub refusal: u32,
     /// Whether a script ends at its first line that is refused.
     pub stop: bool,
+    /// The path in the image; none where none is named.
+    pub path: Option<&'a str>,
+    /// The file of the host; none where none is named.
+    pub file: Option<&'a str>,
+    /// Whether progress is told.
+    pub progress: bool,
 }

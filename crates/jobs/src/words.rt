@@ -7,7 +7,7 @@ ghost use Rattle.jobs.specs.Jobs.{AreNumbersOf, AsksFor, SaysJob, IsNumberOf, Is
 ghost use Rattle.jobs.specs.declared.tasks.Job.{Job};
 ghost use Rattle.jobs.specs.declared.words.Numbers.{Numbers};
 
-use crate::grammar::{IMAGE, REFUSAL, program};
+use crate::grammar::{FILE, IMAGE, PATH, REFUSAL, program};
 use crate::tasks::{Job, Task};
 use clap::error::ErrorKind;
 use clap::{ArgMatches, Command, Error};
@@ -89,6 +89,9 @@ fn said<'a>(matches: &ArgMatches<'a>) -> Option<Job<'a>>
         history,
         refusal,
         stop: has_flag(given, "stop"),
+        path: word(given, PATH),
+        file: word(given, FILE),
+        progress: has_flag(given, "progress"),
     })
 }
 
@@ -112,6 +115,7 @@ fn task_named(name: &str) -> Option<Task>
     match name {
         "format" => Some(Task::Format),
         "run" => Some(Task::Run),
+        "put" => Some(Task::Put),
         "check" => Some(Task::Check),
         "log" => Some(Task::Log),
         "df" => Some(Task::Df),
@@ -143,6 +147,13 @@ fn image<'a>(given: &ArgMatches<'a>, command: Task) -> Option<Option<&'a str>>
         Some(path) => Some(Some(path)),
         None => None,
     }
+}
+
+/// The word of an argument; none where there is none.
+fn word<'a>(given: &ArgMatches<'a>, name: &str) -> Option<&'a str>
+    ensures { option_map (λ s. s.now) result ≡ first_of name.now (rows_of (found_of given.now)) }
+{
+    given.get_str(name)
 }
 
 /// The number of an option, else its default; none where its word spells no number.

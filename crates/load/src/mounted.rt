@@ -1,7 +1,7 @@
 //! The system under load, with the flash that it is mounted on.
 ghost use Rattle.flash_model.specs.Simulation.{device_of};
-ghost use Rattle.upkeep.specs.Props.{system-prop};
-ghost use Rattle.upkeep.specs.Systems.{IsSystem};
+ghost use Rattle.system.specs.Props.{system-prop};
+ghost use Rattle.system.specs.Systems.{IsSystem};
 
 use flash_model::{FaultKind, Geometry, Planned, SimFlash};
 use fs_types::{Call, Fault, Reply};
@@ -48,7 +48,7 @@ impl Mounted {
 
     /// Carries out a call.
     pub fn call(&mut self, alloc: Global, call: &Call) -> Result<Reply, Fault> {
-        self.system.call(alloc, &mut self.flash, call)
+        self.system.call(alloc, &mut self.flash, call.lend())
     }
 
     /// Carries out a call, and tells what it took.

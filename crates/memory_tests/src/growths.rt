@@ -159,7 +159,7 @@ fn mount_in_want<'f>(
         let mounted = mount(alloc, flash);
         budget.give_back();
         match mounted {
-            Ok(system) => return Ok(Fs::on(flash, system)),
+            Ok(system) => return Ok(Fs::on(alloc, flash, system)),
             Err(Fault::NoMemory) => refused.push("mount")?,
             Err(fault) => return Err(fault),
         }

@@ -3,6 +3,7 @@
 use crate::mounts::formatted;
 use crate::nodes::put_all;
 use crate::verifications::{is_told, told_on};
+use fields::push_u32;
 use flash_model::{Geometry, SimFlash};
 use fs_types::Fault;
 use std::alloc::{AllocError, Global};
@@ -43,10 +44,6 @@ struct Entries {
     named: Named,
 }
 
-fn push_number(out: &mut Vec<u8>, number: u32) -> Result<(), AllocError> {
-    out.extend_from_slice(&number.to_le_bytes())
-}
-
 /// The last digit of a number.
 fn digit(number: u32) -> u8 {
     match u8::try_from(number % 10) {
@@ -72,8 +69,8 @@ fn push_entry(out: &mut Vec<u8>, entries: Entries, place: u32) -> Result<(), All
     };
     out.extend_from_slice(&[kind, 4])?;
     out.extend_from_slice(&name(entries.first.saturating_add(place)))?;
-    push_number(out, head)?;
-    push_number(out, 0)
+    push_u32(out, head)?;
+    push_u32(out, 0)
 }
 
 /// A node with this magic and these entries, and a block in its fourth field.
@@ -88,9 +85,9 @@ fn bytes_with(
         push_entry(&mut used, entries, place)?;
     }
     let mut out = Vec::from_slice(alloc, magic)?;
-    push_number(&mut out, entries.count)?;
-    push_number(&mut out, u32::try_from(used.len()).unwrap_or(0))?;
-    push_number(&mut out, next)?;
+    push_u32(&mut out, entries.count)?;
+    push_u32(&mut out, u32::try_from(used.len()).unwrap_or(0))?;
+    push_u32(&mut out, next)?;
     out.extend_from_slice(&used)?;
     Ok(out)
 }

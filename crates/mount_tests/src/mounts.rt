@@ -5,8 +5,8 @@ use fs_types::{CpName, Fault, OpenFlags, Path, Reply, View};
 use shell::run_script;
 use std::alloc::Global;
 use std::test::Fail;
+use system::{mount, mount_with};
 use undofs::{Fs, format};
-use upkeep::{mount, mount_with};
 
 const SIZES: Geometry = Geometry {
     page: 256,

@@ -1,4 +1,5 @@
 //! Nodes as they are put on a flash, lawful or not, and contents of them.
+use fields::push_u32;
 use flash_model::{Flash, PageView, SimFlash};
 use fs_types::Fault;
 use std::alloc::{AllocError, Global};
@@ -33,20 +34,16 @@ fn folder(name: &[u8], block: u32) -> Entry<'_> {
     }
 }
 
-fn push_number(out: &mut Vec<u8>, number: u32) -> Result<(), AllocError> {
-    out.extend_from_slice(&number.to_le_bytes())
-}
-
 fn push_length(out: &mut Vec<u8>, length: usize) -> Result<(), AllocError> {
-    push_number(out, u32::try_from(length).unwrap_or(0))
+    push_u32(out, u32::try_from(length).unwrap_or(0))
 }
 
 fn push_entry(out: &mut Vec<u8>, entry: &Entry<'_>) -> Result<(), AllocError> {
     out.push(entry.kind)?;
     out.push(u8::try_from(entry.name.len()).unwrap_or(0))?;
     out.extend_from_slice(entry.name)?;
-    push_number(out, entry.head)?;
-    push_number(out, entry.length)
+    push_u32(out, entry.head)?;
+    push_u32(out, entry.length)
 }
 
 /// The bytes of a directory node with these entries, in this order.
@@ -58,7 +55,7 @@ fn directory(alloc: Global, entries: &[Entry<'_>]) -> Result<Vec<u8>, AllocError
     let mut out = Vec::from_slice(alloc, b"UFND")?;
     push_length(&mut out, entries.len())?;
     push_length(&mut out, used.len())?;
-    push_number(&mut out, 0)?;
+    push_u32(&mut out, 0)?;
     out.extend_from_slice(&used)?;
     Ok(out)
 }
@@ -66,11 +63,11 @@ fn directory(alloc: Global, entries: &[Entry<'_>]) -> Result<Vec<u8>, AllocError
 /// The bytes of a body node with so many data bytes.
 fn body(alloc: Global, index: u32, pointers: &[u32], used: u32) -> Result<Vec<u8>, AllocError> {
     let mut out = Vec::from_slice(alloc, b"UFNB")?;
-    push_number(&mut out, index)?;
-    push_number(&mut out, used)?;
-    push_number(&mut out, 0)?;
+    push_u32(&mut out, index)?;
+    push_u32(&mut out, used)?;
+    push_u32(&mut out, 0)?;
     for place in 0..16 {
-        push_number(&mut out, pointers.get(place).copied().unwrap_or(0))?;
+        push_u32(&mut out, pointers.get(place).copied().unwrap_or(0))?;
     }
     out.resize(80_usize.saturating_add(used as usize), b'x')?;
     Ok(out)

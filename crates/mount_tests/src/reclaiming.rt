@@ -1,26 +1,20 @@
 //! Steps of reclaiming, with ample memory: what they answer, and which blocks are used then.
 ghost use Rattle.flash_model.specs.Simulation.{device_of};
-ghost use Rattle.upkeep.specs.Systems.{IsSystem};
+ghost use Rattle.system.specs.Systems.{IsSystem};
 
 use crate::mounts::formatted;
 use flash_model::{Geometry, SimFlash};
-use fs_types::{Call, Fault, Path};
+use fs_types::{Fault, Path, Request};
 use std::alloc::{AllocError, Global};
 use std::test::Fail;
+use system::{System, mount};
 use undofs::Fs;
-use upkeep::{System, mount};
 
 const SIZES: Geometry = Geometry {
     page: 256,
     pages: 16,
     blocks: 32,
 };
-
-fn mkdir(alloc: Global, path: &[u8]) -> Result<Call, Fault> {
-    Ok(Call::Mkdir {
-        path: Path::parse(alloc, path)?,
-    })
-}
 
 /// The blocks of a flash that a system has as used.
 fn used_blocks(alloc: Global, system: &System) -> Result<Vec<u32>, AllocError> {
@@ -39,7 +33,8 @@ fn make_directory(
     requires { IsSystem (device_of flash.old) system.old }
     ensures { IsSystem (device_of flash.new) system.new }
 {
-    system.call(alloc, flash, &mkdir(alloc, path)?)?;
+    let path = Path::parse(alloc, path)?;
+    system.call(alloc, flash, Request::Mkdir { path: &path })?;
     Ok(())
 }
 
@@ -81,7 +76,7 @@ fn fill(alloc: Global, flash: &mut SimFlash, system: &mut System) -> Result<(), 
     make_directory(alloc, flash, system, b"/a")?;
     make_directory(alloc, flash, system, b"/b")?;
     make_directory(alloc, flash, system, b"/c")?;
-    system.call(alloc, flash, &Call::Forget { count: 3 })?;
+    system.call(alloc, flash, Request::Forget { count: 3 })?;
     Ok(())
 }
 

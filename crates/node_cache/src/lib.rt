@@ -1,6 +1,6 @@
 //! The nodes that were used last, kept in memory.
 #![tactic(auto)]
 
-mod caches;
+mod cache;
 
-pub use caches::{MAX_CACHED_NODES, NodeCache};
+pub use cache::{MAX_CACHED_NODES, NodeCache};

@@ -7,12 +7,15 @@ use Rattle.std.specs.Prelude.{◌&&◌}
 use Rattle.std.proofs.lemmas.List.{append-nil, nil_from_length, length-append}
 use Rattle.std.proofs.lemmas.List.Concat.{flat_map-cons}
 use Rattle.byteorder.specs.Endian.{little_bytes}
+use Rattle.fields.specs.Numbers.{IsBytes, byte_at, number_at}
+use Rattle.fields.proofs.Found.{bind_some, some_is}
+use Rattle.fields.proofs.NumberLaws.{Takes, Takes-then, byte_takes, number_takes, number_again}
 use Rattle.fs_types.specs.declared.limits.TheConstants.{NODE_ENTRIES, MAX_ENTRIES}
 use Rattle.fs_types.specs.Names.{Name, is_name, is_lawful}
 use Rattle.node_format.specs.Items.{Item, is_place, is_item, is_before, are_ascending, are_entries}
-use Rattle.node_format.specs.Directories.{byte_at, number_at, name_at, place_at, kind_of, head_of, size_of, item_bytes, items_bytes, item_at, items_at, are_filled, entries_at, AreSpelled}
+use Rattle.node_format.specs.Directories.{name_at, place_at, kind_of, head_of, size_of, item_bytes, items_bytes, item_at, items_at, are_filled, entries_at, AreSpelled}
 use Rattle.node_format.specs.Order.{both_true, and_true, all_after}
-use Rattle.node_format.proofs.Fields.{IsBytes, bind_some, some_is, Takes, Takes-then, byte_takes, number_takes, number_again, name_takes, name_again, place_takes, place_again, head_fits, size_fits}
+use Rattle.node_format.proofs.Fields.{name_takes, name_again, place_takes, place_again, head_fits, size_fits}
 
 -- ---- one entry
 
@@ -22,14 +25,14 @@ item_takes bytes x fits e =
     let a = bind_some (byte_at bytes) _ x e in
     let b = bind_some (byte_at a.0.1) _ x a.2 in
     let n = bind_some (name_at b.0.0 b.0.1) _ x b.2 in
-    let h = bind_some (number_at n.0.1) _ x n.2 in
-    let s = bind_some (number_at h.0.1) _ x h.2 in
+    let h = bind_some (number_at 4 n.0.1) _ x n.2 in
+    let s = bind_some (number_at 4 h.0.1) _ x h.2 in
     let p = bind_some (place_at a.0.0 h.0.0 s.0.0) _ x s.2 in
     let ta = byte_takes bytes a.0.0 a.0.1 fits a.1 in
     let tb = byte_takes a.0.1 b.0.0 b.0.1 ta.rest_fits b.1 in
     let tn = name_takes b.0.0 b.0.1 n.0.0 n.0.1 tb.rest_fits n.1 in
-    let th = number_takes n.0.1 h.0.0 h.0.1 tn.0.rest_fits h.1 in
-    let ts = number_takes h.0.1 s.0.0 s.0.1 th.0.rest_fits s.1 in
+    let th = number_takes 4 n.0.1 h.0.0 h.0.1 tn.0.rest_fits h.1 in
+    let ts = number_takes 4 h.0.1 s.0.0 s.0.1 th.0.rest_fits s.1 in
     let fields = place_takes a.0.0 h.0.0 s.0.0 p.0 th.1 p.1 in
     let numbers = Takes-then n.0.1 (little_bytes 4 h.0.0) h.0.1 (little_bytes 4 s.0.0) s.0.1 th.0 ts.0 in
     let rest = Takes-then b.0.1 n.0.0 n.0.1 (little_bytes 4 h.0.0 ++ little_bytes 4 s.0.0) s.0.1 tn.0 numbers in
@@ -52,7 +55,7 @@ item_again item rest lawful =
     let regrouped : item_bytes item ++ rest ≡ kind_of item.place ∷ length item.name ∷ (item.name ++ (head ++ (size ++ rest))) =
     ap (λ (x : List ℕ). kind_of item.place ∷ length item.name ∷ x) tail in
     ap item_at regrouped
-    ∙ rw (name_again item.name (head ++ (size ++ rest)) parts.0, number_again (head_of item.place) (size ++ rest) (head_fits item.place parts.1), number_again (size_of item.place) rest (size_fits item.place parts.1), place_again item.place parts.1) refl
+    ∙ rw (name_again item.name (head ++ (size ++ rest)) parts.0, number_again 4 (head_of item.place) (size ++ rest) (head_fits item.place parts.1), number_again 4 (size_of item.place) rest (size_fits item.place parts.1), place_again item.place parts.1) refl
 
 -- ---- entries
 

@@ -7,7 +7,7 @@ use Rattle.std.proofs.lemmas.List.Folds.{list_all-append}
 use Rattle.std.proofs.lemmas.List.Concat.{flat_map-append}
 use Rattle.fs_types.specs.declared.limits.TheConstants.{MAX_ENTRIES}
 use Rattle.fs_types.specs.Names.{Name, same_name, is_name}
-use Rattle.node_format.specs.declared.places.Place.{Place}
+use Rattle.node_format.specs.declared.place.Place.{Place}
 use Rattle.node_format.specs.Items.{Item, is_item, is_place, is_before, are_ascending, are_entries, named}
 use Rattle.node_format.specs.Directories.{item_bytes, items_bytes, items_at, AreSpelled}
 use Rattle.node_format.specs.Edits.{IsSplit, IsEdited, entry_to, edited_count}

@@ -15,7 +15,9 @@ use Rattle.node_format.specs.Directories.{items_bytes, item_at, items_at, are_fi
 use Rattle.node_format.specs.Links.{Link, link, link_at, may_go_on, directory_bytes, chain_bytes, IsAlone, IsChained, IsLink, skipped}
 use Rattle.node_format.proofs.DirectoryLaws.{kept_true, entries_again, used_most, are_spelled}
 use Rattle.node_format.specs.Order.{and_true, all_after}
-use Rattle.node_format.proofs.Fields.{IsBytes, IsBytes-drop, little_bytes-little_number, passed, not_refused, some_is}
+use Rattle.fields.specs.Numbers.{IsBytes}
+use Rattle.fields.proofs.Found.{passed, not_refused, some_is}
+use Rattle.fields.proofs.NumberLaws.{IsBytes-drop, spelled_front}
 
 -- ---- what is spelled is read
 
@@ -163,7 +165,7 @@ field_takes bytes place fits le =
     let e2 = at 2 (suc (suc place)) (omega arith) in
     let e3 = at 3 (suc (suc (suc place))) (omega arith) in
     let same : field bytes place ≡ little_number 4 (drop place bytes) = omega (arith, e0, e1, e2, e3) in
-    ap (little_bytes 4) same ∙ little_bytes-little_number (drop place bytes) (IsBytes-drop place bytes fits) (omega (arith, length-drop place bytes))
+    ap (little_bytes 4) same ∙ spelled_front 4 (drop place bytes) (IsBytes-drop place bytes fits) (omega (arith, length-drop place bytes))
 
 -- a field is a number of four bytes
 field_small : (bytes : List ℕ) (place : ℕ) → IsBytes bytes → field bytes place < 2 ^ 32

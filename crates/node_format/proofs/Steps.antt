@@ -5,7 +5,7 @@ use Rattle.std.proofs.lemmas.List.Concat.{flat_map-cons}
 use Rattle.node_format.specs.Items.{Item, is_item, is_before, are_ascending, are_entries}
 use Rattle.node_format.specs.Directories.{item_bytes, items_bytes, item_at, items_at, AreSpelled}
 use Rattle.node_format.specs.Order.{both_true}
-use Rattle.node_format.proofs.Fields.{some_is}
+use Rattle.fields.proofs.Found.{some_is}
 use Rattle.node_format.proofs.DirectoryLaws.{item_again, lawful_parts, lawful_from}
 
 -- the entries after the first one

@@ -2,19 +2,20 @@
 use Rattle.std.specs.Prelude.{◌≡◌, ℕ, zero, suc, ◌==◌, Bool, true, false, nat_lt, nat_le, Option, Some, None, List, [], ◌∷◌, ◌++◌, length, take, drop, if◌then◌else◌}
 use Rattle.std.specs.Option.{option_map_or}
 use Rattle.std.specs.List.{flat_map}
-use Rattle.byteorder.specs.Endian.{little_number, little_bytes}
+use Rattle.byteorder.specs.Endian.{little_bytes}
+use Rattle.fields.specs.Numbers.{◌>>=◌, byte_at, number_at}
 use Rattle.fs_types.specs.declared.limits.TheConstants.{NODE_ENTRIES, MAX_FILE_BYTES}
 use Rattle.fs_types.specs.Names.{Name, is_name}
 use Rattle.node_format.specs.Items.{Item, is_before, are_entries}
-use Rattle.node_format.specs.declared.places.Place.{Place}
-use Rattle.node_format.specs.declared.places.Place.TheVariants.{Dir, File}
+use Rattle.node_format.specs.declared.place.Place.{Place}
+use Rattle.node_format.specs.declared.place.Place.TheVariants.{Dir, File}
 
 -- an entry's first byte: 1 for a file, 2 for a directory
 abbrev pub kind_of : Place → ℕ
 kind_of (File head size) = 1
 kind_of (Dir block) = 2
 
--- the block of a file's head, or of a directory's node
+-- the block of a file's head, or of a directory's first node
 abbrev pub head_of : Place → ℕ
 head_of (File head size) = head
 head_of (Dir block) = block
@@ -31,21 +32,6 @@ item_bytes item = (kind_of item.place ∷ length item.name ∷ []) ++ (item.name
 -- the spelling of entries, one after the other
 abbrev pub items_bytes : List Item → List ℕ
 items_bytes items = flat_map item_bytes items
-
--- a step of reading that follows one that found something
-infixl 10 ◌>>=◌
-abbrev pub ◌>>=◌ : {A B : Type 0} → Option A → (A → Option B) → Option B
-None >>= f = None
-(Some x) >>= f = f x
-
--- a byte, and the bytes after it
-abbrev pub byte_at : List ℕ → Option (ℕ × List ℕ)
-byte_at [] = None
-byte_at (byte ∷ rest) = Some (byte, rest)
-
--- a number of four bytes, and the bytes after it
-abbrev pub number_at : List ℕ → Option (ℕ × List ℕ)
-number_at bytes = if nat_lt (length bytes) 4 then None else Some (little_number 4 bytes, drop 4 bytes)
 
 -- a lawful name of so many bytes, and the bytes after it
 abbrev pub name_at : ℕ → List ℕ → Option (Name × List ℕ)
@@ -64,8 +50,8 @@ item_at bytes = do
   kind ← byte_at bytes
   size ← byte_at kind.1
   name ← name_at size.0 size.1
-  head ← number_at name.1
-  length ← number_at head.1
+  head ← number_at 4 name.1
+  length ← number_at 4 head.1
   place ← place_at kind.0 head.0 length.0
   Some (record { name = name.0; place = place }, length.1)
 

@@ -4,7 +4,7 @@ use Rattle.std.specs.List.{list_all}
 use Rattle.fs_types.specs.Names.{Name, same_name}
 use Rattle.node_format.specs.Items.{Item, is_before, are_entries, named}
 use Rattle.node_format.specs.Directories.{items_at, AreSpelled}
-use Rattle.node_format.specs.declared.places.Place.{Place}
+use Rattle.node_format.specs.declared.place.Place.{Place}
 
 -- the bytes before the others are the spelling of so many entries
 abbrev pub AreFront : ℕ → List ℕ → List ℕ → Type 0

@@ -1,11 +1,12 @@
 //! A part of a file's body, read from the bytes of its node, and the bytes of a new one.
-ghost use Rattle.std.specs.Prelude.{◌≡◌, ℕ, ◌+◌, ◌*◌, ◌^◌, ◌<◌, ◌≤◌, ◌++◌, ◌↔◌, IsTrue, length, drop, slice_index, codes, Some, IfSome, OnOk, IfOk};
+ghost use Rattle.std.specs.Prelude.{◌≡◌, ℕ, ◌+◌, ◌*◌, ◌^◌, ◌<◌, ◌≤◌, ◌++◌, ◌↔◌, IsTrue, length, drop, codes, Some, IfSome, OnOk, IfOk};
 ghost use Rattle.byteorder.specs.Endian.{little_bytes};
 ghost use Rattle.node_format.specs.Headers.{field, body_header, IsNode};
 ghost use Rattle.node_format.specs.BodyNodes.{IsBodyNode, HasSlot, IsSlot, IsBodySpelling};
 ghost use Rattle.node_format.specs.declared.headers.TheConstants.{SLOTS};
 
 use crate::headers::{BODY_HEADER, SLOTS};
+use fields::{push_u32, u32_at};
 use std::alloc::{AllocError, Global};
 use std::marker::Model;
 
@@ -42,10 +43,10 @@ impl<'a> BodyNode<'a> {
         if bytes.len() <= HEADER {
             return None;
         }
-        if number_at(bytes, 0) != u32::from_le_bytes(MAGIC) {
+        if u32_at(bytes, 0) != u32::from_le_bytes(MAGIC) {
             return None;
         }
-        if number_at(bytes, 8) as usize != bytes.len() - HEADER {
+        if u32_at(bytes, 8) as usize != bytes.len() - HEADER {
             return None;
         }
         Some(BodyNode { node: bytes })
@@ -55,7 +56,7 @@ impl<'a> BodyNode<'a> {
     pub fn index(&self) -> u32
         ensures { result ≡ field self.now 4 }
     {
-        number_at(self.node, 4)
+        u32_at(self.node, 4)
     }
 
     /// How many data bytes it has, at least 1.
@@ -64,7 +65,7 @@ impl<'a> BodyNode<'a> {
         ensures some { 1 ≤ result }
         ensures size { length self.now ≡ body_header + result }
     {
-        number_at(self.node, 8)
+        u32_at(self.node, 8)
     }
 
     /// The block that a slot names: that of the node 2 to the `slot` before this one. None where 2 to
@@ -74,7 +75,7 @@ impl<'a> BodyNode<'a> {
         ensures only { HasSlot (field self.now 4) slot → result ≡ Some (field self.now (16 + 4 * slot)) }
     {
         if has_slot(self.index(), slot) {
-            Some(number_at(self.node, 16 + 4 * slot))
+            Some(u32_at(self.node, 16 + 4 * slot))
         } else {
             None
         }
@@ -102,41 +103,15 @@ fn has_slot(index: u32, slot: usize) -> bool
     index % (1 << slot) == 0
 }
 
-/// A byte, or 0 past the end.
-fn byte_at(bytes: &[u8], offset: usize) -> u8
-    ensures { result ≡ slice_index bytes.now offset }
-{
-    bytes.get(offset).copied().unwrap_or(0)
-}
-
-/// The number in the four bytes from an offset, where bytes past the end are 0.
-fn number_at(bytes: &[u8], offset: usize) -> u32
-    requires { offset < 2 ^ 32 }
-    ensures { result ≡ field bytes.now offset }
-{
-    u32::from_le_bytes([
-        byte_at(bytes, offset),
-        byte_at(bytes, offset + 1),
-        byte_at(bytes, offset + 2),
-        byte_at(bytes, offset + 3),
-    ])
-}
-
-fn push_number(out: &mut Vec<u8>, number: u32) -> Result<(), AllocError>
-    ensures { OnOk result (out.new.items ≡ out.old.items ++ little_bytes 4 number) }
-{
-    out.extend_from_slice(&number.to_le_bytes())
-}
-
 /// The first 16 bytes of the body node of an index with so many data bytes, with memory for all of it.
 fn header(alloc: Global, index: u32, used: u32) -> Result<Vec<u8>, AllocError>
     ensures { IfOk result (λ v. v.items ≡ codes "UFNB" ++ (little_bytes 4 index ++ (little_bytes 4 used ++ little_bytes 4 0))) }
 {
     let mut out = Vec::with_capacity(alloc, HEADER + used as usize)?;
     out.extend_from_slice(&MAGIC)?;
-    push_number(&mut out, index)?;
-    push_number(&mut out, used)?;
-    push_number(&mut out, 0)?;
+    push_u32(&mut out, index)?;
+    push_u32(&mut out, used)?;
+    push_u32(&mut out, 0)?;
     Ok(out)
 }
 
@@ -158,7 +133,7 @@ fn push_slots(out: &mut Vec<u8>, index: u32, pointers: &[u32]) -> Result<(), All
     ensures size { OnOk result (length out.new.items ≡ length out.old.items + 64) }
 {
     for slot in 0..SLOTS {
-        push_number(out, number_in_slot(index, pointers, slot))?;
+        push_u32(out, number_in_slot(index, pointers, slot))?;
     }
     Ok(())
 }

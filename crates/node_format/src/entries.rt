@@ -1,104 +1,134 @@
-//! An entry of a directory, read from its bytes.
-ghost use Rattle.std.specs.Prelude.{◌≡◌, true, IfSome};
-ghost use Rattle.std.specs.Option.{option_map};
-ghost use Rattle.fs_types.specs.Names.{is_name};
-ghost use Rattle.node_format.specs.Directories.{byte_at, number_at, name_at, place_at, item_at};
+//! One node of a directory: its entries, and the block of the node after it.
+ghost use Rattle.std.specs.Prelude.{◌≡◌, ℕ, ◌≤◌, ◌⊎◌, [], length, true, Some, IfOk, IfSome};
+ghost use Rattle.fs_types.specs.declared.limits.TheConstants.{NODE_ENTRIES};
+ghost use Rattle.node_format.specs.Headers.{IsNode};
+ghost use Rattle.node_format.specs.Links.{Link, IsLink, link, link_at, chain_bytes};
+ghost use Rattle.node_format.specs.Links as spec;
 
-use crate::places::Place;
-use byteorder::{ByteOrder, LittleEndian};
-use fs_types::{MAX_FILE_BYTES, MAX_NAME_BYTES, is_lawful_name};
+use crate::entry_list::{EntryList, entries_of};
+use crate::headers::{CHAIN_MAGIC, DIRECTORY_MAGIC, MOST_ENTRIES};
+use fields::{push_u32, u32_at};
+use std::alloc::{AllocError, Global};
 use std::marker::Model;
 
-/// An entry of a directory: a name of 1 to 64 bytes, and what it names.
+/// One node of a directory: whether it is one of a chain, its entries, at most 32, and the block of
+/// the node after it. A node that another comes after has 32 entries.
 #[derive(Drop)]
-pub struct Entry<'a> {
-    pub(crate) name: &'a [u8],
-    pub(crate) place: Place,
+pub struct Entries<'a> {
+    chained: bool,
+    list: EntryList<'a>,
+    next: u32,
 }
 
-impl<'a> Model for Entry<'a> {
-    ghost use Rattle.std.specs.Prelude.{◌≡◌, true};
-    ghost use Rattle.fs_types.specs.Names.{is_name};
-    ghost use Rattle.node_format.specs.Items.{Item};
+impl<'a> Model for Entries<'a> {
+    ghost use Rattle.node_format.specs.Links.{Link, link};
 
-    ghost Value = { Item };
+    ghost Value = { Link };
 
-    ghost view = { λ e. record { name = e.name.now; place = e.place } };
-
-    ghost invariant = { λ e. is_name e.name.now ≡ true };
+    ghost view = { λ e. link e.chained e.next e.list };
 }
 
-impl<'a> Entry<'a> {
-    /// The name, 1 to 64 bytes.
-    pub fn name(&self) -> &'a [u8]
-        ensures name { result.now ≡ self.now.name }
-        ensures lawful { is_name self.now.name ≡ true }
+impl<'a> Entries<'a> {
+    /// What the bytes say, as a node of a directory, or None where they are none.
+    pub fn of(bytes: &'a [u8]) -> Option<Self>
+        ensures exact { result ≡ link_at bytes.now }
+
+        // What is read is spelled so, and what is spelled so is read.
+        ensures found { IfSome result (λ l. IsLink bytes.now l) }
+        ensures only { (l : Link) → IsLink bytes.now l → result ≡ Some l }
     {
-        self.name
+        read(bytes)
     }
 
-    /// What it names.
-    pub fn place(&self) -> Place
-        ensures { result ≡ self.now.place }
+    /// The block of the node after this one, 0 where none comes.
+    pub fn next(&self) -> u32
+        ensures { result ≡ self.now.next }
     {
-        self.place
+        self.next
+    }
+
+    /// Whether the node is one of a chain; else it stands alone.
+    pub fn is_chained(&self) -> bool
+        ensures { result ≡ self.now.chained }
+    {
+        self.chained
+    }
+
+    /// The entries of this node alone, at most 32.
+    pub fn list(&self) -> EntryList<'a>
+        ensures { result ≡ self.now.items }
+    {
+        EntryList {
+            count: self.list.count,
+            bytes: self.list.bytes,
+        }
     }
 }
 
-fn byte_of(bytes: &[u8]) -> Option<(u8, &[u8])>
-    ensures { option_map (λ x. (x.0, x.1.now)) result ≡ byte_at bytes.now }
+/// A node that another comes after is full.
+fn may_go_on(next: u32, count: u32) -> bool
+    ensures { result ≡ spec.may_go_on next count }
 {
-    let (first, rest) = bytes.split_first()?;
-    Some((*first, rest))
+    next == 0 || count == MOST_ENTRIES
 }
 
-fn number_of(bytes: &[u8]) -> Option<(u32, &[u8])>
-    ensures { option_map (λ x. (x.0, x.1.now)) result ≡ number_at bytes.now }
+#[tactic(auto, unfolding(crate::specs::Links::link_at))]
+fn read(bytes: &[u8]) -> Option<Entries<'_>>
+    ensures { result ≡ link_at bytes.now }
 {
-    if bytes.len() < 4 {
+    if bytes.len() < 16 {
         return None;
     }
-    Some((LittleEndian::read_u32(bytes), &bytes[4..]))
+    let magic = u32_at(bytes, 0);
+    let count = u32_at(bytes, 4);
+    let used = u32_at(bytes, 8);
+    let next = u32_at(bytes, 12);
+    if magic == DIRECTORY_MAGIC {
+        let list = entries_of(count, used, &bytes[16..])?;
+        return Some(Entries {
+            chained: false,
+            list,
+            next: 0,
+        });
+    }
+    if magic == CHAIN_MAGIC {
+        if !may_go_on(next, count) {
+            return None;
+        }
+        let list = entries_of(count, used, &bytes[16..])?;
+        return Some(Entries {
+            chained: true,
+            list,
+            next,
+        });
+    }
+    None
 }
 
-fn name_of(size: u8, bytes: &[u8]) -> Option<(&[u8], &[u8])>
-    ensures name { option_map (λ x. (x.0.now, x.1.now)) result ≡ name_at size bytes.now }
-    ensures lawful { IfSome result (λ x. is_name x.0.now ≡ true) }
+/// The bytes of a directory without entries: the only node of a chain.
+pub const fn empty_directory() -> [u8; 16]
+    ensures written { result ≡ chain_bytes 0 [] }
+    ensures read { link_at result ≡ Some (link true 0 []) }
+    ensures node { (block : ℕ) → 4096 ≤ block → IsNode block result }
 {
-    let size = size as usize;
-    if bytes.len() < size {
-        return None;
-    }
-    let (name, rest) = bytes.split_at(size);
-    if name.len() > MAX_NAME_BYTES {
-        return None;
-    }
-    if is_lawful_name(name) {
-        Some((name, rest))
-    } else {
-        None
-    }
+    *b"UFNE\0\0\0\0\0\0\0\0\0\0\0\0"
 }
 
-fn place_of(kind: u8, head: u32, length: u32) -> Option<Place>
-    ensures { result ≡ place_at kind head length }
+/// The bytes of a node of a chain with at most 32 entries, before the node in the block `next`, or as
+/// the last one where that is 0. A node that another comes after has 32.
+pub fn chain_node(alloc: Global, list: &EntryList<'_>, next: u32) -> Result<Vec<u8>, AllocError>
+    requires few { length list.now ≤ NODE_ENTRIES }
+    requires full { (next ≡ 0) ⊎ (length list.now ≡ NODE_ENTRIES) }
+    ensures written { IfOk result (λ bytes. bytes.items ≡ chain_bytes next list.now) }
+    ensures read { IfOk result (λ bytes. link_at bytes.items ≡ Some (link true next list.now)) }
+    ensures node { IfOk result (λ bytes. (block : ℕ) → 4096 ≤ block → IsNode block bytes.items) }
 {
-    match kind {
-        1 if length <= MAX_FILE_BYTES => Some(Place::File { head, length }),
-        2 if length == 0 => Some(Place::Dir { block: head }),
-        _ => None,
-    }
-}
-
-#[tactic(auto, unfolding(crate::specs::Directories::item_at))]
-pub(crate) fn entry_of(bytes: &[u8]) -> Option<(Entry<'_>, &[u8])>
-    ensures { option_map (λ x. (x.0, x.1.now)) result ≡ item_at bytes.now }
-{
-    let (kind, rest) = byte_of(bytes)?;
-    let (size, rest) = byte_of(rest)?;
-    let (name, rest) = name_of(size, rest)?;
-    let (head, rest) = number_of(rest)?;
-    let (length, rest) = number_of(rest)?;
-    let place = place_of(kind, head, length)?;
-    Some((Entry { name, place }, rest))
+    let spelled = list.bytes;
+    let mut out = Vec::with_capacity(alloc, 16 + spelled.len())?;
+    out.extend_from_slice(b"UFNE")?;
+    push_u32(&mut out, list.count)?;
+    push_u32(&mut out, spelled.len() as u32)?;
+    push_u32(&mut out, next)?;
+    out.extend_from_slice(spelled)?;
+    Ok(out)
 }

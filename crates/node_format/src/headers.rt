@@ -1,7 +1,7 @@
 ghost use Rattle.std.specs.Prelude.{◌≡◌, ◌≤◌, length, take};
 ghost use Rattle.node_format.specs.Headers as spec;
 
-use byteorder::{ByteOrder, LittleEndian};
+use fields::u32_at;
 use fs_types::NODE_ENTRIES;
 
 /// The magic of a body node, `UFNB`.
@@ -34,9 +34,9 @@ pub fn node_size(block_bytes: u32, header: &[u8]) -> Option<u32>
     ensures size { result ≡ spec.node_size block_bytes header.now }
     ensures local { result ≡ spec.node_size block_bytes (take 16 header.now) }
 {
-    let magic = LittleEndian::read_u32(header);
-    let count = LittleEndian::read_u32(&header[4..]);
-    let used = LittleEndian::read_u32(&header[8..]);
+    let magic = u32_at(header, 0);
+    let count = u32_at(header, 4);
+    let used = u32_at(header, 8);
     if magic == BODY_MAGIC {
         return body_size(block_bytes, used);
     }

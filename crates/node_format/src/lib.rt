@@ -2,17 +2,17 @@
 #![tactic(auto)]
 
 mod body_nodes;
-mod directory_nodes;
 mod entries;
-mod entry_lists;
+mod entry;
+mod entry_list;
 mod headers;
-mod places;
-mod writing;
+mod place;
+mod spelled;
 
 pub use body_nodes::{BodyNode, body_node};
-pub use directory_nodes::{Entries, chain_node, empty_directory};
-pub use entries::Entry;
-pub use entry_lists::EntryList;
+pub use entries::{Entries, chain_node, empty_directory};
+pub use entry::Entry;
+pub use entry_list::EntryList;
 pub use headers::{BODY_HEADER, SLOTS, node_size};
-pub use places::Place;
-pub use writing::Spelled;
+pub use place::Place;
+pub use spelled::Spelled;

@@ -1,8 +1,8 @@
 -- What a cache of nodes may hold, and what a read through it leaves.
 use Rattle.std.specs.Prelude.{◌≡◌, ℕ, List, Option, Some, Result, Ok, Err}
 use Rattle.std.specs.Result.{OnOk, OnErr}
-use Rattle.fs_types.specs.declared.faults.Fault.{Fault}
-use Rattle.fs_types.specs.declared.faults.Fault.TheVariants.{NoMemory}
+use Rattle.fs_types.specs.declared.fault.Fault.{Fault}
+use Rattle.fs_types.specs.declared.fault.Fault.TheVariants.{NoMemory}
 use Rattle.flash_model.specs.Device.{Device}
 use Rattle.node_cache.specs.Cache.{NodeCache, node_in, with_first, first_bytes}
 use Rattle.node_store.specs.NodePages.{node_of}

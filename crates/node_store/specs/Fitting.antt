@@ -1,7 +1,7 @@
 -- When what nodes are kept with fits a flash.
 use Rattle.std.specs.Prelude.{◌≡◌, ◌≤◌, ℕ, true, false, List, Option, Some, None, Result, Ok, Err, slice_get, vec_len, vec_capacity}
 use Rattle.std.specs.FinSet as set
-use Rattle.fs_types.specs.declared.faults.Fault.{Fault}
+use Rattle.fs_types.specs.declared.fault.Fault.{Fault}
 use Rattle.flash_model.specs.Device.{Device}
 use Rattle.flash_model.specs.Geometry.{block_bytes}
 use Rattle.node_cache.specs.Cache.{node_in}

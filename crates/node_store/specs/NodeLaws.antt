@@ -8,12 +8,13 @@ use Rattle.std.proofs.Math.Nat.{lt_of_mul-lt-mul_right}
 use Rattle.std.proofs.lemmas.Bool.{leb-true, ltb-true, and_parts, and_from, and_left, and_right, cond-true, cond-false, le-leb, lt-leb, lt-ltb, le-ltb}
 use Rattle.std.proofs.lemmas.Bool.Decides.{nat_tests}
 use Rattle.std.proofs.lemmas.Grind.{div_ceil_times}
-use Rattle.flash_model.specs.declared.sizes.Geometry.{Geometry}
+use Rattle.fs_types.specs.declared.limits.TheConstants.{ANCHORS, NODE_ENTRIES}
+use Rattle.flash_model.specs.declared.geometry.Geometry.{Geometry}
 use Rattle.flash_model.specs.Geometry.{block_bytes, IsGeometry, is_page_size}
 use Rattle.flash_model.specs.Device.{Device, Page, bytes_of, erased, unreadable, block_of}
 use Rattle.flash_model.specs.Blocks.{block_of-at}
 use Rattle.node_format.specs.Headers.{node_size, IsNode, field, body_magic, directory_magic, chain_magic, body_size, directory_size}
-use Rattle.node_store.specs.NodePages.{first_data, and_page, joined, pages_for, size_in, bytes_at, node_at, page_bytes, HasPages, HoldsNode, node_of}
+use Rattle.node_store.specs.NodePages.{and_page, joined, pages_for, size_in, bytes_at, node_at, page_bytes, HasPages, HoldsNode, node_of}
 
 -- a node has at least its header, and fits in its block
 pub record IsWithin (block size : ℕ) : Type 0 where
@@ -38,7 +39,7 @@ body_within block used size h =
 
 directory_within : (block count used size : ℕ) → directory_size block count used ≡ Some size → IsWithin block size
 directory_within block count used size h =
-    let outer = if_some (nat_le count 32) _ size h in
+    let outer = if_some (nat_le count NODE_ENTRIES) _ size h in
     let inner = if_some (nat_le (16 + used) block) _ size outer.1 in
     let is : 16 + used ≡ size = cc in
     let fits : 16 + used ≤ block = leb-true (16 + used) block inner.0 in
@@ -145,8 +146,8 @@ node_of-same d e b lawful geometry same =
     let some : 256 ≤ d.geometry.page = page_size-some d.geometry.page lawful.page_size in
     let at : node_at d.geometry e.pages (b * d.geometry.pages) ≡ node_at d.geometry d.pages (b * d.geometry.pages) =
     node_at-same d.geometry d.pages e.pages (b * d.geometry.pages) (omega arith) lawful.some_pages (in_block d e.pages b same) in
-    ap (λ (g : Geometry). if nat_le first_data b && nat_lt b g.blocks then node_at g e.pages (b * g.pages) else None) geometry
-    ∙ ap (λ o. if nat_le first_data b && nat_lt b d.geometry.blocks then o else None) at
+    ap (λ (g : Geometry). if nat_le ANCHORS b && nat_lt b g.blocks then node_at g e.pages (b * g.pages) else None) geometry
+    ∙ ap (λ o. if nat_le ANCHORS b && nat_lt b d.geometry.blocks then o else None) at
 
 -- what joining a page took
 record IsJoined (o : Option (List ℕ)) (page : Page) (all : List ℕ) : Type 0 where
@@ -199,7 +200,7 @@ joined-front pages first (suc (suc n)) head all begins some h =
 
 -- what a block with a node holds
 pub record HasNode (d : Device) (b : ℕ) (bytes : List ℕ) : Type 0 where
-  pub least : first_data ≤ b
+  pub least : ANCHORS ≤ b
   pub below : b < d.geometry.blocks
   pub size : ℕ
   pub all : List ℕ
@@ -228,11 +229,11 @@ cut_from joins (Some size) bytes h =
 
 pub has_node : (d : Device) (b : ℕ) (bytes : List ℕ) → node_of d b ≡ Some bytes → HasNode d b bytes
 has_node d b bytes h =
-    let inside = if_some (nat_le first_data b && nat_lt b d.geometry.blocks) _ bytes h in
-    let tests = and_parts (nat_le first_data b) (nat_lt b d.geometry.blocks) inside.0 in
+    let inside = if_some (nat_le ANCHORS b && nat_lt b d.geometry.blocks) _ bytes h in
+    let tests = and_parts (nat_le ANCHORS b) (nat_lt b d.geometry.blocks) inside.0 in
     let parts = cut_from (λ size. joined d.pages (b * d.geometry.pages) (pages_for d.geometry.page size)) _ bytes inside.1 in
     record {
-      least = leb-true first_data b tests.0;
+      least = leb-true ANCHORS b tests.0;
       below = ltb-true b d.geometry.blocks tests.1;
       size = parts.size;
       all = parts.all;
@@ -287,16 +288,16 @@ pub node_of-whole : (d : Device) (b : ℕ) (bytes : List ℕ) → IsGeometry d.g
 node_of-whole d b bytes lawful whole h = cut_whole d b bytes lawful whole (has_node d b bytes h)
 
 -- anchors hold no node
-pub node_of-anchor : (d : Device) (b : ℕ) → b < first_data → node_of d b ≡ None
+pub node_of-anchor : (d : Device) (b : ℕ) → b < ANCHORS → node_of d b ≡ None
 node_of-anchor d b h =
-    cond-false (nat_le first_data b && nat_lt b d.geometry.blocks) _ _
-    (and_left (nat_le first_data b) (nat_lt b d.geometry.blocks) (lt-leb first_data b h))
+    cond-false (nat_le ANCHORS b && nat_lt b d.geometry.blocks) _ _
+    (and_left (nat_le ANCHORS b) (nat_lt b d.geometry.blocks) (lt-leb ANCHORS b h))
 
 -- what is no block holds no node
 pub node_of-beyond : (d : Device) (b : ℕ) → d.geometry.blocks ≤ b → node_of d b ≡ None
 node_of-beyond d b h =
-    cond-false (nat_le first_data b && nat_lt b d.geometry.blocks) _ _
-    (and_right (nat_le first_data b) (nat_lt b d.geometry.blocks) (le-ltb b d.geometry.blocks h))
+    cond-false (nat_le ANCHORS b && nat_lt b d.geometry.blocks) _ _
+    (and_right (nat_le ANCHORS b) (nat_lt b d.geometry.blocks) (le-ltb b d.geometry.blocks h))
 
 -- a page's part of the bytes is a part of the bytes with zeros behind
 part_of : (page place : ℕ) (bytes : List ℕ) → place * page ≤ length bytes
@@ -357,11 +358,11 @@ node_at-pages g pages first bytes lawful node each =
     ∙ ap Some (take-take (length bytes) (count * g.page) image covers ∙ take-append_seam bytes (replicate g.page 0))
 
 -- a block that holds the pages of a node holds the node
-pub node_of-pages : (d : Device) (b : ℕ) (bytes : List ℕ) → IsGeometry d.geometry → first_data ≤ b → b < d.geometry.blocks
+pub node_of-pages : (d : Device) (b : ℕ) (bytes : List ℕ) → IsGeometry d.geometry → ANCHORS ≤ b → b < d.geometry.blocks
     → IsNode (block_bytes d.geometry) bytes → HasPages d b bytes → node_of d b ≡ Some bytes
 node_of-pages d b bytes lawful least below node pages =
-    cond-true (nat_le first_data b && nat_lt b d.geometry.blocks) _ _
-    (and_from (nat_le first_data b) (nat_lt b d.geometry.blocks) (le-leb first_data b least) (lt-ltb b d.geometry.blocks below))
+    cond-true (nat_le ANCHORS b && nat_lt b d.geometry.blocks) _ _
+    (and_from (nat_le ANCHORS b) (nat_lt b d.geometry.blocks) (le-leb ANCHORS b least) (lt-ltb b d.geometry.blocks below))
     ∙ node_at-pages d.geometry d.pages (b * d.geometry.pages) bytes lawful node pages.each
 
 -- the pages that a node needs are in its block
@@ -392,7 +393,7 @@ first_joined (bytes_of bytes) xs h = ap bytes_of cc
 first_joined unreadable xs h = cc
 
 -- the node of a block, by the size that its first page tells
-pub node_of-first : (d : Device) (b first : ℕ) (head : List ℕ) → first_data ≤ b → b < d.geometry.blocks
+pub node_of-first : (d : Device) (b first : ℕ) (head : List ℕ) → ANCHORS ≤ b → b < d.geometry.blocks
     → first ≡ b * d.geometry.pages + 0 → joined d.pages first 1 ≡ Some head
     → node_of d b ≡ option_and_then (bytes_at d.geometry d.pages first) (node_size (block_bytes d.geometry) head)
 node_of-first d b first head least below at begins =
@@ -400,7 +401,7 @@ node_of-first d b first head least below at begins =
     let place : first + 0 ≡ b * g.pages = omega arith in
     let start : first ≡ b * g.pages = omega arith in
     let page : d.pages (b * g.pages) ≡ bytes_of head = ap d.pages (sym place) ∙ first_joined (d.pages (first + 0)) head begins in
-    cond-true (nat_le first_data b && nat_lt b g.blocks) _ _
-    (and_from (nat_le first_data b) (nat_lt b g.blocks) (le-leb first_data b least) (lt-ltb b g.blocks below))
+    cond-true (nat_le ANCHORS b && nat_lt b g.blocks) _ _
+    (and_from (nat_le ANCHORS b) (nat_lt b g.blocks) (le-leb ANCHORS b least) (lt-ltb b g.blocks below))
     ∙ ap (λ x. option_and_then (bytes_at g d.pages (b * g.pages)) (size_in (block_bytes g) x)) page
     ∙ ap (λ n. option_and_then (bytes_at g d.pages n) (node_size (block_bytes g) head)) (sym start)

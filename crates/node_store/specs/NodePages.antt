@@ -1,15 +1,11 @@
 -- The node in a block: the bytes of its pages from place 0 on, as many as the node needs.
 use Rattle.std.specs.Prelude.{◌≡◌, ℕ, zero, suc, ◌+◌, ◌*◌, ◌<◌, ◌≤◌, ◌&&◌, nat_le, nat_lt, if◌then◌else◌, List, [], length, ◌++◌, take, drop, replicate, Option, Some, None, option_map, option_and_then}
 use Rattle.std.specs.Int.{div_ceil}
-use Rattle.flash_model.specs.declared.sizes.Geometry.{Geometry}
-use Rattle.flash_model.specs.declared.sizes.TheConstants.{FIRST_DATA_BLOCK}
+use Rattle.fs_types.specs.declared.limits.TheConstants.{ANCHORS}
+use Rattle.flash_model.specs.declared.geometry.Geometry.{Geometry}
 use Rattle.flash_model.specs.Geometry.{block_bytes}
 use Rattle.flash_model.specs.Device.{Device, Page, bytes_of, erased}
 use Rattle.node_format.specs.Headers.{node_size, IsNode}
-
--- the blocks below this one are anchors, and hold no nodes
-abbrev pub first_data : ℕ
-first_data = FIRST_DATA_BLOCK
 
 -- joined bytes with those of one page more, none unless it has data
 abbrev pub and_page : Option (List ℕ) → Page → Option (List ℕ)
@@ -58,4 +54,4 @@ pub record HoldsNode (d : Device) (b : ℕ) : Type 0 where
 -- the bytes of the node in a data block, none where it holds none
 abbrev pub node_of : Device → ℕ → Option (List ℕ)
 node_of d b =
-    if nat_le first_data b && nat_lt b d.geometry.blocks then node_at d.geometry d.pages (b * d.geometry.pages) else None
+    if nat_le ANCHORS b && nat_lt b d.geometry.blocks then node_at d.geometry d.pages (b * d.geometry.pages) else None

@@ -5,13 +5,14 @@ use Rattle.std.specs.Result.{OnOk}
 use Rattle.std.proofs.lemmas.Bool.{cases_eq}
 use Rattle.std.proofs.lemmas.Grind.{div_ceil_times}
 use Rattle.std.proofs.lemmas.Nat.{mul-le}
-use Rattle.fs_types.specs.declared.faults.Fault.{Fault}
-use Rattle.fs_types.specs.declared.faults.Fault.TheVariants.{ReadFailed, PowerCut, Damaged}
+use Rattle.fs_types.specs.declared.fault.Fault.{Fault}
+use Rattle.fs_types.specs.declared.fault.Fault.TheVariants.{ReadFailed, PowerCut, Damaged}
+use Rattle.fs_types.specs.declared.limits.TheConstants.{ANCHORS}
 use Rattle.flash_model.specs.Device.{Device, Page}
-use Rattle.flash_model.specs.declared.sizes.Geometry.{Geometry}
+use Rattle.flash_model.specs.declared.geometry.Geometry.{Geometry}
 use Rattle.flash_model.specs.Geometry.{IsGeometry, block_bytes, page_count}
 use Rattle.node_format.specs.Headers.{node_size}
-use Rattle.node_store.specs.NodePages.{first_data, and_page, joined, pages_for, bytes_at, node_of}
+use Rattle.node_store.specs.NodePages.{and_page, joined, pages_for, bytes_at, node_of}
 use Rattle.node_store.specs.NodeLaws.{node_of-same, node_of-first, has_room, size_within, pages_for-most}
 use Rattle.flash_model.specs.Reading.{OnlyReads}
 use Rattle.node_store.specs.Reading.{Brings}
@@ -78,7 +79,7 @@ rest_has_room g h size head lawful same tells =
     subst (λ (k : Geometry). pages_for k.page size * k.page ≤ block_bytes g) (sym same) fits
 
 -- a node begins with its first page, as reads between left it
-pub node_after_first : (old mid : Device) (b first size : ℕ) (head : List ℕ) → OnlyReads old mid → first_data ≤ b → b < old.geometry.blocks
+pub node_after_first : (old mid : Device) (b first size : ℕ) (head : List ℕ) → OnlyReads old mid → ANCHORS ≤ b → b < old.geometry.blocks
     → first ≡ b * old.geometry.pages + 0 → joined old.pages first 1 ≡ Some head → node_size (block_bytes old.geometry) head ≡ Some size
     → node_of old b ≡ bytes_at mid.geometry mid.pages first size
 node_after_first old mid b first size head r least below at begins tells =

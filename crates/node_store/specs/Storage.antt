@@ -2,12 +2,12 @@
 use Rattle.std.specs.Prelude.{◌≡◌, ℕ, ◌+◌, ◌*◌, ◌<◌, ◌≤◌, Bool, true, false, List, length, Option, Some, None, Result, Ok, Err}
 use Rattle.std.specs.FinSet as set
 use Rattle.std.specs.Ordering.{nat_cmp}
-use Rattle.fs_types.specs.declared.limits.TheConstants.{MAX_BAD_BLOCKS}
-use Rattle.fs_types.specs.declared.faults.Fault.{Fault}
-use Rattle.fs_types.specs.declared.faults.Fault.TheVariants.{FlashFull, ReadOnly, PowerCut, NoMemory}
+use Rattle.fs_types.specs.declared.limits.TheConstants.{ANCHORS, MAX_BAD_BLOCKS}
+use Rattle.fs_types.specs.declared.fault.Fault.{Fault}
+use Rattle.fs_types.specs.declared.fault.Fault.TheVariants.{FlashFull, ReadOnly, PowerCut, NoMemory}
 use Rattle.flash_model.specs.Device.{Device, block_of}
 use Rattle.allocator.specs.Ring.{Ring, IsDataBlock, IsNext, is_busy, free_count}
-use Rattle.node_store.specs.NodePages.{first_data, node_of, pages_for, HasPages, HoldsNode}
+use Rattle.node_store.specs.NodePages.{node_of, pages_for, HasPages, HoldsNode}
 use Rattle.node_store.specs.Writing.{IsFilledInOrder}
 use Rattle.flash_model.specs.Reading.{OnlyReads}
 
@@ -47,7 +47,7 @@ pub record Evolved (s t : Storage) : Type 0 where
   pub blocks : t.ring.blocks ≡ s.ring.blocks
   -- no page of a kept block or of an anchor changes
   pub kept_pages : (p : ℕ) → is_kept s (block_of s.device p) ≡ true → t.device.pages p ≡ s.device.pages p
-  pub anchor_pages : (p : ℕ) → block_of s.device p < first_data → t.device.pages p ≡ s.device.pages p
+  pub anchor_pages : (p : ℕ) → block_of s.device p < ANCHORS → t.device.pages p ≡ s.device.pages p
   -- nor any of a block that is not kept then
   pub free_pages : (p : ℕ) → is_kept t (block_of s.device p) ≡ false → t.device.pages p ≡ s.device.pages p
   -- a block that became kept was filled in order, and unless it is bad or power went, it holds a node

@@ -8,22 +8,22 @@ use Rattle.std.proofs.Common.{sym, ◌∙◌, ap, subst, inl, inr, arith, eqb}
 use Rattle.std.proofs.lemmas.Bool.{cases_eq, cases_Bool, both_ways, ne_eqb, or_right, or_left, or_cases, eq-eqb, eqb-true}
 use Rattle.std.proofs.lemmas.Cmp.{nat_cmp_total}
 use Rattle.std.proofs.lemmas.List.Sums.{sum_by-cons}
-use Rattle.flash_model.specs.declared.sizes.Geometry.{Geometry}
-use Rattle.flash_model.specs.declared.device.DevFault.{DevFault}
-use Rattle.flash_model.specs.declared.device.DevFault.TheVariants.{Failed, PowerCut}
+use Rattle.flash_model.specs.declared.geometry.Geometry.{Geometry}
+use Rattle.flash_model.specs.declared.flash.DevFault.{DevFault}
+use Rattle.flash_model.specs.declared.flash.DevFault.TheVariants.{Failed, PowerCut}
 use Rattle.flash_model.specs.Geometry.{IsGeometry, block_bytes}
 use Rattle.flash_model.specs.Device.{Device, block_of, failed}
 use Rattle.allocator.specs.Ring.{Ring, IsDataBlock, IsNext, is_busy, free_count}
 use Rattle.allocator.specs.RingLaws.{next_on}
 use Rattle.allocator.specs.FreeCount.{free_count-alike}
-use Rattle.node_store.specs.NodePages.{first_data, HasPages, HoldsNode}
+use Rattle.node_store.specs.NodePages.{HasPages, HoldsNode}
 use Rattle.node_format.specs.Headers.{IsNode}
 use Rattle.node_store.specs.NodeLaws.{node_of-pages, HoldsNode_same}
 use Rattle.flash_model.specs.Reading.{OnlyReads_itself, OnlyReads_on}
 use Rattle.node_store.specs.Writing.{Ends, IsFilledInOrder, WritesBlock}
 use Rattle.node_store.specs.WritingLaws.{order_on, order_from}
 use Rattle.node_store.specs.Storage.{Storage, storage, is_kept, IsTaken, Evolved, IsUntouched, IsAdded, Pays, IsNextBlock, PassesBad}
-use Rattle.fs_types.specs.declared.limits.TheConstants.{MAX_BAD_BLOCKS}
+use Rattle.fs_types.specs.declared.limits.TheConstants.{ANCHORS, MAX_BAD_BLOCKS}
 
 pub Evolved_itself : (s : Storage) → Evolved s s
 Evolved_itself s = record {
@@ -67,7 +67,7 @@ Evolved_on s t u e f =
       geometry = f.geometry ∙ e.geometry;
       blocks = f.blocks ∙ e.blocks;
       kept_pages = λ p kept. f.kept_pages p (ap (is_kept t) (same p) ∙ e.kept (block_of s.device p) kept) ∙ e.kept_pages p kept;
-      anchor_pages = λ p below. f.anchor_pages p (subst (λ b. b < first_data) (sym (same p)) below) ∙ e.anchor_pages p below;
+      anchor_pages = λ p below. f.anchor_pages p (subst (λ b. b < ANCHORS) (sym (same p)) below) ∙ e.anchor_pages p below;
       free_pages = λ p free.
           f.free_pages p (ap (is_kept u) (same p) ∙ free) ∙ e.free_pages p (Evolved_fresh t u (block_of s.device p) f free);
       order = λ b kept fresh. elim (cases_Bool (is_kept t b)) [
@@ -275,7 +275,7 @@ none_counted p a (suc n) none =
 -- where every data block is used or bad, none is free
 pub none_free : (r : Ring) (bad : set.FinSet nat_cmp) → ((b : ℕ) → IsDataBlock r.blocks b → is_busy r bad b ≡ true) → free_count r bad ≡ 0
 none_free r bad busy =
-    none_counted (λ b. not (is_busy r bad b)) 8 (r.blocks - 8) (λ c low high. ap not (busy c (low, omega arith)))
+    none_counted (λ b. not (is_busy r bad b)) ANCHORS (r.blocks - ANCHORS) (λ c low high. ap not (busy c (low, omega arith)))
 
 -- a take, and a write that was done, add the node
 pub took_added : (s : Storage) (b : ℕ) (ring : Ring) (bytes : List ℕ) (d : Device) (u : Unit {0}) → IsGeometry s.device.geometry

@@ -2,12 +2,12 @@
 use Rattle.std.specs.Prelude.{◌≡◌, ℕ, ◌+◌, ◌*◌, ◌≤◌, true, refl}
 use Rattle.std.specs.FinSet as set
 use Rattle.std.proofs.Common.{sym, ◌∙◌, ap, subst, arith}
-use Rattle.fs_types.specs.declared.faults.Fault.{Fault}
-use Rattle.fs_types.specs.declared.faults.Fault.TheVariants.{FlashFull, ReadOnly, ReadFailed, PowerCut, NoMemory}
-use Rattle.flash_model.specs.declared.sizes.Geometry.{Geometry}
+use Rattle.fs_types.specs.declared.fault.Fault.{Fault}
+use Rattle.fs_types.specs.declared.fault.Fault.TheVariants.{FlashFull, ReadOnly, ReadFailed, PowerCut, NoMemory}
+use Rattle.flash_model.specs.declared.geometry.Geometry.{Geometry}
 use Rattle.flash_model.specs.Geometry.{IsGeometry}
 use Rattle.flash_model.specs.Device.{Device}
-use Rattle.node_store.specs.declared.stores.Store.{Store}
+use Rattle.node_store.specs.declared.store.Store.{Store}
 use Rattle.node_store.specs.FittingLaws.{still_itself, still_on}
 use Rattle.node_store.specs.NodePages.{node_of}
 use Rattle.node_store.specs.NodeLaws.{node_of-same}

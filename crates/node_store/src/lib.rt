@@ -1,15 +1,15 @@
 //! Nodes on raw flash: what each data block holds, how a node is read, and how one is added.
 #![tactic(auto)]
 
-mod adding;
-mod caching;
+mod first_pages;
+mod new_nodes;
+mod node_reads;
+mod node_writes;
 mod nodes;
-mod reading;
 mod storage;
-mod stores;
-mod writing;
+mod store;
 
-pub use adding::write_node;
-pub use nodes::Nodes;
+pub use new_nodes::write_node;
+pub use nodes::{Nodes, brings};
 pub use storage::Storage;
-pub use stores::Store;
+pub use store::Store;

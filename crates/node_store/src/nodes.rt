@@ -1,9 +1,10 @@
 //! The trait of what keeps nodes in blocks.
 ghost use Rattle.std.specs.Prelude.{◌≡◌, ◌≢◌, ℕ, ◌+◌, ◌≤◌, ◌<◌, Bool, true, false, List, Option, Some, None, OnOk, IfOk, IfErr, IsErrOf};
-ghost use Rattle.fs_types.specs.declared.faults.Fault.{Fault};
-ghost use Rattle.fs_types.specs.declared.faults.Fault.TheVariants.{NoMemory, Damaged};
+ghost use Rattle.fs_types.specs.declared.fault.Fault.{Fault};
+ghost use Rattle.fs_types.specs.declared.fault.Fault.TheVariants.{NoMemory, Damaged};
+ghost use Rattle.fs_types.specs.declared.limits.TheConstants.{ANCHORS};
 ghost use Rattle.node_format.specs.Headers.{IsNode};
-ghost use Rattle.node_store.specs.Faults.{IsReadFault, IsWriteFault};
+ghost use Rattle.node_store.specs.Faults.{IsLookFault, IsReadFault, IsWriteFault};
 ghost use Rattle.node_store.specs.Frames.{OnlyLooks, Works};
 
 use fs_types::Fault;
@@ -125,7 +126,25 @@ pub trait Nodes {
     ghost whole: { (s : Self) (b : ℕ) (bytes : List ℕ) → is_sound s → node s b ≡ Some bytes → IsNode (limit s) bytes };
 
     // anchors, and numbers past the last block, hold no node
-    ghost none_below: { (s : Self) (b : ℕ) → b < 8 → node s b ≡ None };
+    ghost none_below: { (s : Self) (b : ℕ) → b < ANCHORS → node s b ≡ None };
 
     ghost none_beyond: { (s : Self) (b : ℕ) → blocks s ≤ b → node s b ≡ None };
+}
+
+/// Brings the node in a block, for `lent` to lend; whether there is one.
+pub fn brings<N: Nodes>(nodes: &mut N, block: u32) -> Result<bool, Fault>
+    requires { N.is_sound nodes.old }
+    ensures shown { IfOk result (λ brought. brought ≡ true → N.node nodes.old block ≡ Some (N.shown nodes.new)) }
+    ensures lends { IfOk result (λ brought. brought ≡ true → N.lends nodes.new) }
+    ensures none { IfOk result (λ brought. brought ≡ false → N.node nodes.old block ≡ None) }
+    ensures why { IfErr result (λ fault. N.causes nodes.old nodes.new fault) }
+    ensures faults { IfErr result IsLookFault }
+    ensures looks { OnlyLooks N.node N.kept N.writes N.follows N.is_sound N.limit N.blocks nodes.old nodes.new }
+    ensures reads { N.reads nodes.new ≡ N.reads nodes.old + 1 }
+{
+    match nodes.read(block) {
+        Ok(()) => Ok(true),
+        Err(Fault::Damaged) => Ok(false),
+        Err(fault) => Err(fault),
+    }
 }

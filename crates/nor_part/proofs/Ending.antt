@@ -1,7 +1,7 @@
 -- An operation that begins, changes pages alone and ends is one of the flash.
 use Rattle.std.proofs.Common.{◌≡◌, ◌≢◌, ℕ, ◌+◌, true, List, Result, Ok, sym, ap, ◌∙◌, subst, arith}
-use Rattle.flash_model.specs.declared.device.DevFault.{DevFault}
-use Rattle.flash_model.specs.declared.device.PageState.{PageState}
+use Rattle.flash_model.specs.declared.flash.DevFault.{DevFault}
+use Rattle.flash_model.specs.declared.flash.PageState.{PageState}
 use Rattle.flash_model.specs.Device.{Device, Page, Shows, Reads, Operates, failed, cut, AfterProgram, AfterErase, Programs, Erases, Wears, block_of}
 use Rattle.flash_model.specs.Simulation.{Ends}
 

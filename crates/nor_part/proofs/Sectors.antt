@@ -1,9 +1,9 @@
 -- What is done to a sector of a part in memory is what an erase may leave.
 use Rattle.std.proofs.Common.{◌≡◌, ◌≢◌, ℕ, ◌*◌, ◌/◌, ◌<◌, true, List, length, slice_index, Option, Some, None, inl, inr, sym, ◌∙◌, subst, arith}
 use Rattle.std.proofs.lemmas.Bool.{cases_eq}
-use Rattle.flash_model.specs.declared.device.DevFault.TheVariants.{Failed, PowerCut}
-use Rattle.nor_part.specs.declared.memory.Trouble.{Trouble}
-use Rattle.nor_part.specs.declared.memory.Trouble.TheVariants.{Fails, CutBefore, CutWithin, CutAfter}
+use Rattle.flash_model.specs.declared.flash.DevFault.TheVariants.{Failed, PowerCut}
+use Rattle.nor_part.specs.declared.memory_nor.Trouble.{Trouble}
+use Rattle.nor_part.specs.declared.memory_nor.Trouble.TheVariants.{Fails, CutBefore, CutWithin, CutAfter}
 use Rattle.nor_part.specs.Part.{is_blank, AfterSectorErase, ErasesSector}
 use Rattle.nor_part.specs.Memory.{answer_of}
 use Rattle.nor_part.proofs.Pages.{torn_from_blank}

@@ -2,7 +2,7 @@
 use Rattle.std.specs.Prelude.{◌≡◌, ℕ, List, true, false, slice_index_or}
 use Rattle.flash_model.specs.Device.{Device}
 use Rattle.nor_part.specs.declared.nor.Nor.{Ghosts}
-use Rattle.nor_part.specs.declared.flash.NorFlash.{NorFlash}
+use Rattle.nor_part.specs.declared.nor_flash.NorFlash.{NorFlash}
 use Rattle.nor_part.specs.Layout.{sizes_of, blocks_of, page_in}
 
 module _ {P : Type 0} {nor : Ghosts P} where

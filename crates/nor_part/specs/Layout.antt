@@ -1,6 +1,6 @@
 -- Where the pages of a flash stand on a serial NOR part: the data of a block in one sector, its marks in the next.
 use Rattle.std.specs.Prelude.{ℕ, ◌+◌, ◌*◌, ◌/◌, ◌==◌, ◌&&◌, List, slice_index, if◌then◌else◌}
-use Rattle.flash_model.specs.declared.sizes.Geometry.{Geometry}
+use Rattle.flash_model.specs.declared.geometry.Geometry.{Geometry}
 use Rattle.flash_model.specs.Device.{Page, erased, bytes_of, unreadable}
 use Rattle.nor_part.specs.Part.{is_blank}
 

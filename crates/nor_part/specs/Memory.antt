@@ -1,11 +1,11 @@
 -- A serial NOR part in memory.
 use Rattle.std.specs.Prelude.{◌≡◌, ℕ, List, slice_get, vec_len, replicate, Option, Some, None, Result, Ok, Err}
 use Rattle.std.specs.Option.{ForSome, option_map_or}
-use Rattle.flash_model.specs.declared.device.DevFault.{DevFault}
-use Rattle.flash_model.specs.declared.device.DevFault.TheVariants.{Failed, PowerCut}
-use Rattle.nor_part.specs.declared.memory.MemoryPage.{MemoryPage}
-use Rattle.nor_part.specs.declared.memory.Trouble.{Trouble}
-use Rattle.nor_part.specs.declared.memory.Trouble.TheVariants.{Fails, CutBefore, CutWithin, CutAfter}
+use Rattle.flash_model.specs.declared.flash.DevFault.{DevFault}
+use Rattle.flash_model.specs.declared.flash.DevFault.TheVariants.{Failed, PowerCut}
+use Rattle.nor_part.specs.declared.memory_nor.MemoryPage.{MemoryPage}
+use Rattle.nor_part.specs.declared.memory_nor.Trouble.{Trouble}
+use Rattle.nor_part.specs.declared.memory_nor.Trouble.TheVariants.{Fails, CutBefore, CutWithin, CutAfter}
 
 -- a page of a part, past the last one a blank one
 abbrev pub page_at : List MemoryPage → ℕ → List ℕ

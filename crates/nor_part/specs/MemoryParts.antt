@@ -2,8 +2,8 @@
 use Rattle.std.specs.Prelude.{◌≡◌, ℕ, List, length, slice_get, vec_len, replicate, Option, Some, None}
 use Rattle.std.specs.Option.{option_map_or}
 use Rattle.std.proofs.Common.{sym, ◌∙◌, refl}
-use Rattle.nor_part.specs.declared.memory.MemoryPage.{MemoryPage}
-use Rattle.nor_part.specs.declared.memory.MemoryNor.{MemoryNor}
+use Rattle.nor_part.specs.declared.memory_nor.MemoryPage.{MemoryPage}
+use Rattle.nor_part.specs.declared.memory_nor.MemoryNor.{MemoryNor}
 use Rattle.nor_part.specs.Memory.{page_at, AreWhole}
 
 -- how many pages

@@ -1,8 +1,8 @@
 -- What a serial NOR part holds, and what each operation on it may leave.
 use Rattle.std.specs.Prelude.{◌≡◌, ◌≢◌, ℕ, ◌/◌, ◌<◌, ◌==◌, List, length, slice_index, Bool, true, bit_and, Result, Ok, Err}
 use Rattle.std.specs.List.{list_all}
-use Rattle.flash_model.specs.declared.device.DevFault.{DevFault}
-use Rattle.flash_model.specs.declared.device.DevFault.TheVariants.{Failed, PowerCut}
+use Rattle.flash_model.specs.declared.flash.DevFault.{DevFault}
+use Rattle.flash_model.specs.declared.flash.DevFault.TheVariants.{Failed, PowerCut}
 
 -- each byte is as an erase leaves it
 abbrev pub is_blank : List ℕ → Bool

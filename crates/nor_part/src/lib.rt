@@ -2,12 +2,12 @@
 #![tactic(auto)]
 
 mod cells;
-mod flash;
-mod memory;
+mod memory_nor;
 mod nor;
+mod nor_flash;
 mod paging;
 mod sizes;
 
-pub use flash::NorFlash;
-pub use memory::{MemoryNor, Trouble};
+pub use memory_nor::{MemoryNor, Trouble};
 pub use nor::Nor;
+pub use nor_flash::NorFlash;

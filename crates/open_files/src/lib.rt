@@ -1,6 +1,6 @@
 //! The open files of a mounted system, by their numbers, apart from what keeps their bytes.
 #![tactic(auto)]
 
-mod files;
+mod open_file;
 
-pub use files::{OpenFile, OpenFiles};
+pub use open_file::{OpenFile, OpenFiles};

@@ -5,7 +5,7 @@ use Rattle.std.specs.Option.{option_or}
 use Rattle.std.proofs.lemmas.List.{drop_more, take_more, length-drop}
 use Rattle.fs_types.specs.Names.{Name, Path}
 use Rattle.plain_trees.specs.Contents.{Contents, lookup_refusal, way_refusal, under}
-use Rattle.fs_types.specs.declared.faults.Fault.{Fault}
+use Rattle.fs_types.specs.declared.fault.Fault.{Fault}
 
 -- below a path, and below that
 under_more : (t : Contents) (p : Path) (n : Name) → under (under t p) (n ∷ []) ≡ under t (p ++ n ∷ [])

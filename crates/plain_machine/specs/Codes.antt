@@ -7,8 +7,8 @@ use Rattle.plain_trees.specs.Trees.{Tree}
 use Rattle.history_machine.specs.History.{Past}
 use Rattle.history_machine.specs.Descriptors.{Descriptors}
 use Rattle.history_machine.specs.Machine.{Machine, machine_with}
-use Rattle.fs_types.specs.declared.calls.Group.{Group}
-use Rattle.fs_types.specs.declared.calls.Version.{Version}
+use Rattle.fs_types.specs.declared.call.Group.{Group}
+use Rattle.fs_types.specs.declared.call.Version.{Version}
 use Rattle.open_files.specs.Codes.{path_code, descriptors_code}
 use Rattle.plain_machine.specs.Plain.{entry_of, bytes_in, entry_of-bytes_in}
 

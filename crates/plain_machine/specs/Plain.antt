@@ -12,11 +12,11 @@ use Rattle.plain_trees.specs.Trees.{Tree, bare, entry_count, bytes_at}
 use Rattle.history_machine.specs.History.{Past, fresh, changed, present_root, due_root, undo_refusal, redo_refusal, serial_refusal, forget_refusal, checkpoint_refusal, name_refusal}
 use Rattle.history_machine.specs.Descriptors.{Descriptor, Descriptors}
 use Rattle.history_machine.specs.Machine.{Machine, Space, Stepped, step, is_accepted, makes_version, version_after, history_moved, machine_with}
-use Rattle.fs_types.specs.declared.calls.Call.{Call}
-use Rattle.fs_types.specs.declared.calls.Group.{Group}
-use Rattle.fs_types.specs.declared.calls.Reply.{Reply}
-use Rattle.fs_types.specs.declared.faults.Fault.{Fault}
-use Rattle.fs_types.specs.declared.faults.Fault.TheVariants.{TooBig, NotEmpty, Overflow, NoMemory}
+use Rattle.fs_types.specs.declared.call.Call.{Call}
+use Rattle.fs_types.specs.declared.call.Group.{Group}
+use Rattle.fs_types.specs.declared.call.Reply.{Reply}
+use Rattle.fs_types.specs.declared.fault.Fault.{Fault}
+use Rattle.fs_types.specs.declared.fault.Fault.TheVariants.{TooBig, NotEmpty, Overflow, NoMemory}
 
 -- a directory has no bytes
 abbrev pub entry_of : Option (List ℕ) → Entry

@@ -1,7 +1,7 @@
 -- Which parts make a history.
 use Rattle.std.specs.Prelude.{ℕ, Bool, true, nat_lt, nat_le, ◌&&◌, List, [], ◌∷◌, length}
 use Rattle.std.specs.List.{list_all}
-use Rattle.fs_types.specs.declared.calls.Version.{Version}
+use Rattle.fs_types.specs.declared.call.Version.{Version}
 use Rattle.fs_types.specs.declared.limits.TheConstants.{MIN_VERSIONS, MAX_VERSIONS, MAX_CHECKPOINTS}
 use Rattle.history_machine.specs.History.{Past}
 use Rattle.plain_trees.specs.Trees.{Tree}

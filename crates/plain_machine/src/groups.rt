@@ -4,7 +4,7 @@ ghost use Rattle.std.specs.Option.{option_map_or};
 ghost use Rattle.plain_trees.specs.Trees.{bare};
 ghost use Rattle.history_machine.specs.History.{changed, present_root, view_refusal, working_root, seen_root, history_with, group_with, due_root};
 
-use crate::trees::Tree;
+use crate::tree::Tree;
 use fs_types::{Fault, Group, View};
 use history::History;
 

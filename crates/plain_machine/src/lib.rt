@@ -3,18 +3,18 @@
 
 mod effects;
 mod groups;
-mod machines;
+mod machine;
 mod maps;
 mod names;
 mod needs;
-mod nodes;
+mod node;
 mod parts;
 mod refusals;
 mod replies;
-mod spaces;
-mod trees;
+mod space;
+mod tree;
 
-pub use machines::PlainMachine;
-pub use nodes::Node;
-pub use spaces::Space;
-pub use trees::Tree;
+pub use machine::PlainMachine;
+pub use node::Node;
+pub use space::Space;
+pub use tree::Tree;

@@ -10,7 +10,7 @@ ghost use Rattle.plain_trees.specs.Trees.{child_of, moved_entry, put, remove};
 ghost use Rattle.plain_machine.specs.Plain.{is_deep, is_child, tree_of, IsTreeOf};
 
 use crate::names;
-use crate::nodes::Node;
+use crate::node::Node;
 use fs_types::{Name, Path, Sequence};
 use std::alloc::{AllocError, Global};
 use std::collections::BTreeMap;

@@ -4,11 +4,11 @@ ghost use Rattle.plain_trees.specs.Contents as contents;
 ghost use Rattle.plain_trees.specs.Trees as tree;
 ghost use Rattle.history_machine.specs.Machine as machine;
 ghost use Rattle.history_machine.specs.Machine.{machine_with};
-ghost use Rattle.fs_types.specs.declared.calls.Call.{Call};
+ghost use Rattle.fs_types.specs.declared.call.Call.{Call};
 
 use crate::groups::working_tree;
 use crate::replies::bytes_at;
-use crate::trees::Tree;
+use crate::tree::Tree;
 use fs_types::{Call, Group, NODE_ENTRIES, Name, Path};
 use history::History;
 use open_files::OpenFiles;

@@ -1,11 +1,11 @@
 //! A history put together from its parts.
 ghost use Rattle.std.specs.Prelude.{◌≡◌, ◌+◌, ◌≤◌, ◌&&◌, true, false, IfOk, OnOk, IfErr, IsErrOf, nat_lt, nat_le};
 ghost use Rattle.std.specs.List.{list_all};
-ghost use Rattle.fs_types.specs.declared.faults.Fault.{Fault};
+ghost use Rattle.fs_types.specs.declared.fault.Fault.{Fault};
 ghost use Rattle.fs_types.specs.declared.limits.TheConstants.{MIN_VERSIONS, MAX_VERSIONS, MAX_CHECKPOINTS};
 ghost use Rattle.plain_machine.specs.Restoring.{history_with, serials_ascend, is_history};
 
-use crate::trees::Tree;
+use crate::tree::Tree;
 use fs_types::{CpName, Fault, MAX_CHECKPOINTS, MAX_VERSIONS, MIN_VERSIONS, Version};
 use history::History;
 use std::alloc::Global;

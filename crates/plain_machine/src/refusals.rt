@@ -5,14 +5,14 @@ ghost use Rattle.plain_trees.specs.Contents.{Entry};
 ghost use Rattle.plain_trees.specs.Trees.{bare};
 ghost use Rattle.history_machine.specs.Descriptors as descriptors;
 ghost use Rattle.history_machine.specs.Machine as machine;
-ghost use Rattle.fs_types.specs.declared.calls.Call.{Call};
-ghost use Rattle.fs_types.specs.declared.faults.Fault.{Fault};
+ghost use Rattle.fs_types.specs.declared.call.Call.{Call};
+ghost use Rattle.fs_types.specs.declared.fault.Fault.{Fault};
 ghost use Rattle.plain_machine.specs.Plain.{machine_at, machine_in, size_refusal, emptiness_refusal};
 ghost use Rattle.history_machine.specs.Machine.{machine_with};
 
 use crate::groups::{seen_tree, working_tree};
-use crate::nodes::Node;
-use crate::trees::Tree;
+use crate::node::Node;
+use crate::tree::Tree;
 use bitflags::Flags;
 use fs_types::{Bytes, Call, Fault, Group, MAX_FILE_BYTES, Name, OpenFlags, Path, View};
 use history::History;

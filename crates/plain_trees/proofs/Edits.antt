@@ -7,7 +7,7 @@ use Rattle.std.specs.Ordering.{eq_by_cmp}
 use Rattle.std.specs.FinMap.{get, entries, empty, find, get-entries, get-empty, get-insert, get-remove, get-from_entries, same_map}
 use Rattle.fs_types.specs.Names.{Path, same_name, same_path, path_cmp}
 use Rattle.plain_trees.specs.Laws.{PutLaw, RemoveLaw, MoveLaw, SameTreeLaw}
-use Rattle.plain_trees.specs.Contents.{Entry, Contents, beneath, begins, moved_at, Apart}
+use Rattle.plain_trees.specs.Contents.{Entry, beneath, begins, moved_at}
 use Rattle.plain_trees.specs.Contents as plain
 use Rattle.plain_trees.specs.Trees.{Tree, bare, put, remove, move, moved_entry, moved_to}
 use Rattle.fs_types.proofs.Orders.{paths_total, paths_exact, path_ties, same_path-own, same_name-own, same_name-is}

@@ -8,7 +8,7 @@ use Rattle.std.specs.List.{list_all, list_any}
 use Rattle.std.specs.Ordering.{eq_by_cmp}
 use Rattle.std.specs.FinMap.{get, keys, contains_key-keys}
 use Rattle.fs_types.specs.Names.{Name, Path, is_name, is_path, path_cmp}
-use Rattle.plain_trees.specs.Contents.{Entry, IsTree, Apart, begins, beneath, parent_of, moved_at}
+use Rattle.plain_trees.specs.Contents.{Entry, IsTree, Apart, beneath, moved_at}
 use Rattle.plain_trees.specs.Contents as plain
 use Rattle.plain_trees.specs.Trees.{Tree, put, remove, move, entry_count, is_full, IsFileTree, is_too_deep}
 use Rattle.fs_types.specs.declared.limits.TheConstants.{MAX_ENTRIES}

@@ -2,8 +2,8 @@
 use Rattle.std.specs.Prelude.{◌≡◌, ℕ, ◌+◌, ◌-◌, ◌/◌, min, max, nat_lt, Bool, true, false, Option, Some, None, is_some, IsSome, List, [], ◌∷◌, ◌++◌, length, take, replicate, drop, if◌then◌else◌}
 use Rattle.std.specs.Option.{option_or}
 use Rattle.fs_types.specs.Names.{Name, Path, same_name, same_path}
-use Rattle.fs_types.specs.declared.faults.Fault.{Fault}
-use Rattle.fs_types.specs.declared.faults.Fault.TheVariants.{NoEntry, NotDirectory}
+use Rattle.fs_types.specs.declared.fault.Fault.{Fault}
+use Rattle.fs_types.specs.declared.fault.Fault.TheVariants.{NoEntry, NotDirectory}
 
 -- a directory, or a file with its bytes (POSIX.1-2017)
 pub data Entry : Type 0 where

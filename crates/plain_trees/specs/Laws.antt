@@ -7,7 +7,7 @@ use Rattle.fs_types.specs.Names.{Name, Path, name_cmp}
 use Rattle.plain_trees.specs.Contents as plain
 use Rattle.plain_trees.specs.Contents.{Entry, Contents, is_dir, under, nothing, leaf, graft, IsLast, parent_of, Apart, begins, IsTree, lookup_refusal, overwritten, resized}
 use Rattle.plain_trees.specs.Trees.{Tree, put, remove, move, children}
-use Rattle.fs_types.specs.declared.faults.Fault.TheVariants.{NoEntry, NotDirectory}
+use Rattle.fs_types.specs.declared.fault.Fault.TheVariants.{NoEntry, NotDirectory}
 
 -- put, remove: one path is changed and no other
 pub record PutLaw : Type 0 where

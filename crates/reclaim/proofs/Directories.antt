@@ -15,7 +15,7 @@ use Rattle.block_trees.proofs.Chains.{by_test, same_items, first_parts, first_la
 use Rattle.block_trees.proofs.ChainCounts.{linked_filled}
 use Rattle.reclaim.specs.Looks.{last_name, are_after, may_follow, edge_of, edge_at, edge_after}
 use Rattle.reclaim.specs.Sound.{IsDirectoryAt}
-use Rattle.node_format.proofs.Fields.{some_is}
+use Rattle.fields.proofs.Found.{some_is}
 
 -- ---- order across two lists
 

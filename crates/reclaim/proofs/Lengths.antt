@@ -7,12 +7,13 @@ use Rattle.std.proofs.lemmas.Bool.{leb-true, cases_lt}
 use Rattle.std.proofs.lemmas.Nat.{mul-le}
 use Rattle.node_format.specs.Headers.{field}
 use Rattle.node_format.specs.Items.{Item}
-use Rattle.node_format.specs.Directories.{size_of, byte_at, number_at, name_at, place_at, item_at, items_at}
+use Rattle.node_format.specs.Directories.{size_of, name_at, place_at, item_at, items_at}
 use Rattle.node_format.specs.Links.{Link, link_at}
 use Rattle.node_format.proofs.LinkLaws.{link_items_at}
-use Rattle.node_format.specs.declared.places.Place.{Place}
-use Rattle.node_format.specs.declared.places.Place.TheVariants.{Dir, File}
-use Rattle.node_format.proofs.Fields.{bind_some, passed, chosen, some_is}
+use Rattle.node_format.specs.declared.place.Place.{Place}
+use Rattle.node_format.specs.declared.place.Place.TheVariants.{Dir, File}
+use Rattle.fields.specs.Numbers.{byte_at, number_at}
+use Rattle.fields.proofs.Found.{bind_some, passed, chosen, some_is}
 use Rattle.block_trees.specs.Bodies.{head_index}
 use Rattle.block_trees.specs.Chains.{link_items}
 use Rattle.reclaim.proofs.Chains.{divides_least}
@@ -40,8 +41,8 @@ item_short bytes x e =
     let a = bind_some (byte_at bytes) _ x e in
     let b = bind_some (byte_at a.0.1) _ x a.2 in
     let n = bind_some (name_at b.0.0 b.0.1) _ x b.2 in
-    let h = bind_some (number_at n.0.1) _ x n.2 in
-    let s = bind_some (number_at h.0.1) _ x h.2 in
+    let h = bind_some (number_at 4 n.0.1) _ x n.2 in
+    let s = bind_some (number_at 4 h.0.1) _ x h.2 in
     let p = bind_some (place_at a.0.0 h.0.0 s.0.0) _ x s.2 in
     let made : Item × List ℕ = (record { name = n.0.0; place = p.0 }, s.0.1) in
     subst (λ (y : Item × List ℕ). size_of y.0.place ≤ MAX_FILE_BYTES) (some_is made x p.2) (place_short a.0.0 h.0.0 s.0.0 p.0 p.1)

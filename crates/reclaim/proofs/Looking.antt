@@ -1,23 +1,23 @@
 -- What one look at a block shows.
-use Rattle.std.proofs.Common.{◌≡◌, ◌≢◌, ◌↔◌, ℕ, zero, suc, ◌+◌, ◌-◌, ◌*◌, ◌/◌, ◌%◌, ◌^◌, ◌<◌, ◌≤◌, Bool, true, false, ◌&&◌, Option, Some, None, Result, Ok, Err, List, [], ◌∷◌, length, drop, length-drop, refl, sym, ap, subst, ◌∙◌, arith}
-use Rattle.std.specs.Prelude.{IfOk, Contains, not, IsTrue, All, is_some, nat_eq, nat_lt, unwrap_or, map, slice_index}
+use Rattle.std.proofs.Common.{◌≡◌, ◌≢◌, ◌↔◌, ℕ, zero, suc, ◌+◌, ◌-◌, ◌*◌, ◌/◌, ◌%◌, ◌^◌, ◌<◌, ◌≤◌, Bool, true, false, ◌&&◌, Option, Some, None, List, [], ◌∷◌, length, drop, length-drop, refl, sym, ap, subst, ◌∙◌, arith}
+use Rattle.std.specs.Prelude.{Contains, not, IsTrue, All, is_some, nat_eq, nat_lt, unwrap_or, map, slice_index}
 use Rattle.std.specs.Option.{option_map, option_map_or, option_eq}
 use Rattle.std.proofs.Math.Nat.{div-add-mod'}
 use Rattle.std.proofs.lemmas.Bool.{true≢false, and_parts, and_from, ltb-true, lt-ltb, eqb-true, eq-eqb}
 use Rattle.std.proofs.lemmas.List.{length-map}
 use Rattle.std.proofs.lemmas.List.Elements.{All-nil, All-cons, All-head, All-tail, All-map, All-contains, All-contains_itself, All-weaker}
-use Rattle.fs_types.specs.declared.faults.Fault.{Fault}
-use Rattle.fs_types.specs.declared.faults.Fault.TheVariants.{ReadFailed, PowerCut, NoMemory, Damaged}
-use Rattle.node_store.specs.Faults.{IsReadFault}
+use Rattle.fs_types.specs.declared.fault.Fault.{Fault}
+use Rattle.fs_types.specs.declared.fault.Fault.TheVariants.{ReadFailed, PowerCut, NoMemory, Damaged}
+use Rattle.node_store.specs.Faults.{IsLookFault, IsReadFault}
 use Rattle.node_format.specs.Items.{Item}
 use Rattle.node_format.specs.Links.{Link, link_at}
-use Rattle.node_format.specs.declared.places.Place.{Place}
+use Rattle.node_format.specs.declared.place.Place.{Place}
 use Rattle.block_trees.specs.Bodies.{Blocks, index_of, pointer_of, data_of, head_index}
 use Rattle.block_trees.specs.Chains.{link_of, link_items}
 use Rattle.block_trees.proofs.Entries.{directory_no_index}
 use Rattle.reclaim.specs.Naming.{has_slot}
 use Rattle.reclaim.specs.Sound.{HoldsLink, IsHead, IsSoundPlace, HoldsSlot, IsSoundBody, AreSoundNames}
-use Rattle.reclaim.specs.Looks.{IsLookFault, body_of, name_reads, AreSteppedTo, ArePartsOf, IsSoundAt}
+use Rattle.reclaim.specs.Looks.{body_of, name_reads, AreSteppedTo, ArePartsOf, IsSoundAt}
 use Rattle.reclaim.proofs.NamedLaws.{has_slot-divides, divides-has_slot}
 use Rattle.reclaim.proofs.Lengths.{divides-short}
 use Rattle.fs_types.specs.declared.limits.TheConstants.{MAX_FILE_BYTES}
@@ -290,7 +290,3 @@ pub parts_at : (node : Option (List ℕ)) (places : List Place) (pointers : List
 parts_at node places pointers index before now now' few more parts = (let most = name_body node places index parts.places_are (sym parts.index_is) in omega (arith, most, few, more))
 
 -- ---- what calls answered
-
-pub if_ok : {T E : Type 0} (P Q : T → Type 0) (r : Result T E) → ((x : T) → P x → Q x) → IfOk r P → IfOk r Q
-if_ok P Q (Ok x) f p = f x p
-if_ok P Q (Err e) f p = tt

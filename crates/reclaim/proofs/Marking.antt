@@ -11,8 +11,9 @@ use Rattle.std.proofs.lemmas.Grind.{get_or_default_zero}
 use Rattle.std.proofs.lemmas.List.{append_assoc, append-nil, length-append, get_or_append_left, get_or-append-add}
 use Rattle.std.proofs.lemmas.List.Elements.{Contains-append_left, Contains-append_right, Contains-append_cases, Contains-push, Contains-push_cases, Contains-get_or}
 use Rattle.std.proofs.lemmas.List.Folds.{list_any_at}
-use Rattle.fs_types.specs.declared.faults.Fault.{Fault}
-use Rattle.fs_types.specs.declared.faults.Fault.TheVariants.{NoMemory, Damaged}
+use Rattle.fs_types.specs.declared.fault.Fault.{Fault}
+use Rattle.fs_types.specs.declared.fault.Fault.TheVariants.{NoMemory, Damaged}
+use Rattle.fs_types.specs.declared.limits.TheConstants.{ANCHORS}
 use Rattle.allocator.specs.BlockSet.{BlockSet}
 use Rattle.allocator.specs.Ring.{IsDataBlock}
 use Rattle.block_trees.specs.Bodies.{Blocks}
@@ -153,7 +154,7 @@ marked_there held p marks b is o there =
     subst (λ (q : Pass). IsMarked q.order (b ∷ []) q.order) is (marked_again held.order b (is_listed marks held.order held.next b o there))
 
 -- a block that is no data block
-pub outside_low : (blocks b : ℕ) → b < 8 → IsMarkFault blocks (b ∷ []) Damaged
+pub outside_low : (blocks b : ℕ) → b < ANCHORS → IsMarkFault blocks (b ∷ []) Damaged
 outside_low blocks b low = inr (refl, (b, Contains-push [] b, λ at. omega (arith, at.0)))
 
 pub outside_high : (blocks b : ℕ) → blocks ≤ b → IsMarkFault blocks (b ∷ []) Damaged
@@ -301,14 +302,14 @@ only_memory held blocks names fault same all (inr (damaged, (b, within, outside)
 -- a name that is no data block has no node
 pub no_node : (f : Blocks) (p : Pass) (held : Option (List ℕ)) (names : List ℕ) (blocks : ℕ) (fault : Fault) → IsPass f p → p.next < length p.order
     → f (slice_index p.order p.next) ≡ held → ((b : ℕ) → Contains names b ↔ Names held b)
-    → ((b : ℕ) → b < 8 → f b ≡ None) → ((b : ℕ) → blocks ≤ b → f b ≡ None) → IsMarkFault blocks names fault → fault ≡ Damaged
+    → ((b : ℕ) → b < ANCHORS → f b ≡ None) → ((b : ℕ) → blocks ≤ b → f b ≡ None) → IsMarkFault blocks names fault → fault ≡ Damaged
     → (b : ℕ) × Reached f p.roots b × (f b ≡ None)
 no_node f p held names blocks fault pass below is named low high (inl memory) damaged = absurd cc
 no_node f p held names blocks fault pass below is named low high (inr (same, (b, within, outside))) damaged =
     let own : Reached f p.roots (slice_index p.order p.next) = pass.reached _ (Contains-get_or p.order p.next 0 below) in
-    (b, IsNamed own (subst (λ (o : Option (List ℕ)). Names o b) (sym is) ((named b).0 within)), none (cases_lt b 8) (cases_lt b blocks))
+    (b, IsNamed own (subst (λ (o : Option (List ℕ)). Names o b) (sym is) ((named b).0 within)), none (cases_lt b ANCHORS) (cases_lt b blocks))
   where
-    none : (b < 8) ⊎ (8 ≤ b) → (b < blocks) ⊎ (blocks ≤ b) → f b ≡ None
+    none : (b < ANCHORS) ⊎ (ANCHORS ≤ b) → (b < blocks) ⊎ (blocks ≤ b) → f b ≡ None
     none (inl before) other = low b before
     none (inr after) (inr past) = high b past
     none (inr after) (inl inside) = absurd (outside (after, inside))

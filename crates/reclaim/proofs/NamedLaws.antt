@@ -6,8 +6,8 @@ use Rattle.std.proofs.Math.Nat.{div-add-mod', mul-mod_left}
 use Rattle.std.proofs.lemmas.Bool.{and_parts, and_from, ltb-true, lt-ltb, eqb-true, eq-eqb, cases_lt}
 use Rattle.std.proofs.lemmas.List.Elements.{Contains-append_left, Contains-append_right, Contains-append_cases, Contains-push, Contains-push_cases}
 use Rattle.node_format.specs.Items.{Item}
-use Rattle.node_format.specs.declared.places.Place.{Place}
-use Rattle.node_format.specs.declared.places.Place.TheVariants.{Dir, File}
+use Rattle.node_format.specs.declared.place.Place.{Place}
+use Rattle.node_format.specs.declared.place.Place.TheVariants.{Dir, File}
 use Rattle.block_trees.specs.Bodies.{index_of, pointer_of}
 use Rattle.block_trees.specs.Chains.{link_items, next_of}
 use Rattle.block_trees.specs.Reached.{PlaceNames, BodyNames, Names}

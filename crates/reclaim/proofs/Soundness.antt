@@ -9,8 +9,8 @@ use Rattle.node_format.specs.Items.{Item}
 use Rattle.node_format.specs.Directories.{size_of}
 use Rattle.node_format.specs.EntryLaws.{named-contained}
 use Rattle.node_format.specs.Links.{Link}
-use Rattle.node_format.specs.declared.places.Place.{Place}
-use Rattle.node_format.specs.declared.places.Place.TheVariants.{Dir, File}
+use Rattle.node_format.specs.declared.place.Place.{Place}
+use Rattle.node_format.specs.declared.place.Place.TheVariants.{Dir, File}
 use Rattle.block_trees.specs.Bodies.{Blocks, index_of, pointer_of, back, head_index, IsChain, IsLinked, IsBody}
 use Rattle.block_trees.specs.Chains.{link_of, next_of, link_items, chain, entries_in, items_in}
 use Rattle.block_trees.specs.Trees.{child, leads, IsWhole, HasTree, IsRoot}
@@ -19,10 +19,11 @@ use Rattle.block_trees.proofs.Chains.{tail_law}
 use Rattle.block_trees.proofs.Chained.{entry_named, IsAmong, among_chain, held_chain, reached_chain, child_names}
 use Rattle.block_trees.proofs.Entries.{directory_no_index, place_is}
 use Rattle.block_trees.proofs.Reaching.{before_named, reached_via}
+use Rattle.block_trees.proofs.Bodies.{chain_back, chain_node, linked_back}
 use Rattle.directory.specs.Lookups.{LeadsToDirectories}
 use Rattle.reclaim.specs.Sound.{HoldsLink, IsDirectoryAt, IsHead, IsSoundPlace, HoldsSlot, AreStepped, IsSoundBody, IsSoundNode, SoundHasTrees, TreesAreSound, TreesHoldNodes}
 use Rattle.reclaim.proofs.Lengths.{entry_short, head_short, shorter}
-use Rattle.reclaim.proofs.Chains.{chain_node, chain_back, linked_back, data_length, half_slot, divides_least, fewer_slots, some_before, back_twice}
+use Rattle.reclaim.proofs.Chains.{data_length, half_slot, divides_least, fewer_slots, some_before, back_twice}
 use Rattle.node_format.specs.BodyNodes.{HasSlot}
 
 -- ---- sound nodes make chains

@@ -4,7 +4,8 @@ use Rattle.std.specs.Prelude.{Contains, not, IsTrue, All, slice_index}
 use Rattle.std.proofs.lemmas.Bool.{cases_lt}
 use Rattle.std.proofs.lemmas.List.{take_all}
 use Rattle.std.proofs.lemmas.List.Elements.{All-more, All-get_or, All-contains, All-contains_itself, All-weaker}
-use Rattle.node_format.specs.declared.places.Place.TheVariants.{Dir}
+use Rattle.fs_types.specs.declared.limits.TheConstants.{ANCHORS}
+use Rattle.node_format.specs.declared.place.Place.TheVariants.{Dir}
 use Rattle.allocator.specs.Ring.{IsDataBlock}
 use Rattle.block_trees.specs.Bodies.{Blocks}
 use Rattle.block_trees.specs.Laws.{IsShallow}
@@ -90,14 +91,14 @@ asked_lead capacity f roots marked plain all nodes directories root within =
     sound_directories capacity f roots (asked_sound capacity f roots marked plain all nodes) root within (all_hold f roots directories root within)
 
 -- roots with trees are data blocks
-pub roots_are_data : (limit blocks : ℕ) (f : Blocks) (roots : List ℕ) → ((b : ℕ) → b < 8 → f b ≡ None) → ((b : ℕ) → blocks ≤ b → f b ≡ None) → AreRoots limit f roots
+pub roots_are_data : (limit blocks : ℕ) (f : Blocks) (roots : List ℕ) → ((b : ℕ) → b < ANCHORS → f b ≡ None) → ((b : ℕ) → blocks ≤ b → f b ≡ None) → AreRoots limit f roots
     → All (IsDataBlock blocks) roots
-roots_are_data limit blocks f roots low high trees = all_of (IsDataBlock blocks) roots (λ b within. at b within (cases_lt b 8) (cases_lt b blocks))
+roots_are_data limit blocks f roots low high trees = all_of (IsDataBlock blocks) roots (λ b within. at b within (cases_lt b ANCHORS) (cases_lt b blocks))
   where
     held : (b : ℕ) → Contains roots b → f b ≡ None → ⊥
     held b within none = trees_hold_nodes (limit - 80) f roots trees b (IsFirst within) none
 
-    at : (b : ℕ) → Contains roots b → (b < 8) ⊎ (8 ≤ b) → (b < blocks) ⊎ (blocks ≤ b) → IsDataBlock blocks b
+    at : (b : ℕ) → Contains roots b → (b < ANCHORS) ⊎ (ANCHORS ≤ b) → (b < blocks) ⊎ (blocks ≤ b) → IsDataBlock blocks b
     at b within (inl before) other = absurd (held b within (low b before))
     at b within (inr after) (inl inside) = (after, inside)
     at b within (inr after) (inr past) = absurd (held b within (high b past))

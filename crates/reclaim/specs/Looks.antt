@@ -1,14 +1,11 @@
 -- What a look at a block brings.
-use Rattle.std.specs.Prelude.{◌≡◌, ℕ, suc, ◌+◌, ◌*◌, ◌<◌, ◌==◌, ◌&&◌, Bool, true, false, IsTrue, Option, Some, None, List, [], ◌∷◌, length, map, slice_index, if◌then◌else◌}
+use Rattle.std.specs.Prelude.{◌≡◌, ℕ, suc, ◌+◌, ◌*◌, ◌<◌, ◌==◌, ◌&&◌, Bool, true, false, Option, Some, None, List, [], ◌∷◌, length, map, slice_index, if◌then◌else◌}
 use Rattle.std.specs.Option.{option_map, option_map_or}
 use Rattle.fs_types.specs.declared.limits.TheConstants.{MAX_FILE_BYTES}
-use Rattle.fs_types.specs.declared.faults.Fault.{Fault}
-use Rattle.fs_types.specs.declared.faults.Fault.TheVariants.{Damaged}
-use Rattle.node_store.specs.Faults.{is_read_fault}
 use Rattle.fs_types.specs.Names.{Name}
 use Rattle.node_format.specs.Items.{Item, is_before}
 use Rattle.node_format.specs.Links.{Link}
-use Rattle.node_format.specs.declared.places.Place.{Place}
+use Rattle.node_format.specs.declared.place.Place.{Place}
 use Rattle.block_trees.specs.Bodies.{Blocks, index_of, data_of, pointer_of}
 use Rattle.block_trees.specs.Chains.{link_of, next_of, link_items, is_later, most_after}
 use Rattle.reclaim.specs.Naming.{has_slot}
@@ -18,14 +15,6 @@ use Rattle.node_format.specs.declared.headers.TheConstants.{SLOTS}
 -- the index of a body node, and how many data bytes it has
 abbrev pub body_of : Option (List ℕ) → Option (ℕ × ℕ)
 body_of node = option_map (λ index. (index, length (data_of node))) (index_of node)
-
--- the refusals of a look: those of reads, but that nothing is damaged
-abbrev pub is_look_fault : Fault → Bool
-is_look_fault Damaged = false
-is_look_fault fault = is_read_fault fault
-
-abbrev pub IsLookFault : Fault → Type 0
-IsLookFault fault = IsTrue (is_look_fault fault)
 
 -- the last name of entries, or the one before them where there are none
 abbrev pub last_name : Name → List Item → Name

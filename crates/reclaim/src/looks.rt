@@ -1,22 +1,21 @@
 //! One look at a block, and at the blocks that it names.
 ghost use Rattle.std.specs.Option.{option_map};
-ghost use Rattle.std.specs.Prelude.{◌≡◌, ◌≢◌, ℕ, ◌+◌, ◌*◌, ◌^◌, ◌-◌, ◌≤◌, ◌<◌, ◌↔◌, ◌++◌, ◌/◌, ◌%◌, ◌&&◌, nat_eq, nat_lt, All, true, false, IsTrue, map, length, List, Option, Some, None, OnOk, IfOk, IfErr, IsErrOf, slice_index};
+ghost use Rattle.std.specs.Prelude.{◌≡◌, ℕ, ◌+◌, ◌*◌, ◌^◌, ◌-◌, ◌≤◌, ◌<◌, ◌↔◌, ◌++◌, ◌/◌, ◌%◌, ◌&&◌, nat_eq, nat_lt, All, true, false, IsTrue, map, length, List, Option, Some, None, OnOk, IfOk, IfErr, slice_index};
 ghost use Rattle.fs_types.specs.declared.limits.TheConstants.{MAX_FILE_BYTES};
-ghost use Rattle.fs_types.specs.declared.faults.Fault.TheVariants.{Damaged};
-ghost use Rattle.node_format.specs.declared.places.Place.TheVariants.{Dir, File};
+ghost use Rattle.node_format.specs.declared.place.Place.TheVariants.{Dir, File};
 ghost use Rattle.node_format.specs.declared.headers.TheConstants.{SLOTS};
-ghost use Rattle.block_trees.specs.Bodies.{index_of, pointer_of, data_of};
-ghost use Rattle.block_trees.specs.Chains.{link_of, link_items, next_of, most_after};
-ghost use Rattle.reclaim.specs.Sound.{IsDirectoryAt, HoldsLink, IsHead, IsSoundPlace, HoldsSlot, IsSoundBody, AreSoundNames, AreStepped};
+ghost use Rattle.block_trees.specs.Bodies.{pointer_of};
+ghost use Rattle.block_trees.specs.Chains.{link_items};
+ghost use Rattle.reclaim.specs.Sound.{HoldsLink, IsHead, IsSoundPlace, HoldsSlot, IsSoundBody, AreSoundNames};
 ghost use Rattle.reclaim.specs.Looks as spec;
+ghost use Rattle.node_store.specs.Faults.{IsLookFault};
 ghost use Rattle.node_store.specs.Frames.{OnlyLooks};
 
-use crate::bringing::brings;
-use crate::edges::{Edge, begins_directory, edge_in, is_chained};
-use crate::fields::{has_pointer, index_in, pointer_in};
+use crate::edge::{Edge, begins_directory, edge_in, is_chained};
+use crate::slots::{has_pointer, index_in, pointer_in};
 use fs_types::{Fault, MAX_FILE_BYTES};
 use node_format::{BODY_HEADER, Entries, EntryList, Place, SLOTS};
-use node_store::Nodes;
+use node_store::{Nodes, brings};
 use std::alloc::{AllocError, Global};
 
 /// Whether a block holds a node of a directory.
@@ -24,7 +23,7 @@ pub fn holds_link<N: Nodes>(nodes: &mut N, block: u32) -> Result<bool, Fault>
     requires { N.is_sound nodes.old }
     ensures exact { IfOk result (λ found. IsTrue found ↔ HoldsLink (N.node nodes.old) block) }
     ensures why { IfErr result (λ fault. N.causes nodes.old nodes.new fault) }
-    ensures faults { IfErr result spec.IsLookFault }
+    ensures faults { IfErr result IsLookFault }
     ensures looks { OnlyLooks N.node N.kept N.writes N.follows N.is_sound N.limit N.blocks nodes.old nodes.new }
     ensures reads { N.reads nodes.new ≡ N.reads nodes.old + 1 }
 {
@@ -40,7 +39,7 @@ fn body_at<N: Nodes>(nodes: &mut N, block: u32) -> Result<Option<(u32, usize)>, 
     requires { N.is_sound nodes.old }
     ensures exact { IfOk result (λ found. found ≡ spec.body_of (N.node nodes.old block)) }
     ensures why { IfErr result (λ fault. N.causes nodes.old nodes.new fault) }
-    ensures faults { IfErr result spec.IsLookFault }
+    ensures faults { IfErr result IsLookFault }
     ensures looks { OnlyLooks N.node N.kept N.writes N.follows N.is_sound N.limit N.blocks nodes.old nodes.new }
     ensures reads { N.reads nodes.new ≡ N.reads nodes.old + 1 }
 {
@@ -70,7 +69,7 @@ fn is_head<N: Nodes>(nodes: &mut N, capacity: u32, head: u32, length: u32) -> Re
     requires capacity { 0 < capacity }
     ensures exact { IfOk result (λ good. IsTrue good ↔ IsHead capacity (N.node nodes.old) head length) }
     ensures why { IfErr result (λ fault. N.causes nodes.old nodes.new fault) }
-    ensures faults { IfErr result spec.IsLookFault }
+    ensures faults { IfErr result IsLookFault }
     ensures looks { OnlyLooks N.node N.kept N.writes N.follows N.is_sound N.limit N.blocks nodes.old nodes.new }
     ensures reads { N.reads nodes.new ≤ N.reads nodes.old + 1 }
 {
@@ -90,7 +89,7 @@ fn is_sound_place<N: Nodes>(nodes: &mut N, capacity: u32, place: Place) -> Resul
     requires capacity { 0 < capacity }
     ensures exact { IfOk result (λ good. IsTrue good ↔ IsSoundPlace capacity (N.node nodes.old) place) }
     ensures why { IfErr result (λ fault. N.causes nodes.old nodes.new fault) }
-    ensures faults { IfErr result spec.IsLookFault }
+    ensures faults { IfErr result IsLookFault }
     ensures looks { OnlyLooks N.node N.kept N.writes N.follows N.is_sound N.limit N.blocks nodes.old nodes.new }
     ensures reads { N.reads nodes.new ≤ N.reads nodes.old + 1 }
 {
@@ -126,7 +125,7 @@ fn are_sound_places<N: Nodes>(nodes: &mut N, capacity: u32, places: &[Place]) ->
     requires capacity { 0 < capacity }
     ensures exact { IfOk result (λ good. IsTrue good ↔ All (IsSoundPlace capacity (N.node nodes.old)) places.now) }
     ensures why { IfErr result (λ fault. N.causes nodes.old nodes.new fault) }
-    ensures faults { IfErr result spec.IsLookFault }
+    ensures faults { IfErr result IsLookFault }
     ensures looks { OnlyLooks N.node N.kept N.writes N.follows N.is_sound N.limit N.blocks nodes.old nodes.new }
     ensures reads { N.reads nodes.new ≤ N.reads nodes.old + length places.now }
 {
@@ -157,7 +156,7 @@ fn holds_slot<N: Nodes>(nodes: &mut N, block: u32, slot: usize, next: u32) -> Re
     requires slot { slot < SLOTS }
     ensures exact { IfOk result (λ holds. IsTrue holds ↔ HoldsSlot (N.node nodes.old block) slot next) }
     ensures why { IfErr result (λ fault. N.causes nodes.old nodes.new fault) }
-    ensures faults { IfErr result spec.IsLookFault }
+    ensures faults { IfErr result IsLookFault }
     ensures looks { OnlyLooks N.node N.kept N.writes N.follows N.is_sound N.limit N.blocks nodes.old nodes.new }
     ensures reads { N.reads nodes.new ≡ N.reads nodes.old + 1 }
 {
@@ -175,7 +174,7 @@ fn are_stepped<N: Nodes>(nodes: &mut N, pointers: &[u32], index: u32) -> Result<
     requires count { length pointers.now ≡ SLOTS }
     ensures exact { IfOk result (λ good. IsTrue good ↔ spec.AreSteppedTo (N.node nodes.old) (slice_index pointers.now) index 12) }
     ensures why { IfErr result (λ fault. N.causes nodes.old nodes.new fault) }
-    ensures faults { IfErr result spec.IsLookFault }
+    ensures faults { IfErr result IsLookFault }
     ensures looks { OnlyLooks N.node N.kept N.writes N.follows N.is_sound N.limit N.blocks nodes.old nodes.new }
     ensures reads { N.reads nodes.new ≤ N.reads nodes.old + 12 }
 {
@@ -202,7 +201,7 @@ fn is_sound_body<N: Nodes>(
     requires short { index < 2 ^ 13 }
     ensures exact { IfOk result (λ good. IsTrue good ↔ IsSoundBody capacity (N.node nodes.old) (slice_index pointers.now) index) }
     ensures why { IfErr result (λ fault. N.causes nodes.old nodes.new fault) }
-    ensures faults { IfErr result spec.IsLookFault }
+    ensures faults { IfErr result IsLookFault }
     ensures looks { OnlyLooks N.node N.kept N.writes N.follows N.is_sound N.limit N.blocks nodes.old nodes.new }
     ensures reads { N.reads nodes.new ≤ N.reads nodes.old + 13 }
 {
@@ -236,7 +235,7 @@ fn is_sound_at<N: Nodes>(
     requires count { length pointers.now ≡ SLOTS }
     ensures exact { IfOk result (λ good. IsTrue good ↔ spec.IsSoundAt capacity (N.node nodes.old) (slice_index pointers.now) index) }
     ensures why { IfErr result (λ fault. N.causes nodes.old nodes.new fault) }
-    ensures faults { IfErr result spec.IsLookFault }
+    ensures faults { IfErr result IsLookFault }
     ensures looks { OnlyLooks N.node N.kept N.writes N.follows N.is_sound N.limit N.blocks nodes.old nodes.new }
     ensures reads { N.reads nodes.new ≤ N.reads nodes.old + 13 }
 {
@@ -289,7 +288,7 @@ fn are_sound_names<N: Nodes>(
     requires count { length pointers.now ≡ SLOTS }
     ensures exact { IfOk result (λ good. (node : Option (List ℕ)) → spec.ArePartsOf node places.now pointers.now index → IsTrue good ↔ AreSoundNames capacity (N.node nodes.old) node) }
     ensures why { IfErr result (λ fault. N.causes nodes.old nodes.new fault) }
-    ensures faults { IfErr result spec.IsLookFault }
+    ensures faults { IfErr result IsLookFault }
     ensures looks { OnlyLooks N.node N.kept N.writes N.follows N.is_sound N.limit N.blocks nodes.old nodes.new }
     ensures reads { (node : Option (List ℕ)) → spec.ArePartsOf node places.now pointers.now index → N.reads nodes.new ≤ N.reads nodes.old + spec.name_reads node }
 {
@@ -317,7 +316,7 @@ pub fn look<N: Nodes>(
     requires capacity { 2 ^ 11 ≤ capacity }
     ensures exact { IfOk result (λ good. IsTrue good ↔ spec.IsAllowed capacity (N.node nodes.old) plain block) }
     ensures why { IfErr result (λ fault. N.causes nodes.old nodes.new fault) }
-    ensures faults { IfErr result spec.IsLookFault }
+    ensures faults { IfErr result IsLookFault }
     ensures looks { OnlyLooks N.node N.kept N.writes N.follows N.is_sound N.limit N.blocks nodes.old nodes.new }
     ensures reads { N.reads nodes.new ≤ N.reads nodes.old + spec.look_reads (N.node nodes.old block) }
 {

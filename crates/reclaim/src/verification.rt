@@ -2,25 +2,25 @@
 ghost use Rattle.std.specs.Prelude.{◌≡◌, ◌≢◌, ◌↔◌, ℕ, ◌+◌, ◌*◌, ◌^◌, ◌≤◌, ◌<◌, true, List, length, All, Contains, IsTrue, IfOk, IfErr, IsErrOf};
 ghost use Rattle.std.specs.List.{sum_by};
 ghost use Rattle.allocator.specs.Ring.{IsDataBlock};
-ghost use Rattle.node_format.specs.declared.places.Place.TheVariants.{Dir};
+ghost use Rattle.node_format.specs.declared.place.Place.TheVariants.{Dir};
 ghost use Rattle.block_trees.specs.Bodies.{Blocks};
 ghost use Rattle.block_trees.specs.Chains.{link_items};
 ghost use Rattle.block_trees.specs.Laws.{IsShallow};
 ghost use Rattle.directory.specs.Depths.{HasDirectories};
 ghost use Rattle.directory.specs.Lookups.{LeadsToDirectories};
 ghost use Rattle.block_trees.specs.Reached.{Reached};
-ghost use Rattle.node_store.specs.Faults.{IsReadFault};
+ghost use Rattle.node_store.specs.Faults.{IsLookFault, IsReadFault};
 ghost use Rattle.node_store.specs.Frames.{OnlyLooks};
-ghost use Rattle.reclaim.specs.Looks.{IsLookFault, IsAllowed, look_reads};
+ghost use Rattle.reclaim.specs.Looks.{IsAllowed, look_reads};
 ghost use Rattle.reclaim.specs.Passes.{IsPass, IsFinished};
 ghost use Rattle.reclaim.specs.Sound.{HoldsLink, IsPlain};
 ghost use Rattle.reclaim.specs.Verified.{AreRoots, HasCost};
 ghost use Rattle.fs_types.specs.declared.limits.TheConstants.{MAX_NAMES};
 
 use crate::looks::{holds_link, look};
-use crate::passes::{FIRST, Pass};
+use crate::pass::Pass;
 use directory::any_is_deeper;
-use fs_types::{Fault, MAX_NAMES};
+use fs_types::{ANCHORS, Fault, MAX_NAMES};
 use node_format::BODY_HEADER;
 use node_store::Nodes;
 use std::alloc::Global;
@@ -29,7 +29,7 @@ use std::alloc::Global;
 fn is_data_block(blocks: u32, block: u32) -> bool
     ensures { IsTrue result ↔ IsDataBlock blocks block }
 {
-    FIRST <= block && block < blocks
+    ANCHORS <= block && block < blocks
 }
 
 // Whether all blocks of a list are data blocks.

@@ -1,39 +1,30 @@
 -- What is written is read again.
-use Rattle.std.proofs.Common.{◌≡◌, ℕ, ◌<◌, ◌≤◌, ◌^◌, Bool, true, false, ltb, eqb, List, [], ◌∷◌, ◌++◌, length, Option, Some, refl, sym, ap, ◌∙◌, append_assoc, arith}
+use Rattle.std.proofs.Common.{◌≡◌, ℕ, ◌<◌, ◌≤◌, ◌^◌, Bool, true, false, ltb, eqb, List, [], ◌∷◌, ◌++◌, length, Some, refl, sym, ap, ◌∙◌, append_assoc, arith}
 use Rattle.std.proofs.lemmas.Bool.{ltb-true, lt-ltb, le-ltb, eqb-true, eq-eqb}
 use Rattle.std.proofs.lemmas.List.{append-nil, length-append, take_at, drop_at}
 use Rattle.std.specs.Prelude.{◌&&◌, ◌||◌, nat_lt}
 use Rattle.std.specs.List.{list_all, flat_map}
 use Rattle.std.specs.Str.{bytes_eq}
 use Rattle.byteorder.specs.Endian.{little_bytes}
-use Rattle.byteorder.specs.Numbers.{little_number-reads_back, length-bytes_low_first}
+use Rattle.fields.proofs.Found.{step}
+use Rattle.fields.proofs.NumberLaws.{number_again}
 use Rattle.fs_types.specs.Names.{Name, is_checkpoint_name}
-use Rattle.fs_types.specs.declared.calls.Version.{Version}
-use Rattle.flash_model.specs.declared.sizes.Geometry.{Geometry}
-use Rattle.record_format.specs.declared.records.Checkpoint.{Checkpoint}
+use Rattle.fs_types.specs.declared.call.Version.{Version}
+use Rattle.flash_model.specs.declared.geometry.Geometry.{Geometry}
+use Rattle.record_format.specs.declared.record.Checkpoint.{Checkpoint}
 use Rattle.fs_types.specs.declared.limits.TheConstants.{MAX_VERSIONS}
 use Rattle.record_format.specs.declared.formats.TheConstants.{FORMAT, OLD_FORMAT}
-use Rattle.record_format.specs.declared.records.Record.{Record}
-use Rattle.record_format.specs.declared.fronts.Front.{Front}
-use Rattle.record_format.specs.Fields.{◌>>=◌, number_at, name_at, version_at, checkpoint_at, block_at, many_at}
+use Rattle.record_format.specs.declared.record.Record.{Record}
+use Rattle.record_format.specs.declared.front.Front.{Front}
+use Rattle.record_format.specs.Items.{name_at, version_at, checkpoint_at, block_at, many_at}
 use Rattle.record_format.specs.Payloads.{flag, is_format, version_bytes, checkpoint_bytes, block_bytes, sizes_bytes, counts_bytes, lists_bytes, spelling, is_record, SizesFit, Fits, sizes_at, front_at, if_spelled, meaning_of}
 use Rattle.record_format.proofs.Many.{many_again}
 use Rattle.record_format.proofs.LawfulRecords.{both_true, and_true, counts_of, serials_below, bad_below}
-
-pub number_again : (n x : ℕ) (rest : List ℕ) → x < 256 ^ n → number_at n (little_bytes n x ++ rest) ≡ Some (x, rest)
-number_again n x rest lt =
-    let size : length (little_bytes n x) ≡ n = length-bytes_low_first 0 n x in
-    let long : ltb (length (little_bytes n x ++ rest)) n ≡ false = le-ltb _ _ (omega (arith, size, length-append (little_bytes n x) rest)) in
-    rw long (λ i. Some (little_number-reads_back n x rest lt i, drop_at (little_bytes n x) rest n size i))
 
 name_again : (name : Name) (rest : List ℕ) → is_checkpoint_name name ≡ true → name_at (length name) (name ++ rest) ≡ Some (name, rest)
 name_again name rest lawful =
     let long : ltb (length (name ++ rest)) (length name) ≡ false = le-ltb _ _ (omega (arith, length-append name rest)) in
     rw (long, take_at name rest (length name) refl, drop_at name rest (length name) refl, lawful) refl
-
--- a step that found something
-step : {A B : Type 0} (r : Option A) (x : A) (f : A → Option B) → r ≡ Some x → (r >>= f) ≡ f x
-step r x f e = rw e refl
 
 version_again : (version : Version ℕ) (rest : List ℕ) → (nat_lt version.serial (2 ^ 64) && nat_lt version.root (2 ^ 32)) ≡ true → version_at (version_bytes version ++ rest) ≡ Some (version, rest)
 unfolding version_at

@@ -5,15 +5,17 @@ use Rattle.std.proofs.lemmas.List.{drop-drop, get_or-drop}
 use Rattle.std.specs.Prelude.{◌||◌, ◌==◌, not, ◌*◌}
 use Rattle.std.specs.Option.{ok_or}
 use Rattle.byteorder.specs.Endian.{little_from, little_number}
-use Rattle.fs_types.specs.declared.faults.Fault.{Fault}
-use Rattle.fs_types.specs.declared.faults.Fault.TheVariants.{Damaged, BadGeometry}
-use Rattle.flash_model.specs.declared.sizes.Geometry.{Geometry}
-use Rattle.record_format.specs.declared.records.Record.{Record}
-use Rattle.record_format.specs.Fields.{number_at, version_at, checkpoint_at, block_at, many_at}
+use Rattle.fields.specs.Numbers.{number_at}
+use Rattle.fields.proofs.Found.{bind_some, passed, some_is}
+use Rattle.fs_types.specs.declared.fault.Fault.{Fault}
+use Rattle.fs_types.specs.declared.fault.Fault.TheVariants.{Damaged, BadGeometry}
+use Rattle.flash_model.specs.declared.geometry.Geometry.{Geometry}
+use Rattle.record_format.specs.declared.record.Record.{Record}
+use Rattle.record_format.specs.Items.{version_at, checkpoint_at, block_at, many_at}
 use Rattle.record_format.specs.Payloads.{is_format, shortest, longest, sizes_at, front_at, meaning_of, tells_sizes}
 use Rattle.record_format.specs.Laws.{MeansItsFlash}
 use Rattle.record_format.proofs.LawfulRecords.{both_true}
-use Rattle.record_format.proofs.PayloadLaws.{bind_some, passed, some_is, meaning_says}
+use Rattle.record_format.proofs.PayloadLaws.{meaning_says}
 
 -- ---- a number at a place
 

@@ -4,9 +4,9 @@ use Rattle.std.proofs.lemmas.Bool.{ltb-true, leb-true}
 use Rattle.std.specs.Prelude.{◌&&◌, nat_lt}
 use Rattle.std.specs.List.{list_all}
 use Rattle.fs_types.specs.Names.{is_checkpoint_name}
-use Rattle.fs_types.specs.declared.limits.TheConstants.{MIN_VERSIONS, MAX_VERSIONS}
+use Rattle.fs_types.specs.declared.limits.TheConstants.{ANCHORS, MAX_VERSIONS, MIN_VERSIONS}
 use Rattle.record_format.specs.declared.formats.TheConstants.{OLD_FORMAT, OLD_MAX_VERSIONS}
-use Rattle.record_format.specs.declared.records.Record.{Record}
+use Rattle.record_format.specs.declared.record.Record.{Record}
 use Rattle.record_format.specs.Payloads.{is_format, most_versions, is_record, has_limit, has_counts, has_versions, has_checkpoints}
 
 pub both_true : (a b : Bool) → (a && b) ≡ true → (a ≡ true) × (b ≡ true)
@@ -29,7 +29,7 @@ pub record HasCounts (r : Record) : Type 0 where
   pub cursor : r.cursor < length r.versions
   pub checkpoints : length r.checkpoints ≤ 16
   pub bad : length r.bad ≤ 256
-  pub last_least : 8 ≤ r.last
+  pub last_least : ANCHORS ≤ r.last
   pub last_most : r.last < r.geometry.blocks
 
 -- no format keeps more versions than may be kept
@@ -44,7 +44,7 @@ pub counts_of : (r : Record) → is_record r ≡ true → HasCounts r
 counts_of r lawful =
     let h = (both_true (has_counts r) _ lawful).0 in
     let a = both_true _ (nat_lt r.last r.geometry.blocks) h in
-    let b = both_true _ (leb 8 r.last) a.0 in
+    let b = both_true _ (leb ANCHORS r.last) a.0 in
     let c = both_true _ (leb (length r.bad) 256) b.0 in
     let d = both_true _ (leb (length r.checkpoints) 16) c.0 in
     let e = both_true _ (nat_lt r.cursor (length r.versions)) d.0 in

@@ -4,7 +4,8 @@ use Rattle.std.proofs.lemmas.List.{append-nil}
 use Rattle.std.specs.List.{flat_map, list_all}
 use Rattle.std.proofs.Common.{Bool, true, false}
 use Rattle.std.specs.Prelude.{◌&&◌}
-use Rattle.record_format.specs.Fields.{◌>>=◌, many_at}
+use Rattle.fields.specs.Numbers.{◌>>=◌}
+use Rattle.record_format.specs.Items.{many_at}
 
 -- items that are read come after those that were read before
 abbrev pub onto : {X : Type 0} → List X → Option (List X × List ℕ) → Option (List X × List ℕ)

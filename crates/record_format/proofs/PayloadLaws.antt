@@ -1,5 +1,5 @@
 -- The laws of payloads.
-use Rattle.std.proofs.Common.{◌≡◌, ℕ, ◌+◌, ◌*◌, ◌≤◌, ◌^◌, ◌==◌, Bool, true, false, cond, ltb, List, [], ◌∷◌, ◌++◌, length, Option, Some, None, Result, Err, refl, sym, ap, subst, ◌∙◌, arith}
+use Rattle.std.proofs.Common.{◌≡◌, ℕ, ◌+◌, ◌*◌, ◌≤◌, ◌^◌, ◌==◌, Bool, true, false, cond, ltb, List, [], ◌∷◌, ◌++◌, length, Option, Some, Result, Err, refl, sym, ap, subst, ◌∙◌, arith}
 use Rattle.std.proofs.lemmas.Bool.{le-ltb, eq-eqb}
 use Rattle.std.proofs.lemmas.List.{length-append}
 use Rattle.std.specs.Prelude.{◌&&◌, ◌||◌, not}
@@ -7,32 +7,20 @@ use Rattle.std.specs.List.{list_all, flat_map}
 use Rattle.std.specs.Str.{bytes_eq}
 use Rattle.byteorder.specs.Endian.{little_bytes, little_from}
 use Rattle.byteorder.specs.Numbers.{little_number-reads_back}
+use Rattle.fields.specs.Numbers.{number_at}
+use Rattle.fields.proofs.Found.{bind_some, passed, some_is}
 use Rattle.fs_types.specs.Names.{is_checkpoint_name}
-use Rattle.fs_types.specs.declared.faults.Fault.{Fault}
-use Rattle.fs_types.specs.declared.faults.Fault.TheVariants.{Damaged, BadGeometry}
+use Rattle.fs_types.specs.declared.fault.Fault.{Fault}
+use Rattle.fs_types.specs.declared.fault.Fault.TheVariants.{Damaged, BadGeometry}
 use Rattle.std.specs.Option.{ok_or}
-use Rattle.record_format.specs.declared.records.Checkpoint.{Checkpoint}
+use Rattle.record_format.specs.declared.record.Checkpoint.{Checkpoint}
 use Rattle.fs_types.specs.declared.limits.TheConstants.{MAX_VERSIONS}
-use Rattle.record_format.specs.declared.records.Record.{Record}
-use Rattle.record_format.specs.Fields.{◌>>=◌, number_at, version_at, checkpoint_at, block_at, many_at}
+use Rattle.record_format.specs.declared.record.Record.{Record}
+use Rattle.record_format.specs.Items.{version_at, checkpoint_at, block_at, many_at}
 use Rattle.record_format.specs.Payloads.{is_format, longest, shortest, version_bytes, checkpoint_bytes, block_bytes, sizes_bytes, counts_bytes, lists_bytes, spelling, payload_bytes, is_record, SizesFit, sizes_at, front_at, if_spelled, meaning_of, tells_sizes}
 use Rattle.record_format.specs.Laws.{Says, MeaningSays, SaysMeaning, OneMeaning, WrittenIsRead, IsShort}
 use Rattle.record_format.proofs.LawfulRecords.{both_true, counts_of, name_length}
 use Rattle.record_format.proofs.Again.{bytes_eq-true, format_fits, spelling_means}
-
-pub bind_some : {A B : Type 0} (r : Option A) (f : A → Option B) (y : B) → (r >>= f) ≡ Some y → (x : A) × (r ≡ Some x) × (f x ≡ Some y)
-bind_some None f y e = absurd cc
-bind_some (Some x) f y e = (x, refl, e)
-
-pub passed : {A : Type 0} (b : Bool) (r : Option A) (y : A) → cond b r None ≡ Some y → (b ≡ true) × (r ≡ Some y)
-passed true r y e = (refl, e)
-passed false r y e = absurd cc
-
-abbrev pub found : {A : Type 0} → A → Option A
-found x = Some x
-
-pub some_is : {A : Type 0} (x y : A) → found x ≡ found y → x ≡ y
-some_is x y e = cc
 
 spelled_says : (sequence one two : ℕ) (bytes : List ℕ) (read r : Record) → read.sequence ≡ sequence → if_spelled read one two bytes ≡ Some r → Says bytes r × (r.sequence ≡ sequence)
 spelled_says sequence one two bytes read r same e =

@@ -1,6 +1,6 @@
 -- The law of formats.
 use Rattle.std.specs.Prelude.{◌≡◌, true}
-use Rattle.record_format.specs.declared.records.Record.{Record}
+use Rattle.record_format.specs.declared.record.Record.{Record}
 use Rattle.record_format.specs.Payloads.{is_record, written}
 
 -- a record of any format that is read may be written

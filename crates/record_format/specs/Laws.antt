@@ -1,10 +1,10 @@
 -- The laws of payloads and of pages.
 use Rattle.std.specs.Prelude.{◌≡◌, ℕ, ◌+◌, ◌<◌, ◌≤◌, ◌^◌, true, Some, Ok, List, length}
-use Rattle.flash_model.specs.declared.sizes.Geometry.{Geometry}
+use Rattle.flash_model.specs.declared.geometry.Geometry.{Geometry}
 use Rattle.record_format.specs.Payloads.{is_record, Fits, spelling, payload_bytes, meaning_of, payload_at, longest}
 use Rattle.record_format.specs.Pages.{HeadFits, head_of, head_size, used_bytes, page_bytes}
-use Rattle.record_format.specs.declared.pages.PageHead.{PageHead}
-use Rattle.record_format.specs.declared.records.Record.{Record}
+use Rattle.record_format.specs.declared.page_head.PageHead.{PageHead}
+use Rattle.record_format.specs.declared.record.Record.{Record}
 
 -- the payload says this record: it is a spelling of it, with some numbers that are not looked at
 pub record Says (bytes : List ℕ) (r : Record) : Type 0 where

@@ -1,5 +1,5 @@
 pub mod Pages
-pub mod Fields
+pub mod Items
 pub mod Payloads
 pub mod Laws
 pub mod FormatLaw

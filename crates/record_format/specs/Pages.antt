@@ -1,7 +1,7 @@
 -- The header of a page of a record: 20 bytes; numbers are little-endian.
 use Rattle.std.specs.Prelude.{ℕ, ◌+◌, ◌-◌, ◌<◌, ◌^◌, ◌==◌, Option, Some, None, List, ◌++◌, length, take, drop, replicate, codes, if◌then◌else◌}
 use Rattle.byteorder.specs.Endian.{little_from, little_bytes}
-use Rattle.record_format.specs.declared.pages.PageHead.{PageHead}
+use Rattle.record_format.specs.declared.page_head.PageHead.{PageHead}
 
 -- the bytes of the header
 abbrev pub head_size : ℕ

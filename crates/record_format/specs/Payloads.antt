@@ -5,17 +5,18 @@ use Rattle.std.specs.Option.{ok_or}
 use Rattle.std.specs.Ordering.{is_lt}
 use Rattle.std.specs.Str.{bytes_eq}
 use Rattle.byteorder.specs.Endian.{little_from, little_bytes}
-use Rattle.fs_types.specs.declared.limits.TheConstants.{MIN_VERSIONS, MAX_VERSIONS, MAX_CHECKPOINTS, MAX_BAD_BLOCKS}
+use Rattle.fields.specs.Numbers.{◌>>=◌, byte_at, number_at}
+use Rattle.fs_types.specs.declared.limits.TheConstants.{ANCHORS, MAX_BAD_BLOCKS, MAX_CHECKPOINTS, MAX_VERSIONS, MIN_VERSIONS}
 use Rattle.record_format.specs.declared.formats.TheConstants.{FORMAT, OLD_FORMAT, OLD_MAX_VERSIONS}
 use Rattle.fs_types.specs.Names.{Name, name_cmp, is_checkpoint_name}
-use Rattle.fs_types.specs.declared.faults.Fault.{Fault}
-use Rattle.fs_types.specs.declared.faults.Fault.TheVariants.{Damaged, BadGeometry}
-use Rattle.fs_types.specs.declared.calls.Version.{Version}
-use Rattle.flash_model.specs.declared.sizes.Geometry.{Geometry}
-use Rattle.record_format.specs.declared.records.Checkpoint.{Checkpoint}
-use Rattle.record_format.specs.declared.records.Record.{Record}
-use Rattle.record_format.specs.declared.fronts.Front.{Front}
-use Rattle.record_format.specs.Fields.{◌>>=◌, byte_at, number_at, version_at, checkpoint_at, block_at, many_at}
+use Rattle.fs_types.specs.declared.fault.Fault.{Fault}
+use Rattle.fs_types.specs.declared.fault.Fault.TheVariants.{Damaged, BadGeometry}
+use Rattle.fs_types.specs.declared.call.Version.{Version}
+use Rattle.flash_model.specs.declared.geometry.Geometry.{Geometry}
+use Rattle.record_format.specs.declared.record.Checkpoint.{Checkpoint}
+use Rattle.record_format.specs.declared.record.Record.{Record}
+use Rattle.record_format.specs.declared.front.Front.{Front}
+use Rattle.record_format.specs.Items.{version_at, checkpoint_at, block_at, many_at}
 
 -- the formats that are read
 abbrev pub is_format : ℕ → Bool
@@ -98,7 +99,7 @@ has_limit r = is_format r.format && nat_le MIN_VERSIONS r.limit && nat_le r.limi
 abbrev pub has_counts : Record → Bool
 has_counts r =
     has_limit r && nat_le (length r.versions) r.limit && nat_lt r.cursor (length r.versions)
-    && nat_le (length r.checkpoints) MAX_CHECKPOINTS && nat_le (length r.bad) MAX_BAD_BLOCKS && nat_le 8 r.last && nat_lt r.last r.geometry.blocks
+    && nat_le (length r.checkpoints) MAX_CHECKPOINTS && nat_le (length r.bad) MAX_BAD_BLOCKS && nat_le ANCHORS r.last && nat_lt r.last r.geometry.blocks
 
 -- versions from serial 1 on, below the next serial, in order
 abbrev pub has_versions : Record → Bool

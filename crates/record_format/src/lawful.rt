@@ -4,9 +4,8 @@ ghost use Rattle.std.specs.List.{list_all};
 ghost use Rattle.record_format.specs.Payloads as payload;
 
 use crate::formats::{is_format, most_versions};
-use crate::records::{Checkpoint, Record};
-use flash_model::FIRST_DATA_BLOCK;
-use fs_types::{MAX_BAD_BLOCKS, MAX_CHECKPOINTS, MIN_VERSIONS, Version};
+use crate::record::{Checkpoint, Record};
+use fs_types::{ANCHORS, MAX_BAD_BLOCKS, MAX_CHECKPOINTS, MIN_VERSIONS, Version};
 
 impl Record {
     /// Whether a payload may say this record: its format is one that is read, the counts are within their limits, and versions,
@@ -34,7 +33,7 @@ impl Record {
             && (self.cursor as usize) < versions
             && self.checkpoints.as_slice().len() <= MAX_CHECKPOINTS
             && self.bad.as_slice().len() <= MAX_BAD_BLOCKS
-            && FIRST_DATA_BLOCK <= self.last
+            && ANCHORS <= self.last
             && self.last < self.geometry.blocks
     }
 

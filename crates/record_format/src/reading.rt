@@ -2,16 +2,15 @@
 ghost use Rattle.std.specs.Prelude.{◌≡◌, ◌≢◌, ℕ, true, ◌≤◌, ◌+◌, ◌<◌, List, ◌++◌, length, Ok, Err, IfOk, IfErr};
 ghost use Rattle.std.specs.Option.{option_map};
 ghost use Rattle.std.specs.Str.{bytes_eq};
-ghost use Rattle.byteorder.specs.Endian.{little_from};
-ghost use Rattle.fs_types.specs.declared.faults.Fault.{Fault};
-ghost use Rattle.record_format.specs.Fields as spec;
+ghost use Rattle.fs_types.specs.declared.fault.Fault.{Fault};
+ghost use Rattle.record_format.specs.Items as spec;
 ghost use Rattle.record_format.specs.Payloads as payload;
 
-use crate::fields::{checkpoint_of, front_of, number_of, sizes_of, version_of};
 use crate::formats::is_format;
-use crate::records::{Checkpoint, LONGEST_PAYLOAD, Record};
+use crate::items::{checkpoint_of, front_of, sizes_of, version_of};
+use crate::record::{Checkpoint, LONGEST_PAYLOAD, Record};
 use crate::writing::spell;
-use byteorder::{ByteOrder, LittleEndian};
+use fields::{read_u32, u32_at};
 use flash_model::Geometry;
 use fs_types::{Fault, Sequence, Version};
 use std::alloc::{AllocError, Global};
@@ -67,7 +66,7 @@ fn blocks_of(
     let mut blocks = Sequence::new(alloc);
     let mut rest = bytes;
     for _ in 0..count {
-        let Some((block, after)) = number_of(rest) else {
+        let Some((block, after)) = read_u32(rest) else {
             return Ok(None);
         };
         blocks.push(block)?;
@@ -102,7 +101,7 @@ fn if_spelled(read: Record, one: u8, two: u16, bytes: &[u8]) -> Option<Record>
 fn record_of(alloc: Global, sequence: u64, bytes: &[u8]) -> Result<Option<Record>, AllocError>
     ensures { IfOk result (λ found. found ≡ payload.meaning_of sequence bytes.now) }
 {
-    let Some((format, rest)) = number_of(bytes) else {
+    let Some((format, rest)) = read_u32(bytes) else {
         return Ok(None);
     };
     let Some((geometry, rest)) = sizes_of(rest) else {
@@ -136,20 +135,13 @@ fn record_of(alloc: Global, sequence: u64, bytes: &[u8]) -> Result<Option<Record
     Ok(if_spelled(record, front.one, front.two, bytes))
 }
 
-fn number_at(bytes: &[u8], place: usize) -> u32
-    requires { place + 4 ≤ length bytes.now }
-    ensures { result ≡ little_from place 4 bytes.now }
-{
-    LittleEndian::read_u32(&bytes[place..])
-}
-
 fn tells_sizes(geometry: Geometry, bytes: &[u8]) -> bool
     requires { 16 ≤ length bytes.now }
     ensures { result ≡ payload.tells_sizes geometry bytes.now }
 {
-    number_at(bytes, 4) == geometry.page
-        && number_at(bytes, 8) == geometry.pages
-        && number_at(bytes, 12) == geometry.blocks
+    u32_at(bytes, 4) == geometry.page
+        && u32_at(bytes, 8) == geometry.pages
+        && u32_at(bytes, 12) == geometry.blocks
 }
 
 /// The record that a payload means on a flash of these sizes, with the sequence of its pages.
@@ -166,7 +158,7 @@ pub fn read_payload(
     ensures ok { IfOk result (λ found. payload.payload_at geometry sequence bytes.now ≡ Ok found) }
     ensures err { IfErr result (λ fault. fault ≢ Fault.NoMemory → payload.payload_at geometry sequence bytes.now ≡ Err fault) }
 {
-    if bytes.len() < SHORTEST || !is_format(LittleEndian::read_u32(bytes)) {
+    if bytes.len() < SHORTEST || !is_format(u32_at(bytes, 0)) {
         return Err(Fault::Damaged);
     }
     if !tells_sizes(geometry, bytes) {
@@ -185,7 +177,7 @@ pub fn refuse_long(geometry: Geometry, front: &[u8]) -> Fault
     requires { length front.now ≡ payload.longest }
     ensures { (sequence : ℕ) (rest : List ℕ) → 0 < length rest → payload.payload_at geometry sequence (front.now ++ rest) ≡ Err result }
 {
-    if is_format(number_at(front, 0)) && !tells_sizes(geometry, front) {
+    if is_format(u32_at(front, 0)) && !tells_sizes(geometry, front) {
         Fault::BadGeometry
     } else {
         Fault::Damaged

@@ -7,8 +7,9 @@ ghost use Rattle.fs_types.specs.Names.{is_checkpoint_name};
 ghost use Rattle.record_format.specs.Payloads as payload;
 
 use crate::formats::FORMAT;
-use crate::records::{Checkpoint, Payload, Record};
+use crate::record::{Checkpoint, Payload, Record};
 use arrayvec::ArrayVec;
+use fields::{put_u16, put_u32, put_u64};
 use flash_model::Geometry;
 use fs_types::Version;
 
@@ -20,49 +21,15 @@ fn push_bytes(out: &mut Payload, bytes: &[u8])
     out.try_extend_from_slice(bytes).unwrap();
 }
 
-fn push_byte(out: &mut Payload, byte: u8)
-    requires { array_vec_len out.old + 1 ≤ payload.longest }
-    ensures items { out.new.items ≡ out.old.items ++ byte ∷ [] }
-    ensures len { array_vec_len out.new ≡ array_vec_len out.old + 1 }
-{
-    out.push(byte);
-}
-
-fn push_short(out: &mut Payload, number: u16)
-    requires { array_vec_len out.old + 2 ≤ payload.longest }
-    ensures items { out.new.items ≡ out.old.items ++ little_bytes 2 number }
-    ensures len { array_vec_len out.new ≡ array_vec_len out.old + 2 }
-{
-    push_bytes(out, &number.to_le_bytes());
-}
-
-fn push_number(out: &mut Payload, number: u32)
-    requires { array_vec_len out.old + 4 ≤ payload.longest }
-    ensures items { out.new.items ≡ out.old.items ++ little_bytes 4 number }
-    ensures len { array_vec_len out.new ≡ array_vec_len out.old + 4 }
-    ensures fits { number < 2 ^ 32 }
-{
-    push_bytes(out, &number.to_le_bytes());
-}
-
-fn push_long(out: &mut Payload, number: u64)
-    requires { array_vec_len out.old + 8 ≤ payload.longest }
-    ensures items { out.new.items ≡ out.old.items ++ little_bytes 8 number }
-    ensures len { array_vec_len out.new ≡ array_vec_len out.old + 8 }
-    ensures fits { number < 2 ^ 64 }
-{
-    push_bytes(out, &number.to_le_bytes());
-}
-
 fn push_sizes(out: &mut Payload, geometry: Geometry)
     requires { array_vec_len out.old + 12 ≤ payload.longest }
     ensures items { out.new.items ≡ out.old.items ++ payload.sizes_bytes geometry }
     ensures len { array_vec_len out.new ≡ array_vec_len out.old + 12 }
     ensures fits { payload.SizesFit geometry }
 {
-    push_number(out, geometry.page);
-    push_number(out, geometry.pages);
-    push_number(out, geometry.blocks);
+    put_u32(out, geometry.page);
+    put_u32(out, geometry.pages);
+    put_u32(out, geometry.blocks);
 }
 
 /// 1 for true.
@@ -77,8 +44,8 @@ fn push_places(out: &mut Payload, limit: u16, cursor: u16)
     ensures items { out.new.items ≡ out.old.items ++ (little_bytes 2 limit ++ little_bytes 2 cursor) }
     ensures len { array_vec_len out.new ≡ array_vec_len out.old + 4 }
 {
-    push_short(out, limit);
-    push_short(out, cursor);
+    put_u16(out, limit);
+    put_u16(out, cursor);
 }
 
 fn push_ends(out: &mut Payload, bad: u16, two: u16, next: u64, last: u32)
@@ -87,10 +54,10 @@ fn push_ends(out: &mut Payload, bad: u16, two: u16, next: u64, last: u32)
     ensures len { array_vec_len out.new ≡ array_vec_len out.old + 16 }
     ensures fits { next < 2 ^ 64 }
 {
-    push_short(out, bad);
-    push_short(out, two);
-    push_long(out, next);
-    push_number(out, last);
+    put_u16(out, bad);
+    put_u16(out, two);
+    put_u64(out, next);
+    put_u32(out, last);
 }
 
 fn push_versions(out: &mut Payload, versions: &[Version<u32>])
@@ -100,8 +67,8 @@ fn push_versions(out: &mut Payload, versions: &[Version<u32>])
     ensures fits { list_all (λ version. nat_lt version.root (2 ^ 32)) versions.now ≡ true }
 {
     for version in versions {
-        push_long(out, version.serial);
-        push_number(out, version.root);
+        put_u64(out, version.serial);
+        put_u32(out, version.root);
     }
 }
 
@@ -113,9 +80,9 @@ fn push_checkpoints(out: &mut Payload, checkpoints: &[Checkpoint])
 {
     for checkpoint in checkpoints {
         let name = checkpoint.name.as_bytes();
-        push_byte(out, name.len() as u8);
+        out.push(name.len() as u8);
         push_bytes(out, name);
-        push_number(out, checkpoint.root);
+        put_u32(out, checkpoint.root);
     }
 }
 
@@ -125,7 +92,7 @@ fn push_blocks(out: &mut Payload, blocks: &[u32])
     ensures len { array_vec_len out.new ≤ array_vec_len out.old + 4 * length blocks.now }
 {
     for block in blocks {
-        push_number(out, *block);
+        put_u32(out, *block);
     }
 }
 
@@ -153,7 +120,7 @@ pub(crate) fn spell(saved: &Record, format: u32, bad: &[u32], one: u8, two: u16)
     ensures fits { payload.Fits (record saved.now { format = format; bad = bad.now }) }
 {
     let mut out = ArrayVec::new();
-    push_number(&mut out, format);
+    put_u32(&mut out, format);
     push_sizes(&mut out, saved.geometry);
     push_counts(&mut out, saved, bad, one, two);
     push_versions(&mut out, saved.versions.as_slice());

@@ -1,7 +1,7 @@
 //! What a row writes on a flash in memory with a number of nodes in memory.
 ghost use Rattle.std.specs.Prelude.{IfSome, IfOk};
 ghost use Rattle.flash_model.specs.Simulation.{device_of};
-ghost use Rattle.upkeep.specs.Systems.{IsSystem};
+ghost use Rattle.system.specs.Systems.{IsSystem};
 
 use crate::error::RowError;
 use crate::row::{Row, Side};

@@ -3,7 +3,7 @@ use crate::error::RowError;
 use crate::look::{Claim, Look};
 use crate::tool_calls::ToolCall;
 use flash_model::{FaultKind, Geometry, PlannedFault};
-use script::kind_of;
+use script::{DEFAULT_SIZES, DEFAULT_VERSIONS, kind_of};
 use std::alloc::Global;
 
 /// Where a row is run.
@@ -66,19 +66,12 @@ pub struct Row<'a> {
     pub looks: Vec<Look<'a>>,
 }
 
-/// The sizes that a row has where it does not say others.
-const DEFAULT_SIZES: Geometry = Geometry {
-    page: 256,
-    pages: 16,
-    blocks: 32,
-};
-
 impl<'a> Row<'a> {
     /// Reads the text of a row as far as it runs on a side.
     pub fn read(alloc: Global, text: &'a str, side: Side) -> Result<Self, RowError> {
         let mut row = Row {
             geometry: DEFAULT_SIZES,
-            history: 8,
+            history: DEFAULT_VERSIONS,
             image: None,
             plan: Vec::new(alloc),
             steps: Vec::new(alloc),

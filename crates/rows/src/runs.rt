@@ -9,7 +9,7 @@ use flash_model::SimFlash;
 use fs_types::{Answer, Fault, Reply};
 use plain_machine::{PlainMachine, Space};
 use script::{Line, LineAnswer, print_answer, read_line};
-use shell::{ImageFiles, run_script, tool};
+use shell::{ImageFiles, Sources, run_script, tool};
 use std::alloc::{AllocError, Global};
 use undofs::format;
 
@@ -126,7 +126,7 @@ fn script_of(alloc: Global, row: &Row<'_>) -> Result<String, AllocError> {
 
 /// Runs a row by the program on an image of this name, which is put there or which the program makes
 /// first, makes the calls that come after its lines, and looks at the flash of the image.
-pub fn run_on_image<F: ImageFiles>(
+pub fn run_on_image<F: ImageFiles + Sources>(
     files: &mut F,
     alloc: Global,
     name: &str,
@@ -160,7 +160,7 @@ fn put_image<F: ImageFiles>(
 }
 
 /// Makes an image of the sizes of a row.
-fn make_image<F: ImageFiles>(
+fn make_image<F: ImageFiles + Sources>(
     files: &mut F,
     alloc: Global,
     name: &str,
@@ -202,7 +202,7 @@ fn add_size(
 
 /// Makes the calls of the program that a row has after its lines, and appends what they give and the
 /// row does not want.
-fn make_calls<F: ImageFiles>(
+fn make_calls<F: ImageFiles + Sources>(
     files: &mut F,
     alloc: Global,
     name: &str,
@@ -219,7 +219,7 @@ fn make_calls<F: ImageFiles>(
 }
 
 /// Calls the program, and spells what it gives.
-fn give<F: ImageFiles>(
+fn give<F: ImageFiles + Sources>(
     files: &mut F,
     alloc: Global,
     words: &[String],
@@ -237,7 +237,7 @@ fn give<F: ImageFiles>(
 }
 
 /// Calls the program, which has to run to its end, and gives what it writes.
-fn call<F: ImageFiles>(
+fn call<F: ImageFiles + Sources>(
     files: &mut F,
     alloc: Global,
     words: &[String],

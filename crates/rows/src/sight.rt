@@ -3,7 +3,8 @@ use crate::error::RowError;
 use crate::look::{Claim, Look};
 use crate::row::{Row, Side};
 use allocator::Ring;
-use flash_model::{FIRST_DATA_BLOCK, Flash, PageView, SimFlash};
+use flash_model::{Flash, PageView, SimFlash};
+use fs_types::ANCHORS;
 use record_format::PageHead;
 use std::alloc::Global;
 
@@ -86,7 +87,7 @@ impl Sight<'_> {
     /// The sequence of the valid record that begins on a page of an anchor.
     fn record_at(self, first: u32) -> Option<u64> {
         let head = self.head_at(first)?;
-        if head.index != 0 || FIRST_DATA_BLOCK <= self.block_of(first)? {
+        if head.index != 0 || ANCHORS <= self.block_of(first)? {
             return None;
         }
         for index in 1..head.count {

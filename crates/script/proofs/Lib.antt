@@ -1,4 +1,5 @@
 mod NumberLemmas
+mod PrintedLemmas
 mod TextLemmas
 mod ViewLemmas
 mod SpelledLemmas

@@ -5,8 +5,8 @@ use Rattle.std.specs.Io.KnownBytes.{Consumes}
 use Rattle.std.proofs.lemmas.Bool.Decides.{nat_tests}
 use Rattle.std.proofs.lemmas.List.Elements.{recursion_from_All}
 use Rattle.script.specs.Streams.{lines_of, TakesLine, TakesLines, Takes, BeginsWithLines}
-use Rattle.script.specs.declared.streams.Taken.{Taken}
-use Rattle.script.specs.declared.streams.Taken.TheVariants.{Line, TooLong, End}
+use Rattle.script.specs.declared.line_reader.Taken.{Taken}
+use Rattle.script.specs.declared.line_reader.Taken.TheVariants.{Line, TooLong, End}
 
 abbrev NoLf : List ℕ → Type 0
 NoLf = AllByRecursion (λ b. b ≢ 10)

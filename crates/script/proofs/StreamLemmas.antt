@@ -7,8 +7,8 @@ use Rattle.std.proofs.KnownBytes.{Appends-trans, Consumes-trans}
 use Rattle.std.specs.Io.KnownBytes.{Consumes, IsAtEnd, Appends}
 use Rattle.std.specs.Prelude.{IfOk, MatchResult}
 use Rattle.script.specs.Streams.{IsWithoutLf, Takes, TakesPart, TakesRest, TakesLine}
-use Rattle.script.specs.declared.streams.Taken.{Taken}
-use Rattle.script.specs.declared.streams.Taken.TheVariants.{TooLong}
+use Rattle.script.specs.declared.line_reader.Taken.{Taken}
+use Rattle.script.specs.declared.line_reader.Taken.TheVariants.{TooLong}
 
 -- the buffer holds what was taken of the line so far
 pub record IsFilling (old new : Option (List ℕ)) (line : List ℕ) (capacity : ℕ) : Type 0 where

@@ -1,7 +1,7 @@
 -- The kinds of planned faults, by their words.
 use Rattle.std.specs.Prelude.{ℕ, List, [], ◌∷◌, codes}
-use Rattle.flash_model.specs.declared.plans.FaultKind.{FaultKind}
-use Rattle.flash_model.specs.declared.plans.FaultKind.TheVariants.{ReadFail, ReadCut, ProgramFail, ProgramCutNone, ProgramCutWhole, ProgramCutTorn, EraseFail, EraseCutNone, EraseCutWhole, EraseCutTorn}
+use Rattle.flash_model.specs.declared.fault_kind.FaultKind.{FaultKind}
+use Rattle.flash_model.specs.declared.fault_kind.FaultKind.TheVariants.{ReadFail, ReadCut, ProgramFail, ProgramCutNone, ProgramCutWhole, ProgramCutTorn, EraseFail, EraseCutNone, EraseCutWhole, EraseCutTorn}
 
 -- each word, and the kind that it spells
 abbrev pub kinds : List (List ℕ × FaultKind)

@@ -5,17 +5,17 @@ use Rattle.std.specs.Map.{lookup}
 use Rattle.std.specs.Option.{option_map}
 use Rattle.std.specs.Str.{bytes_eq}
 use Rattle.fs_types.specs.Names.{Path, path_refusal, components_of, is_checkpoint_name}
-use Rattle.fs_types.specs.declared.faults.Fault.{Fault}
-use Rattle.fs_types.specs.declared.faults.Fault.TheVariants.{Invalid}
-use Rattle.fs_types.specs.declared.calls.View.{View}
-use Rattle.fs_types.specs.declared.calls.View.TheVariants.{Present, Serial, Checkpoint as checkpoint_view}
-use Rattle.fs_types.specs.declared.calls.Call.TheVariants.{Open, Close, Pread, Pwrite, Ftruncate, Rename, Unlink, Mkdir, Rmdir, Fsync, Sync, Stat, List as list_call, ReadAt, Log, Df, Undo, Redo, Goto, Rollback, Forget, Checkpoint, RemoveCheckpoint, Begin, End, Abandon}
+use Rattle.fs_types.specs.declared.fault.Fault.{Fault}
+use Rattle.fs_types.specs.declared.fault.Fault.TheVariants.{Invalid}
+use Rattle.fs_types.specs.declared.call.View.{View}
+use Rattle.fs_types.specs.declared.call.View.TheVariants.{Present, Serial, Checkpoint as checkpoint_view}
+use Rattle.fs_types.specs.declared.call.Call.TheVariants.{Open, Close, Pread, Pwrite, Ftruncate, Rename, Unlink, Mkdir, Rmdir, Fsync, Sync, Stat, List as list_call, ReadAt, Log, Df, Undo, Redo, Goto, Rollback, Forget, Checkpoint, RemoveCheckpoint, Begin, End, Abandon}
 use Rattle.script.specs.Kinds.{kinds}
 use Rattle.script.specs.Verbs.{verbs}
-use Rattle.script.specs.declared.verbs.Verb.{Verb}
+use Rattle.script.specs.declared.verb.Verb.{Verb}
 use Rattle.script.specs.Words.{given, number_from, text_from, data_from}
-use Rattle.script.specs.declared.lines.Line.{Line}
-use Rattle.script.specs.declared.lines.Line.TheVariants.{Call, ReclaimStep, Restart, PlanFault, Refused, Syntax}
+use Rattle.script.specs.declared.line.Line.{Line}
+use Rattle.script.specs.declared.line.Line.TheVariants.{Call, ReclaimStep, Restart, PlanFault, Refused, Syntax}
 use Rattle.script.specs.declared.misread.Misread.{Misread}
 use Rattle.script.specs.declared.misread.Misread.TheVariants.{Syntax as no_form, Refused as refused}
 use Rattle.script.specs.declared.views.NamedView.{NamedView}

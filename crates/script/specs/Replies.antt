@@ -3,16 +3,16 @@ use Rattle.std.specs.Prelude.{ℕ, ◌/◌, ◌%◌, ◌==◌, Bool, true, false
 use Rattle.std.specs.Fmt.{digit_glyph}
 use Rattle.std.specs.List.{flat_map, enumerate_from}
 use Rattle.fs_types.specs.Faults.{number_of, word_of}
-use Rattle.fs_types.specs.declared.faults.Fault.{Fault}
-use Rattle.fs_types.specs.declared.calls.Reply.{Reply}
-use Rattle.fs_types.specs.declared.calls.Reply.TheVariants.{Empty, Fd, Bytes, Count, Stat as status, Names, Log, Df, Step}
-use Rattle.fs_types.specs.declared.calls.Stat.{Stat}
-use Rattle.fs_types.specs.declared.calls.Stat.TheVariants.{Dir, File}
+use Rattle.fs_types.specs.declared.fault.Fault.{Fault}
+use Rattle.fs_types.specs.declared.call.Reply.{Reply}
+use Rattle.fs_types.specs.declared.call.Reply.TheVariants.{Empty, Fd, Bytes, Count, Stat as status, Names, Log, Df, Step}
+use Rattle.fs_types.specs.declared.call.Stat.{Stat}
+use Rattle.fs_types.specs.declared.call.Stat.TheVariants.{Dir, File}
 use Rattle.script.specs.Words.{is_plain}
-use Rattle.fs_types.specs.declared.events.Answer.{Answer}
-use Rattle.fs_types.specs.declared.events.Answer.TheVariants.{Done, Refused, Mounted, Unmounted}
-use Rattle.script.specs.declared.answers.LineAnswer.{LineAnswer}
-use Rattle.script.specs.declared.answers.LineAnswer.TheVariants.{Told, Syntax}
+use Rattle.fs_types.specs.declared.event.Answer.{Answer}
+use Rattle.fs_types.specs.declared.event.Answer.TheVariants.{Done, Refused, Mounted, Unmounted}
+use Rattle.script.specs.declared.line_answer.LineAnswer.{LineAnswer}
+use Rattle.script.specs.declared.line_answer.LineAnswer.TheVariants.{Told, Syntax}
 
 -- the two hexadecimal digits of a byte
 abbrev pub hex_pair : Bool → ℕ → List ℕ

@@ -2,8 +2,8 @@
 use Rattle.std.specs.Prelude.{◌≡◌, ◌≢◌, ℕ, ◌<◌, ◌≤◌, ◌==◌, Option, None, Some, Result, Ok, Err, List, [], ◌∷◌, ◌++◌, length, All, ⊤, ◌⊎◌, if◌then◌else◌}
 use Rattle.std.specs.List.{onto_first}
 use Rattle.std.specs.Io.KnownBytes.{Consumes, IsAtEnd}
-use Rattle.script.specs.declared.streams.Taken.{Taken}
-use Rattle.script.specs.declared.streams.Taken.TheVariants.{Line, TooLong, End}
+use Rattle.script.specs.declared.line_reader.Taken.{Taken}
+use Rattle.script.specs.declared.line_reader.Taken.TheVariants.{Line, TooLong, End}
 
 -- no LF among the bytes
 abbrev pub IsWithoutLf : List ℕ → Type 0

@@ -1,7 +1,7 @@
 -- The first words of lines.
 use Rattle.std.specs.Prelude.{ℕ, List, [], ◌∷◌, codes}
-use Rattle.script.specs.declared.verbs.Verb.{Verb}
-use Rattle.script.specs.declared.verbs.Verb.TheVariants.{Open, Close, Pread, Pwrite, Ftruncate, Rename, Unlink, Mkdir, Rmdir, Fsync, Sync, Stat, Ls, Read, Undo, Redo, Goto, Rollback, Forget, Checkpoint, Rmcheckpoint, Begin, End, Abandon, Log, Df, Reclaim, Restart, PlanFault}
+use Rattle.script.specs.declared.verb.Verb.{Verb}
+use Rattle.script.specs.declared.verb.Verb.TheVariants.{Open, Close, Pread, Pwrite, Ftruncate, Rename, Unlink, Mkdir, Rmdir, Fsync, Sync, Stat, Ls, Read, Undo, Redo, Goto, Rollback, Forget, Checkpoint, Rmcheckpoint, Begin, End, Abandon, Log, Df, Reclaim, Restart, PlanFault}
 
 -- each first word, and what it asks for
 abbrev pub verbs : List (List ℕ × Verb)

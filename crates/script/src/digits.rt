@@ -1,12 +1,14 @@
 //! Numbers, bytes and names as they are printed.
-ghost use Rattle.std.specs.Prelude.{◌≡◌, ◌<◌, Bool, true, false, ◌++◌, decimal, OnOk, [], ◌∷◌};
-ghost use Rattle.std.specs.Fmt.{digit_glyph};
+ghost use Rattle.std.specs.Prelude.{◌≡◌, false, ◌++◌, decimal, OnOk};
 ghost use Rattle.std.specs.List.{flat_map};
-ghost use Rattle.script.specs.Words.{is_plain};
-ghost use Rattle.script.specs.Replies.{hex_pair, escaped_byte, escaped};
+ghost use Rattle.script.specs.Replies.{hex_pair, escaped};
 
 use itoa::Buffer;
+use percent_encoding::{AsciiSet, CONTROLS, ascii_set, percent_encode};
 use std::alloc::AllocError;
+
+/// The ASCII bytes that do not stand for themselves in a name.
+const ESCAPED: AsciiSet = ascii_set!(CONTROLS.add(b' ').add(b'%'));
 
 /// Appends a number in decimal digits.
 pub fn print_number(out: &mut Vec<u8>, number: u64) -> Result<(), AllocError>
@@ -16,56 +18,15 @@ pub fn print_number(out: &mut Vec<u8>, number: u64) -> Result<(), AllocError>
     out.extend_from_slice(buffer.format(number).as_bytes())
 }
 
-fn lower_digit(digit: u8) -> u8
-    requires { digit < 16 }
-    ensures { result ≡ digit_glyph false digit }
-{
-    if digit < 10 {
-        b'0' + digit
-    } else {
-        b'a' + (digit - 10)
-    }
-}
-
-fn upper_digit(digit: u8) -> u8
-    requires { digit < 16 }
-    ensures { result ≡ digit_glyph true digit }
-{
-    if digit < 10 {
-        b'0' + digit
-    } else {
-        b'A' + (digit - 10)
-    }
-}
-
 /// Appends bytes in lower-case hexadecimal digits.
 pub fn print_hex(out: &mut Vec<u8>, bytes: &[u8]) -> Result<(), AllocError>
     ensures { OnOk result (out.new.items ≡ out.old.items ++ flat_map (hex_pair false) bytes.now) }
 {
     for byte in bytes {
-        out.push(lower_digit(*byte / 16))?;
-        out.push(lower_digit(*byte % 16))?;
+        let mut digits = [0; 2];
+        hex::encode_to_slice([*byte], &mut digits).unwrap();
+        out.extend_from_slice(&digits)?;
     }
-    Ok(())
-}
-
-/// Whether a byte stands for itself in a name.
-fn stands_for_itself(byte: u8) -> bool
-    ensures { result ≡ is_plain byte }
-{
-    (0x21..=0x7e).contains(&byte) && byte != b'%'
-}
-
-pub fn print_name_byte(out: &mut Vec<u8>, byte: u8) -> Result<(), AllocError>
-    ensures { OnOk result (out.new.items ≡ out.old.items ++ escaped_byte byte) }
-{
-    if stands_for_itself(byte) {
-        out.push(byte)?;
-        return Ok(());
-    }
-    out.push(b'%')?;
-    out.push(upper_digit(byte / 16))?;
-    out.push(upper_digit(byte % 16))?;
     Ok(())
 }
 
@@ -73,8 +34,8 @@ pub fn print_name_byte(out: &mut Vec<u8>, byte: u8) -> Result<(), AllocError>
 pub fn print_name(out: &mut Vec<u8>, name: &[u8]) -> Result<(), AllocError>
     ensures { OnOk result (out.new.items ≡ out.old.items ++ escaped name.now) }
 {
-    for byte in name {
-        print_name_byte(out, *byte)?;
+    for piece in percent_encode(name, ESCAPED) {
+        out.extend_from_slice(piece.as_bytes())?;
     }
     Ok(())
 }

@@ -8,7 +8,7 @@ use crate::arguments::{
     three_words_and_view, two_words, view_of,
 };
 use crate::kinds::kind_of;
-use crate::lines::Line;
+use crate::line::Line;
 use crate::misread::Misread;
 use crate::words::{data, number, text};
 use bitflags::Flags;

@@ -1,25 +1,27 @@
 //! The lines of a script, and what is printed for them.
 #![tactic(auto)]
 
-mod answers;
 mod arguments;
 mod digits;
 mod forms;
 mod kinds;
-mod lines;
+mod line;
+mod line_answer;
+mod line_reader;
 mod misread;
 mod replies;
+mod sizes;
 mod spelled;
 mod spellings;
-mod streams;
-mod verbs;
+mod verb;
 mod views;
 mod words;
 
-pub use answers::LineAnswer;
 pub use digits::{print_name, print_number};
 pub use kinds::kind_of;
-pub use lines::{LINE_LIMIT, Line, read_line};
+pub use line::{LINE_LIMIT, Line, read_line};
+pub use line_answer::LineAnswer;
+pub use line_reader::{LineReader, Taken, write_out};
 pub use replies::print_answer;
+pub use sizes::{DEFAULT_SIZES, DEFAULT_VERSIONS};
 pub use spellings::laws;
-pub use streams::{LineReader, Taken, write_out};

@@ -3,8 +3,8 @@ ghost use Rattle.std.specs.Prelude.{◌≡◌, ◌++◌, [], ◌∷◌, length, 
 ghost use Rattle.std.specs.List.{flat_map, enumerate_from};
 ghost use Rattle.script.specs.Replies.{data_text, entry_text, marked_serial, serial_text, name_text, log_text, df_text, stat_text, reply_text, refusal_text, told_text, text_of};
 
-use crate::answers::LineAnswer;
 use crate::digits::{print_hex, print_name, print_number};
+use crate::line_answer::LineAnswer;
 use fs_types::{Answer, CpName, Fault, Name, Reply, Stat};
 use std::alloc::AllocError;
 

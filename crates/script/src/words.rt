@@ -1,7 +1,6 @@
 //! The words of a line: numbers, text with escapes, and data.
 ghost use Rattle.std.specs.Prelude.{◌≡◌, ◌≢◌, ◌<◌, true, length, Some, Ok, Err, IfOk, IfErr, MatchOption};
 ghost use Rattle.std.specs.List.{list_all};
-ghost use Rattle.hex.specs.Hex.{hex_digit_value};
 ghost use Rattle.script.specs.Words.{is_digit, is_number, number_from, is_plain, hex_byte, onto, unescaped, is_dash, text_from, data_from, given};
 ghost use Rattle.script.specs.declared.misread.Misread.TheVariants.{NoMemory};
 
@@ -50,21 +49,13 @@ pub fn number(word: &[u8]) -> Result<u64, Misread>
     digits_value(word).ok_or(Misread::Syntax)
 }
 
-fn hex_digit(digit: u8) -> Option<u8>
-    ensures { result ≡ hex_digit_value digit }
-{
-    match digit {
-        b'0'..=b'9' => Some(digit - b'0'),
-        b'a'..=b'f' => Some(digit - b'a' + 10),
-        b'A'..=b'F' => Some(digit - b'A' + 10),
-        _ => None,
-    }
-}
-
+/// The byte of two hexadecimal digits.
 fn byte_of_digits(high: u8, low: u8) -> Option<u8>
     ensures { result ≡ hex_byte high low }
 {
-    Some(hex_digit(high)? * 16 + hex_digit(low)?)
+    let mut byte = [0];
+    hex::decode_to_slice([high, low], &mut byte).ok()?;
+    Some(byte[0])
 }
 
 /// The first byte that a word spells, and the rest of the word.

@@ -1,7 +1,7 @@
 //! Scripts as files give them: a line of settings each, then lines after `> ` and replies after `< `.
 use flash_model::Geometry;
 use fs_types::{Event, Fault};
-use script::{Line, read_line};
+use script::{DEFAULT_SIZES, DEFAULT_VERSIONS, Line, read_line};
 use std::alloc::Global;
 
 /// A line, and the reply that is expected of it.
@@ -19,19 +19,12 @@ pub struct Script<'a> {
     pub lines: Vec<ScriptLine<'a>>,
 }
 
-/// The sizes where a script does not say others.
-const DEFAULT_SIZES: Geometry = Geometry {
-    page: 256,
-    pages: 16,
-    blocks: 32,
-};
-
 impl<'a> Script<'a> {
     /// Reads a script. [`Fault::Invalid`] where the text is none, else [`Fault::NoMemory`].
     pub fn read(alloc: Global, text: &'a str) -> Result<Self, Fault> {
         let mut script = Script {
             geometry: DEFAULT_SIZES,
-            history: 8,
+            history: DEFAULT_VERSIONS,
             lines: Vec::new(alloc),
         };
         script.take(text)?;

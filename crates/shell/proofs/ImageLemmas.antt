@@ -1,24 +1,23 @@
 -- How what is done on an image ends, by how its parts do.
-use Rattle.std.proofs.Common.{◌≡◌, ◌≢◌, ◌<◌, ℕ, Bool, Option, Some, None, Result, Ok, Err, List, IfSome, IfErr, IfOk, OnOk, OnErr, take, codes, inl, inr, refl, sym, ◌∙◌, ap, subst, arith}
+use Rattle.std.proofs.Common.{◌≡◌, ◌<◌, ℕ, Bool, Option, Some, None, Result, Ok, Err, List, IfErr, OnOk, take, codes, inl, inr, refl, sym, ◌∙◌, subst, arith}
 use Rattle.std.specs.Io.KnownBytes.{Appends}
 use Rattle.fs_types.specs.declared.limits.TheConstants.{MIN_VERSIONS, MAX_VERSIONS}
-use Rattle.fs_types.specs.declared.faults.Fault.{Fault}
+use Rattle.fs_types.specs.declared.fault.Fault.{Fault}
 use Rattle.flash_model.specs.Geometry.{IsGeometry}
 use Rattle.flash_model.specs.Device.{Device}
 use Rattle.flash_model.specs.Reading.{OnlyReads}
 use Rattle.flash_model.specs.Simulation.{device_of}
-use Rattle.flash_model.specs.declared.simulation.SimFlash.{SimFlash}
-use Rattle.flash_model.specs.declared.sizes.Geometry.{Geometry}
+use Rattle.flash_model.specs.declared.sim_flash.SimFlash.{SimFlash}
+use Rattle.flash_model.specs.declared.geometry.Geometry.{Geometry}
 use Rattle.flash_image.specs.Images.{image_of, IsFault}
-use Rattle.upkeep.specs.Formats.{FormatCause}
-use Rattle.upkeep.specs.Mounts.{IsMountOf}
-use Rattle.upkeep.specs.declared.systems.System.{System}
+use Rattle.mounting.specs.Formats.{FormatCause}
+use Rattle.system.specs.Mounts.{IsMountOf}
+use Rattle.system.specs.declared.systems.System.{System}
 use Rattle.shell.specs.Failures.{of_system}
-use Rattle.shell.specs.Files.{Held}
-use Rattle.shell.specs.Memory.{IsNewFlash, IsFormatOf}
-use Rattle.shell.specs.Tools.{AreLawful, IsFront, IsDecoded, DecodeCause, IsUnread, IsLoaded, LoadCause, IsSaved, Unsaved, SavesChange, ChangeUnsaved, IsMade, FormatEnds, FormatFailure, PlaysBy, Plays, RunEnds, CheckEnds}
-use Rattle.shell.specs.declared.failures.Failure.{Failure}
-use Rattle.shell.specs.declared.files.TheConstants.{MOST_BYTES}
+use Rattle.shell.specs.Files.{Held, IsFront}
+use Rattle.shell.specs.Memory.{IsNewFlash}
+use Rattle.shell.specs.Tools.{AreLawful, IsDecoded, DecodeCause, IsUnread, IsLoaded, LoadCause, IsSaved, Unsaved, SavesChange, ChangeUnsaved, IsMade, FormatEnds, FormatFailure, PlaysBy, Plays, RunEnds, CheckEnds}
+use Rattle.shell.specs.declared.failure.Failure.{Failure}
 
 -- a limit that is not refused
 pub lawful_limit : (sizes : Geometry) (limit : ℕ) → IsGeometry sizes → (limit < MIN_VERSIONS → ⊥) → (MAX_VERSIONS < limit → ⊥) → AreLawful sizes limit
@@ -54,6 +53,7 @@ cause_front held bytes front Failure.CannotWrite cause = absurd cause
 cause_front held bytes front Failure.Unsynced cause = absurd cause
 cause_front held bytes front (Failure.Refused refusal) cause = absurd cause
 cause_front held bytes front (Failure.Stopped at) cause = absurd cause
+cause_front held bytes front (Failure.Source fault) cause = absurd cause
 cause_front held bytes front Failure.Input cause = absurd cause
 cause_front held bytes front Failure.Output cause = absurd cause
 cause_front held bytes front (Failure.System fault) cause = absurd cause
@@ -67,6 +67,7 @@ cause_unread held Failure.CannotWrite cause = absurd cause
 cause_unread held Failure.Unsynced cause = absurd cause
 cause_unread held (Failure.Refused refusal) cause = absurd cause
 cause_unread held (Failure.Stopped at) cause = absurd cause
+cause_unread held (Failure.Source fault) cause = absurd cause
 cause_unread held Failure.Input cause = absurd cause
 cause_unread held Failure.Output cause = absurd cause
 cause_unread held (Failure.Image fault) cause = absurd cause

@@ -2,7 +2,9 @@ pub mod Fronts
 pub mod ImageLemmas
 pub mod MemoryWords
 pub mod PlanLemmas
+pub mod PutLemmas
 pub mod ScriptLaws
+pub mod SourceLemmas
 pub mod TakenLines
 pub mod ToolLemmas
 pub mod TurnLemmas

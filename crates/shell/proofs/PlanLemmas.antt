@@ -4,9 +4,9 @@ use mathlib.Core.Logic.{∥∥₁_elim}
 use Rattle.std.proofs.lemmas.List.{length-append}
 use Rattle.flash_model.specs.Plan.{Schedule, begun, is_ahead, counted, count_of}
 use Rattle.flash_model.specs.Simulation.{device_of, plan_of, plan_after}
-use Rattle.flash_model.specs.declared.plans.Operation.{Operation}
-use Rattle.flash_model.specs.declared.plans.PlannedFault.{PlannedFault}
-use Rattle.flash_model.specs.declared.simulation.SimFlash.{SimFlash}
+use Rattle.flash_model.specs.declared.fault_kind.Operation.{Operation}
+use Rattle.flash_model.specs.declared.fault_kind.PlannedFault.{PlannedFault}
+use Rattle.flash_model.specs.declared.sim_flash.SimFlash.{SimFlash}
 use Rattle.shell.specs.Plans.{begun_all, HasBegun, GoesOn, EntriesLaw}
 
 begun_all-push : (plan : Schedule) (classes : List Operation) (class : Operation) → begun_all plan (classes ++ class ∷ []) ≡ begun (begun_all plan classes) class

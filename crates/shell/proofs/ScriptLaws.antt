@@ -1,10 +1,10 @@
 -- Lines that were carried out are a session of the events that they ask for.
 use Rattle.std.proofs.Common.{ℕ, List, [], ◌∷◌, Option, Some, None, ap, subst}
-use Rattle.fs_types.specs.declared.events.Event.{Event}
-use Rattle.fs_types.specs.declared.events.Answer.{Answer}
+use Rattle.fs_types.specs.declared.event.Event.{Event}
+use Rattle.fs_types.specs.declared.event.Answer.{Answer}
 use Rattle.script.specs.Lines.{line_of}
-use Rattle.script.specs.declared.lines.Line.{Line}
-use Rattle.script.specs.declared.answers.LineAnswer.{LineAnswer}
+use Rattle.script.specs.declared.line.Line.{Line}
+use Rattle.script.specs.declared.line_answer.LineAnswer.{LineAnswer}
 use Rattle.undofs.specs.Runs.{World, Run}
 use Rattle.shell.specs.Scripts.{Scene, event_of, RepliesBy, CarriesOut, with_first, events_of, with_told, event_answers, ScriptLaw}
 

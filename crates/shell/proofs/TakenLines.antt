@@ -5,7 +5,7 @@ use Rattle.std.proofs.lemmas.Bool.Decides.{nat_tests}
 use Rattle.script.proofs.LineLemmas.{taken_line}
 use Rattle.script.specs.Lines.{line_of}
 use Rattle.script.specs.Streams.{lines_of, TakesLine, BeginsWithLines}
-use Rattle.script.specs.declared.lines.Line.{Line}
+use Rattle.script.specs.declared.line.Line.{Line}
 use Rattle.shell.specs.Scripts.{HasTaken, HasTakenAll}
 
 one_more : (old between new : Option (List ℕ)) (line : List ℕ) (lines : List (List ℕ)) → BeginsWithLines old (line ∷ []) between → BeginsWithLines between lines new

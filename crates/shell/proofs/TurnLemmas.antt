@@ -4,22 +4,20 @@ use Rattle.std.proofs.KnownBytes.{Appends-nil, Appends-trans, Consumes-nil}
 use Rattle.std.specs.Io.KnownBytes.{Appends}
 use Rattle.history_machine.specs.History.{Past}
 use Rattle.plain_trees.specs.Trees.{Tree}
-use Rattle.fs_types.specs.declared.events.Event.{Event}
-use Rattle.fs_types.specs.declared.faults.Fault.{Fault}
-use Rattle.flash_model.specs.Simulation.{device_of}
+use Rattle.fs_types.specs.declared.event.Event.{Event}
+use Rattle.fs_types.specs.declared.fault.Fault.{Fault}
 use Rattle.flash_model.specs.Reading.{OnlyReads}
-use Rattle.flash_model.specs.declared.simulation.SimFlash.{SimFlash}
 use Rattle.script.specs.Lines.{line_of}
-use Rattle.script.specs.declared.lines.Line.{Line}
-use Rattle.script.specs.declared.answers.LineAnswer.{LineAnswer}
-use Rattle.upkeep.specs.Mounts.{IsMountOf}
-use Rattle.upkeep.specs.Systems.{IsSystem}
-use Rattle.upkeep.specs.declared.systems.System.{System}
+use Rattle.script.specs.declared.line.Line.{Line}
+use Rattle.script.specs.declared.line_answer.LineAnswer.{LineAnswer}
+use Rattle.system.specs.Mounts.{IsMountOf}
+use Rattle.system.specs.Systems.{IsSystem}
+use Rattle.system.specs.declared.systems.System.{System}
 use Rattle.undofs.specs.Sessions.{Stands, world}
 use Rattle.undofs.proofs.SessionSteps.{mount_begins, serve_law}
-use Rattle.shell.specs.Plans.{FollowsPlan}
-use Rattle.shell.specs.Scripts.{Scene, event_of, RepliesBy, Replies, CarriesOut, IsRefused, LineSession, answer_text, answer_texts, HasTaken, EndsBy, Ends, EndsOrStops, ScriptEnds, AreAccepted, AreAcceptedBefore, refusal_of}
-use Rattle.shell.specs.Turns.{Gets, Seat, seat, world_at, scene_at, DoesBy, Does, Writes, Carried, LinesEnd}
+use Rattle.shell.specs.Plans.{PlanGoesOn}
+use Rattle.shell.specs.Scripts.{Scene, event_of, RepliesBy, Replies, CarriesOut, Ground, IsRefusedOn, SessionOn, answer_text, answer_texts, HasTaken, EndsBy, EndsOnFlash, EndsOrStops, ScriptEndsOn, AreAccepted, AreAcceptedBefore, refusal_of}
+use Rattle.shell.specs.Turns.{Gets, Seat, seat_at, world_at, scene_at, DoesBy, Does, Writes, Carried, LinesEnd}
 use Rattle.shell.specs.declared.scripts.Refusal.{Refusal}
 use Rattle.shell.specs.declared.scripts.ScriptFault.{ScriptFault}
 use Rattle.shell.specs.declared.scripts.Stop.{Stop}
@@ -229,32 +227,32 @@ stops_map stop P Q C D f g input left (Err fault) old new h =
     input left (Err fault) old new h
 
 -- a script that is not to stop ends as one does
-pub lenient_end : (start end : SimFlash) (input left : Option (List ℕ)) (at : Option Stop) (old new : Option (List ℕ)) → ScriptEnds false start end input left (Ok at) old new → Ends start end input left (Ok tt) old new
+pub lenient_end : (start end : Ground) (input left : Option (List ℕ)) (at : Option Stop) (old new : Option (List ℕ)) → ScriptEndsOn false start end input left (Ok at) old new → EndsOnFlash start end input left (Ok tt) old new
 lenient_end start end input left None old new h =
-    ends_map (λ lines answers. LineSession start end lines answers × (IsTrue false → AreAccepted answers)) (LineSession start end) (IsRefused start end) (IsRefused start end) (λ lines answers p. p.0) (λ fault cause. cause) input left
+    ends_map (λ lines answers. SessionOn start end lines answers × (IsTrue false → AreAccepted answers)) (SessionOn start end) (IsRefusedOn start end) (IsRefusedOn start end) (λ lines answers p. p.0) (λ fault cause. cause) input left
     (Ok tt) old new h
 lenient_end start end input left (Some at) old new h = absurd (true≢false (sym h.0))
 
-pub lenient_failure : (start end : SimFlash) (input left : Option (List ℕ)) (fault : ScriptFault) (old new : Option (List ℕ)) → ScriptEnds false start end input left (Err fault) old new → Ends start end input left (Err fault) old new
+pub lenient_failure : (start end : Ground) (input left : Option (List ℕ)) (fault : ScriptFault) (old new : Option (List ℕ)) → ScriptEndsOn false start end input left (Err fault) old new → EndsOnFlash start end input left (Err fault) old new
 lenient_failure start end input left fault old new h =
-    ends_map (λ lines answers. LineSession start end lines answers × (IsTrue false → AreAcceptedBefore answers)) (LineSession start end) (IsRefused start end) (IsRefused start end) (λ lines answers p. p.0) (λ fault cause. cause)
+    ends_map (λ lines answers. SessionOn start end lines answers × (IsTrue false → AreAcceptedBefore answers)) (SessionOn start end) (IsRefusedOn start end) (IsRefusedOn start end) (λ lines answers p. p.0) (λ fault cause. cause)
     input left (Err fault) old new h
 
 -- the lines of a reader on what was mounted on a flash
-pub script_ends : (stop : Bool) (start mid end : SimFlash) (m : System) (s : Option System) (input left : Option (List ℕ)) (result : Result (Option Stop) ScriptFault) (old new : Option (List ℕ))
-    → OnlyReads (device_of start) (device_of mid) → IsMountOf (device_of start) (device_of mid) m → IsSystem (device_of mid) m → FollowsPlan start mid
-    → LinesEnd stop (seat mid (Some m)) input left result old new (seat end s) → ScriptEnds stop start end input left result old new
+pub script_ends : (stop : Bool) (start mid end : Ground) (m : System) (s : Option System) (input left : Option (List ℕ)) (result : Result (Option Stop) ScriptFault) (old new : Option (List ℕ))
+    → OnlyReads start.device mid.device → IsMountOf start.device mid.device m → IsSystem mid.device m → PlanGoesOn start.device.operations start.plan mid.device.operations mid.plan
+    → LinesEnd stop (seat_at mid.device (Some m) mid.plan) input left result old new (seat_at end.device s end.plan) → ScriptEndsOn stop start end input left result old new
 script_ends stop start mid end m s input left result old new reads begins system plan h =
-    stops_map stop (Carried (seat mid (Some m)) (seat end s)) (LineSession start end) (λ fault. ⊥) (IsRefused start end) session (λ fault none. absurd none) input left result old new h
+    stops_map stop (Carried (seat_at mid.device (Some m) mid.plan) (seat_at end.device s end.plan)) (SessionOn start end) (λ fault. ⊥) (IsRefusedOn start end) session (λ fault none. absurd none) input left result old new h
   where
-    session : (lines : List (List ℕ)) (answers : List LineAnswer) → Carried (seat mid (Some m)) (seat end s) lines answers → LineSession start end lines answers
+    session : (lines : List (List ℕ)) (answers : List LineAnswer) → Carried (seat_at mid.device (Some m) mid.plan) (seat_at end.device s end.plan) lines answers → SessionOn start end lines answers
     session lines answers carried =
-        let first = mount_begins (device_of start) (device_of mid) m reads begins system in
+        let first = mount_begins start.device mid.device m reads begins system in
         let all = carried (first.0 ∷ []) first.3 in
         record {
           history = first.0;
-          first = scene_at (seat mid (Some m)) (first.0 ∷ []);
-          last = scene_at (seat end s) all.0;
+          first = scene_at (seat_at mid.device (Some m) mid.plan) (first.0 ∷ []);
+          last = scene_at (seat_at end.device s end.plan) all.0;
           saved = first.1;
           mounts = first.2;
           begins = plan;

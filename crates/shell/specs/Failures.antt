@@ -1,9 +1,10 @@
 -- Why a job did not run to its end, by what ended it, and the status of the program.
 use Rattle.std.specs.Prelude.{ℕ, Result, Ok, Err}
-use Rattle.fs_types.specs.declared.faults.Fault.{Fault}
-use Rattle.flash_image.specs.declared.faults.ImageFault.{ImageFault}
+use Rattle.fs_types.specs.declared.fault.Fault.{Fault}
+use Rattle.flash_image.specs.declared.image_fault.ImageFault.{ImageFault}
 use Rattle.shell.specs.declared.scripts.ScriptFault.{ScriptFault}
-use Rattle.shell.specs.declared.failures.Failure.{Failure}
+use Rattle.shell.specs.declared.failure.Failure.{Failure}
+use Rattle.shell.specs.declared.scripts.Refusal.{Refusal}
 
 -- a refused system; want of memory is told alike wherever it comes
 abbrev pub of_system : Fault → Failure
@@ -16,6 +17,11 @@ of_script (ScriptFault.Mount fault) = of_system fault
 of_script ScriptFault.Read = Failure.Input
 of_script ScriptFault.Write = Failure.Output
 of_script ScriptFault.Memory = Failure.Memory
+
+-- a refused call
+abbrev pub of_refusal : Refusal → Failure
+of_refusal (Refusal.Fault Fault.NoMemory) = Failure.Memory
+of_refusal refusal = Failure.Refused refusal
 
 -- bytes that are no image
 abbrev pub of_image : ImageFault → Failure

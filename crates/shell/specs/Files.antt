@@ -1,6 +1,7 @@
 -- Files by their names.
-use Rattle.std.specs.Prelude.{◌≡◌, ◌≢◌, ℕ, Option, IfSome, List, ◌++◌, codes}
-use Rattle.shell.specs.declared.files.FileFault.{FileFault}
+use Rattle.std.specs.Prelude.{◌≡◌, ◌≢◌, ℕ, Option, IfSome, List, ◌++◌, take, codes}
+use Rattle.shell.specs.declared.image_files.FileFault.{FileFault}
+use Rattle.shell.specs.declared.image_files.TheConstants.{MOST_BYTES}
 
 -- the bytes of each file by its name, where they are known
 abbrev pub Held : Type 0
@@ -18,3 +19,7 @@ KeepsOthers name held saved = (other : List ℕ) → other ≢ name → other �
 abbrev pub LeavesFile : Option (List ℕ) → Option (List ℕ) → List ℕ → FileFault → Type 0
 LeavesFile was now bytes FileFault.Unsynced = IfSome now (λ all. all ≡ bytes)
 LeavesFile was now bytes _ = now ≡ was
+
+-- the bytes of a file that are read, where those of the file are known
+abbrev pub IsFront : Option (List ℕ) → List ℕ → Type 0
+IsFront held bytes = IfSome held (λ all. bytes ≡ take MOST_BYTES all)

@@ -2,6 +2,9 @@ pub mod Failures
 pub mod Files
 pub mod Memory
 pub mod Plans
+pub mod Puts
 pub mod Scripts
+pub mod Served
+pub mod Sources
 pub mod Tools
 pub mod Turns

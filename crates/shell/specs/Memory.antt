@@ -1,14 +1,14 @@
 -- A script that is run on a flash in memory of its own.
 use Rattle.std.specs.Prelude.{◌≡◌, ◌⊎◌, ℕ, Option, Result, Ok, Err, List, []}
-use Rattle.fs_types.specs.declared.faults.Fault.{Fault}
+use Rattle.fs_types.specs.declared.fault.Fault.{Fault}
 use Rattle.flash_model.specs.Simulation.{device_of, plan_of, IsNew}
 use Rattle.flash_model.specs.Plan.{plan_of_entries}
-use Rattle.flash_model.specs.declared.simulation.SimFlash.{SimFlash}
-use Rattle.flash_model.specs.declared.sizes.Geometry.{Geometry}
-use Rattle.upkeep.specs.Formats.{IsFormatted, ListsFailed, IsNumbered, FormatCause}
+use Rattle.flash_model.specs.declared.sim_flash.SimFlash.{SimFlash}
+use Rattle.flash_model.specs.declared.geometry.Geometry.{Geometry}
+use Rattle.mounting.specs.Formats.{IsFormatted, ListsFailed, IsNumbered, FormatCause}
 use Rattle.shell.specs.Plans.{FollowsPlan}
 use Rattle.shell.specs.Scripts.{EndsBy, IsUnmounted, LineSession}
-use Rattle.script.specs.declared.answers.LineAnswer.{LineAnswer}
+use Rattle.script.specs.declared.line_answer.LineAnswer.{LineAnswer}
 use Rattle.shell.specs.declared.scripts.ScriptFault.{ScriptFault}
 
 -- 1 where the input, the output or memory failed, and 3 where the system was refused

@@ -1,10 +1,10 @@
 -- The plan of faults of a flash, as its operations go on.
-use Rattle.std.specs.Prelude.{◌≡◌, ◌+◌, ℕ, List, [], ◌∷◌, length, filter, Bool}
+use Rattle.std.specs.Prelude.{◌≡◌, ◌+◌, ℕ, List, [], ◌∷◌, length, filter, Bool, Option, None, Some}
 use Rattle.flash_model.specs.Plan.{Schedule, begun}
 use Rattle.flash_model.specs.Simulation.{device_of, plan_of}
-use Rattle.flash_model.specs.declared.plans.Operation.{Operation}
-use Rattle.flash_model.specs.declared.plans.PlannedFault.{PlannedFault}
-use Rattle.flash_model.specs.declared.simulation.SimFlash.{SimFlash}
+use Rattle.flash_model.specs.declared.fault_kind.Operation.{Operation}
+use Rattle.flash_model.specs.declared.fault_kind.PlannedFault.{PlannedFault}
+use Rattle.flash_model.specs.declared.sim_flash.SimFlash.{SimFlash}
 
 -- a plan when operations of these classes have begun, in order: each takes from it what has come due
 abbrev pub begun_all : Schedule → List Operation → Schedule
@@ -21,6 +21,12 @@ pub record HasBegun (done : ℕ) (old : Schedule) (now : ℕ) (new : Schedule) :
 -- a plan goes on by the operations of its flash, and by nothing else
 abbrev pub GoesOn : ℕ → Schedule → ℕ → Schedule → Type 0
 GoesOn done old now new = ∥ HasBegun done old now new ∥₁
+
+-- the same of a flash that may have no plan: then it gets none
+abbrev pub PlanGoesOn : ℕ → Option Schedule → ℕ → Option Schedule → Type 0
+PlanGoesOn done (Some old) now (Some new) = GoesOn done old now new
+PlanGoesOn done None now None = Unit {0}
+PlanGoesOn done _ now _ = ⊥
 
 -- the plan of a flash goes on so
 abbrev pub FollowsPlan : SimFlash → SimFlash → Type 0

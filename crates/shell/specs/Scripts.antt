@@ -4,25 +4,26 @@ use Rattle.std.specs.List.{flat_map}
 use Rattle.std.specs.Io.KnownBytes.{Consumes, IsAtEnd, Appends}
 use Rattle.history_machine.specs.History.{Past}
 use Rattle.plain_trees.specs.Trees.{Tree}
-use Rattle.fs_types.specs.declared.calls.Reply.{Reply}
-use Rattle.fs_types.specs.declared.events.Event.{Event}
-use Rattle.fs_types.specs.declared.events.Answer.{Answer}
-use Rattle.fs_types.specs.declared.faults.Fault.{Fault}
+use Rattle.fs_types.specs.declared.call.Reply.{Reply}
+use Rattle.fs_types.specs.declared.event.Event.{Event}
+use Rattle.fs_types.specs.declared.event.Answer.{Answer}
+use Rattle.fs_types.specs.declared.fault.Fault.{Fault}
+use Rattle.flash_model.specs.Device.{Device}
 use Rattle.flash_model.specs.Plan.{Schedule, planned, IsFull}
 use Rattle.flash_model.specs.Reading.{OnlyReads}
 use Rattle.flash_model.specs.Simulation.{device_of, plan_of}
-use Rattle.flash_model.specs.declared.plans.FaultKind.{FaultKind}
-use Rattle.flash_model.specs.declared.simulation.SimFlash.{SimFlash}
+use Rattle.flash_model.specs.declared.fault_kind.FaultKind.{FaultKind}
+use Rattle.flash_model.specs.declared.sim_flash.SimFlash.{SimFlash}
 use Rattle.script.specs.Lines.{line_of}
 use Rattle.script.specs.Replies.{text_of}
 use Rattle.script.specs.Streams.{TakesLine, TakesPart, lines_of}
-use Rattle.script.specs.declared.lines.Line.{Line}
-use Rattle.script.specs.declared.answers.LineAnswer.{LineAnswer}
-use Rattle.upkeep.specs.Mounts.{MountCause}
-use Rattle.upkeep.specs.Saved.{saved_trees}
+use Rattle.script.specs.declared.line.Line.{Line}
+use Rattle.script.specs.declared.line_answer.LineAnswer.{LineAnswer}
+use Rattle.system.specs.Mounts.{MountCause}
+use Rattle.mounting.specs.Saved.{saved_trees}
 use Rattle.undofs.specs.Runs.{World, Mounts, Happens}
 use Rattle.undofs.specs.Sessions.{Session}
-use Rattle.shell.specs.Plans.{GoesOn, FollowsPlan}
+use Rattle.shell.specs.Plans.{PlanGoesOn}
 use Rattle.shell.specs.declared.scripts.Refusal.{Refusal}
 use Rattle.shell.specs.declared.scripts.ScriptFault.{ScriptFault}
 use Rattle.shell.specs.declared.scripts.Stop.{Stop}
@@ -34,28 +35,28 @@ event_of (Line.ReclaimStep budget) = Some (Event.ReclaimStep budget)
 event_of Line.Restart = Some Event.Restart
 event_of _ = None
 
--- a world, and the faults that are planned for its flash
+-- a world, and the faults that are planned for its flash, where any can be
 pub record Scene : Type 0 where
   pub world : World
-  pub plan : Schedule
+  pub plan : Option Schedule
 
 -- a fault is planned, or no room is left for it
-abbrev pub Plans : Schedule → ℕ → FaultKind → LineAnswer → Schedule → Type 0
+abbrev pub Plans : Schedule → ℕ → FaultKind → LineAnswer → Option Schedule → Type 0
 Plans old k kind answer new =
-    ((answer ≡ LineAnswer.Told (Answer.Done Reply.Empty)) × (IsFull old k kind → ⊥) × (new ≡ planned old k kind))
-    ⊎ ((answer ≡ LineAnswer.Told (Answer.Refused Fault.Invalid)) × IsFull old k kind × (new ≡ old))
+    ((answer ≡ LineAnswer.Told (Answer.Done Reply.Empty)) × (IsFull old k kind → ⊥) × (new ≡ Some (planned old k kind)))
+    ⊎ ((answer ≡ LineAnswer.Told (Answer.Refused Fault.Invalid)) × IsFull old k kind × (new ≡ Some old))
 
--- the answer to a line that asks for no event: a refused path or name is refused; a fault is planned as the line says; and
--- what has no form of a line is told so
-abbrev pub IsStillAnswer : Line → Schedule → LineAnswer → Schedule → Type 0
+-- the answer to a line that asks for no event: a refused path or name is refused; a fault is planned as the line says, where
+-- the flash has a plan; and what has no form of a line is told so
+abbrev pub IsStillAnswer : Line → Option Schedule → LineAnswer → Option Schedule → Type 0
 IsStillAnswer (Line.Refused fault) old answer new = (answer ≡ LineAnswer.Told (Answer.Refused fault)) × (new ≡ old)
-IsStillAnswer (Line.PlanFault (suc k) kind) old answer new = Plans old (suc k) kind answer new
+IsStillAnswer (Line.PlanFault (suc k) kind) (Some old) answer new = Plans old (suc k) kind answer new
 IsStillAnswer _ old answer new = (answer ≡ LineAnswer.Syntax) × (new ≡ old)
 
 -- by the event that a line asks for, if any: the line is told the answer to the event, whose operations take from the plan
 -- what comes due, and without one the world stays
 abbrev pub RepliesBy : Option Event → Line → Scene → LineAnswer → Scene → Type 0
-RepliesBy (Some event) line s (LineAnswer.Told answer) t = Happens s.world event answer t.world × GoesOn s.world.device.operations s.plan t.world.device.operations t.plan
+RepliesBy (Some event) line s (LineAnswer.Told answer) t = Happens s.world event answer t.world × PlanGoesOn s.world.device.operations s.plan t.world.device.operations t.plan
 RepliesBy (Some event) line s LineAnswer.Syntax t = ⊥
 RepliesBy None line s answer t = (t.world ≡ s.world) × IsStillAnswer line s.plan answer t.plan
 
@@ -106,31 +107,56 @@ EndsBy Session Cause input left (Err ScriptFault.Memory) old new =
     ⊎ ((lines : List (List ℕ)) × (earlier : List LineAnswer) × (last : LineAnswer) × Session lines (earlier ++ last ∷ []) × HasTaken input lines left × Appends old new (answer_texts earlier))
 EndsBy Session Cause input left (Err (ScriptFault.Mount fault)) old new = Cause fault × (left ≡ input) × (new ≡ old)
 
+-- a flash, and the faults that are planned for it, where any can be
+pub record Ground : Type 0 where
+  pub device : Device
+  pub plan : Option Schedule
+
+abbrev pub ground_at : Device → Option Schedule → Ground
+ground_at d plan = record { device = d; plan = plan }
+
+-- a flash in memory with its plan, and a flash that has none
+abbrev pub ground : SimFlash → Ground
+ground flash = ground_at (device_of flash) (Some (plan_of flash))
+
+abbrev pub unplanned : Device → Ground
+unplanned d = ground_at d None
+
 -- lines that were carried out on what was mounted on a flash: the first world is that of the mount, with what its operations
 -- left of the plan of the flash, and the last one stands on the flash at the end, with its plan
-pub record LineSession (start end : SimFlash) (lines : List (List ℕ)) (answers : List LineAnswer) : Type 0 where
+pub record SessionOn (start end : Ground) (lines : List (List ℕ)) (answers : List LineAnswer) : Type 0 where
   pub history : Past Tree
   pub first : Scene
   pub last : Scene
-  pub saved : saved_trees (device_of start) ≡ Some history
-  pub mounts : Mounts (device_of start) (history ∷ []) Answer.Mounted first.world
-  pub begins : GoesOn (device_of start).operations (plan_of start) first.world.device.operations first.plan
+  pub saved : saved_trees start.device ≡ Some history
+  pub mounts : Mounts start.device (history ∷ []) Answer.Mounted first.world
+  pub begins : PlanGoesOn start.device.operations start.plan first.world.device.operations first.plan
   pub carried : CarriesOut first lines answers last
-  pub ends : last.world.device ≡ device_of end
-  pub plan : last.plan ≡ plan_of end
+  pub ends : last.world.device ≡ end.device
+  pub plan : last.plan ≡ end.plan
 
 -- a mount was refused for a cause, and the flash was only read
-pub record IsUnmounted (start end : SimFlash) (fault : Fault) : Type 0 where
-  pub cause : MountCause (device_of start) (device_of end) fault
-  pub reads : OnlyReads (device_of start) (device_of end)
+pub record IsLeft (d e : Device) (fault : Fault) : Type 0 where
+  pub cause : MountCause d e fault
+  pub reads : OnlyReads d e
 
--- a mount was refused for a cause, the flash was only read, and its plan went on by these reads
-abbrev pub IsRefused : SimFlash → SimFlash → Fault → Type 0
-IsRefused start end fault = IsUnmounted start end fault × FollowsPlan start end
+-- and its plan went on by these reads
+abbrev pub IsRefusedOn : Ground → Ground → Fault → Type 0
+IsRefusedOn start end fault = IsLeft start.device end.device fault × PlanGoesOn start.device.operations start.plan end.device.operations end.plan
 
 -- how a script ends that found and leaves these flashes
+abbrev pub EndsOnFlash : Ground → Ground → Option (List ℕ) → Option (List ℕ) → Result (Unit {0}) ScriptFault → Option (List ℕ) → Option (List ℕ) → Type 0
+EndsOnFlash start end input left result old new = EndsBy (SessionOn start end) (IsRefusedOn start end) input left result old new
+
+-- the same of flashes in memory
+abbrev pub LineSession : SimFlash → SimFlash → List (List ℕ) → List LineAnswer → Type 0
+LineSession start end = SessionOn (ground start) (ground end)
+
+abbrev pub IsUnmounted : SimFlash → SimFlash → Fault → Type 0
+IsUnmounted start end fault = IsLeft (device_of start) (device_of end) fault
+
 abbrev pub Ends : SimFlash → SimFlash → Option (List ℕ) → Option (List ℕ) → Result (Unit {0}) ScriptFault → Option (List ℕ) → Option (List ℕ) → Type 0
-Ends start end input left result old new = EndsBy (LineSession start end) (IsRefused start end) input left result old new
+Ends start end = EndsOnFlash (ground start) (ground end)
 
 -- how an answer refuses its line
 abbrev pub refusal_of : LineAnswer → Option Refusal
@@ -161,8 +187,11 @@ EndsOrStops stop Session Cause input left (Ok None) old new = EndsBy (λ lines a
 EndsOrStops stop Session Cause input left (Ok (Some at)) old new = IsTrue stop × StopsAt Session input left at old new
 EndsOrStops stop Session Cause input left (Err fault) old new = EndsBy (λ lines answers. Session lines answers × (IsTrue stop → AreAcceptedBefore answers)) Cause input left (Err fault) old new
 
+abbrev pub ScriptEndsOn : Bool → Ground → Ground → Option (List ℕ) → Option (List ℕ) → Result (Option Stop) ScriptFault → Option (List ℕ) → Option (List ℕ) → Type 0
+ScriptEndsOn stop start end input left result old new = EndsOrStops stop (SessionOn start end) (IsRefusedOn start end) input left result old new
+
 abbrev pub ScriptEnds : Bool → SimFlash → SimFlash → Option (List ℕ) → Option (List ℕ) → Result (Option Stop) ScriptFault → Option (List ℕ) → Option (List ℕ) → Type 0
-ScriptEnds stop start end input left result old new = EndsOrStops stop (LineSession start end) (IsRefused start end) input left result old new
+ScriptEnds stop start end = ScriptEndsOn stop (ground start) (ground end)
 
 -- the events that lines ask for
 abbrev pub with_first : {A : Type 0} → Option A → List A → List A
@@ -184,5 +213,5 @@ event_answers _ _ = []
 
 -- lines that were carried out are a session of the events that they ask for, with the answers to these
 abbrev pub ScriptLaw : Type 0
-ScriptLaw = (start end : SimFlash) (lines : List (List ℕ)) (answers : List LineAnswer) → LineSession start end lines answers
-    → (v : World) × Session (device_of start) (events_of lines) (Answer.Mounted ∷ event_answers lines answers) v × (v.device ≡ device_of end)
+ScriptLaw = (start end : Ground) (lines : List (List ℕ)) (answers : List LineAnswer) → SessionOn start end lines answers
+    → (v : World) × Session start.device (events_of lines) (Answer.Mounted ∷ event_answers lines answers) v × (v.device ≡ end.device)

@@ -7,33 +7,32 @@ use Rattle.clap.specs.Words.{fault_of}
 use Rattle.clap.specs.declared.error.kind.ErrorKind.{ErrorKind}
 use Rattle.fs_types.specs.declared.limits.TheConstants.{MIN_VERSIONS, MAX_VERSIONS}
 use Rattle.fs_types.specs.Faults.{number_of, word_of}
-use Rattle.fs_types.specs.declared.faults.Fault.{Fault}
+use Rattle.fs_types.specs.Names.{Path}
+use Rattle.fs_types.specs.declared.fault.Fault.{Fault}
 use Rattle.flash_model.specs.Geometry.{IsGeometry}
 use Rattle.flash_model.specs.Plan.{plan_of_entries}
 use Rattle.flash_model.specs.Simulation.{device_of, plan_of}
-use Rattle.flash_model.specs.declared.simulation.SimFlash.{SimFlash}
-use Rattle.flash_model.specs.declared.sizes.Geometry.{Geometry}
+use Rattle.flash_model.specs.declared.sim_flash.SimFlash.{SimFlash}
+use Rattle.flash_model.specs.declared.geometry.Geometry.{Geometry}
 use Rattle.flash_image.specs.Images.{image_of, IsFault, IsReady}
 use Rattle.jobs.specs.Grammar.{uffs}
 use Rattle.jobs.specs.Jobs.{AsksFor}
 use Rattle.jobs.specs.declared.tasks.Job.{Job}
 use Rattle.jobs.specs.declared.tasks.Task.{Task}
-use Rattle.upkeep.specs.Formats.{FormatCause}
-use Rattle.upkeep.specs.Mounts.{IsMountOf}
-use Rattle.upkeep.specs.declared.systems.System.{System}
+use Rattle.mounting.specs.Formats.{FormatCause}
+use Rattle.system.specs.Mounts.{IsMountOf}
+use Rattle.system.specs.declared.systems.System.{System}
 use Rattle.shell.specs.Failures.{of_script, of_system, job_status}
-use Rattle.shell.specs.Files.{Held, KeepsOthers}
+use Rattle.shell.specs.Files.{Held, KeepsOthers, IsFront}
 use Rattle.shell.specs.Memory.{memory_sizes, status_of, IsNewFlash, IsFormatOf, EndsInMemory}
+use Rattle.shell.specs.Puts.{PutsBy, PutCause, IsAsked, AskCause}
 use Rattle.shell.specs.Scripts.{IsUnmounted, ScriptEnds}
-use Rattle.shell.specs.declared.files.TheConstants.{MOST_BYTES}
-use Rattle.shell.specs.declared.failures.Failure.{Failure}
+use Rattle.shell.specs.Sources.{Found, Gathered}
+use Rattle.shell.specs.declared.image_files.TheConstants.{MOST_BYTES}
+use Rattle.shell.specs.declared.failure.Failure.{Failure}
 use Rattle.shell.specs.declared.scripts.Refusal.{Refusal}
 use Rattle.shell.specs.declared.scripts.ScriptFault.{ScriptFault}
 use Rattle.shell.specs.declared.scripts.Stop.{Stop}
-
--- the bytes of a file that are read, where those of the file are known
-abbrev pub IsFront : Option (List ℕ) → List ℕ → Type 0
-IsFront held bytes = IfSome held (λ all. bytes ≡ take MOST_BYTES all)
 
 -- why the bytes of a file are not had: it is not read, and then they are not known; or for want of memory
 abbrev pub IsUnread : Option (List ℕ) → Failure → Type 0
@@ -163,6 +162,20 @@ CheckEnds held (Err failure) old new = (LoadCause held failure × (new ≡ old))
     ⊎ (((start : SimFlash) × (end : SimFlash) × (fault : Fault) × IsLoaded held start × IsUnmounted start end fault × (failure ≡ of_system fault) × (new ≡ old))
     ⊎ ((n : ℕ) × (failure ≡ Failure.Output) × Appends old new (take n (codes "ok\n"))))
 
+-- sources are put into an image, which is written then. Else no file changes, or the image that is left is not written, or not for
+-- good
+abbrev pub SourcesEnd : List ℕ → Path → List Found → Held → Held → Result (Unit {0}) Failure → Type 0
+SourcesEnd name base all held saved (Ok done) = (start : SimFlash) × (end : SimFlash) × PutsBy (IsLoaded (held name)) held base all start end
+    × SavesChange name held saved (image_of (device_of start)) (image_of (device_of end))
+SourcesEnd name base all held saved (Err failure) = ((IsUnclaimed failure ⊎ PutCause (IsLoaded (held name)) (LoadCause (held name)) held base all failure) × (saved ≡ held))
+    ⊎ ((start : SimFlash) × (end : SimFlash) × PutsBy (IsLoaded (held name)) held base all start end
+    × ChangeUnsaved name held saved (image_of (device_of start)) (image_of (device_of end)) failure)
+
+-- all that stands at a name of the host is put into an image, below the path that a word spells
+abbrev pub PutEnds : List ℕ → List ℕ → Held → Held → Option (List Found) → Result (Unit {0}) Failure → Type 0
+PutEnds name word held saved gathered result = ((base : Path) × (all : List Found) × IsAsked gathered word base all × SourcesEnd name base all held saved result)
+    ⊎ ((failure : Failure) × (result ≡ Err failure) × AskCause held gathered word failure × (saved ≡ held))
+
 -- a script is run on a flash in memory
 abbrev pub MemoryEnds : Option (List ℕ) → Option (List ℕ) → Result (Unit {0}) Failure → Option (List ℕ) → Option (List ℕ) → Type 0
 MemoryEnds input left (Ok done) old new = EndsInMemory memory_sizes input left (Ok tt) old new
@@ -181,6 +194,11 @@ ExplainEnds number (Err Failure.Memory) old new = new ≡ old
 ExplainEnds number (Err Failure.Output) old new = (fault : Fault) × (meaning : List ℕ) × (n : ℕ) × (number_of fault ≡ number) × Appends old new (take n (explanation fault meaning))
 ExplainEnds number (Err _) old new = ⊥
 
+-- a word of a job; the empty one where it has none
+abbrev pub word_given : Option (Bor (List ℕ)) → List ℕ
+word_given (Some word) = word.now
+word_given None = []
+
 -- the sizes that a job asks for
 abbrev pub sizes_of : Job → Geometry
 sizes_of job = record { page = job.page; pages = job.pages; blocks = job.blocks }
@@ -191,14 +209,16 @@ pub record OnlyLooks (held saved : Held) (input left : Option (List ℕ)) : Type
   pub unread : left ≡ input
 
 -- how a task ends that is done on a file of this name
-abbrev pub EndsOn : Task → Job → List ℕ → Held → Held → Option (List ℕ) → Option (List ℕ) → Result (Unit {0}) Failure → Option (List ℕ) → Option (List ℕ) → Type 0
-EndsOn Task.Format job name held saved input left result old new = FormatEnds (sizes_of job) job.history (held name) (saved name) result × KeepsOthers name held saved × (left ≡ input) × (new ≡ old)
-EndsOn Task.Run job name held saved input left result old new = RunEnds job.stop name held saved input left result old new × KeepsOthers name held saved
-EndsOn Task.Check job name held saved input left result old new = CheckEnds (held name) result old new × OnlyLooks held saved input left
-EndsOn Task.Log job name held saved input left result old new = LookEnds (codes "log\n") (held name) result old new × OnlyLooks held saved input left
-EndsOn Task.Df job name held saved input left result old new = LookEnds (codes "df\n") (held name) result old new × OnlyLooks held saved input left
-EndsOn Task.Memory job name held saved input left result old new = MemoryEnds input left result old new × (saved ≡ held)
-EndsOn Task.Explain job name held saved input left result old new = ExplainEnds job.refusal result old new × OnlyLooks held saved input left
+abbrev pub EndsOn : Task → Job → List ℕ → Held → Held → Gathered → Option (List ℕ) → Option (List ℕ) → Result (Unit {0}) Failure → Option (List ℕ) → Option (List ℕ) → Type 0
+EndsOn Task.Format job name held saved gathered input left result old new = FormatEnds (sizes_of job) job.history (held name) (saved name) result × KeepsOthers name held saved × (left ≡ input) × (new ≡ old)
+EndsOn Task.Run job name held saved gathered input left result old new = RunEnds job.stop name held saved input left result old new × KeepsOthers name held saved
+EndsOn Task.Put job name held saved gathered input left result old new = PutEnds name (word_given job.path) held saved (gathered (word_given job.file)) result × KeepsOthers name held saved
+    × (left ≡ input) × (new ≡ old)
+EndsOn Task.Check job name held saved gathered input left result old new = CheckEnds (held name) result old new × OnlyLooks held saved input left
+EndsOn Task.Log job name held saved gathered input left result old new = LookEnds (codes "log\n") (held name) result old new × OnlyLooks held saved input left
+EndsOn Task.Df job name held saved gathered input left result old new = LookEnds (codes "df\n") (held name) result old new × OnlyLooks held saved input left
+EndsOn Task.Memory job name held saved gathered input left result old new = MemoryEnds input left result old new × (saved ≡ held)
+EndsOn Task.Explain job name held saved gathered input left result old new = ExplainEnds job.refusal result old new × OnlyLooks held saved input left
 
 -- how a task ends that is done on no file
 abbrev pub EndsAlone : Task → Job → Held → Held → Option (List ℕ) → Option (List ℕ) → Result (Unit {0}) Failure → Option (List ℕ) → Option (List ℕ) → Type 0
@@ -206,12 +226,12 @@ EndsAlone Task.Explain job held saved input left result old new = ExplainEnds jo
 EndsAlone _ job held saved input left result old new = MemoryEnds input left result old new × (saved ≡ held)
 
 -- by the file that a job names, if any
-abbrev pub EndsFor : Option (Bor (List ℕ)) → Job → Held → Held → Option (List ℕ) → Option (List ℕ) → Result (Unit {0}) Failure → Option (List ℕ) → Option (List ℕ) → Type 0
-EndsFor (Some name) job held saved input left result old new = EndsOn job.command job name.now held saved input left result old new
-EndsFor None job held saved input left result old new = EndsAlone job.command job held saved input left result old new
+abbrev pub EndsFor : Option (Bor (List ℕ)) → Job → Held → Held → Gathered → Option (List ℕ) → Option (List ℕ) → Result (Unit {0}) Failure → Option (List ℕ) → Option (List ℕ) → Type 0
+EndsFor (Some name) job held saved gathered input left result old new = EndsOn job.command job name.now held saved gathered input left result old new
+EndsFor None job held saved gathered input left result old new = EndsAlone job.command job held saved input left result old new
 
 -- how a job ends
-abbrev pub JobEnds : Job → Held → Held → Option (List ℕ) → Option (List ℕ) → Result (Unit {0}) Failure → Option (List ℕ) → Option (List ℕ) → Type 0
+abbrev pub JobEnds : Job → Held → Held → Gathered → Option (List ℕ) → Option (List ℕ) → Result (Unit {0}) Failure → Option (List ℕ) → Option (List ℕ) → Type 0
 JobEnds job = EndsFor job.image job
 
 -- the status of refused words, by the kind of the error: 1 where memory was wanted
@@ -225,9 +245,9 @@ AreRefused words status = (status ≡ 1) ⊎ ((status ≡ 2) × ((fault_of uffs 
 
 -- how the program ends: the job that the words ask for is done, with its status; or they are refused, no file changes, and
 -- nothing is read or written
-abbrev pub ToolEnds : List (List ℕ) → Held → Held → Option (List ℕ) → Option (List ℕ) → ℕ → Option (List ℕ) → Option (List ℕ) → Type 0
-ToolEnds words held saved input left status old new =
-    ((job : Job) × (result : Result (Unit {0}) Failure) × AsksFor words job × JobEnds job held saved input left result old new × (status ≡ job_status result))
+abbrev pub ToolEnds : List (List ℕ) → Held → Held → Gathered → Option (List ℕ) → Option (List ℕ) → ℕ → Option (List ℕ) → Option (List ℕ) → Type 0
+ToolEnds words held saved gathered input left status old new =
+    ((job : Job) × (result : Result (Unit {0}) Failure) × AsksFor words job × JobEnds job held saved gathered input left result old new × (status ≡ job_status result))
     ⊎ (AreRefused words status × (saved ≡ held) × (left ≡ input) × (new ≡ old))
 
 -- `memory` alone

@@ -3,19 +3,19 @@ use Rattle.std.specs.Prelude.{◌≡◌, ℕ, Bool, Option, Some, None, Result, 
 use Rattle.std.specs.Io.KnownBytes.{Consumes, IsAtEnd, Appends}
 use Rattle.history_machine.specs.History.{Past}
 use Rattle.plain_trees.specs.Trees.{Tree}
-use Rattle.fs_types.specs.declared.events.Event.{Event}
+use Rattle.fs_types.specs.declared.event.Event.{Event}
 use Rattle.flash_model.specs.Device.{Device}
 use Rattle.flash_model.specs.Plan.{Schedule}
 use Rattle.flash_model.specs.Simulation.{device_of, plan_of}
-use Rattle.flash_model.specs.declared.simulation.SimFlash.{SimFlash}
+use Rattle.flash_model.specs.declared.sim_flash.SimFlash.{SimFlash}
 use Rattle.script.specs.Lines.{line_of}
 use Rattle.script.specs.Streams.{TakesLine, TakesPart}
-use Rattle.script.specs.declared.lines.Line.{Line}
-use Rattle.script.specs.declared.answers.LineAnswer.{LineAnswer}
-use Rattle.upkeep.specs.declared.systems.System.{System}
+use Rattle.script.specs.declared.line.Line.{Line}
+use Rattle.script.specs.declared.line_answer.LineAnswer.{LineAnswer}
+use Rattle.system.specs.declared.systems.System.{System}
 use Rattle.undofs.specs.Runs.{World}
 use Rattle.undofs.specs.Sessions.{Stands, world, Serves}
-use Rattle.shell.specs.Plans.{GoesOn}
+use Rattle.shell.specs.Plans.{PlanGoesOn}
 use Rattle.shell.specs.Scripts.{Scene, event_of, IsStillAnswer, CarriesOut, EndsOrStops, answer_text}
 use Rattle.shell.specs.declared.scripts.ScriptFault.{ScriptFault}
 use Rattle.shell.specs.declared.scripts.Stop.{Stop}
@@ -28,14 +28,17 @@ Gets old new (Err ScriptFault.Read) = TakesPart old new
 Gets old new (Err ScriptFault.Memory) = (bytes : List ℕ) × TakesLine old new bytes
 Gets old new (Err _) = ⊥
 
--- a flash, the system on it, where one is mounted, and the faults that are planned for it
+-- a flash, the system on it, where one is mounted, and the faults that are planned for it, where any can be
 pub record Seat : Type 0 where
   pub device : Device
   pub system : Option System
-  pub plan : Schedule
+  pub plan : Option Schedule
+
+abbrev pub seat_at : Device → Option System → Option Schedule → Seat
+seat_at d system plan = record { device = d; system = system; plan = plan }
 
 abbrev pub seat : SimFlash → Option System → Seat
-seat flash system = record { device = device_of flash; system = system; plan = plan_of flash }
+seat flash system = seat_at (device_of flash) system (Some (plan_of flash))
 
 -- with the histories that a restart may find
 abbrev pub world_at : Seat → List (Past Tree) → World
@@ -45,7 +48,7 @@ abbrev pub scene_at : Seat → List (Past Tree) → Scene
 scene_at s found = record { world = world_at s found; plan = s.plan }
 
 abbrev pub DoesBy : Option Event → Line → Seat → LineAnswer → Seat → Type 0
-DoesBy (Some event) line s (LineAnswer.Told answer) t = Serves s.device s.system event answer t.device t.system × GoesOn s.device.operations s.plan t.device.operations t.plan
+DoesBy (Some event) line s (LineAnswer.Told answer) t = Serves s.device s.system event answer t.device t.system × PlanGoesOn s.device.operations s.plan t.device.operations t.plan
 DoesBy (Some event) line s LineAnswer.Syntax t = ⊥
 DoesBy None line s answer t = (t.device ≡ s.device) × (t.system ≡ s.system) × IsStillAnswer line s.plan answer t.plan
 

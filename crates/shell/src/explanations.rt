@@ -1,10 +1,10 @@
 //! What the refusals mean.
 ghost use Rattle.std.specs.Prelude.{◌≡◌, ◌++◌, OnOk, IfSome, IfNone};
 ghost use Rattle.fs_types.specs.Faults.{number_of};
-ghost use Rattle.fs_types.specs.declared.faults.Fault.{Fault};
+ghost use Rattle.fs_types.specs.declared.fault.Fault.{Fault};
 ghost use Rattle.shell.specs.Tools.{ExplainEnds, explanation};
 
-use crate::failures::Failure;
+use crate::failure::Failure;
 use crate::scripts::Refusal;
 use fs_types::Fault;
 use script::{print_number, write_out};

@@ -4,9 +4,9 @@ ghost use Rattle.std.specs.Prelude.{◌≡◌, ℕ, [], IfSome, IfOk, OnOk, IfEr
 ghost use Rattle.flash_model.specs.Plan.{Schedule, plan_of_entries};
 ghost use Rattle.flash_model.specs.Reading.{OnlyReads};
 ghost use Rattle.flash_model.specs.Simulation.{device_of, plan_of};
-ghost use Rattle.upkeep.specs.Formats.{IsFormatted, ListsFailed, IsNumbered, FormatCause};
-ghost use Rattle.upkeep.specs.Mounts.{IsMountOf, MountCause};
-ghost use Rattle.upkeep.specs.Systems.{IsSystem};
+ghost use Rattle.mounting.specs.Formats.{IsFormatted, ListsFailed, IsNumbered, FormatCause};
+ghost use Rattle.system.specs.Mounts.{IsMountOf, MountCause};
+ghost use Rattle.system.specs.Systems.{IsSystem};
 ghost use Rattle.undofs.specs.Sessions.{Serves};
 ghost use Rattle.shell.specs.Plans.{GoesOn, FollowsPlan};
 

@@ -3,11 +3,11 @@ ghost use Rattle.std.specs.Prelude.{◌≡◌, ℕ, IfOk, OnOk, IfErr, IfSome, t
 ghost use Rattle.std.specs.Io.KnownBytes.{Appends};
 ghost use Rattle.flash_model.specs.Simulation.{device_of};
 ghost use Rattle.flash_image.specs.Images.{image_of};
-ghost use Rattle.shell.specs.Files.{KeepsOthers};
-ghost use Rattle.shell.specs.Tools.{IsFront, IsDecoded, DecodeCause, IsUnclaimed, IsUnread, IsLoaded, LoadCause, IsSaved, Unsaved, SavesChange, ChangeUnsaved, FormatEnds, PlaysBy, RunEnds, CheckEnds, LookEnds};
+ghost use Rattle.shell.specs.Files.{KeepsOthers, IsFront};
+ghost use Rattle.shell.specs.Tools.{IsDecoded, DecodeCause, IsUnclaimed, IsUnread, IsLoaded, LoadCause, IsSaved, Unsaved, SavesChange, ChangeUnsaved, FormatEnds, PlaysBy, RunEnds, CheckEnds, LookEnds};
 
-use crate::failures::Failure;
-use crate::files::{FileFault, ImageFiles};
+use crate::failure::Failure;
+use crate::image_files::{FileFault, ImageFiles};
 use crate::scripts::run_script_until;
 use flash_image::{decode, encode};
 use flash_model::{Geometry, SimFlash};
@@ -18,7 +18,7 @@ use undofs::{format, mount};
 
 /// Makes an image of a flash of these sizes with an empty file system that keeps so many versions,
 /// in the place of what has the name, which is claimed first.
-pub(crate) fn format_image<F: ImageFiles>(
+pub fn format_image<F: ImageFiles>(
     files: &mut F,
     alloc: Global,
     name: &str,
@@ -58,7 +58,7 @@ fn make_image<F: ImageFiles>(
 
 /// Runs a script on an image, which is claimed first, up to the first refused line where it is to stop
 /// there. The image is written back where the script ran to its end, unless it is as it was.
-pub(crate) fn run_image<F: ImageFiles, R: Read, W: Write>(
+pub fn run_image<F: ImageFiles, R: Read, W: Write>(
     files: &mut F,
     alloc: Global,
     name: &str,
@@ -84,7 +84,7 @@ pub(crate) fn run_image<F: ImageFiles, R: Read, W: Write>(
 }
 
 /// Mounts an image, and writes `ok` where it is mounted.
-pub(crate) fn check_image<F: ImageFiles, W: Write>(
+pub fn check_image<F: ImageFiles, W: Write>(
     files: &F,
     alloc: Global,
     name: &str,
@@ -146,7 +146,7 @@ fn play<R: Read, W: Write>(
 }
 
 /// Claims a name for reading and writing together.
-fn claim<F: ImageFiles>(files: &mut F, alloc: Global, name: &str) -> Result<(), Failure>
+pub(crate) fn claim<F: ImageFiles>(files: &mut F, alloc: Global, name: &str) -> Result<(), Failure>
     ensures ok { OnOk result (F.claims files.new name.now) }
     ensures why { IfErr result IsUnclaimed }
     ensures same { F.held files.new ≡ F.held files.old }
@@ -170,7 +170,11 @@ fn load<F: ImageFiles>(files: &F, alloc: Global, name: &str) -> Result<SimFlash,
 }
 
 /// The bytes of an image.
-fn read_image<F: ImageFiles>(files: &F, alloc: Global, name: &str) -> Result<Vec<u8>, Failure>
+pub(crate) fn read_image<F: ImageFiles>(
+    files: &F,
+    alloc: Global,
+    name: &str,
+) -> Result<Vec<u8>, Failure>
     ensures ok { IfOk result (λ bytes. IsFront (F.held files.now name.now) bytes.items) }
     ensures err { IfErr result (IsUnread (F.held files.now name.now)) }
 {
@@ -182,7 +186,7 @@ fn read_image<F: ImageFiles>(files: &F, alloc: Global, name: &str) -> Result<Vec
 }
 
 /// The flash that bytes spell.
-fn flash_of(alloc: Global, bytes: &[u8]) -> Result<SimFlash, Failure>
+pub(crate) fn flash_of(alloc: Global, bytes: &[u8]) -> Result<SimFlash, Failure>
     ensures ok { IfOk result (IsDecoded bytes.now) }
     ensures err { IfErr result (DecodeCause bytes.now) }
 {
@@ -211,7 +215,7 @@ fn save<F: ImageFiles>(
 }
 
 /// Puts the image of a flash in the place of a claimed one of these bytes, unless it is the same.
-fn save_changed<F: ImageFiles>(
+pub(crate) fn save_changed<F: ImageFiles>(
     files: &mut F,
     alloc: Global,
     name: &str,

@@ -2,23 +2,30 @@
 #![tactic(auto)]
 
 mod explanations;
-mod failures;
-mod files;
+mod failure;
 mod following;
-mod host;
+mod host_files;
+mod image_files;
 mod images;
 mod laws;
 mod memory;
+mod path_word;
+mod planning;
 mod process;
 mod program;
+mod put;
 mod scripts;
+mod source;
+mod thing;
 
-pub use failures::Failure;
-pub use files::{FileFault, ImageFiles, MOST_BYTES};
-pub use host::HostFiles;
+pub use failure::Failure;
+pub use host_files::HostFiles;
+pub use image_files::{FileFault, ImageFiles, MOST_BYTES};
+pub use images::{check_image, format_image, run_image};
 pub use jobs::{Job, Task, job};
 pub use laws::{image_laws, script_laws};
 pub use process::run_process;
 pub use program::tool;
 pub use script::{Line, LineAnswer, print_answer, read_line};
-pub use scripts::{Refusal, ScriptFault, Stop, carry_out, run_script};
+pub use scripts::{Refusal, ScriptFault, Stop, carry_out, run_script, run_script_on};
+pub use source::{Source, SourceFault, SourceKind, Sources};

@@ -1,5 +1,5 @@
 //! The program as a process of the host.
-use crate::host::HostFiles;
+use crate::host_files::HostFiles;
 use crate::program::tool;
 use std::env::Env;
 use std::fs::File;

@@ -1,13 +1,15 @@
 //! What the program `uffs` does with its words.
 ghost use Rattle.std.specs.Prelude.{◌≡◌, IsTrue, map, string_bytes};
 ghost use Rattle.clap.specs.Words.{kind_of};
-ghost use Rattle.shell.specs.Tools.{EndsOn, JobEnds, MemoryEnds, ToolEnds, MemoryBy, sizes_of, refused_status, is_memory};
+ghost use Rattle.shell.specs.Tools.{EndsOn, JobEnds, MemoryEnds, ToolEnds, MemoryBy, sizes_of, word_given, refused_status, is_memory};
 
 use crate::explanations::explain;
-use crate::failures::Failure;
-use crate::files::ImageFiles;
+use crate::failure::Failure;
+use crate::image_files::ImageFiles;
 use crate::images::{check_image, format_image, look_at_image, run_image};
 use crate::memory::run_in_memory;
+use crate::put::{Order, put_into_image};
+use crate::source::Sources;
 use clap::Error;
 use clap::error::ErrorKind;
 use flash_model::Geometry;
@@ -22,7 +24,7 @@ use std::io::{Read, Write};
 /// output or memory failed. 2: the words were refused, or help was asked for. 3: the image, a format
 /// or a mount was refused. 4: what was asked for was refused, or a line of a script that is to stop
 /// there. Where it is not 0, `err` says why.
-pub fn tool<F: ImageFiles, R: Read, W: Write, E: Write>(
+pub fn tool<F: ImageFiles + Sources, R: Read, W: Write, E: Write>(
     files: &mut F,
     alloc: Global,
     words: &[String],
@@ -30,7 +32,7 @@ pub fn tool<F: ImageFiles, R: Read, W: Write, E: Write>(
     out: &mut W,
     err: &mut E,
 ) -> u8
-    ensures ends { ToolEnds (map string_bytes words.now) (F.held files.old) (F.held files.new) (R.remaining reader.old) (R.remaining reader.new) result (W.contents out.old) (W.contents out.new) }
+    ensures ends { ToolEnds (map string_bytes words.now) (F.held files.old) (F.held files.new) (F.gathered files.old) (R.remaining reader.old) (R.remaining reader.new) result (W.contents out.old) (W.contents out.new) }
     // The word `memory` is understood.
     ensures memory { IsTrue (is_memory (map string_bytes words.now)) → MemoryBy (R.remaining reader.old) (R.remaining reader.new) result (W.contents out.old) (W.contents out.new) }
 {
@@ -38,7 +40,7 @@ pub fn tool<F: ImageFiles, R: Read, W: Write, E: Write>(
         Ok(job) => job,
         Err(error) => return refuse(&error, err),
     };
-    match carry_out(files, alloc, job, reader, out) {
+    match carry_out(files, alloc, job, reader, out, err) {
         Ok(()) => 0,
         Err(failure) => {
             failure.explain(job.image.unwrap_or(""), err);
@@ -64,17 +66,18 @@ fn refuse<E: Write>(error: &Error, err: &mut E) -> u8
 }
 
 /// Does a job.
-fn carry_out<F: ImageFiles, R: Read, W: Write>(
+fn carry_out<F: ImageFiles + Sources, R: Read, W: Write, E: Write>(
     files: &mut F,
     alloc: Global,
     job: Job<'_>,
     reader: &mut R,
     out: &mut W,
+    err: &mut E,
 ) -> Result<(), Failure>
-    ensures { JobEnds job.entry (F.held files.old) (F.held files.new) (R.remaining reader.old) (R.remaining reader.new) result (W.contents out.old) (W.contents out.new) }
+    ensures { JobEnds job.entry (F.held files.old) (F.held files.new) (F.gathered files.old) (R.remaining reader.old) (R.remaining reader.new) result (W.contents out.old) (W.contents out.new) }
 {
     match job.image {
-        Some(name) => do_task(files, alloc, job, name, reader, out),
+        Some(name) => do_task(files, alloc, job, name, reader, out, err),
         None => match job.command {
             Task::Explain => explain(alloc, job.refusal, out),
             _ => play_in_memory(alloc, reader, out),
@@ -83,24 +86,47 @@ fn carry_out<F: ImageFiles, R: Read, W: Write>(
 }
 
 /// Does a task on a file.
-fn do_task<F: ImageFiles, R: Read, W: Write>(
+fn do_task<F: ImageFiles + Sources, R: Read, W: Write, E: Write>(
     files: &mut F,
     alloc: Global,
     job: Job<'_>,
     name: &str,
     reader: &mut R,
     out: &mut W,
+    err: &mut E,
 ) -> Result<(), Failure>
-    ensures { EndsOn job.entry.command job.entry name.now (F.held files.old) (F.held files.new) (R.remaining reader.old) (R.remaining reader.new) result (W.contents out.old) (W.contents out.new) }
+    ensures { EndsOn job.entry.command job.entry name.now (F.held files.old) (F.held files.new) (F.gathered files.old) (R.remaining reader.old) (R.remaining reader.new) result (W.contents out.old) (W.contents out.new) }
 {
     match job.command {
         Task::Format => format_image(files, alloc, name, sizes_of(job), job.history),
         Task::Run => run_image(files, alloc, name, job.stop, reader, out),
+        Task::Put => put_into_image(files, alloc, name, order_of(job), err),
         Task::Check => check_image(files, alloc, name, out),
         Task::Log => look_at_image(files, alloc, name, b"log\n", out),
         Task::Df => look_at_image(files, alloc, name, b"df\n", out),
         Task::Memory => play_in_memory(alloc, reader, out),
         Task::Explain => explain(alloc, job.refusal, out),
+    }
+}
+
+fn order_of(job: Job<'_>) -> Order<'_>
+    ensures file { result.file.now ≡ word_given job.entry.file }
+    ensures path { result.path.now ≡ word_given job.entry.path }
+{
+    Order {
+        file: word_given(job.file),
+        path: word_given(job.path),
+        progress: job.progress,
+    }
+}
+
+/// A word of a job; the empty one where it has none.
+fn word_given(word: Option<&str>) -> &str
+    ensures { result.now ≡ word_given word.entry }
+{
+    match word {
+        Some(word) => word,
+        None => "",
     }
 }
 

@@ -1,14 +1,13 @@
-//! A script run on a flash in memory.
+//! A script run on a flash.
 ghost use Rattle.std.specs.Prelude.{◌≡◌, IfSome, None, if◌then◌else◌};
-ghost use Rattle.flash_model.specs.Simulation.{device_of, plan_of};
-ghost use Rattle.script.specs.declared.lines.Line.{Line};
-ghost use Rattle.upkeep.specs.Systems.{IsSystem};
-ghost use Rattle.shell.specs.Scripts.{Ends, IsStillAnswer, ScriptEnds, refusal_of};
-ghost use Rattle.shell.specs.Turns.{Gets, seat, Does, Writes, LinesEnd};
+ghost use Rattle.flash_model.specs.Simulation.{device_of};
+ghost use Rattle.system.specs.Systems.{IsSystem};
+ghost use Rattle.shell.specs.Scripts.{Ends, EndsOnFlash, ScriptEnds, ScriptEndsOn, ground_at, unplanned, refusal_of};
+ghost use Rattle.shell.specs.Turns.{Gets, seat, seat_at, Does, Writes, LinesEnd};
 
-use crate::following::{mount_as_planned, serve_as_planned};
-use flash_model::{FaultKind, Planned, SimFlash};
-use fs_types::{Answer, Event, Fault, Reply};
+use crate::planning::{Followed, Planning, Unplanned};
+use flash_model::{Flash, SimFlash};
+use fs_types::{Answer, Event, Fault};
 use script::{Line, LineAnswer, LineReader, Taken, print_answer, read_line, write_out};
 use std::alloc::Global;
 use std::io::{Read, Write};
@@ -71,8 +70,24 @@ pub fn run_script<R: Read, W: Write>(
     }
 }
 
-/// The same. Where it is to `stop` it ends at the first line that is refused, whose reply is written
-/// too, and answers where that was.
+/// The same on any flash. No fault can be planned for it: a line `fault` has no form of a line, and is
+/// answered `err SYNTAX`.
+pub fn run_script_on<F: Flash, R: Read, W: Write>(
+    alloc: Global,
+    reader: &mut R,
+    writer: &mut W,
+    flash: &mut F,
+) -> Result<(), ScriptFault>
+    ensures ends { EndsOnFlash (unplanned (F.device flash.old)) (unplanned (F.device flash.new)) (R.remaining reader.old) (R.remaining reader.new) result (W.contents writer.old) (W.contents writer.new) }
+{
+    match run_until::<F, Unplanned, R, W>(alloc, reader, writer, flash, false) {
+        Ok(_) => Ok(()),
+        Err(fault) => Err(fault),
+    }
+}
+
+/// Runs a script as [`run_script`] does. Where it is to `stop` it ends at the first line that is
+/// refused, whose reply is written too, and answers where that was.
 pub(crate) fn run_script_until<R: Read, W: Write>(
     alloc: Global,
     reader: &mut R,
@@ -82,26 +97,39 @@ pub(crate) fn run_script_until<R: Read, W: Write>(
 ) -> Result<Option<Stop>, ScriptFault>
     ensures ends { ScriptEnds stop flash.old flash.new (R.remaining reader.old) (R.remaining reader.new) result (W.contents writer.old) (W.contents writer.new) }
 {
-    let mut system = match mount_as_planned(alloc, flash) {
+    run_until::<SimFlash, Followed, R, W>(alloc, reader, writer, flash, stop)
+}
+
+/// The same on any flash, with account of its plan of faults.
+fn run_until<F: Flash, P: Planning<F>, R: Read, W: Write>(
+    alloc: Global,
+    reader: &mut R,
+    writer: &mut W,
+    flash: &mut F,
+    stop: bool,
+) -> Result<Option<Stop>, ScriptFault>
+    ensures ends { ScriptEndsOn stop (ground_at (F.device flash.old) (P.plan flash.old)) (ground_at (F.device flash.new) (P.plan flash.new)) (R.remaining reader.old) (R.remaining reader.new) result (W.contents writer.old) (W.contents writer.new) }
+{
+    let mut system = match P::mount(alloc, flash) {
         Ok(mounted) => Some(mounted),
         Err(fault) => return Err(ScriptFault::Mount(fault)),
     };
-    run_lines(alloc, reader, writer, flash, &mut system, stop)
+    run_lines::<F, P, R, W>(alloc, reader, writer, flash, &mut system, stop)
 }
 
 /// Carries out the lines of the reader on a flash and on the system that is mounted on it, if one is,
 /// and writes their answers, up to the first refused one where it is to stop there.
-fn run_lines<R: Read, W: Write>(
+fn run_lines<F: Flash, P: Planning<F>, R: Read, W: Write>(
     alloc: Global,
     reader: &mut R,
     writer: &mut W,
-    flash: &mut SimFlash,
+    flash: &mut F,
     system: &mut Option<System>,
     stop: bool,
 ) -> Result<Option<Stop>, ScriptFault>
-    requires { IfSome system.old (IsSystem (device_of flash.old)) }
-    ensures mounted { IfSome system.new (IsSystem (device_of flash.new)) }
-    ensures ends { LinesEnd stop (seat flash.old system.old) (R.remaining reader.old) (R.remaining reader.new) result (W.contents writer.old) (W.contents writer.new) (seat flash.new system.new) }
+    requires { IfSome system.old (IsSystem (F.device flash.old)) }
+    ensures mounted { IfSome system.new (IsSystem (F.device flash.new)) }
+    ensures ends { LinesEnd stop (seat_at (F.device flash.old) system.old (P.plan flash.old)) (R.remaining reader.old) (R.remaining reader.new) result (W.contents writer.old) (W.contents writer.new) (seat_at (F.device flash.new) system.new (P.plan flash.new)) }
 {
     let mut lines = match LineReader::new(alloc) {
         Ok(lines) => lines,
@@ -114,7 +142,7 @@ fn run_lines<R: Read, W: Write>(
             Ok(None) => return Ok(None),
             Err(fault) => return Err(fault),
         };
-        let answer = carry_out(alloc, flash, system, line);
+        let answer = carry_out_on::<F, P>(alloc, flash, system, line);
         match write_answer(writer, &mut text, &answer) {
             Ok(()) => {}
             Err(fault) => return Err(fault),
@@ -178,34 +206,29 @@ pub fn carry_out(
     ensures mounted { IfSome system.new (IsSystem (device_of flash.new)) }
     ensures does { Does line (seat flash.old system.old) result (seat flash.new system.new) }
 {
-    match line {
-        Line::Call(call) => LineAnswer::Told(serve_as_planned(
-            alloc,
-            flash,
-            system,
-            &Event::Call(call),
-        )),
-        Line::ReclaimStep(budget) => {
-            LineAnswer::Told(serve_as_planned(alloc, flash, system, &Event::ReclaimStep(budget)))
-        }
-        Line::Restart => LineAnswer::Told(serve_as_planned(alloc, flash, system, &Event::Restart)),
-        Line::Refused(fault) => LineAnswer::Told(Answer::Refused(fault)),
-        Line::PlanFault { k, kind } => plan_fault(flash, k, kind),
-        Line::Syntax => LineAnswer::Syntax,
-    }
+    carry_out_on::<SimFlash, Followed>(alloc, flash, system, line)
 }
 
-/// Plans a fault for the flash. It works with the power off and without a system too.
-fn plan_fault(flash: &mut SimFlash, k: u64, kind: FaultKind) -> LineAnswer
-    ensures still { device_of flash.new ≡ device_of flash.old }
-    ensures plans { IsStillAnswer (Line.PlanFault k kind) (plan_of flash.old) result (plan_of flash.new) }
+/// The same on any flash, with account of its plan of faults.
+fn carry_out_on<F: Flash, P: Planning<F>>(
+    alloc: Global,
+    flash: &mut F,
+    system: &mut Option<System>,
+    line: Line,
+) -> LineAnswer
+    requires { IfSome system.old (IsSystem (F.device flash.old)) }
+    ensures mounted { IfSome system.new (IsSystem (F.device flash.new)) }
+    ensures does { Does line (seat_at (F.device flash.old) system.old (P.plan flash.old)) result (seat_at (F.device flash.new) system.new (P.plan flash.new)) }
 {
-    if k == 0 {
-        return LineAnswer::Syntax;
-    }
-    match flash.plan_fault(k, kind) {
-        Ok(()) => LineAnswer::Told(Answer::Done(Reply::Empty)),
-        Err(fault) => LineAnswer::Told(Answer::Refused(fault)),
+    match line {
+        Line::Call(call) => { LineAnswer::Told(P::serve(alloc, flash, system, &Event::Call(call))) }
+        Line::ReclaimStep(budget) => {
+            LineAnswer::Told(P::serve(alloc, flash, system, &Event::ReclaimStep(budget)))
+        }
+        Line::Restart => LineAnswer::Told(P::serve(alloc, flash, system, &Event::Restart)),
+        Line::Refused(fault) => LineAnswer::Told(Answer::Refused(fault)),
+        Line::PlanFault { k, kind } => P::plan_fault(flash, k, kind),
+        Line::Syntax => LineAnswer::Syntax,
     }
 }
 

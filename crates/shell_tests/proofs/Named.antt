@@ -1,8 +1,8 @@
 -- A file that has one name, and what is known of the others.
-use Rattle.std.proofs.Common.{◌≡◌, ◌≢◌, ℕ, Bool, true, false, List, Option, Some, None, IfSome, if◌then◌else◌, take, codes, refl, sym, ◌∙◌, ap}
+use Rattle.std.proofs.Common.{◌≡◌, ◌≢◌, ℕ, Bool, true, false, List, Some, None, IfSome, if◌then◌else◌, take, codes, refl, sym, ◌∙◌}
 use Rattle.std.specs.Str.{bytes_eq}
 use Rattle.std.proofs.lemmas.Slice.Eq.{bytes_eq-Decides}
-use Rattle.shell.specs.declared.files.TheConstants.{MOST_BYTES}
+use Rattle.shell.specs.declared.image_files.TheConstants.{MOST_BYTES}
 
 pub front_of : (b : Bool) (items bytes : List ℕ) → bytes ≡ take MOST_BYTES items → IfSome (if b then Some items else None) (λ all. bytes ≡ take MOST_BYTES all)
 front_of true items bytes same = same

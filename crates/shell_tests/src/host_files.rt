@@ -12,7 +12,7 @@ use std::test::Fail;
 use std::{env, fs, process};
 
 /// A new folder of this process alone, by its name.
-fn folder_of(rt: &HostRuntime, word: &str) -> Result<String, Fail> {
+pub(crate) fn folder_of(rt: &HostRuntime, word: &str) -> Result<String, Fail> {
     let top = env::temp_dir(rt)?;
     let top = top.as_str();
     let id = process::id(rt.process());
@@ -22,7 +22,7 @@ fn folder_of(rt: &HostRuntime, word: &str) -> Result<String, Fail> {
 }
 
 /// A name in a folder.
-fn name_in(alloc: Global, folder: &str, word: &str) -> Result<String, Fail> {
+pub(crate) fn name_in(alloc: Global, folder: &str, word: &str) -> Result<String, Fail> {
     Ok(format!(in alloc; "{folder}/{word}")?)
 }
 

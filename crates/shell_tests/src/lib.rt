@@ -8,6 +8,8 @@ mod images;
 #[cfg(test)]
 mod programs;
 #[cfg(test)]
+mod puts;
+#[cfg(test)]
 mod retries;
 #[cfg(test)]
 mod scripts;

@@ -5,7 +5,7 @@ ghost use Rattle.std.specs.Str.{bytes_eq};
 
 use crate::images::{erased_image, fresh_image};
 use crate::scripts::{Broken, Full};
-use shell::{FileFault, ImageFiles, MOST_BYTES, tool};
+use shell::{FileFault, ImageFiles, MOST_BYTES, Source, SourceKind, Sources, tool};
 use std::alloc::{AllocError, Global};
 use std::io::{Read, Write};
 use std::process::Abort;
@@ -77,6 +77,28 @@ impl ImageFiles for OneFile {
     }
 }
 
+impl Sources for OneFile {
+    fn gather(&self, alloc: Global, name: &str) -> Result<Vec<Source>, AllocError> {
+        let kind = match name {
+            "x" => SourceKind::File(self.bytes.len() as u64),
+            "link" => SourceKind::Link,
+            "folder" => SourceKind::Folder,
+            "long" => SourceKind::File(16_777_217),
+            "crowd" => SourceKind::Crowded,
+            "fifo" => SourceKind::Special,
+            "lost" => SourceKind::File(1),
+            _ => SourceKind::Unreadable,
+        };
+        let mut sources = Vec::new(alloc);
+        sources.push(Source {
+            name: String::from_str(alloc, name)?,
+            way: String::from_str(alloc, "/")?,
+            kind,
+        })?;
+        Ok(sources)
+    }
+}
+
 fn words_of(alloc: Global, words: &[&str]) -> Result<Vec<String>, AllocError> {
     let mut all = Vec::new(alloc);
     for word in words {
@@ -93,7 +115,7 @@ struct Outcome {
     err: String,
 }
 
-fn call<F: ImageFiles>(
+fn call<F: ImageFiles + Sources>(
     files: &mut F,
     alloc: Global,
     words: &[&str],
@@ -116,7 +138,7 @@ fn call<F: ImageFiles>(
 pub(crate) type Wanted<'a> = (&'a [&'a str], &'a str, (u8, &'a str, &'a str));
 
 /// Asserts what calls of the program give, one after the other.
-pub(crate) fn assert_calls<R: Abort, F: ImageFiles>(
+pub(crate) fn assert_calls<R: Abort, F: ImageFiles + Sources>(
     rt: &R,
     files: &mut F,
     alloc: Global,
@@ -370,9 +392,109 @@ fn words_that_ask_for_no_job_are_told(rt: HostRuntime) -> Result<(), Fail> {
     Ok(())
 }
 
+#[test]
+fn a_put_is_one_version(rt: HostRuntime) -> Result<(), Fail> {
+    let mut files = OneFile::new(rt.alloc());
+    let lines = "stat /d\nread /f 0 8\nlog\nundo\nls /\nundo\nls /\n";
+    let versions = "log next 4 dropped 0 versions 1 2 *3 checkpoints\n";
+    let replies = format!(in rt.alloc();
+        "dir 0\ndata 55464653494d4731\n{versions}ok\nentries 1 d/\nok\nentries 0\n"
+    )?;
+    let calls: [Wanted<'_>; 5] = [
+        (&["format", "x"], "", (0, "", "")),
+        (&["put", "x", "folder", "/d"], "", (0, "", "")),
+        (&["put", "x", "folder", "/d"], "", (0, "", "")),
+        (
+            &["put", "x", "x", "/f", "--progress"],
+            "",
+            (0, "", "uffs: 1 of 1\n"),
+        ),
+        (&["run", "x"], lines, (0, replies.as_str(), "")),
+    ];
+    assert_calls(&rt, &mut files, rt.alloc(), &calls)
+}
+
+#[test]
+fn what_is_not_put_is_told_by_its_name(rt: HostRuntime) -> Result<(), Fail> {
+    let alloc = rt.alloc();
+    let mut files = OneFile::new(alloc);
+    files.bytes = fresh_image(alloc)?;
+    let big = "uffs: cannot put long: it has over 16777216 bytes\n";
+    let special = "uffs: cannot put fifo: it is neither a folder nor a plain file\n";
+    let calls: [Wanted<'_>; 7] = [
+        (
+            &["put", "x", "link", "/f"],
+            "",
+            (1, "", "uffs: cannot put link: it is a link\n"),
+        ),
+        (&["put", "x", "fifo", "/f"], "", (1, "", special)),
+        (
+            &["put", "x", "crowd", "/f"],
+            "",
+            (1, "", "uffs: cannot put crowd: it has over 1024 entries\n"),
+        ),
+        (&["put", "x", "long", "/f"], "", (1, "", big)),
+        (
+            &["put", "x", "missing", "/f"],
+            "",
+            (1, "", "uffs: cannot read missing\n"),
+        ),
+        (
+            &["put", "x", "lost", "/f"],
+            "",
+            (1, "", "uffs: cannot read lost\n"),
+        ),
+        (
+            &["put", "missing", "folder", "/f"],
+            "",
+            (1, "", "uffs: cannot read missing\n"),
+        ),
+    ];
+    assert_calls(&rt, &mut files, alloc, &calls)?;
+    assert!(rt; is_fresh(alloc, &files)?);
+    Ok(())
+}
+
+#[test]
+fn a_refused_put_leaves_the_image(rt: HostRuntime) -> Result<(), Fail> {
+    let alloc = rt.alloc();
+    let mut files = OneFile::new(alloc);
+    files.bytes = fresh_image(alloc)?;
+    let calls: [Wanted<'_>; 5] = [
+        (&["put", "x", "x", "f"], "", (4, "", "uffs: EINVAL 7\n")),
+        (&["put", "x", "x", "/a b"], "", (4, "", "uffs: SYNTAX\n")),
+        (&["put", "x", "x", "/d/f"], "", (4, "", "uffs: ENOENT 1\n")),
+        (&["put", "x", "x", "/"], "", (4, "", "uffs: EISDIR 3\n")),
+        (
+            &["put", "x", "folder", "/d/f"],
+            "",
+            (4, "", "uffs: ENOENT 1\n"),
+        ),
+    ];
+    assert_calls(&rt, &mut files, alloc, &calls)?;
+    assert!(rt; is_fresh(alloc, &files)?);
+    files.is_full = true;
+    let unwritten = (1, "", "uffs: cannot write x\n");
+    assert_calls(
+        &rt,
+        &mut files,
+        alloc,
+        &[(&["put", "x", "folder", "/d"], "", unwritten)],
+    )?;
+    files.is_taken = true;
+    assert_calls(
+        &rt,
+        &mut files,
+        alloc,
+        &[(&["put", "x", "folder", "/d"], "", unwritten)],
+    )?;
+    assert!(rt; is_fresh(alloc, &files)?);
+    Ok(())
+}
+
 /// Asserts that the words that ask something of an image have it told as one that cannot be read, or
 /// cannot be written.
-pub(crate) fn assert_cannot<R: Abort, F: ImageFiles>(
+pub(crate) fn assert_cannot<R: Abort, F: ImageFiles + Sources>(
     rt: &R,
     files: &mut F,
     alloc: Global,
@@ -386,7 +508,7 @@ pub(crate) fn assert_cannot<R: Abort, F: ImageFiles>(
 }
 
 /// Asserts that an image is told as one that cannot be written.
-pub(crate) fn assert_unwritten<R: Abort, F: ImageFiles>(
+pub(crate) fn assert_unwritten<R: Abort, F: ImageFiles + Sources>(
     rt: &R,
     files: &mut F,
     alloc: Global,

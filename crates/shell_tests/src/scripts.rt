@@ -1,7 +1,8 @@
 //! What stands written where a script does not run to its end.
 use flash_model::{Flash, Geometry, PageView, SimFlash};
 use fs_types::Fault;
-use shell::{ScriptFault, run_script};
+use nor_part::{MemoryNor, NorFlash};
+use shell::{ScriptFault, run_script, run_script_on};
 use std::alloc::Global;
 use std::io;
 use std::io::{ErrorKind, Read, Write};
@@ -258,5 +259,18 @@ fn nodes_are_written_before_their_root(rt: HostRuntime) -> Result<(), Fail> {
             assert!(rt; holds(&flash, number, page), "{script} {number}");
         }
     }
+    Ok(())
+}
+
+#[test]
+fn a_script_runs_on_a_nor_part(rt: HostRuntime) -> Result<(), Fail> {
+    let part = MemoryNor::new(rt.alloc(), 64)?;
+    let mut flash = NorFlash::new(rt.alloc(), part)?;
+    format(rt.alloc(), &mut flash, 8)?;
+    let mut script: &[u8] = b"mkdir /a\nsync\nmkdir /b\nfault 1 read-fail\nrestart\nls /\n";
+    let mut out: Vec<u8> = Vec::new(rt.alloc());
+    run_script_on(rt.alloc(), &mut script, &mut out, &mut flash)?;
+    let wanted = b"ok\nok\nok\nerr SYNTAX\nmounted\nentries 1 a/\n";
+    assert!(rt; out.as_slice() == wanted.as_slice());
     Ok(())
 }

@@ -3,11 +3,10 @@ use Rattle.std.proofs.Common.{◌≡◌, ℕ, zero, suc, ◌+◌, ◌-◌, ◌*�
 use Rattle.std.proofs.lemmas.List.{take_all}
 use Rattle.std.proofs.lemmas.Nat.{pow_pos, div-mul-add}
 use Rattle.std.specs.Prelude.{Contains}
-use Rattle.node_format.specs.Items.{Item}
 use Rattle.block_trees.specs.Bodies.{Blocks, index_of, pointer_of, data_of, back, data_to, head_index, body, IsChain, IsLinked, IsBody}
 use Rattle.std.specs.Option.{option_map_or}
 use Rattle.node_format.specs.Links.{Link}
-use Rattle.block_trees.specs.Chains.{link_of, next_of}
+use Rattle.block_trees.specs.Chains.{link_of}
 use Rattle.block_trees.specs.Reached.{Reached, Names, BodyNames}
 use Rattle.block_trees.proofs.Entries.{directory_no_index}
 use Rattle.block_trees.proofs.Reaching.{IsReachedBy, reached_by}

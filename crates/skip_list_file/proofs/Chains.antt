@@ -4,6 +4,7 @@ use Rattle.std.proofs.lemmas.Bool.{eqb-true, ltb-true}
 use Rattle.node_format.specs.Headers.{field, body_magic, body_size, IsNode}
 use Rattle.node_format.specs.BodyNodes.{IsBodyNode, HasSlot}
 use Rattle.block_trees.specs.Bodies.{Blocks, index_of, pointer_of, back, IsChain, IsLinked}
+use Rattle.block_trees.proofs.Bodies.{back_back, chain_back, linked_back}
 use Rattle.skip_list_file.specs.Reading.{IsUseful, IsLargest, HasDigits}
 use Rattle.skip_list_file.proofs.Hops.{Hops, next_hop}
 
@@ -46,32 +47,6 @@ slot_zero held index bytes found at some only =
     only (omega arith, omega (arith, at.index_is), (field bytes 4, omega arith)) ∙ ap (λ (n : Option (List ℕ)). Some (pointer_of n 0)) (sym at.bytes_are)
 
 -- ---- nodes before
-
-pub back_back : (f : Blocks) (m n block : ℕ) → back f (back f block m) n ≡ back f block (m + n)
-back_back f zero n block =
-    let e : n ≡ 0 + n = omega arith in
-    ap (back f block) e
-back_back f (suc m) n block =
-    let e : suc m + n ≡ suc (m + n) = omega arith in
-    back_back f m n (pointer_of (f block) 0) ∙ ap (back f block) (sym e)
-
-pub chain_node : (capacity i block : ℕ) (f : Blocks) → IsChain capacity f i block → index_of (f block) ≡ Some i
-chain_node capacity zero block f chain = chain
-chain_node capacity (suc i) block f chain = chain.0
-
-pub chain_back : (capacity : ℕ) (f : Blocks) (n i block : ℕ) → n ≤ i → IsChain capacity f i block → IsChain capacity f (i - n) (back f block n)
-chain_back capacity f zero i block le chain = subst (λ (k : ℕ). IsChain capacity f k block) (omega arith) chain
-chain_back capacity f (suc n) zero block le chain = absurd (omega arith)
-chain_back capacity f (suc n) (suc i) block le chain =
-    let e : i - n ≡ suc i - suc n = omega arith in
-    subst (λ (k : ℕ). IsChain capacity f k (back f (pointer_of (f block) 0) n)) e (chain_back capacity f n i (pointer_of (f block) 0) (omega arith) chain.2)
-
-pub linked_back : (f : Blocks) (n i block : ℕ) → n ≤ i → IsLinked f i block → IsLinked f (i - n) (back f block n)
-linked_back f zero i block le linked = subst (λ (k : ℕ). IsLinked f k block) (omega arith) linked
-linked_back f (suc n) zero block le linked = absurd (omega arith)
-linked_back f (suc n) (suc i) block le linked =
-    let e : i - n ≡ suc i - suc n = omega arith in
-    subst (λ (k : ℕ). IsLinked f k (back f (pointer_of (f block) 0) n)) e (linked_back f n i (pointer_of (f block) 0) (omega arith) linked.1)
 
 pub pointer_back : (f : Blocks) (x i block : ℕ) → HasSlot i x → IsLinked f i block → pointer_of (f block) x ≡ back f block (2 ^ x)
 pointer_back f x zero block has linked = absurd (omega (arith, has.1))

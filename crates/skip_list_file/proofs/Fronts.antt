@@ -5,9 +5,9 @@ use Rattle.std.proofs.lemmas.Nat.{le-div}
 use Rattle.block_trees.specs.Bodies.{Blocks, pointer_of, data_of, back, data_to, head_index, body, IsChain, IsLinked, IsBody}
 use Rattle.block_trees.specs.Reached.{Reached}
 use Rattle.skip_list_file.specs.Writing.{IsFront}
-use Rattle.skip_list_file.proofs.Chains.{chain_back, linked_back}
 use Rattle.skip_list_file.proofs.Parts.{data_length}
 use Rattle.block_trees.proofs.Reaching.{reached_below, before_named}
+use Rattle.block_trees.proofs.Bodies.{chain_back, linked_back}
 
 -- ---- steps back
 

@@ -1,6 +1,6 @@
 -- Bodies while nodes are written: what is held stays, and a body grows by a node.
 use Rattle.std.proofs.Common.{◌≡◌, ℕ, zero, suc, ◌+◌, ◌-◌, ◌*◌, ◌^◌, ◌/◌, ◌%◌, ◌<◌, ◌≤◌, min, ◌⊎◌, inl, inr, Bool, true, false, Option, Some, None, Result, Ok, Err, List, [], ◌∷◌, ◌++◌, length, slice_index, take, drop, if◌then◌else◌, ◌==◌, refl, sym, ap, subst, ◌∙◌, arith, suc-mul}
-use Rattle.std.specs.Prelude.{IfOk, IfErr}
+use Rattle.std.specs.Prelude.{IfOk}
 use Rattle.std.proofs.lemmas.List.{take_all, take_min, take-take, length-take-le, length-drop}
 use Rattle.std.proofs.lemmas.Nat.{mul-le, le-div, div-add-mod', mod_below}
 use Rattle.std.proofs.Math.Seq.{take-add}
@@ -8,18 +8,18 @@ use Rattle.fs_types.specs.Names.{Path}
 use Rattle.plain_trees.specs.Contents.{Entry, resized, read_from}
 use Rattle.node_format.specs.Headers.{field, body_header, body_magic, IsNode}
 use Rattle.node_format.specs.BodyNodes.{IsBodySpelling, HasSlot}
-use Rattle.node_format.specs.declared.places.Place.TheVariants.{Dir, File}
+use Rattle.node_format.specs.declared.place.Place.TheVariants.{Dir, File}
 use Rattle.block_trees.specs.Bodies.{Blocks, index_of, data_of, head_index, body, IsChain, IsBody, back, pointer_of}
 use Rattle.block_trees.specs.Trees.{leads, HasTree, IsWhole}
 use Rattle.block_trees.specs.Reached.{Reached, IsHeld, Keeps, PlaceNames}
 use Rattle.block_trees.proofs.Entries.{place_is}
 use Rattle.block_trees.proofs.Frames.{frame_law}
 use Rattle.block_trees.proofs.Reaching.{reached_own, reached_below, before_named}
-use Rattle.skip_list_file.specs.declared.bodies.Body.{Body}
+use Rattle.block_trees.proofs.Bodies.{chain_node}
+use Rattle.skip_list_file.specs.declared.body.Body.{Body}
 use Rattle.skip_list_file.specs.Reading.{AreBlocks}
 use Rattle.skip_list_file.specs.Writing.{edited, slot_before, AreLinked, IsFront, IsGrown, IsWritten, HoldsNode, HoldsPart, OnlyReaches}
 use Rattle.skip_list_file.proofs.Fronts.{has_head, body_length}
-use Rattle.skip_list_file.proofs.Chains.{chain_node}
 use Rattle.skip_list_file.proofs.Parts.{data_length}
 use Rattle.skip_list_file.proofs.EditedBytes.{resized_cut, edited_length}
 use Rattle.skip_list_file.proofs.Appended.{IsNext, IsAppended, append_node, index_at, divides_least}
@@ -304,14 +304,6 @@ cut_begun capacity f f' kept kept' from front size same_nodes same_kept le held 
 
 -- ---- what calls answered
 
-pub if_ok : {T E : Type 0} (P Q : T → Type 0) (r : Result T E) → ((x : T) → P x → Q x) → IfOk r P → IfOk r Q
-if_ok P Q (Ok x) f p = f x p
-if_ok P Q (Err e) f p = tt
-
 pub if_ok_three : {T E : Type 0} (P Q R S : T → Type 0) (r : Result T E) → IfOk r P → IfOk r Q → IfOk r R → ((x : T) → P x → Q x → R x → S x) → IfOk r S
 if_ok_three P Q R S (Ok x) p q w f = f x p q w
 if_ok_three P Q R S (Err e) p q w f = tt
-
-pub if_err : {T E : Type 0} (P Q : E → Type 0) (r : Result T E) → ((e : E) → P e → Q e) → IfErr r P → IfErr r Q
-if_err P Q (Ok x) f p = tt
-if_err P Q (Err e) f p = f e p

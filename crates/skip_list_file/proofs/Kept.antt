@@ -6,10 +6,10 @@ use Rattle.std.proofs.lemmas.Bool.{cases_lt}
 use Rattle.std.proofs.lemmas.List.{get_or_append_left, get_or-append_right, get_or-take, get_or-drop, get_or_past, get_or-replicate, length-take-le, drop_at, ext_get_or}
 use Rattle.plain_trees.specs.Contents.{read_from}
 use Rattle.block_trees.specs.Bodies.{Blocks, pointer_of, data_of, back, data_to, head_index, body, IsChain, IsBody}
+use Rattle.block_trees.proofs.Bodies.{back_back, chain_node}
 use Rattle.skip_list_file.specs.Reading.{AreBlocks}
 use Rattle.skip_list_file.specs.Writing.{edited, byte_after}
 use Rattle.skip_list_file.proofs.EditedBytes.{edited_length, edited_at, byte_of}
-use Rattle.skip_list_file.proofs.Chains.{back_back, chain_node}
 use Rattle.skip_list_file.proofs.Fronts.{front_chain}
 use Rattle.skip_list_file.proofs.Appended.{index_at}
 use Rattle.skip_list_file.proofs.Places.{HasPointer}

@@ -8,8 +8,9 @@ use Rattle.std.proofs.lemmas.Nat.{pow_pos, mul-le, le-div, mod_below, mod-mul-ad
 use Rattle.std.proofs.Math.Nat.{div-mul-le_self}
 use Rattle.std.proofs.Math.Pow.{pow_mono}
 use Rattle.block_trees.specs.Bodies.{Blocks, pointer_of, back, IsChain, IsLinked}
+use Rattle.block_trees.proofs.Bodies.{back_back, chain_node}
 use Rattle.skip_list_file.specs.Writing.{slot_before, AreLinked, IsTable}
-use Rattle.skip_list_file.proofs.Chains.{back_back, chain_node, pointer_back}
+use Rattle.skip_list_file.proofs.Chains.{pointer_back}
 use Rattle.skip_list_file.proofs.Fronts.{front_chain, front_linked}
 use Rattle.skip_list_file.proofs.Appended.{power_double}
 use Rattle.skip_list_file.proofs.Places.{HasPointer, divides_by, divides_below, split_power}

@@ -1,7 +1,7 @@
 -- Reading a range of a file's bytes: which pointers lead to its last node, and how many nodes hold it.
 use Rattle.std.specs.Prelude.{◌≡◌, ◌<◌, List, length, slice_index, ℕ, ◌+◌, ◌-◌, ◌/◌, ◌^◌, ◌≤◌, Bool, false, IsTrue, min, nat_lt, if◌then◌else◌}
-use Rattle.fs_types.specs.declared.faults.Fault.{Fault}
-use Rattle.fs_types.specs.declared.faults.Fault.TheVariants.{Damaged}
+use Rattle.fs_types.specs.declared.fault.Fault.{Fault}
+use Rattle.fs_types.specs.declared.fault.Fault.TheVariants.{Damaged}
 use Rattle.node_store.specs.Faults.{is_read_fault}
 use Rattle.block_trees.specs.Bodies.{Blocks, back}
 use Rattle.node_format.specs.BodyNodes.{HasSlot}

@@ -1,13 +1,13 @@
 -- Bodies written anew from a node on, where the nodes before it are shared.
 use Rattle.std.specs.Prelude.{◌≡◌, ◌⊎◌, ℕ, zero, suc, ◌+◌, ◌-◌, ◌*◌, ◌%◌, ◌^◌, ◌<◌, ◌≤◌, min, Bool, false, ◌&&◌, nat_le, nat_lt, if◌then◌else◌, slice_index, Option, Some, List, [], ◌∷◌, ◌++◌, length, take}
-use Rattle.fs_types.specs.declared.faults.Fault.{Fault}
-use Rattle.fs_types.specs.declared.faults.Fault.TheVariants.{FlashFull, ReadOnly, ReadFailed, PowerCut, NoMemory}
+use Rattle.fs_types.specs.declared.fault.Fault.{Fault}
+use Rattle.fs_types.specs.declared.fault.Fault.TheVariants.{FlashFull, ReadOnly, ReadFailed, PowerCut, NoMemory}
 use Rattle.plain_trees.specs.Contents.{resized, overwritten, read_from}
-use Rattle.node_format.specs.declared.places.Place.TheVariants.{File}
+use Rattle.node_format.specs.declared.place.Place.TheVariants.{File}
 use Rattle.block_trees.specs.Bodies as bodies
-use Rattle.block_trees.specs.Bodies.{Blocks, index_of, back, IsChain, IsLinked, IsBody}
+use Rattle.block_trees.specs.Bodies.{Blocks, back, IsChain, IsLinked, IsBody}
 use Rattle.block_trees.specs.Reached.{Reached, IsHeld, PlaceNames}
-use Rattle.skip_list_file.specs.declared.bodies.Body.{Body}
+use Rattle.skip_list_file.specs.declared.body.Body.{Body}
 use Rattle.node_format.specs.BodyNodes.{HasSlot, IsBodySpelling}
 
 -- a body has these bytes, and all that it reaches is kept

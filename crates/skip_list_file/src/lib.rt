@@ -2,12 +2,12 @@
 //! overwritten and cut without changing a node.
 #![tactic(auto)]
 
-mod bodies;
+mod body;
+mod changes;
 mod old_nodes;
-mod reading;
-mod tables;
-mod writing;
+mod range_reads;
+mod table;
 
-pub use bodies::Body;
-pub use reading::read_range;
-pub use writing::{set_length, write_range};
+pub use body::Body;
+pub use changes::{set_length, write_range};
+pub use range_reads::read_range;

@@ -8,8 +8,8 @@ ghost use Rattle.skip_list_file.specs.Reading.{nodes_between};
 ghost use Rattle.skip_list_file.specs.Writing.{KeepsNone, IsWritingFault};
 ghost use Rattle.node_store.specs.Frames.{OnlyLooks};
 
-use crate::bodies::Body;
-use crate::reading::{copy_data, find, pointer_at};
+use crate::body::Body;
+use crate::range_reads::{copy_data, find, pointer_at};
 use fs_types::Fault;
 use node_store::Nodes;
 use std::alloc::Global;

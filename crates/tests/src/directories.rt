@@ -1,9 +1,10 @@
 //! How many nodes are written where a directory of many entries changes, and which of them stay.
 use flash_model::{DevFault, Flash, Geometry, PageView, SimFlash};
 use fs_types::{Call, Fault, Path};
+use mounting::format;
 use std::alloc::{AllocError, Global};
 use std::test::Fail;
-use upkeep::{format, mount};
+use system::mount;
 
 const SIZES: Geometry = Geometry {
     page: 256,
@@ -187,7 +188,7 @@ fn counted(
     let call = call_of(alloc, change)?;
     let mut system = mount(alloc, &mut flash)?;
     let before = flash.counts().erases;
-    system.call(alloc, &mut flash, &call)?;
+    system.call(alloc, &mut flash, call.lend())?;
     let written = flash.counts().erases.saturating_sub(before);
     let root = *system.state.history.root();
     let end = ROOT.saturating_add(count.div_ceil(32));

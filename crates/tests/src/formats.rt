@@ -1,9 +1,10 @@
 //! A flash that was formatted is mounted.
 use flash_model::{Geometry, SimFlash};
 use fs_types::Fault;
+use mounting::format;
 use std::alloc::Global;
 use std::test::Fail;
-use upkeep::{format, mount};
+use system::mount;
 
 const SIZES: Geometry = Geometry {
     page: 256,

@@ -17,7 +17,24 @@ fn words_are_read_as_a_job(rt: HostRuntime) -> Result<(), Fail> {
         history: 8,
         refusal: 0,
         stop: false,
+        path: None,
+        file: None,
+        progress: false,
     };
     assert_eq!(rt; job(rt.alloc(), words.as_slice()).ok(), Some(wanted));
+    Ok(())
+}
+
+#[test]
+fn words_more_are_as_given(rt: HostRuntime) -> Result<(), Fail> {
+    let mut words: Vec<String> = Vec::new(rt.alloc());
+    for word in ["put", "disk.image", "notes.txt", "/notes", "--progress"] {
+        words.push(String::from_str(rt.alloc(), word)?)?;
+    }
+    let asked = job(rt.alloc(), words.as_slice()).ok();
+    assert_eq!(rt; asked.map(|job| job.command), Some(Task::Put));
+    assert_eq!(rt; asked.and_then(|job| job.path), Some("/notes"));
+    assert_eq!(rt; asked.and_then(|job| job.file), Some("notes.txt"));
+    assert_eq!(rt; asked.map(|job| job.progress), Some(true));
     Ok(())
 }

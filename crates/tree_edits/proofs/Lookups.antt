@@ -5,7 +5,7 @@ use Rattle.std.specs.Prelude.{nat_le, not, IsSome}
 use Rattle.std.specs.List.{list_all}
 use Rattle.fs_types.specs.Names.{Path, is_name, is_path}
 use Rattle.plain_trees.specs.Contents.{Entry}
-use Rattle.node_format.specs.declared.places.Place.TheVariants.{Dir}
+use Rattle.node_format.specs.declared.place.Place.TheVariants.{Dir}
 use Rattle.block_trees.specs.Bodies.{Blocks}
 use Rattle.block_trees.specs.Trees.{leads, tree}
 use Rattle.directory.specs.declared.lookups.Found.{Found}

@@ -17,8 +17,8 @@ use Rattle.plain_trees.specs.Trees.{Tree, put, move, entry_count, nodes_for, dir
 use Rattle.plain_trees.proofs.Beneath.{by_beneath}
 use Rattle.plain_trees.proofs.Needs.{nodes_for-some, nodes_for-le, nodes_for-more, sum_below-le, put-grows, move-grows}
 use Rattle.node_format.specs.Items.{Item, named, is_dir_place}
-use Rattle.node_format.specs.declared.places.Place.{Place}
-use Rattle.node_format.specs.declared.places.Place.TheVariants.{Dir}
+use Rattle.node_format.specs.declared.place.Place.{Place}
+use Rattle.node_format.specs.declared.place.Place.TheVariants.{Dir}
 use Rattle.block_trees.specs.Bodies.{Blocks}
 use Rattle.block_trees.specs.Trees.{items_in, entry_at, leads, IsRoot, root_tree}
 use Rattle.block_trees.proofs.RootMaps.{map_law}

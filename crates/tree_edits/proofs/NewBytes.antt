@@ -7,10 +7,10 @@ use Rattle.fs_types.specs.Names.{Path, is_path}
 use Rattle.plain_trees.specs.Contents.{Contents, Entry, overwritten, resized}
 use Rattle.plain_trees.specs.Trees.{put, bytes_of, bytes_at}
 use Rattle.plain_trees.proofs.Files.{length-resized, length-overwritten}
-use Rattle.fs_types.specs.declared.faults.Fault.{Fault}
-use Rattle.fs_types.specs.declared.faults.Fault.TheVariants.{FlashFull, ReadOnly, ReadFailed, PowerCut, NoMemory}
-use Rattle.node_format.specs.declared.places.Place.{Place}
-use Rattle.node_format.specs.declared.places.Place.TheVariants.{Dir, File}
+use Rattle.fs_types.specs.declared.fault.Fault.{Fault}
+use Rattle.fs_types.specs.declared.fault.Fault.TheVariants.{FlashFull, ReadOnly, ReadFailed, PowerCut, NoMemory}
+use Rattle.node_format.specs.declared.place.Place.{Place}
+use Rattle.node_format.specs.declared.place.Place.TheVariants.{Dir, File}
 use Rattle.block_trees.specs.Bodies.{Blocks, body, data_to, head_index, IsBody}
 use Rattle.block_trees.specs.Reached.{Reached, IsHeld, Keeps, PlaceNames}
 use Rattle.block_trees.specs.Rewritten.{IsRewritten}
@@ -31,7 +31,7 @@ use Rattle.directory.proofs.LookupLaws.{found_is, found_leads_file, rooted_leads
 use Rattle.directory.proofs.NewDirectories.{rewritten_before}
 use Rattle.skip_list_file.specs.Writing as bodies
 use Rattle.skip_list_file.specs.Writing.{IsWritten, IsWritingFault}
-use Rattle.skip_list_file.specs.declared.bodies.Body.{Body}
+use Rattle.skip_list_file.specs.declared.body.Body.{Body}
 use Rattle.tree_edits.specs.Edits.{TakesFile}
 use Rattle.tree_edits.specs.Roots.{IsNewRoot}
 use Rattle.tree_edits.proofs.Lookups.{path_within, no_directory}

@@ -5,8 +5,8 @@ use Rattle.fs_types.specs.Names.{Path, is_path, same_path}
 use Rattle.plain_trees.specs.Contents.{Entry, Apart, parent_of, overwritten, resized, pwrite_need, ftruncate_need}
 use Rattle.plain_trees.specs.Trees.{Tree, put, remove, move, bytes_at}
 use Rattle.node_format.specs.Items.{is_place}
-use Rattle.node_format.specs.declared.places.Place.{Place}
-use Rattle.node_format.specs.declared.places.Place.TheVariants.{Dir}
+use Rattle.node_format.specs.declared.place.Place.{Place}
+use Rattle.node_format.specs.declared.place.Place.TheVariants.{Dir}
 use Rattle.block_trees.specs.Bodies.{Blocks, head_index}
 use Rattle.block_trees.specs.Laws.{IsShallow}
 use Rattle.block_trees.specs.Reached.{IsHeld}
@@ -17,7 +17,7 @@ use Rattle.directory.specs.Lookups.{look_up}
 use Rattle.directory.specs.Counts.{path_nodes, move_nodes}
 use Rattle.directory.specs.Trails.{IsTrail, has_room}
 use Rattle.skip_list_file.specs.Reading.{nodes_between, HasDigits}
-use Rattle.tree_edits.specs.declared.edits.Edit.{Edit}
+use Rattle.tree_edits.specs.declared.edit.Edit.{Edit}
 
 -- a file may be put where this was found: where nothing stands and the directory has room, and in the place of a file
 abbrev pub TakesFile : Found → Type 0

@@ -1,7 +1,7 @@
 -- New roots.
 use Rattle.std.specs.Prelude.{◌≡◌, ◌⊎◌, ℕ, Bool, false, [], ◌∷◌}
 use Rattle.plain_trees.specs.Trees.{Tree}
-use Rattle.node_format.specs.declared.places.Place.TheVariants.{Dir}
+use Rattle.node_format.specs.declared.place.Place.TheVariants.{Dir}
 use Rattle.block_trees.specs.Bodies.{Blocks}
 use Rattle.block_trees.specs.Reached.{Reached, IsHeld}
 use Rattle.block_trees.specs.Trees.{IsRoot, root_tree}

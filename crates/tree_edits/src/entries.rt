@@ -4,7 +4,7 @@ ghost use Rattle.plain_trees.specs.Contents.{Apart, Entry};
 ghost use Rattle.fs_types.specs.Names.{is_path};
 ghost use Rattle.plain_trees.specs.Trees.{put, remove, move};
 ghost use Rattle.node_format.specs.Headers.{body_header};
-ghost use Rattle.node_format.specs.declared.places.Place.TheVariants.{Dir};
+ghost use Rattle.node_format.specs.declared.place.Place.TheVariants.{Dir};
 ghost use Rattle.block_trees.specs.Reached.{IsHeld};
 ghost use Rattle.block_trees.specs.Trees.{IsRoot, root_tree};
 ghost use Rattle.directory.specs.declared.lookups.Found.{Found};

@@ -5,7 +5,7 @@ ghost use Rattle.plain_trees.specs.Trees.{bytes_at, put};
 ghost use Rattle.fs_types.specs.declared.limits.TheConstants.{MAX_FILE_BYTES};
 ghost use Rattle.fs_types.specs.Names.{is_path};
 ghost use Rattle.node_format.specs.Headers.{body_header};
-ghost use Rattle.node_format.specs.declared.places.Place.TheVariants.{Dir, File};
+ghost use Rattle.node_format.specs.declared.place.Place.TheVariants.{Dir, File};
 ghost use Rattle.block_trees.specs.Bodies.{head_index};
 ghost use Rattle.block_trees.specs.Reached.{IsHeld, Keeps};
 ghost use Rattle.block_trees.specs.Rewritten.{IsRewritten};

@@ -1,10 +1,10 @@
 //! Edits of a tree of nodes as values: what each makes of the tree of a root, and carrying it out.
 #![tactic(auto)]
 
-mod applying;
-mod edits;
+mod applied;
+mod edit;
 mod entries;
 mod files;
 
-pub use applying::apply;
-pub use edits::Edit;
+pub use applied::apply;
+pub use edit::Edit;

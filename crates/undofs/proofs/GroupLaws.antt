@@ -3,7 +3,7 @@ use Rattle.std.proofs.Common.{List, [], ◌∷◌, ap, subst, ◌∙◌}
 use Rattle.history_machine.specs.History.{IsLawful}
 use Rattle.history_machine.specs.Laws.{GroupLaw, in_group}
 use Rattle.history_machine.specs.Machine.{Machine, next, present_tree, working_tree}
-use Rattle.fs_types.specs.declared.calls.Call.{Call}
+use Rattle.fs_types.specs.declared.call.Call.{Call}
 use Rattle.undofs.specs.Groups.{Regroups, RegroupLaw}
 use Rattle.undofs.specs.Headline.{Accepts, Answers}
 use Rattle.undofs.specs.Runs.{World, Shows}

@@ -8,16 +8,16 @@ use Rattle.history_machine.specs.Laws.{UndoLaw, RedoLaw, RollbackLaw}
 use Rattle.history_machine.specs.Machine.{Machine, Space, mounted, next, after, present_tree, refusal, travel_refusal, answer, step}
 use Rattle.history_machine.proofs.Steps.{passes, outside}
 use Rattle.plain_trees.specs.Trees.{Tree, bare}
-use Rattle.fs_types.specs.declared.calls.Call.{Call}
-use Rattle.fs_types.specs.declared.events.Event.{Event}
-use Rattle.fs_types.specs.declared.events.Answer.{Answer}
-use Rattle.fs_types.specs.declared.faults.Fault.{Fault}
-use Rattle.fs_types.specs.declared.faults.Fault.TheVariants.{Busy}
+use Rattle.fs_types.specs.declared.call.Call.{Call}
+use Rattle.fs_types.specs.declared.event.Event.{Event}
+use Rattle.fs_types.specs.declared.event.Answer.{Answer}
+use Rattle.fs_types.specs.declared.fault.Fault.{Fault}
+use Rattle.fs_types.specs.declared.fault.Fault.TheVariants.{Busy}
 use Rattle.flash_model.specs.Device.{Device}
 use Rattle.working_state.specs.Seen.{machine_on}
-use Rattle.upkeep.specs.Mounts.{trees_of}
-use Rattle.upkeep.specs.Systems.{IsSystem}
-use Rattle.upkeep.specs.declared.systems.System.{System}
+use Rattle.mounting.specs.Records.{trees_of}
+use Rattle.system.specs.Systems.{IsSystem}
+use Rattle.system.specs.declared.systems.System.{System}
 use Rattle.undofs.specs.Runs.{World, Shows, Happens, ReclaimsOn, Mounts, Run, NoneRestarts, accepted}
 use Rattle.undofs.specs.Headline.{Accepts, Answers, GivesBack, HeadlineLaw}
 use Rattle.undofs.proofs.CourseLaws.{course_law}

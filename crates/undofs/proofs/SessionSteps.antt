@@ -8,16 +8,16 @@ use Rattle.history_machine.specs.History.{Past}
 use Rattle.history_machine.specs.Machine.{Machine, mounted, next, refusal}
 use Rattle.history_machine.proofs.Steps.{outside}
 use Rattle.plain_trees.specs.Trees.{Tree}
-use Rattle.fs_types.specs.declared.calls.Call.{Call}
-use Rattle.fs_types.specs.declared.calls.Reply.{Reply}
-use Rattle.fs_types.specs.declared.events.Event.{Event}
-use Rattle.fs_types.specs.declared.events.Answer.{Answer}
-use Rattle.fs_types.specs.declared.faults.Fault.{Fault}
-use Rattle.fs_types.specs.declared.faults.Fault.TheVariants.{BadGeometry, NoRecord, Damaged, ReadFailed, PowerCut, NoMemory}
+use Rattle.fs_types.specs.declared.call.Call.{Call}
+use Rattle.fs_types.specs.declared.call.Reply.{Reply}
+use Rattle.fs_types.specs.declared.event.Event.{Event}
+use Rattle.fs_types.specs.declared.event.Answer.{Answer}
+use Rattle.fs_types.specs.declared.fault.Fault.{Fault}
+use Rattle.fs_types.specs.declared.fault.Fault.TheVariants.{BadGeometry, NoRecord, Damaged, ReadFailed, PowerCut, NoMemory}
 use Rattle.flash_model.specs.Device.{Device}
 use Rattle.flash_model.specs.Geometry.{IsGeometry}
 use Rattle.flash_model.specs.Reading.{OnlyReads}
-use Rattle.record_format.specs.declared.records.Record.{Record}
+use Rattle.record_format.specs.declared.record.Record.{Record}
 use Rattle.commit_pair.specs.declared.best.Found.{Found}
 use Rattle.commit_pair.specs.Parts.{parts_on, newest_at}
 use Rattle.commit_pair.specs.Laws.{HasTie}
@@ -25,14 +25,15 @@ use Rattle.commit_pair.specs.Newest.{committed_on}
 use Rattle.commit_pair.proofs.NewestLaws.{found_is_newest}
 use Rattle.working_state.specs.Seen.{machine_on}
 use Rattle.working_state.specs.Steps.{is_sync}
-use Rattle.upkeep.specs.Steps.{SystemStep}
-use Rattle.upkeep.specs.Mounts.{trees_of, HasTrees, IsMountOf, MountCause}
-use Rattle.upkeep.specs.Reclaiming.{Reclaims}
-use Rattle.upkeep.specs.Saved.{record_in, saved_on, saved_trees, IsWhole}
-use Rattle.upkeep.specs.Systems.{IsSystem}
-use Rattle.upkeep.specs.declared.systems.System.{System}
-use Rattle.upkeep.proofs.SameRecords.{still_saved, same_trees, still_whole}
-use Rattle.upkeep.proofs.Syncs.{sync_syncs, fsync_syncs}
+use Rattle.system.specs.Steps.{SystemStep}
+use Rattle.mounting.specs.Records.{trees_of, HasTrees}
+use Rattle.system.specs.Mounts.{IsMountOf, MountCause}
+use Rattle.system.specs.Reclaiming.{Reclaims}
+use Rattle.mounting.specs.Saved.{record_in, saved_on, saved_trees, IsWhole}
+use Rattle.system.specs.Systems.{IsSystem}
+use Rattle.system.specs.declared.systems.System.{System}
+use Rattle.system.proofs.SameRecords.{still_saved, same_trees, still_whole}
+use Rattle.system.proofs.Syncs.{sync_syncs, fsync_syncs}
 use Rattle.undofs.specs.Runs.{Shows, IsSaved, found_after, ReclaimsOn, put_on, MayRefuseMount, Mounts, Happens, Run}
 use Rattle.undofs.specs.Sessions.{IsSound, Stands, world, Starts, Serves, AreServed, IsServed, ServeLaw, IsSession}
 use Rattle.undofs.proofs.RunLaws.{shown, refused_keeps}
@@ -126,6 +127,11 @@ pub call_serves : (d : Device) (m : System) (call : Call) (result : Result Reply
     → Serves d (Some m) (Event.Call call) (answer_of result) e (Some n)
 call_serves d m call (Ok reply) e n step system = record { before = m; after = n; was = refl; is = refl; step = step; mounted = system }
 call_serves d m call (Err fault) e n step system = record { before = m; after = n; was = refl; is = refl; step = step; mounted = system }
+
+-- the same of a call that was lent
+pub lent_serves : (d : Device) (m : System) (lent call : Call) (result : Result Reply Fault) (e : Device) (n : System) → lent ≡ call → SystemStep d m lent result e n → IsSystem e n
+    → Serves d (Some m) (Event.Call call) (answer_of result) e (Some n)
+lent_serves d m lent call result e n is step = call_serves d m call result e n (subst (λ (x : Call). SystemStep d m x result e n) is step)
 
 -- ---- after a step of reclaiming
 

@@ -2,30 +2,30 @@
 use Rattle.std.proofs.Common.{◌≡◌, ℕ, ◌+◌, Bool, true, false, Some, None, Result, Ok, Err, List, [], ◌∷◌, inl, inr, refl, sym, ap, subst, ◌∙◌}
 use Rattle.std.specs.FinSet as set
 use Rattle.std.specs.Ordering.{nat_cmp}
-use Rattle.fs_types.specs.declared.calls.Call.{Call}
-use Rattle.fs_types.specs.declared.calls.Reply.{Reply}
-use Rattle.fs_types.specs.declared.events.Event.{Event}
-use Rattle.fs_types.specs.declared.events.Answer.{Answer}
-use Rattle.fs_types.specs.declared.faults.Fault.{Fault}
-use Rattle.fs_types.specs.declared.faults.Fault.TheVariants.{PowerCut}
+use Rattle.fs_types.specs.declared.call.Call.{Call}
+use Rattle.fs_types.specs.declared.call.Reply.{Reply}
+use Rattle.fs_types.specs.declared.event.Event.{Event}
+use Rattle.fs_types.specs.declared.event.Answer.{Answer}
+use Rattle.fs_types.specs.declared.fault.Fault.{Fault}
+use Rattle.fs_types.specs.declared.fault.Fault.TheVariants.{PowerCut}
 use Rattle.history_machine.specs.History.{Past}
 use Rattle.plain_trees.specs.Trees.{Tree}
 use Rattle.flash_model.specs.Device.{Device}
 use Rattle.flash_model.specs.Reading.{OnlyReads}
-use Rattle.record_format.specs.declared.records.Record.{Record}
+use Rattle.record_format.specs.declared.record.Record.{Record}
 use Rattle.commit_pair.specs.Parts.{newest_on, greatest_on}
 use Rattle.commit_pair.specs.Committing.{Commits, IsCommitted}
 use Rattle.commit_pair.specs.Keeping.{Keeps}
 use Rattle.commit_pair.proofs.Beginning.{committed_is_newest}
 use Rattle.commit_pair.proofs.NewestLaws.{only_anchors_matter}
 use Rattle.working_state.specs.Steps.{is_sync}
-use Rattle.upkeep.specs.Commits.{record_on, Saves, TriesOnce}
-use Rattle.upkeep.specs.Reclaiming.{Reclaims}
-use Rattle.upkeep.specs.Rooms.{MarksAnew, LacksCommit}
-use Rattle.upkeep.specs.Saved.{record_in, saved_on}
-use Rattle.upkeep.specs.Steps.{SystemStep, TriesTwice}
-use Rattle.upkeep.specs.declared.systems.System.{System}
-use Rattle.upkeep.proofs.Committed.{same_saved}
+use Rattle.system.specs.Commits.{record_on, Saves, TriesOnce}
+use Rattle.system.specs.Reclaiming.{Reclaims}
+use Rattle.system.specs.Rooms.{MarksAnew, LacksCommit}
+use Rattle.mounting.specs.Saved.{record_in, saved_on}
+use Rattle.system.specs.Steps.{SystemStep, TriesTwice}
+use Rattle.system.specs.declared.systems.System.{System}
+use Rattle.system.proofs.Committed.{same_saved}
 use Rattle.undofs.specs.Runs.{World, put_on, Calls, ReclaimsOn, Mounts, Happens, Run}
 use Rattle.undofs.specs.Worn.{AreWorn, RecordListsWorn, SystemListsWorn, WornLaw}
 use Rattle.undofs.proofs.RunLaws.{not_both}

@@ -2,9 +2,9 @@
 use Rattle.std.specs.Prelude.{◌≡◌, true, List}
 use Rattle.history_machine.specs.Laws.{EachStays, in_group}
 use Rattle.history_machine.specs.Machine.{Machine, next, present_tree, working_tree, makes_version}
-use Rattle.fs_types.specs.declared.calls.Call.{Call}
-use Rattle.fs_types.specs.declared.events.Event.{Event}
-use Rattle.fs_types.specs.declared.events.Answer.{Answer}
+use Rattle.fs_types.specs.declared.call.Call.{Call}
+use Rattle.fs_types.specs.declared.event.Event.{Event}
+use Rattle.fs_types.specs.declared.event.Answer.{Answer}
 use Rattle.flash_model.specs.Device.{Device}
 use Rattle.undofs.specs.Headline.{Accepts, Answers}
 use Rattle.undofs.specs.Runs.{World, Shows}

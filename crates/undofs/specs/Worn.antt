@@ -2,12 +2,12 @@
 use Rattle.std.specs.Prelude.{◌≡◌, ℕ, true, Some, List}
 use Rattle.std.specs.FinSet as set
 use Rattle.std.specs.Ordering.{nat_cmp}
-use Rattle.fs_types.specs.declared.events.Event.{Event}
-use Rattle.fs_types.specs.declared.events.Answer.{Answer}
+use Rattle.fs_types.specs.declared.event.Event.{Event}
+use Rattle.fs_types.specs.declared.event.Answer.{Answer}
 use Rattle.flash_model.specs.Device.{Device}
-use Rattle.record_format.specs.declared.records.Record.{Record}
-use Rattle.upkeep.specs.Saved.{saved_on}
-use Rattle.upkeep.specs.declared.systems.System.{System}
+use Rattle.record_format.specs.declared.record.Record.{Record}
+use Rattle.mounting.specs.Saved.{saved_on}
+use Rattle.system.specs.declared.systems.System.{System}
 use Rattle.undofs.specs.Runs.{World}
 use Rattle.undofs.specs.Sessions.{Session}
 

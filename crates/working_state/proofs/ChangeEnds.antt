@@ -1,13 +1,13 @@
 -- How a change ends: it is refused before the work, in it, or after it, or calls work on its root.
 use Rattle.std.proofs.Common.{◌≡◌, ◌⊎◌, ℕ, ◌<◌, true, false, Option, Some, None, Result, Ok, Err, refl, inl, inr}
 use Rattle.history_machine.specs.History.{Past, working_root, history_with, group_with}
-use Rattle.fs_types.specs.declared.calls.Group.{Group}
-use Rattle.fs_types.specs.declared.faults.Fault.{Fault}
-use Rattle.fs_types.specs.declared.faults.Fault.TheVariants.{ReadOnly, Overflow}
+use Rattle.fs_types.specs.declared.call.Group.{Group}
+use Rattle.fs_types.specs.declared.fault.Fault.{Fault}
+use Rattle.fs_types.specs.declared.fault.Fault.TheVariants.{ReadOnly, Overflow}
 use Rattle.flash_model.specs.Device.{Device}
 use Rattle.node_store.specs.declared.storage.Storage.{Storage}
-use Rattle.read_only.specs.Modes.{is_read_only}
-use Rattle.tree_edits.specs.declared.edits.Edit.{Edit}
+use Rattle.bad_blocks.specs.Mode.{is_read_only}
+use Rattle.tree_edits.specs.declared.edit.Edit.{Edit}
 use Rattle.working_state.specs.Changes.{IsTried, IsReadOnly, IsOverflow, IsChanged}
 use Rattle.working_state.specs.Steps.{last_serial}
 use Rattle.working_state.proofs.Standing.{none_written}

@@ -10,19 +10,19 @@ use Rattle.history_machine.specs.History.{Past, working_root, history_with, grou
 use Rattle.history_machine.specs.HistoryMaps.{history_with-map, group_with-map}
 use Rattle.history_machine.specs.Descriptors.{Descriptors}
 use Rattle.history_machine.specs.Machine.{Machine, Space, has_paths, working_tree, refusal, need, way_need, change_need, answer_of, machine_of, reply_of, is_accepted, tree_after, version_after, history_after, group_after, descriptors_after, changes_tree, makes_version, machine_with}
-use Rattle.fs_types.specs.declared.calls.Call.{Call}
-use Rattle.fs_types.specs.declared.calls.Group.{Group}
-use Rattle.fs_types.specs.declared.calls.Reply.{Reply}
-use Rattle.fs_types.specs.declared.faults.Fault.{Fault}
+use Rattle.fs_types.specs.declared.call.Call.{Call}
+use Rattle.fs_types.specs.declared.call.Group.{Group}
+use Rattle.fs_types.specs.declared.call.Reply.{Reply}
+use Rattle.fs_types.specs.declared.fault.Fault.{Fault}
 use Rattle.flash_model.specs.Device.{Device}
 use Rattle.block_trees.specs.Reached.{Keeps}
 use Rattle.node_store.specs.declared.storage.Storage.{Storage}
 use Rattle.allocator.specs.Ring.{Ring}
 use Rattle.tree_edits.specs.Edits as edits
-use Rattle.tree_edits.specs.declared.edits.Edit.{Edit}
+use Rattle.tree_edits.specs.declared.edit.Edit.{Edit}
 use Rattle.working_state.specs.Moments.{Moment, moment, machine_at, seen_at, storage_at, IsMountedAt, IsStep, nodes_at, capacity_at, tree_at}
 use Rattle.working_state.specs.Changes.{IsUnwritten}
-use Rattle.read_only.specs.Modes.{is_read_only}
+use Rattle.bad_blocks.specs.Mode.{is_read_only}
 use Rattle.working_state.specs.Steps.{is_light, last_serial, Refuses}
 use Rattle.working_state.specs.Mounted.{IsStanding}
 use Rattle.working_state.specs.Roots.{ReachesNew}

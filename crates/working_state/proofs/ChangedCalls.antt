@@ -6,21 +6,21 @@ use Rattle.history_machine.specs.History.{Past, working_root, map_group}
 use Rattle.plain_trees.specs.Trees.{Tree}
 use Rattle.history_machine.specs.Descriptors.{Descriptors}
 use Rattle.history_machine.specs.Machine.{Space, refusal, change_need, changes_tree, makes_version, reply_of, tree_after, descriptors_after, has_paths}
-use Rattle.fs_types.specs.declared.calls.Call.{Call}
-use Rattle.fs_types.specs.declared.calls.Group.{Group}
-use Rattle.fs_types.specs.declared.calls.Reply.{Reply}
-use Rattle.fs_types.specs.declared.faults.Fault.{Fault}
-use Rattle.fs_types.specs.declared.faults.Fault.TheVariants.{FlashFull, ReadOnly, ReadFailed, PowerCut, NoMemory}
+use Rattle.fs_types.specs.declared.call.Call.{Call}
+use Rattle.fs_types.specs.declared.call.Group.{Group}
+use Rattle.fs_types.specs.declared.call.Reply.{Reply}
+use Rattle.fs_types.specs.declared.fault.Fault.{Fault}
+use Rattle.fs_types.specs.declared.fault.Fault.TheVariants.{FlashFull, ReadOnly, ReadFailed, PowerCut, NoMemory}
 use Rattle.flash_model.specs.Device.{Device}
 use Rattle.node_store.specs.declared.storage.Storage.{Storage}
 use Rattle.node_store.specs.NodePages.{node_of}
 use Rattle.node_store.specs.Storage as parts
 use Rattle.allocator.specs.Ring.{Ring, free_count}
-use Rattle.node_store.specs.declared.stores.Store.{Store}
+use Rattle.node_store.specs.declared.store.Store.{Store}
 use Rattle.node_store.specs.Stores.{Follows, Causes}
 use Rattle.block_trees.specs.Reached.{Reached}
 use Rattle.block_trees.specs.Trees.{IsRoot, root_tree}
-use Rattle.tree_edits.specs.declared.edits.Edit.{Edit}
+use Rattle.tree_edits.specs.declared.edit.Edit.{Edit}
 use Rattle.tree_edits.specs.Edits.{need, source}
 use Rattle.tree_edits.specs.Roots.{IsNewRoot}
 use Rattle.directory.specs.Trails.{IsChangeFault}
@@ -29,11 +29,11 @@ use Rattle.working_state.specs.Changes.{IsReady, edited_tree, ReachesFrom, WorkR
 use Rattle.working_state.specs.Leaves.{HasWritten, is_still, Leaves}
 use Rattle.working_state.specs.Looking.{only_looks}
 use Rattle.working_state.specs.Mounted.{IsStanding}
-use Rattle.working_state.specs.Opening.{IsAnswered}
+use Rattle.working_state.specs.Moments.{IsAnswered}
 use Rattle.working_state.specs.Roots.{HasRoot}
 use Rattle.working_state.specs.Seen.{capacity_of, tree_on, seen_of}
-use Rattle.read_only.specs.Modes.{bad_anchors}
-use Rattle.working_state.specs.Steps.{empty, replied, is_light, is_cut, is_cut_answer, MayRefuse, Refuses}
+use Rattle.bad_blocks.specs.Mode.{bad_anchors}
+use Rattle.working_state.specs.Steps.{empty, replied, is_light, MayRefuse, Refuses}
 use Rattle.working_state.specs.Worked.{IsSameBut, IsWorked, IsLooked, WorkCause}
 use Rattle.working_state.specs.declared.state.State.{State}
 use Rattle.history_machine.proofs.Groups.{outside_makes}
@@ -185,7 +185,7 @@ pushed_reach a b f from root to m l has same reaches block reached = elim (reach
 
 pub pushed_answer : (a b : Moment) (f : Device) (st : Storage) (h : Past ℕ) (k : Option (Group ℕ)) (files : Descriptors) (call : Call) (edit : Edit) (reply : Reply) → IsMountedAt a → IsLooked a b
     → IsChangeBy a call (edited_tree b.device edit) reply → NeedsFew b edit a call → HasWritten b.device b.state.storage (need (capacity_at b) (nodes_at b) edit) f st → IsPushed b.device b.state.history b.state.group b.state.storage edit f h k st → files ≡ descriptors_after (machine_at a) call → IsOfTree edit
-    → IsAnswered a call (Ok reply) (moment f (record b.state { storage = st; history = h; group = k; files = files })) false
+    → IsAnswered a call (Ok reply) (moment f (record b.state { storage = st; history = h; group = k; files = files }))
 pushed_answer a b f st h k files call edit reply m l by few written pushed opens own =
     let c : Moment = moment f (record b.state { storage = st }) in
     let w = written_worked b f st (need (capacity_at b) (nodes_at b) edit) written in
@@ -223,18 +223,18 @@ cause_refuses a b f st root call {edit} made reply fault is l by few (inr work) 
 
 pub refused_change : (a b : Moment) (f : Device) (st : Storage) (h : Past ℕ) (k : Option (Group ℕ)) (root : ℕ) (call : Call) {edit : Edit} (made : ℕ → Tree) (reply : Reply) (fault : Fault) → IsMountedAt a → working_root a.state.history a.state.group ≡ Some root
     → IsLooked a b → IsChangeBy a call made reply → NeedsFew b edit a call → HasWritten b.device b.state.storage (need (capacity_at b) (nodes_at b) edit) f st → (h ≡ b.state.history) × (k ≡ b.state.group) × ChangeCause b.device b.state.history b.state.group b.state.storage edit fault f st
-    → IsAnswered a call (Err fault) (moment f (record b.state { storage = st; history = h; group = k })) (is_cut fault)
+    → IsAnswered a call (Err fault) (moment f (record b.state { storage = st; history = h; group = k }))
 refused_change a b f st h k root call {edit} made reply fault m is l by few written ends =
     let c : Moment = moment f (record b.state { storage = st }) in
     let all = worked_on a b c (looked_worked a b l) (written_worked b f st (need (capacity_at b) (nodes_at b) edit) written) in
-    subst (λ (x : Past ℕ × Option (Group ℕ)). IsAnswered a call (Err fault) (moment f (record b.state { storage = st; history = x.0; group = x.1 })) (is_cut fault)) (λ i. (sym ends.0 i, sym ends.1 i))
+    subst (λ (x : Past ℕ × Option (Group ℕ)). IsAnswered a call (Err fault) (moment f (record b.state { storage = st; history = x.0; group = x.1 }))) (λ i. (sym ends.0 i, sym ends.1 i))
     (refused_work a c call fault m all (change_leaves a b f st call edit l written by.moves (makes (machine_at a) call by.fine (ap is_some (by.after root is))) few)
     (cause_refuses a b f st root call {edit = edit} made reply fault is l by few ends.2))
 
 -- a change that answers nothing, and leaves the open files
 pub change_answer : (a b : Moment) (f : Device) (st : Storage) (h : Past ℕ) (k : Option (Group ℕ)) (root : ℕ) (call : Call) (edit : Edit) (result : Result (Unit {0}) Fault) → IsMountedAt a → working_root a.state.history a.state.group ≡ Some root
     → IsLooked a b → IsChangeBy a call (edited_tree b.device edit) Reply.Empty → NeedsFew b edit a call → descriptors_after (machine_at a) call ≡ a.state.files → IsOfTree edit → IsChanged b.device b.state.history b.state.group b.state.storage edit result f h k st
-    → IsAnswered a call (replied empty result) (moment f (record b.state { storage = st; history = h; group = k })) (is_cut_answer result)
+    → IsAnswered a call (replied empty result) (moment f (record b.state { storage = st; history = h; group = k }))
 change_answer a b f st h k root call edit (Ok x) m is l by few files own changes =
     pushed_answer a b f st h k b.state.files call edit Reply.Empty m l by few changes.written changes.ends (l.rest.files ∙ sym files) own
 change_answer a b f st h k root call edit (Err fault) m is l by few files own changes =
@@ -244,10 +244,10 @@ change_answer a b f st h k root call edit (Err fault) m is l by few files own ch
 
 pub pushed_by : (a b : Moment) (f : Device) (st : Storage) (h : Past ℕ) (k : Option (Group ℕ)) (files : Descriptors) (call : Call) {edit : Edit} (reply : Reply) → IsPushed b.device b.state.history b.state.group b.state.storage edit f h k st
     → IsChangeBy a call (edited_tree b.device edit) reply → NeedsFew b edit a call → HasWritten b.device b.state.storage (need (capacity_at b) (nodes_at b) edit) f st → IsMountedAt a → IsLooked a b → files ≡ descriptors_after (machine_at a) call → IsOfTree edit
-    → IsAnswered a call (Ok reply) (moment f (record b.state { storage = st; history = h; group = k; files = files })) false
+    → IsAnswered a call (Ok reply) (moment f (record b.state { storage = st; history = h; group = k; files = files }))
 pushed_by a b f st h k files call {edit} reply pushed by few written m l opens own = pushed_answer a b f st h k files call edit reply m l by few written pushed opens own
 
 pub change_by : (a b : Moment) (f : Device) (st : Storage) (h : Past ℕ) (k : Option (Group ℕ)) (root : ℕ) (call : Call) {edit : Edit} (result : Result (Unit {0}) Fault) → IsChanged b.device b.state.history b.state.group b.state.storage edit result f h k st
     → IsChangeBy a call (edited_tree b.device edit) Reply.Empty → NeedsFew b edit a call → IsMountedAt a → working_root a.state.history a.state.group ≡ Some root → IsLooked a b → descriptors_after (machine_at a) call ≡ a.state.files → IsOfTree edit
-    → IsAnswered a call (replied empty result) (moment f (record b.state { storage = st; history = h; group = k })) (is_cut_answer result)
+    → IsAnswered a call (replied empty result) (moment f (record b.state { storage = st; history = h; group = k }))
 change_by a b f st h k root call {edit} result changes by few m is l files own = change_answer a b f st h k root call edit result m is l by few files own changes

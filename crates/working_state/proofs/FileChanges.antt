@@ -13,14 +13,14 @@ use Rattle.plain_trees.specs.Trees.{Tree, put, IsFile, bytes_of, bytes_at}
 use Rattle.history_machine.specs.History.{working_root, changed, group_with}
 use Rattle.history_machine.specs.Descriptors.{Descriptor, descriptor_at}
 use Rattle.history_machine.specs.Machine.{Machine, Space, has_paths, working_tree, file_put, refusal, way_need, change_need, reply_of, tree_after, descriptors_after, changes_tree, machine_of, machine_with}
-use Rattle.fs_types.specs.declared.calls.Call.{Call}
-use Rattle.fs_types.specs.declared.calls.Reply.{Reply}
-use Rattle.fs_types.specs.declared.faults.Fault.{Fault}
+use Rattle.fs_types.specs.declared.call.Call.{Call}
+use Rattle.fs_types.specs.declared.call.Reply.{Reply}
+use Rattle.fs_types.specs.declared.fault.Fault.{Fault}
 use Rattle.history_machine.proofs.Accepted.{not-root}
 use Rattle.history_machine.proofs.Kept.{working-file_tree}
 use Rattle.node_format.specs.Items.{Item, named}
-use Rattle.node_format.specs.declared.places.Place.{Place}
-use Rattle.node_format.specs.declared.places.Place.TheVariants as place
+use Rattle.node_format.specs.declared.place.Place.{Place}
+use Rattle.node_format.specs.declared.place.Place.TheVariants as place
 use Rattle.node_store.specs.FittingLaws.{still_itself}
 use Rattle.node_store.specs.StorageLaws.{Untouched_itself}
 use Rattle.block_trees.specs.Bodies.{Blocks, body, head_index, data_to, IsBody}
@@ -42,7 +42,7 @@ use Rattle.working_state.specs.Leaves.{is_still}
 use Rattle.working_state.specs.Looking.{only_looks}
 use Rattle.working_state.specs.Seen.{Seen}
 use Rattle.working_state.specs.Steps.{is_light}
-use Rattle.working_state.specs.Opening.{IsAnswered}
+use Rattle.working_state.specs.Moments.{IsAnswered}
 use Rattle.working_state.specs.Worked.{IsWorked, IsLooked, WorkCause, ReadCause}
 use Rattle.working_state.proofs.ChangedCalls.{IsChangeBy}
 use Rattle.working_state.proofs.ChangeSteps.{makes, later_tree, way_some}
@@ -164,7 +164,7 @@ later_body a c root path head size m is w led = working_body c root path head si
 
 -- a call that changes nothing
 pub same_answer : (a b : Moment) (call : Call) (reply : Reply) → IsMountedAt a → IsLooked a b → OnlyReads (machine_at a) call → refusal (machine_at a) call ≡ None
-    → ((space : Space) → reply_of space (machine_at a) call ≡ reply) → is_still call || only_looks call ≡ false → IsAnswered a call (Ok reply) b false
+    → ((space : Space) → reply_of space (machine_at a) call ≡ reply) → is_still call || only_looks call ≡ false → IsAnswered a call (Ok reply) b
 same_answer a b call reply m l reads fine replies moves =
     let w = looked_worked a b l in
     record {

@@ -10,14 +10,14 @@ use Rattle.plain_trees.specs.Trees.{Tree, IsFileTree, IsFile, bytes_of, bytes_at
 use Rattle.history_machine.specs.History.{working_root}
 use Rattle.history_machine.specs.Descriptors.{Descriptor, Descriptors, descriptor_at, can_read}
 use Rattle.history_machine.specs.Machine.{Machine, Space, working_tree, refusal, reply_of}
-use Rattle.fs_types.specs.declared.calls.Call.{Call}
-use Rattle.fs_types.specs.declared.calls.Reply.{Reply}
-use Rattle.fs_types.specs.declared.calls.View.{View}
-use Rattle.fs_types.specs.declared.faults.Fault.{Fault}
-use Rattle.fs_types.specs.declared.faults.Fault.TheVariants.{NoEntry, NotDirectory, BadDescriptor, Damaged, ReadFailed, PowerCut, NoMemory}
+use Rattle.fs_types.specs.declared.call.Call.{Call}
+use Rattle.fs_types.specs.declared.call.Reply.{Reply}
+use Rattle.fs_types.specs.declared.call.View.{View}
+use Rattle.fs_types.specs.declared.fault.Fault.{Fault}
+use Rattle.fs_types.specs.declared.fault.Fault.TheVariants.{NoEntry, NotDirectory, BadDescriptor, Damaged, ReadFailed, PowerCut, NoMemory}
 use Rattle.history_machine.proofs.Kept.{working-file_tree}
 use Rattle.plain_trees.proofs.Lookups.{some-is, above, under-tree}
-use Rattle.node_format.specs.declared.places.Place.TheVariants.{File}
+use Rattle.node_format.specs.declared.place.Place.TheVariants.{File}
 use Rattle.block_trees.specs.Bodies.{Blocks, body, IsBody}
 use Rattle.block_trees.specs.Trees.{root_tree, IsRoot}
 use Rattle.block_trees.proofs.RootMaps.{map_law}
@@ -108,7 +108,7 @@ pub read_step : (a b : Moment) (call : Call) (root : ℕ) (path : Path) (offset 
     → IfOk result (IsRead (tree_at a root) path offset count)
     → IfErr result (λ fault. is_body_fault fault ≡ false → file_refusal (tree_at a root) path ≡ Some fault)
     → IfErr result (λ fault. is_body_fault fault ≡ true → WorkCause (seen_at a) fault (seen_at b))
-    → IsStep a call (replied Reply.Bytes result) b (is_cut_answer result)
+    → IsStep a call (replied Reply.Bytes result) b (is_cut_answer (replied Reply.Bytes result))
 read_step a b call root path offset count (Ok bytes) m l reads read refused why =
     read_done a b call (Reply.Bytes bytes) m l reads.only (reads.by_path ∙ read.accepted) (λ space. reads.replies space ∙ ap Reply.Bytes (sym read.read))
 read_step a b call root path offset count (Err fault) m l reads read refused why =

@@ -14,19 +14,20 @@ use Rattle.history_machine.specs.History.{Past, fresh, map_roots, map_group}
 use Rattle.history_machine.specs.Descriptors.{Descriptors, none_open}
 use Rattle.history_machine.specs.Machine.{IsMachine, mounted, machine_with}
 use Rattle.plain_trees.specs.Trees.{Tree, bare}
-use Rattle.fs_types.specs.declared.calls.Version.{Version}
-use Rattle.fs_types.specs.declared.calls.Group.{Group}
-use Rattle.fs_types.specs.declared.faults.Fault.{Fault}
-use Rattle.fs_types.specs.declared.faults.Fault.TheVariants.{FlashFull, ReadOnly, PowerCut, NoMemory, Invalid}
+use Rattle.fs_types.specs.declared.call.Version.{Version}
+use Rattle.fs_types.specs.declared.call.Group.{Group}
+use Rattle.fs_types.specs.declared.fault.Fault.{Fault}
+use Rattle.fs_types.specs.declared.fault.Fault.TheVariants.{FlashFull, ReadOnly, PowerCut, NoMemory, Invalid}
+use Rattle.fs_types.specs.declared.limits.TheConstants.{ANCHORS}
 use Rattle.history_machine.proofs.Kept.{machine_law}
 use Rattle.flash_model.specs.Device.{Device}
-use Rattle.flash_model.specs.declared.sizes.Geometry.{Geometry}
+use Rattle.flash_model.specs.declared.geometry.Geometry.{Geometry}
 use Rattle.flash_model.specs.Geometry.{IsGeometry, is_page_size}
 use Rattle.allocator.specs.Ring.{Ring, IsDataBlock, is_busy, free_count, IsNext}
 use Rattle.allocator.specs.RingLaws.{distance_earlier}
 use Rattle.node_store.specs.declared.storage.Storage.{Storage}
 use Rattle.node_store.specs.NodeLaws.{pages_for-most}
-use Rattle.node_store.specs.NodePages.{first_data, node_of, pages_for}
+use Rattle.node_store.specs.NodePages.{node_of, pages_for}
 use Rattle.node_store.specs.Fitting.{Fits, StillFits}
 use Rattle.node_store.specs.Storage as parts
 use Rattle.node_store.specs.Storage.{Evolved, Pays, Spends, Adds, unpaid}
@@ -97,9 +98,9 @@ count_all p a (suc n) each =
     omega (arith, rest, one, first)
 
 abbrev pub AreAnchors : set.FinSet nat_cmp → Type 0
-AreAnchors bad = (b : ℕ) → set.contains bad b ≡ true → b < first_data
+AreAnchors bad = (b : ℕ) → set.contains bad b ≡ true → b < ANCHORS
 
-no-data : (bad : set.FinSet nat_cmp) → AreAnchors bad → (b : ℕ) → first_data ≤ b → set.contains bad b ≡ false
+no-data : (bad : set.FinSet nat_cmp) → AreAnchors bad → (b : ℕ) → ANCHORS ≤ b → set.contains bad b ≡ false
 no-data bad are b low = elim (cases_Bool (set.contains bad b)) [
   | inl has ↦ absurd (let below = are b has in omega arith)
   | inr free ↦ free
@@ -110,9 +111,9 @@ busy_unused : (blocks : ℕ) (bad : set.FinSet nat_cmp) (b : ℕ) → is_busy (u
 busy_unused blocks bad b = ap (λ t. t || set.contains bad b) (set.contains-empty nat_cmp b)
 
 -- each data block of an unused flash is free, where only anchors are bad
-free_unused : (blocks : ℕ) (bad : set.FinSet nat_cmp) → AreAnchors bad → free_count (unused_ring blocks) bad ≡ blocks - 8
+free_unused : (blocks : ℕ) (bad : set.FinSet nat_cmp) → AreAnchors bad → free_count (unused_ring blocks) bad ≡ blocks - ANCHORS
 free_unused blocks bad are =
-    count_all (λ b. not (is_busy (unused_ring blocks) bad b)) 8 (blocks - 8)
+    count_all (λ b. not (is_busy (unused_ring blocks) bad b)) ANCHORS (blocks - ANCHORS)
     (λ b low. ap not (busy_unused blocks bad b ∙ no-data bad are b low))
 
 begins : (d : Device) (was : set.FinSet nat_cmp) (s : Storage) (p : parts.Storage) → s.bad ≡ was → s.ring ≡ unused_ring d.geometry.blocks → Evolved (parts.storage d s.bad s.ring) p → Evolved (unused_beside was d) p
@@ -128,8 +129,8 @@ pub begin_cause : (d : Device) (was : set.FinSet nat_cmp) (s : Storage) (fault :
 begin_cause d was s FlashFull e t are bad ring written used why =
     let evolved = begins d was s (parts.storage e t.bad t.ring) bad ring written.evolved in
     let same : set.len s.bad ≡ set.len was = ap set.len bad in
-    let free : free_count s.ring s.bad ≡ d.geometry.blocks - 8 = (λ i. free_count (ring i) (bad i)) ∙ free_unused d.geometry.blocks was are in
-    let many : d.geometry.blocks - 8 + set.len was ≤ set.len t.bad = omega arith in (
+    let free : free_count s.ring s.bad ≡ d.geometry.blocks - ANCHORS = (λ i. free_count (ring i) (bad i)) ∙ free_unused d.geometry.blocks was are in
+    let many : d.geometry.blocks - ANCHORS + set.len was ≤ set.len t.bad = omega arith in (
       t.bad,
       record {
         grown = grown d was e t evolved;

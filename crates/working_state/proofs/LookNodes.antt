@@ -1,7 +1,9 @@
 -- How many nodes look-ups read, by what the plain trees say, and the directory that one finds.
-use Rattle.std.proofs.Common.{◌≡◌, ℕ, ◌+◌, ◌≤◌, Some, Ok, List, length, sym, ap, subst, ◌∙◌, arith}
+use Rattle.std.proofs.Common.{◌≡◌, ℕ, ◌+◌, ◌≤◌, Bool, true, false, Some, Ok, List, [], ◌∷◌, length, refl, sym, ap, subst, ◌∙◌, arith}
+use Rattle.std.proofs.lemmas.Bool.{eqb-true, lt-ltb}
+use Rattle.std.specs.Prelude.{nat_lt, ◌==◌}
 use Rattle.fs_types.specs.Names.{Path}
-use Rattle.fs_types.specs.declared.calls.View.{View}
+use Rattle.fs_types.specs.declared.call.View.{View}
 use Rattle.history_machine.specs.History.{working_root}
 use Rattle.history_machine.specs.Machine.{view_tree}
 use Rattle.plain_trees.specs.Trees.{Tree, entry_count, nodes_for}
@@ -31,13 +33,22 @@ begins_at capacity f root path x block rooted led is =
     let whole = rooted_leads capacity f root rooted in
     whole path block (found_leads f root path block whole dir)
 
--- the directory that was found, with its entries as they were counted
-pub counted_items : (capacity : ℕ) (f f2 : Blocks) (root : ℕ) (path : Path) (x : Found) (block count : ℕ) → IsRoot capacity f root → look_up f root path ≡ Ok x → x ≡ found.Dir block → f2 ≡ f
-    → ((items : List Item) → entries_in f2 block ≡ Some items → count ≡ length items) → (items : List Item) × (entries_in f2 block ≡ Some items) × (count ≡ length items)
-counted_items capacity f f2 root path x block count rooted led is same counted =
+-- the directory that was found, with what was read of its entries
+pub read_items : (capacity : ℕ) (f f2 : Blocks) (root : ℕ) (path : Path) (x : Found) (block : ℕ) (P : List Item → Type 0) → IsRoot capacity f root → look_up f root path ≡ Ok x → x ≡ found.Dir block → f2 ≡ f
+    → ((items : List Item) → entries_in f2 block ≡ Some items → P items) → (items : List Item) × (entries_in f2 block ≡ Some items) × P items
+read_items capacity f f2 root path x block P rooted led is same shows =
     let begins = begins_at capacity f root path x block rooted led is in
     let here : entries_in f2 block ≡ Some begins.0 = ap (λ (g : Blocks). entries_in g block) same ∙ begins.1 in
-    (begins.0, here, counted begins.0 here)
+    (begins.0, here, shows begins.0 here)
+
+-- whether there are entries
+pub some_items : (empty : Bool) (items : List Item) → empty ≡ (length items == 0) → empty ≡ false → nat_lt 0 (length items) ≡ true
+some_items empty [] is some = absurd (let wrong : true ≡ false = sym is ∙ some in cc)
+some_items empty (item ∷ items) is some = lt-ltb 0 (length (item ∷ items)) (omega arith)
+
+pub no_items : (empty : Bool) (items : List Item) → empty ≡ (length items == 0) → empty ≡ true → items ≡ []
+no_items empty [] is none = refl
+no_items empty (item ∷ items) is none = absurd (let wrong = eqb-true (length (item ∷ items)) 0 (sym is ∙ none) in omega arith)
 
 -- a look up read no more nodes than the directories on its path have
 pub few_reads : (capacity : ℕ) (f : Blocks) (root : ℕ) (path : Path) (before after : ℕ) → IsRoot capacity f root → after ≤ before + way_nodes f root path → after ≤ before + look_nodes (root_tree capacity f root) path

@@ -6,12 +6,12 @@ use Rattle.history_machine.specs.Descriptors.{Descriptor, descriptor_at}
 use Rattle.history_machine.specs.Machine.{Machine, working_tree, view_tree}
 use Rattle.plain_trees.specs.Trees.{Tree, bytes_at}
 use Rattle.fs_types.specs.Names.{Path}
-use Rattle.fs_types.specs.declared.calls.Call.{Call}
-use Rattle.flash_model.specs.declared.sizes.Geometry.{Geometry}
+use Rattle.fs_types.specs.declared.call.Call.{Call}
+use Rattle.flash_model.specs.declared.geometry.Geometry.{Geometry}
 use Rattle.flash_model.specs.Device.{Device}
 use Rattle.block_trees.specs.Bodies.{head_index}
 use Rattle.skip_list_file.specs.Reading.{HasDigits, nodes_of_range}
-use Rattle.node_store.specs.declared.stores.Store.{Store}
+use Rattle.node_store.specs.declared.store.Store.{Store}
 use Rattle.node_store.specs.Stores.{Follows}
 use Rattle.working_state.specs.Looking.{Asks, IsReadOf, AsksForRange, AsksForOpen, look_nodes, list_nodes, only_looks, LooksOnce}
 

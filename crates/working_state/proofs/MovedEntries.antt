@@ -1,6 +1,6 @@
 -- What a rename is refused with, by what its look ups find, and the step of what it moves.
-use Rattle.std.proofs.Common.{◌≡◌, ◌⊎◌, ℕ, ◌-◌, ◌<◌, ◌≤◌, Bool, true, false, not, ◌&&◌, ◌||◌, Option, Some, None, Result, Ok, Err, List, [], ◌∷◌, length, refl, sym, ap, subst, ◌∙◌, inl, inr, arith}
-use Rattle.std.proofs.lemmas.Bool.{cases_Bool, true≢false, lt-ltb}
+use Rattle.std.proofs.Common.{◌≡◌, ◌⊎◌, ℕ, ◌-◌, ◌≤◌, Bool, true, false, not, ◌&&◌, ◌||◌, Option, Some, None, Result, Ok, Err, List, [], ◌∷◌, length, refl, sym, ap, subst, ◌∙◌, inl, inr, arith}
+use Rattle.std.proofs.lemmas.Bool.{cases_Bool, true≢false}
 use Rattle.std.specs.Prelude.{nat_lt, is_none, if◌then◌else◌, IfErr, IsTrue}
 use Rattle.std.specs.Option.{option_or, option_map_or}
 use Rattle.std.specs.FinMap.{get}
@@ -10,16 +10,16 @@ use Rattle.plain_trees.specs.Trees.{Tree, entry_count, is_full, is_too_deep}
 use Rattle.history_machine.specs.History.{working_root}
 use Rattle.history_machine.specs.Descriptors.{is_open, is_open_within}
 use Rattle.history_machine.specs.Machine.{Machine, working_tree, found_refusal, replace_refusal, rename_refusal, move_refusal}
-use Rattle.fs_types.specs.declared.calls.Call.{Call}
-use Rattle.fs_types.specs.declared.faults.Fault.{Fault}
-use Rattle.fs_types.specs.declared.faults.Fault.TheVariants.{NoEntry, NotDirectory, IsDirectory, NotEmpty, Invalid, NameTooLong, Busy, DirectoryFull, ReadFailed, PowerCut, NoMemory, Damaged}
+use Rattle.fs_types.specs.declared.call.Call.{Call}
+use Rattle.fs_types.specs.declared.fault.Fault.{Fault}
+use Rattle.fs_types.specs.declared.fault.Fault.TheVariants.{NoEntry, NotDirectory, IsDirectory, NotEmpty, Invalid, NameTooLong, Busy, DirectoryFull, ReadFailed, PowerCut, NoMemory, Damaged}
 use Rattle.plain_trees.proofs.Beneath.{None≢Some}
 use Rattle.history_machine.proofs.Kept.{working-file_tree}
 use Rattle.flash_model.specs.Device.{Device}
 use Rattle.node_format.specs.Items.{Item}
-use Rattle.node_format.specs.declared.places.Place.{Place}
-use Rattle.node_format.specs.declared.places.Place.TheVariants.{Dir, File}
-use Rattle.node_store.specs.Faults.{IsReadFault}
+use Rattle.node_format.specs.declared.place.Place.{Place}
+use Rattle.node_format.specs.declared.place.Place.TheVariants.{Dir, File}
+use Rattle.node_store.specs.Faults.{IsLookFault, IsReadFault}
 use Rattle.node_store.specs.NodePages.{node_of}
 use Rattle.block_trees.specs.Bodies.{Blocks, body}
 use Rattle.block_trees.specs.Laws.{IsShallow}
@@ -34,7 +34,7 @@ use Rattle.directory.proofs.LookupLaws.{found_is, found_leads, found_leads_file,
 use Rattle.working_state.specs.Moments.{Moment, machine_at, seen_at, IsMountedAt, nodes_at, capacity_at, tree_at}
 use Rattle.working_state.specs.Seen.{Seen}
 use Rattle.working_state.specs.Steps.{begins_work, MayRefuse, IsLater}
-use Rattle.directory.specs.Depths.{IsDeeper, IsDepthFault}
+use Rattle.directory.specs.Depths.{IsDeeper}
 use Rattle.working_state.specs.Renames.{target_refusal, lacks_room}
 use Rattle.working_state.specs.Worked.{IsLooked, WorkCause, ReadCause}
 use Rattle.working_state.specs.declared.state.State.{State}
@@ -70,7 +70,7 @@ read_may old new m call NoMemory begins why = begins
 read_may old new m call _ begins why = absurd why
 
 -- a look at depths is refused so
-pub depth_cause : (old new : Seen) (fault : Fault) → IsDepthFault fault → WorkCause old fault new → ReadCause old fault new
+pub depth_cause : (old new : Seen) (fault : Fault) → IsLookFault fault → WorkCause old fault new → ReadCause old fault new
 depth_cause old new ReadFailed is why = why
 depth_cause old new PowerCut is why = why
 depth_cause old new NoMemory is why = tt
@@ -243,14 +243,6 @@ module _ (a : Moment) (root : ℕ) (path : Path) (m : IsMountedAt a) (is : worki
 
   pub lacks_dir : (x : Found) (block : ℕ) → look_up (nodes_at a) root path ≡ Ok x → x ≡ found.Dir block → false ≡ lacks_room (working_tree (machine_at a)) path
   lacks_dir x block led called = sym (lacks_by x (found.Dir block) led called)
-
--- so many entries, and some or none
-pub some_counted : (count : ℕ) (items : List Item) → count ≡ length items → 0 < count → nat_lt 0 (length items) ≡ true
-some_counted count items counts some = lt-ltb 0 (length items) (omega arith)
-
-pub no_counted : (count : ℕ) (items : List Item) → count ≡ length items → count ≤ 0 → nat_lt 0 (length items) ≡ false
-no_counted count [] counts few = refl
-no_counted count (item ∷ items) counts few = absurd (omega arith)
 
 -- Depth.
 

@@ -7,13 +7,13 @@ use Rattle.plain_trees.specs.Contents.{Entry, Apart}
 use Rattle.plain_trees.specs.Trees.{Tree, put, remove, move, path_need}
 use Rattle.history_machine.specs.History.{working_root}
 use Rattle.history_machine.specs.Machine.{working_tree, way_need}
-use Rattle.fs_types.specs.declared.calls.Call.{Call}
-use Rattle.fs_types.specs.declared.calls.Reply.{Reply}
+use Rattle.fs_types.specs.declared.call.Call.{Call}
+use Rattle.fs_types.specs.declared.call.Reply.{Reply}
 use Rattle.block_trees.specs.Trees.{IsRoot}
 use Rattle.directory.specs.Counts.{path_nodes, move_nodes}
 use Rattle.directory.specs.Trails.{IsTrail}
 use Rattle.tree_edits.specs.Edits.{IsMovable}
-use Rattle.node_format.specs.declared.places.Place.{Place}
+use Rattle.node_format.specs.declared.place.Place.{Place}
 use Rattle.tree_edits.proofs.NeedLaws.{put_few, taken_few, move_few}
 use Rattle.working_state.specs.Moments.{Moment, machine_at, IsMountedAt, nodes_at, capacity_at, tree_at}
 use Rattle.working_state.specs.Worked.{IsLooked}

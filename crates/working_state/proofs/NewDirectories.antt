@@ -9,10 +9,10 @@ use Rattle.plain_trees.specs.Contents.{Contents, Entry, parent_of, lookup_refusa
 use Rattle.plain_trees.specs.Trees.{Tree, put, is_full}
 use Rattle.history_machine.specs.History.{working_root}
 use Rattle.history_machine.specs.Machine.{refusal}
-use Rattle.fs_types.specs.declared.calls.Call.{Call}
-use Rattle.fs_types.specs.declared.calls.Reply.{Reply}
-use Rattle.fs_types.specs.declared.faults.Fault.{Fault}
-use Rattle.fs_types.specs.declared.faults.Fault.TheVariants.{Exists, DirectoryFull}
+use Rattle.fs_types.specs.declared.call.Call.{Call}
+use Rattle.fs_types.specs.declared.call.Reply.{Reply}
+use Rattle.fs_types.specs.declared.fault.Fault.{Fault}
+use Rattle.fs_types.specs.declared.fault.Fault.TheVariants.{Exists, DirectoryFull}
 use Rattle.block_trees.specs.Bodies.{Blocks, body}
 use Rattle.block_trees.specs.Trees.{tree, root_tree, IsRoot}
 use Rattle.block_trees.proofs.RootMaps.{map_law, full_directory}

@@ -11,12 +11,12 @@ use Rattle.plain_trees.specs.Trees.{Tree, is_full, bytes_of}
 use Rattle.history_machine.specs.Descriptors.{Descriptors, least_free, opened, creates, is_exclusive, truncates, are_lawful}
 use Rattle.history_machine.specs.History.{Past, working_root, changed, group_with}
 use Rattle.history_machine.specs.Machine.{Machine, IsMachine, Space, working_tree, full_table_refusal, open_refusal, open_changes, file_put, refusal, tree_after, answer_of, machine_of, machine_with}
-use Rattle.fs_types.specs.declared.calls.Call.{Call}
-use Rattle.fs_types.specs.declared.calls.Reply.{Reply}
-use Rattle.fs_types.specs.declared.faults.Fault.{Fault}
-use Rattle.fs_types.specs.declared.faults.Fault.TheVariants.{NoEntry, IsDirectory, Exists, Invalid, DirectoryFull, TooManyOpen}
-use Rattle.fs_types.specs.declared.flags.OpenFlags.{OpenFlags}
-use Rattle.node_format.specs.declared.places.Place.TheVariants as place
+use Rattle.fs_types.specs.declared.call.Call.{Call}
+use Rattle.fs_types.specs.declared.call.Reply.{Reply}
+use Rattle.fs_types.specs.declared.fault.Fault.{Fault}
+use Rattle.fs_types.specs.declared.fault.Fault.TheVariants.{NoEntry, IsDirectory, Exists, Invalid, DirectoryFull, TooManyOpen}
+use Rattle.fs_types.specs.declared.open_flags.OpenFlags.{OpenFlags}
+use Rattle.node_format.specs.declared.place.Place.TheVariants as place
 use Rattle.block_trees.specs.Bodies.{Blocks, body, head_index, data_to, IsBody}
 use Rattle.block_trees.specs.Trees.{tree}
 use Rattle.block_trees.proofs.RootMaps.{map_law, full_directory}
@@ -28,8 +28,9 @@ use Rattle.working_state.proofs.Roots.{at_history}
 use Rattle.working_state.specs.Moments.{Moment, moment, machine_at, seen_at, IsMountedAt, IsRefused, nodes_at, capacity_at}
 use Rattle.working_state.specs.Leaves.{is_still, Leaves}
 use Rattle.working_state.specs.Looking.{only_looks}
-use Rattle.working_state.specs.Steps.{replied, is_cut, is_cut_answer, CallStep}
-use Rattle.working_state.specs.Opening.{found_refusal, changes_found, IsAnswered}
+use Rattle.working_state.specs.Steps.{replied, CallStep}
+use Rattle.working_state.specs.Moments.{IsAnswered}
+use Rattle.working_state.specs.Opening.{found_refusal, changes_found}
 use Rattle.working_state.specs.Worked.{IsWorked, IsLooked, WorkCause}
 use Rattle.working_state.proofs.PathCalls.{working_tree_is, working_stands}
 use Rattle.working_state.proofs.Refusals.{read_refuses, refused_step, never}
@@ -163,7 +164,7 @@ changes_is a path flags root x m is led fits =
 
 -- a refused call
 pub refused_work : (a b : Moment) (call : Call) (fault : Fault) → IsMountedAt a → IsWorked a b → Leaves (machine_at a) call a.device a.state.storage b.device b.state.storage → IsRefused a call fault b
-    → IsAnswered a call (Err fault) b (is_cut fault)
+    → IsAnswered a call (Err fault) b
 refused_work a b call fault m w leaves refuses = record {
   mounted = worked_mounted a b m w;
   step = refused_step a b call fault m w refuses;
@@ -177,13 +178,13 @@ refused_work a b call fault m w leaves refuses = record {
 
 -- one that was refused before anything was written
 pub refused_answer : (a b : Moment) (call : Call) (fault : Fault) → IsMountedAt a → IsLooked a b → is_still call || only_looks call ≡ false → IsRefused a call fault b
-    → IsAnswered a call (Err fault) b (is_cut fault)
+    → IsAnswered a call (Err fault) b
 refused_answer a b call fault m l moves refuses = refused_work a b call fault m (looked_worked a b l) (looked_leaves a b call l moves) refuses
 
 -- where what was answered is a fault
 pub at_answer : {T : Type 0} (f : T → Reply) (a b : Moment) (call : Call) (fault : Fault) (result : Result T Fault) → result ≡ Err fault
-    → IsAnswered a call (Err fault) b (is_cut fault) → IsAnswered a call (replied f result) b (is_cut_answer result)
-at_answer f a b call fault result is answered = subst (λ r. IsAnswered a call (replied f r) b (is_cut_answer r)) (sym is) answered
+    → IsAnswered a call (Err fault) b → IsAnswered a call (replied f result) b
+at_answer f a b call fault result is answered = subst (λ r. IsAnswered a call (replied f r) b) (sym is) answered
 
 -- the same but for the history and the open files
 mounted_at : (b : Moment) (h : Past ℕ) (files : Descriptors) → IsMountedAt b → AllStand (at_history b h) → IsMachine (machine_at (moment b.device (record b.state { history = h; files = files }))) → IsMountedAt (moment b.device (record b.state { history = h; files = files }))
@@ -220,7 +221,7 @@ answers_descriptor space m path flags descriptor fine free = ap (answer_of space
 pub opened_answer : (a b : Moment) (path : Path) (flags : OpenFlags) (descriptor : ℕ) (files : Descriptors) → IsMountedAt a → IsLooked a b → is_path path ≡ true
     → refusal (machine_at a) (Call.Open path flags) ≡ None → open_changes (working_tree (machine_at a)) path flags ≡ false → least_free a.state.files ≡ Some descriptor
     → files ≡ opened b.state.files descriptor (record { path = path; flags = flags })
-    → IsAnswered a (Call.Open path flags) (Ok (Reply.Fd descriptor)) (moment b.device (record b.state { files = files })) false
+    → IsAnswered a (Call.Open path flags) (Ok (Reply.Fd descriptor)) (moment b.device (record b.state { files = files }))
 opened_answer a b path flags descriptor files m l lawful fine same free is =
     record { mounted = mounted_at b b.state.history files mid mid.roots machine; step = step; leaves = looked_leaves a b call l refl; is_off = l.rest.is_off; pages = worked_pages a b m w; reached = worked_reaches a b m w; refused = tt; regrouped = tt }
   where

@@ -10,13 +10,13 @@ use Rattle.plain_trees.specs.Trees.{bare}
 use Rattle.history_machine.specs.History.{working_root}
 use Rattle.history_machine.specs.HistoryMaps.{working_root-map}
 use Rattle.history_machine.specs.Machine.{Machine, Space, working_tree, refusal, found_refusal, answer_of, machine_of, reply_of, tree_after, version_after, is_accepted}
-use Rattle.fs_types.specs.declared.calls.Call.{Call}
-use Rattle.fs_types.specs.declared.calls.Reply.{Reply}
-use Rattle.fs_types.specs.declared.faults.Fault.{Fault}
-use Rattle.fs_types.specs.declared.faults.Fault.TheVariants.{NoEntry, NotDirectory, Damaged}
+use Rattle.fs_types.specs.declared.call.Call.{Call}
+use Rattle.fs_types.specs.declared.call.Reply.{Reply}
+use Rattle.fs_types.specs.declared.fault.Fault.{Fault}
+use Rattle.fs_types.specs.declared.fault.Fault.TheVariants.{NoEntry, NotDirectory, Damaged}
 use Rattle.plain_trees.proofs.Beneath.{None≢Some}
 use Rattle.history_machine.proofs.Kept.{working-file_tree}
-use Rattle.node_format.specs.declared.places.Place.TheVariants.{Dir}
+use Rattle.node_format.specs.declared.place.Place.TheVariants.{Dir}
 use Rattle.node_store.specs.Faults.{IsReadFault}
 use Rattle.block_trees.specs.Bodies.{Blocks}
 use Rattle.block_trees.specs.Trees.{entries_in, tree, root_tree, IsRoot}

@@ -6,22 +6,22 @@ use Rattle.std.specs.Prelude.{IsTrue, IfErr, OnErr, not, ◌==◌}
 use Rattle.history_machine.specs.Descriptors.{are_lawful}
 use Rattle.history_machine.specs.History.{view_refusal}
 use Rattle.history_machine.specs.Machine.{Machine, makes_version, need, refusal}
-use Rattle.fs_types.specs.declared.calls.Call.{Call}
-use Rattle.fs_types.specs.declared.calls.Reply.{Reply}
-use Rattle.fs_types.specs.declared.faults.Fault.{Fault}
-use Rattle.fs_types.specs.declared.faults.Fault.TheVariants.{NoEntry, NotDirectory, Exists, Invalid, Busy, FlashFull, ReadOnly, ReadFailed, PowerCut, NoMemory, Damaged}
+use Rattle.fs_types.specs.declared.call.Call.{Call}
+use Rattle.fs_types.specs.declared.call.Reply.{Reply}
+use Rattle.fs_types.specs.declared.fault.Fault.{Fault}
+use Rattle.fs_types.specs.declared.fault.Fault.TheVariants.{NoEntry, NotDirectory, Exists, Invalid, Busy, FlashFull, ReadOnly, ReadFailed, PowerCut, NoMemory, Damaged}
 use Rattle.directory.specs.Lookups.{is_path_fault, IsLookupFault}
 use Rattle.directory.specs.Trails.{IsChangeFault}
-use Rattle.working_state.specs.Moments.{Moment, machine_at, seen_at, IsMountedAt, Steps, IsRefused, IsStep, moment}
-use Rattle.working_state.specs.Leaves.{Leaves}
-use Rattle.working_state.specs.Roots.{ReachesNew}
+use Rattle.working_state.specs.Moments.{Moment, machine_at, seen_at, IsMountedAt, IsAnswered, Steps, IsRefused, IsStep, moment}
+use Rattle.working_state.specs.Leaves.{is_still}
+use Rattle.working_state.specs.Looking.{LooksOnce}
 use Rattle.working_state.specs.Seen.{Seen}
 use Rattle.working_state.specs.Steps.{last_serial, replied, is_light, unlooked_refusal, begins_work, is_writing, is_cut, is_cut_answer, MayRefuse, IsLater, CallStep, tells_space}
 use Rattle.working_state.specs.Mounted.{IsMounted}
-use Rattle.working_state.specs.Worked.{IsWorked, WorkCause}
+use Rattle.working_state.specs.Worked.{IsWorked, IsLooked, WorkCause}
 use Rattle.working_state.specs.declared.state.State.{State}
 use Rattle.working_state.proofs.CutCalls.{answered_off}
-use Rattle.working_state.proofs.Standing.{worked_machine, worked_later}
+use Rattle.working_state.proofs.Standing.{looked_worked, read_leaves, worked_machine, worked_later, worked_mounted, worked_pages, worked_reaches}
 
 -- Calls that come to their work.
 
@@ -103,34 +103,46 @@ pub at_fault : {T : Type 0} (f : T → Reply) (old new : Seen) (m n : Machine) (
     → CallStep old m false call (Err fault) new n (is_cut fault) → CallStep old m false call (replied f result) new n (is_cut_answer result)
 at_fault f old new m n call fault result is step = subst (λ r. CallStep old m false call (replied f r) new n (is_cut_answer r)) (sym is) step
 
+-- a call that only looks is answered so
+pub looked_answer : (a b : Moment) (call : Call) (result : Result Reply Fault) → IsMountedAt a → is_still call ≡ false → IsLooked a b → LooksOnce (machine_at a) call a.device b.device → IsStep a call result b (is_cut_answer result) → IsAnswered a call result b
+looked_answer a b call result m moves l asks step =
+    let w = looked_worked a b l in
+    record {
+      mounted = worked_mounted a b m w;
+      step = step;
+      leaves = read_leaves a b call l moves asks;
+      is_off = w.rest.is_off;
+      pages = worked_pages a b m w;
+      reached = worked_reaches a b m w;
+      refused = in_refusal result w.rest.history;
+      regrouped = in_refusal result w.rest.group;
+    }
+
 -- the state, where a call answered so
 abbrev pub remembering : {T : Type 0} → State → Result T Fault → State
 remembering t result = record t { is_off = t.is_off || is_cut_answer result }
 
-pub remembered_step : {T : Type 0} (f : T → Reply) (a b : Moment) (u : State) (call : Call) (result again : Result T Fault)
-    → again ≡ result → a.state.is_off ≡ false → b.state.is_off ≡ a.state.is_off → u ≡ remembering b.state result
-    → IsStep a call (replied f result) b (is_cut_answer result)
-    → Leaves (machine_at a) call a.device a.state.storage b.device b.state.storage → ReachesNew a.device a.state b.device b.state → OnErr (replied f result) (b.state.history ≡ a.state.history) → OnErr (replied f result) (b.state.group ≡ a.state.group) → tells_space call ≡ false → Steps a call (replied f again) (moment b.device u)
-remembered_step f a b u call result again told on same is step leaves reached refused regrouped plain =
-    subst (λ r. Steps a call (replied f r) (moment b.device u)) (sym told)
-    (subst (λ v. Steps a call (replied f result) (moment b.device v)) (sym is) (record {
+pub remembered_step : (a b : Moment) (u : State) (call : Call) (result again : Result Reply Fault) → again ≡ result → a.state.is_off ≡ false → u ≡ remembering b.state result → tells_space call ≡ false
+    → IsAnswered a call result b → Steps a call again (moment b.device u)
+remembered_step a b u call result again told on is plain answered =
+    subst (λ r. Steps a call r (moment b.device u)) (sym told)
+    (subst (λ v. Steps a call result (moment b.device v)) (sym is) (record {
       step = subst (λ o. StepFrom o (b.state.is_off || is_cut_answer result)) (sym on)
-          (subst (λ o. StepFrom false (o || is_cut_answer result)) (sym (same ∙ on)) step);
-      leaves = leaves;
+          (subst (λ o. StepFrom false (o || is_cut_answer result)) (sym (answered.is_off ∙ on)) answered.step);
+      leaves = answered.leaves;
       told = λ space. absurd (both_ways (tells_space call) plain space);
-      reached = reached;
-      refused = refused;
-      regrouped = regrouped;
+      reached = answered.reached;
+      refused = answered.refused;
+      regrouped = answered.regrouped;
       stopped = λ off. absurd (both_ways a.state.is_off on off);
     }))
   where
     StepFrom : Bool → Bool → Type 0
-    StepFrom off off' = CallStep (seen_at a) (machine_at a) off call (replied f result) (seen_at b) (machine_at b) off'
+    StepFrom off off' = CallStep (seen_at a) (machine_at a) off call result (seen_at b) (machine_at b) off'
 
 -- the system stays mounted: where the answer is that the power is off, it is
-pub remembered_mounted : {T : Type 0} (f : T → Reply) (a b : Moment) (u : State) (call : Call) (result : Result T Fault) → u ≡ remembering b.state result → IsMountedAt b
-    → IsStep a call (replied f result) b (is_cut_answer result) → IsMounted b.device u
-remembered_mounted f a b u call result is m step = subst (IsMounted b.device) (sym is) (record {
+pub remembered_mounted : (a b : Moment) (u : State) (call : Call) (result : Result Reply Fault) → u ≡ remembering b.state result → IsMountedAt b → IsStep a call result b (is_cut_answer result) → IsMounted b.device u
+remembered_mounted a b u call result is m step = subst (IsMounted b.device) (sym is) (record {
   lawful = m.lawful;
   ring_blocks = m.ring_blocks;
   fits = m.fits;
@@ -138,7 +150,7 @@ remembered_mounted f a b u call result is m step = subst (IsMounted b.device) (s
   machine = m.machine;
   off = λ off. elim (or_cases b.state.is_off (is_cut_answer result) off) [
     | inl was ↦ m.off was
-    | inr cut ↦ answered_off (seen_at a) (machine_at a) false call (replied f result) (seen_at b) (machine_at b) (is_cut_answer result) step.answers (λ wrong. absurd (true≢false (sym wrong))) cut
+    | inr cut ↦ answered_off (seen_at a) (machine_at a) false call result (seen_at b) (machine_at b) (is_cut_answer result) step.answers (λ wrong. absurd (true≢false (sym wrong))) cut
   ];
 })
 

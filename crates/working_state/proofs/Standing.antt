@@ -5,14 +5,14 @@ use Rattle.std.specs.FinSet as set
 use Rattle.history_machine.specs.History.{Past, map_roots, map_group, working_root}
 use Rattle.history_machine.specs.HistoryMaps.{same-map_roots, same-map_group}
 use Rattle.history_machine.specs.Machine.{Machine, IsMachine, changes_tree, need, machine_with}
-use Rattle.fs_types.specs.declared.calls.Call.{Call}
-use Rattle.fs_types.specs.declared.calls.Group.{Group}
-use Rattle.flash_model.specs.declared.sizes.Geometry.{Geometry}
+use Rattle.fs_types.specs.declared.call.Call.{Call}
+use Rattle.fs_types.specs.declared.call.Group.{Group}
+use Rattle.flash_model.specs.declared.geometry.Geometry.{Geometry}
 use Rattle.flash_model.specs.Device.{Device, block_of}
 use Rattle.flash_model.specs.Geometry.{IsGeometry, block_bytes}
 use Rattle.allocator.specs.Ring.{Ring}
 use Rattle.node_format.specs.Headers.{body_header}
-use Rattle.node_format.specs.declared.places.Place.TheVariants.{Dir}
+use Rattle.node_format.specs.declared.place.Place.TheVariants.{Dir}
 use Rattle.node_store.specs.NodePages.{node_of}
 use Rattle.node_store.specs.declared.storage.Storage as parts
 use Rattle.node_store.specs.FittingLaws.{still_itself, still_on}

@@ -7,26 +7,27 @@ use Rattle.fs_types.specs.Names.{Name}
 use Rattle.plain_trees.specs.Trees.{Tree}
 use Rattle.history_machine.specs.History.{Past, map_roots, map_group, changed, checkpoint_root, first_serial, place_of, undo_refusal, redo_refusal, serial_refusal, forget_refusal, name_refusal, checkpoint_refusal, with_checkpoint, group_with}
 use Rattle.history_machine.specs.HistoryMaps.{checkpoint_root-map, changed-map, checkpoint_refusal-map, with_checkpoint-map}
-use Rattle.history_machine.specs.Descriptors.{any_open}
+use Rattle.history_machine.specs.Descriptors.{Descriptors, any_open}
 use Rattle.history_machine.specs.Machine.{Machine, IsMachine, Space, has_paths, travel_refusal, log_of, refusal, answer_of, machine_of, reply_of, is_accepted, changes_tree, makes_version, tree_after, version_after, outside_refusal, machine_with}
 use Rattle.history_machine.proofs.Kept.{machine_law}
-use Rattle.fs_types.specs.declared.calls.Call.{Call}
-use Rattle.fs_types.specs.declared.calls.Group.{Group}
-use Rattle.fs_types.specs.declared.calls.Reply.{Reply}
-use Rattle.fs_types.specs.declared.calls.Version.{Version}
-use Rattle.fs_types.specs.declared.faults.Fault.{Fault}
-use Rattle.fs_types.specs.declared.faults.Fault.TheVariants.{PowerCut}
+use Rattle.fs_types.specs.declared.call.Call.{Call}
+use Rattle.fs_types.specs.declared.call.Group.{Group}
+use Rattle.fs_types.specs.declared.call.Reply.{Reply}
+use Rattle.fs_types.specs.declared.call.Version.{Version}
+use Rattle.fs_types.specs.declared.fault.Fault.{Fault}
+use Rattle.fs_types.specs.declared.fault.Fault.TheVariants.{PowerCut}
 use Rattle.node_store.specs.declared.storage.Storage.{Storage}
 use Rattle.history.specs.Answers.{answer}
-use Rattle.working_state.specs.Moments.{Moment, machine_at, seen_at, IsMountedAt, Steps, tree_at, moment}
+use Rattle.working_state.specs.Moments.{Moment, machine_at, seen_at, IsMountedAt, IsAnswered, Steps, tree_at, moment}
 use Rattle.working_state.specs.Changes.{IsReadOnly, IsOverflow}
+use Rattle.working_state.specs.Facts.{facts_of, group_refusal}
 use Rattle.working_state.specs.Leaves.{Leaves}
 use Rattle.working_state.specs.Roots.{HasRoot, IsSpace, ReachesNew}
 use Rattle.working_state.specs.Seen.{Seen}
-use Rattle.read_only.specs.Modes.{is_read_only}
-use Rattle.working_state.specs.Steps.{last_serial, replied, empty, is_cut, is_writing, is_for_record, tells_space, MayRefuse, Answers, IsLater, CallStep}
-use Rattle.working_state.specs.Travels.{TravelCause}
+use Rattle.bad_blocks.specs.Mode.{is_read_only}
+use Rattle.working_state.specs.Steps.{last_serial, replied, empty, is_cut, is_cut_answer, is_writing, is_for_record, tells_space, MayRefuse, Answers, IsLater, CallStep}
 use Rattle.working_state.specs.declared.state.State.{State}
+use Rattle.working_state.proofs.GroupRefusals.{outside_only, travelling, outside_of, closed_of, group_says}
 use Rattle.working_state.proofs.Roots.{with_history, at_history, at_work, with_work, same_reach, after_checkpoint}
 use Rattle.working_state.proofs.Standing.{AllStand, still_leaves}
 
@@ -93,9 +94,6 @@ module _ (a : Moment) (call : Call) where
     answers = subst (λ off. Answers (seen_at a) before off call (Err fault) (seen_at a) before off) (sym why.1) (why.0, refl, refl, refl);
   })
 
-  pub refused_off : {T : Type 0} (f : T → Reply) (fault : Fault) (result : Result T Fault) → result ≡ Err fault → (fault ≡ PowerCut) × (a.state.is_off ≡ true) → Steps a call (replied f result) a
-  refused_off f fault result is why = subst (λ r. Steps a call (replied f r) a) (sym is) (off_step fault why)
-
   -- a call that the history answers
   pub answered : (r : Option Fault) (result : Result (Unit {0}) Fault) (after p : Past ℕ) → result ≡ answer r → OnOk result (p ≡ after) → OnErr result (p ≡ a.state.history)
       → (r ≡ None → Steps a call (Ok Reply.Empty) (at_history a after)) → ((fault : Fault) → r ≡ Some fault → Steps a call (Err fault) a) → Steps a call (replied empty result) (at_history a p)
@@ -148,35 +146,17 @@ refused_record a call fault on ok record_call why = subst (λ f. Steps a call (E
 pub may_change : (a : Moment) (refused : Option Fault) → a.state.group ≡ None → outside_refusal (machine_at a) refused ≡ refused
 may_change a refused none = ap (λ (g : Option (Group ℕ)). cond (is_some (map_group (tree_at a) g)) (Some Fault.InGroup) refused) none
 
-map_grouped : (f : ℕ → Tree) (g : Option (Group ℕ)) → is_some g ≡ true → is_some (map_group f g) ≡ true
-map_grouped f None some = some
-map_grouped f (Some g) some = refl
-
--- a call on the history, in a group
-pub refused_grouped : (a : Moment) (call : Call) (fault : Fault) (other : Option Fault) → a.state.is_off ≡ false → refusal (machine_at a) call ≡ outside_refusal (machine_at a) other
-    → (fault ≡ Fault.InGroup) × (is_some a.state.group ≡ true) → Steps a call (Err fault) a
-refused_grouped a call fault other on works why =
-    subst (λ f. Steps a call (Err f) a) (sym why.0) (refused a call Fault.InGroup on refl (inl (works ∙ ap (λ b. cond b (Some Fault.InGroup) other) (map_grouped (tree_at a) a.state.group why.1))))
-
 -- no file is open, so that the present version may move
 pub may_travel : (m : Machine) (refused : Option Fault) → any_open m.descriptors ≡ false → travel_refusal m refused ≡ refused
 may_travel m refused none = ap (λ b. cond b (Some Fault.Busy) refused) none
 
-pub may_not_travel : (m : Machine) (refused : Option Fault) → any_open m.descriptors ≡ true → travel_refusal m refused ≡ Some Fault.Busy
-may_not_travel m refused some = ap (λ b. cond b (Some Fault.Busy) refused) some
+-- nothing of the group or of the open files refuses a call on the history, or one that moves the present version
+pub works_outside : (a : Moment) (refused : Option Fault) → outside_only a.state.group ≡ None → outside_refusal (machine_at a) refused ≡ refused
+works_outside a refused allowed = may_change a refused (outside_of a.state.group None allowed)
 
--- a call that would move the present version, where a file is open
-pub refused_open : (a : Moment) (call : Call) (fault : Fault) (other : Option Fault) → a.state.is_off ≡ false → refusal (machine_at a) call ≡ travel_refusal (machine_at a) other
-    → (fault ≡ Fault.Busy) × (any_open a.state.files ≡ true) → Steps a call (Err fault) a
-refused_open a call fault other on travels why =
-    subst (λ f. Steps a call (Err f) a) (sym why.0) (refused a call Fault.Busy on refl (inl (travels ∙ may_not_travel (machine_at a) other why.1)))
-
--- a call that would move the present version or begin a group, and is refused before all else
-pub refused_travel : (a : Moment) (call : Call) (fault : Fault) (other : Option Fault) → refusal (machine_at a) call ≡ outside_refusal (machine_at a) (travel_refusal (machine_at a) other)
-    → TravelCause a.state fault → Steps a call (Err fault) a
-refused_travel a call fault other works (inl off) = off_step a call fault off
-refused_travel a call fault other works (inr (on, inl grouped)) = refused_grouped a call fault (travel_refusal (machine_at a) other) on works grouped
-refused_travel a call fault other works (inr (on, inr (outside, is, some))) = refused_open a call fault other on (works ∙ may_change a (travel_refusal (machine_at a) other) outside) (is, some)
+pub works_travelling : (a : Moment) (refused : Option Fault) → travelling a.state.group a.state.files ≡ None → outside_refusal (machine_at a) (travel_refusal (machine_at a) refused) ≡ refused
+works_travelling a refused allowed =
+    may_change a (travel_refusal (machine_at a) refused) (outside_of a.state.group _ allowed) ∙ may_travel (machine_at a) refused (closed_of (is_some a.state.group) Fault.InGroup a.state.files allowed)
 
 -- Rollback to a checkpoint that is there.
 
@@ -272,7 +252,7 @@ mounted_after a call result after p ok err is paths step all =
 
 -- No refusal of the history is a cut of power.
 
-abbrev NoCut : Option Fault → Type 0
+abbrev pub NoCut : Option Fault → Type 0
 NoCut None = Unit {0}
 NoCut (Some fault) = is_cut fault ≡ false
 
@@ -305,3 +285,52 @@ module _ {R : Type 0} (p : Past R) where
 
   pub name-no_cut : (name : Name) → NoCut (name_refusal p name)
   name-no_cut name = either (is_none (checkpoint_root p name)) (Some Fault.NoSuchVersion) None refl tt
+
+group-no_cut : (group : Option (Group ℕ)) (files : Descriptors) (call : Call) → NoCut (group_refusal group files call)
+group-no_cut group files call =
+    either ((facts_of call).outside && is_some group) (Some Fault.InGroup) _ refl
+    (either ((facts_of call).inside && is_none group) (Some Fault.NoGroup) _ refl
+    (either ((facts_of call).closed && any_open files) (Some Fault.Busy) None refl tt))
+
+-- a call that is refused for the change group, or for an open file
+pub refused_group : (a : Moment) (call : Call) (fault : Fault) → a.state.is_off ≡ false → group_refusal a.state.group a.state.files call ≡ Some fault → Steps a call (Err fault) a
+refused_group a call fault on says =
+    refused a call fault on (no_cut (group_refusal a.state.group a.state.files call) fault (group-no_cut a.state.group a.state.files call) says) (inl (group_says a fault call says))
+
+-- How a call that does no device operation is answered, where none answered before that the power is off.
+
+pub still_answer : (a : Moment) (call : Call) (result : Result Reply Fault) (t : State) → a.state.is_off ≡ false → t.is_off ≡ a.state.is_off → IsMountedAt (moment a.device t) → Steps a call result (moment a.device t) → IsAnswered a call result (moment a.device t)
+still_answer a call result t on same m steps = record {
+  mounted = m;
+  step = record { later = steps.step.later; answers = by result t.is_off (subst (λ off. Answers (seen_at a) (machine_at a) off call result (seen_at b) (machine_at b) t.is_off) on steps.step.answers) };
+  leaves = steps.leaves;
+  is_off = same;
+  pages = λ p reached. refl;
+  reached = steps.reached;
+  refused = steps.refused;
+  regrouped = steps.regrouped;
+}
+  where
+    b : Moment
+    b = moment a.device t
+
+    by : (result : Result Reply Fault) (off : Bool) → Answers (seen_at a) (machine_at a) false call result (seen_at b) (machine_at b) off → Answers (seen_at a) (machine_at a) false call result (seen_at b) (machine_at b) (is_cut_answer result)
+    by (Ok reply) off h = (refl, h.1, refl)
+    by (Err fault) off h = (h.0, h.1, refl)
+
+-- one that is refused
+pub still_refused : (a : Moment) (call : Call) (fault : Fault) → a.state.is_off ≡ false → IsMountedAt a → Steps a call (Err fault) a → IsAnswered a call (Err fault) a
+still_refused a call fault on m step = still_answer a call (Err fault) a.state on refl m step
+
+-- one that the history answers
+pub history_answer : (a : Moment) (call : Call) (r : Option Fault) (result : Result (Unit {0}) Fault) (after p : Past ℕ) → a.state.is_off ≡ false → IsMountedAt a → has_paths call ≡ true → tells_space call ≡ false
+    → refusal (machine_at a) call ≡ r → NoCut r → ((space : Space) → reply_of space (machine_at a) call ≡ Reply.Empty) → machine_of (machine_at a) call None ≡ machine_at (at_history a after)
+    → ReachesNew a.device a.state a.device (with_history a.state after) → AllStand (at_history a after)
+    → (is_writing (machine_at a) call ≡ true → is_read_only a.state.storage.bad ≡ false) → (makes_version (machine_at a) call ≡ true → a.state.history.next < last_serial)
+    → result ≡ answer r → OnOk result (p ≡ after) → OnErr result (p ≡ a.state.history) → IsAnswered a call (replied empty result) (at_history a p)
+history_answer a call r result after p on m paths plain same cuts replies leaves reached stand writable serial is ok err =
+    let step : Steps a call (replied empty result) (at_history a p) =
+    answered a call r result after p is ok err
+    (λ fine. done a call after Reply.Empty on plain (same ∙ fine) replies leaves reached writable serial)
+    (λ fault e. refused a call fault on (no_cut r fault cuts e) (inl (same ∙ e))) in
+    still_answer a call (replied empty result) (with_history a.state p) on refl (mounted_after a call result after p ok err m paths step stand) step

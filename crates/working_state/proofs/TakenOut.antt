@@ -1,6 +1,5 @@
 -- The steps of an entry taken out of the tree that calls work on: an empty directory, and a file.
-use Rattle.std.proofs.Common.{◌≡◌, ℕ, ◌<◌, ◌≤◌, Bool, true, false, Option, Some, None, Ok, List, [], ◌∷◌, length, refl, sym, ap, subst, ◌∙◌, inl, arith}
-use Rattle.std.proofs.lemmas.Bool.{lt-ltb}
+use Rattle.std.proofs.Common.{◌≡◌, ℕ, ◌<◌, Bool, true, false, Option, Some, None, Ok, List, [], ◌∷◌, length, refl, sym, ap, subst, ◌∙◌, inl, arith}
 use Rattle.std.proofs.lemmas.List.{length-map}
 use Rattle.std.specs.Prelude.{is_none, nat_lt, unwrap_or, if◌then◌else◌, ◌==◌}
 use Rattle.fs_types.specs.Names.{Path, is_path}
@@ -8,9 +7,9 @@ use Rattle.plain_trees.specs.Trees.{Tree, remove, entry_count}
 use Rattle.history_machine.specs.History.{working_root}
 use Rattle.history_machine.specs.Machine.{refusal, found_refusal, unlink_refusal, rmdir_refusal}
 use Rattle.history_machine.specs.Descriptors.{Descriptors, is_open}
-use Rattle.fs_types.specs.declared.calls.Call.{Call}
-use Rattle.fs_types.specs.declared.calls.Reply.{Reply}
-use Rattle.fs_types.specs.declared.faults.Fault.TheVariants.{NotEmpty, Busy}
+use Rattle.fs_types.specs.declared.call.Call.{Call}
+use Rattle.fs_types.specs.declared.call.Reply.{Reply}
+use Rattle.fs_types.specs.declared.fault.Fault.TheVariants.{NotEmpty, Busy}
 use Rattle.flash_model.specs.Device.{Device}
 use Rattle.node_format.specs.Items.{Item}
 use Rattle.node_store.specs.NodePages.{node_of}
@@ -23,6 +22,7 @@ use Rattle.directory.specs.Lookups.{look_up}
 use Rattle.directory.proofs.LookupLaws.{found_leads, rooted_leads}
 use Rattle.working_state.specs.Moments.{Moment, machine_at, IsMountedAt, IsRefused, nodes_at, capacity_at, tree_at}
 use Rattle.working_state.specs.Worked.{IsLooked}
+use Rattle.working_state.proofs.LookNodes.{some_items, no_items}
 use Rattle.working_state.proofs.ChangeSteps.{later_tree, way_some}
 use Rattle.working_state.proofs.ChangedCalls.{IsChangeBy}
 use Rattle.working_state.proofs.PathCalls.{working_tree_is, working_stands, LooksUp, found_by}
@@ -56,33 +56,28 @@ rmdir_counted a e path root block items x m is below same led called spelled =
     ∙ ap (λ n. if nat_lt 0 n then Some NotEmpty else None) (rmdir_count a path root block items m is dir here)
 
 -- a directory with entries
-pub rmdir_refuses : (a : Moment) (e : Device) (c : Moment) (path : Path) (root block count : ℕ) (items : List Item) (x : Found) → IsMountedAt a → working_root a.state.history a.state.group ≡ Some root → (length path == 0) ≡ false → node_of e ≡ nodes_at a
-    → look_up (nodes_at a) root path ≡ Ok x → x ≡ found.Dir block → entries_in (node_of e) block ≡ Some items → count ≡ length items → 0 < count
+pub rmdir_refuses : (a : Moment) (e : Device) (c : Moment) (path : Path) (root block : ℕ) (empty : Bool) (items : List Item) (x : Found) → IsMountedAt a → working_root a.state.history a.state.group ≡ Some root → (length path == 0) ≡ false → node_of e ≡ nodes_at a
+    → look_up (nodes_at a) root path ≡ Ok x → x ≡ found.Dir block → entries_in (node_of e) block ≡ Some items → empty ≡ (length items == 0) → empty ≡ false
     → IsRefused a (Call.Rmdir path) NotEmpty c
-rmdir_refuses a e c path root block count items x m is below same led called spelled counts some =
+rmdir_refuses a e c path root block empty items x m is below same led called spelled shows some =
     inl (rmdir_counted a e path root block items x m is below same led called spelled
-    ∙ ap (λ b. if b then Some NotEmpty else None) (lt-ltb 0 (length items) (omega arith)))
-
--- no entries were counted
-pub none_counted : (count : ℕ) (items : List Item) → count ≡ length items → count ≤ 0 → items ≡ []
-none_counted count [] counts few = refl
-none_counted count (item ∷ items) counts few = absurd (omega arith)
+    ∙ ap (λ b. if b then Some NotEmpty else None) (some_items empty items shows some))
 
 -- the directory that a path led to has no entries
-pub emptied : (f g h : Blocks) (path : Path) (root block count : ℕ) (items : List Item) (x : Found) → g ≡ f → h ≡ g → look_up f root path ≡ Ok x → x ≡ found.Dir block → entries_in g block ≡ Some items → count ≡ length items → count ≤ 0
+pub emptied : (f g h : Blocks) (path : Path) (root block : ℕ) (empty : Bool) (items : List Item) (x : Found) → g ≡ f → h ≡ g → look_up f root path ≡ Ok x → x ≡ found.Dir block → entries_in g block ≡ Some items → empty ≡ (length items == 0) → empty ≡ true
     → (b : ℕ) × (look_up h root path ≡ Ok (found.Dir b)) × (entries_in h b ≡ Some [])
-emptied f g h path root block count items x same again led called spelled counts few = (
+emptied f g h path root block empty items x same again led called spelled shows none = (
   block,
   subst (λ k. look_up k root path ≡ Ok (found.Dir block)) (sym (again ∙ same)) (subst (λ z. look_up f root path ≡ Ok z) called led),
-  ap (λ (k : Blocks). entries_in k block) again ∙ spelled ∙ ap Some (none_counted count items counts few),
+  ap (λ (k : Blocks). entries_in k block) again ∙ spelled ∙ ap Some (no_items empty items shows none),
 )
 
-pub rmdir_accepts : (a : Moment) (e : Device) (path : Path) (root block count : ℕ) (items : List Item) (x : Found) → IsMountedAt a → working_root a.state.history a.state.group ≡ Some root → (length path == 0) ≡ false → node_of e ≡ nodes_at a
-    → look_up (nodes_at a) root path ≡ Ok x → x ≡ found.Dir block → entries_in (node_of e) block ≡ Some items → count ≡ length items → count ≤ 0
+pub rmdir_accepts : (a : Moment) (e : Device) (path : Path) (root block : ℕ) (empty : Bool) (items : List Item) (x : Found) → IsMountedAt a → working_root a.state.history a.state.group ≡ Some root → (length path == 0) ≡ false → node_of e ≡ nodes_at a
+    → look_up (nodes_at a) root path ≡ Ok x → x ≡ found.Dir block → entries_in (node_of e) block ≡ Some items → empty ≡ (length items == 0) → empty ≡ true
     → refusal (machine_at a) (Call.Rmdir path) ≡ None
-rmdir_accepts a e path root block count items x m is below same led called spelled counts few =
+rmdir_accepts a e path root block empty items x m is below same led called spelled shows none =
     rmdir_counted a e path root block items x m is below same led called spelled
-    ∙ ap (λ (all : List Item). if nat_lt 0 (length all) then Some NotEmpty else None) (none_counted count items counts few)
+    ∙ ap (λ (all : List Item). if nat_lt 0 (length all) then Some NotEmpty else None) (no_items empty items shows none)
 
 pub rmdir_change : (a b : Moment) (path : Path) → IsMountedAt a → IsLooked a b → refusal (machine_at a) (Call.Rmdir path) ≡ None → is_path path ≡ true → 0 < length path
     → IsChangeBy a (Call.Rmdir path) (λ root. remove (tree_at b root) path) Reply.Empty

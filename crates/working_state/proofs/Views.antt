@@ -9,12 +9,12 @@ use Rattle.plain_trees.specs.Trees.{bare}
 use Rattle.history_machine.specs.History.{Past, place_of, view_refusal, seen_root}
 use Rattle.history_machine.specs.HistoryMaps.{view_refusal-map, seen_root-map}
 use Rattle.history_machine.specs.Machine.{refusal, found_refusal, view_path_refusal, view_tree}
-use Rattle.fs_types.specs.declared.calls.Call.{Call}
-use Rattle.fs_types.specs.declared.calls.Group.{Group}
-use Rattle.fs_types.specs.declared.calls.Version.{Version}
-use Rattle.fs_types.specs.declared.calls.View.{View}
-use Rattle.fs_types.specs.declared.calls.View.TheVariants.{Present, Serial, Checkpoint}
-use Rattle.fs_types.specs.declared.faults.Fault.{Fault}
+use Rattle.fs_types.specs.declared.call.Call.{Call}
+use Rattle.fs_types.specs.declared.call.Group.{Group}
+use Rattle.fs_types.specs.declared.call.Version.{Version}
+use Rattle.fs_types.specs.declared.call.View.{View}
+use Rattle.fs_types.specs.declared.call.View.TheVariants.{Present, Serial, Checkpoint}
+use Rattle.fs_types.specs.declared.fault.Fault.{Fault}
 use Rattle.plain_trees.proofs.Beneath.{None≢Some, same_Some}
 use Rattle.working_state.specs.Moments.{Moment, machine_at, IsMountedAt, IsRefused, tree_at}
 use Rattle.working_state.specs.Steps.{begins_work}

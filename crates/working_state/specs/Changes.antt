@@ -3,9 +3,9 @@ use Rattle.std.specs.Prelude.{◌≡◌, ◌⊎◌, ℕ, ◌+◌, ◌<◌, true,
 use Rattle.std.specs.FinSet as set
 use Rattle.history_machine.specs.History.{Past, working_root, history_with, group_with}
 use Rattle.plain_trees.specs.Trees.{Tree}
-use Rattle.fs_types.specs.declared.calls.Group.{Group}
-use Rattle.fs_types.specs.declared.faults.Fault.{Fault}
-use Rattle.fs_types.specs.declared.faults.Fault.TheVariants.{FlashFull, ReadOnly, Overflow}
+use Rattle.fs_types.specs.declared.call.Group.{Group}
+use Rattle.fs_types.specs.declared.fault.Fault.{Fault}
+use Rattle.fs_types.specs.declared.fault.Fault.TheVariants.{FlashFull, ReadOnly, Overflow}
 use Rattle.flash_model.specs.Device.{Device}
 use Rattle.flash_model.specs.Geometry.{IsGeometry}
 use Rattle.allocator.specs.Ring.{free_count}
@@ -14,12 +14,12 @@ use Rattle.node_store.specs.Fitting.{Fits}
 use Rattle.node_store.specs.NodePages.{node_of}
 use Rattle.block_trees.specs.Reached.{Reached}
 use Rattle.directory.specs.Trails.{IsChangeFault}
-use Rattle.tree_edits.specs.declared.edits.Edit.{Edit}
+use Rattle.tree_edits.specs.declared.edit.Edit.{Edit}
 use Rattle.tree_edits.specs.Edits.{IsEditable, source, effect, need}
 use Rattle.working_state.specs.Leaves.{HasWritten}
 use Rattle.working_state.specs.Mounted.{IsStanding}
 use Rattle.working_state.specs.Seen.{capacity_of, tree_on, seen_of}
-use Rattle.read_only.specs.Modes.{is_read_only}
+use Rattle.bad_blocks.specs.Mode.{is_read_only}
 use Rattle.working_state.specs.Steps.{last_serial}
 use Rattle.working_state.specs.Worked.{WorkCause}
 

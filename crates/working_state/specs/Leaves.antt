@@ -2,11 +2,12 @@
 use Rattle.std.specs.Prelude.{◌≡◌, ℕ, ◌+◌, ◌≤◌, Bool, true, false}
 use Rattle.std.specs.FinSet as set
 use Rattle.history_machine.specs.Machine.{Machine, changes_tree, need}
-use Rattle.fs_types.specs.declared.calls.Call.{Call}
+use Rattle.fs_types.specs.declared.call.Call.{Call}
 use Rattle.flash_model.specs.Device.{Device}
 use Rattle.node_store.specs.declared.storage.Storage.{Storage}
 use Rattle.node_store.specs.Fitting.{StillFits}
 use Rattle.node_store.specs.Storage as parts
+use Rattle.working_state.specs.Facts.{facts_of}
 use Rattle.working_state.specs.Looking.{LooksOnce}
 use Rattle.working_state.specs.Seen.{capacity_of}
 
@@ -24,19 +25,7 @@ pub record HasWritten (old : Device) (s : Storage) (most : ℕ) (new : Device) (
 
 -- calls that do no device operation
 abbrev pub is_still : Call → Bool
-is_still (Call.Close descriptor) = true
-is_still Call.Log = true
-is_still Call.Undo = true
-is_still Call.Redo = true
-is_still (Call.Goto serial) = true
-is_still (Call.Rollback name) = true
-is_still (Call.Forget count) = true
-is_still (Call.Checkpoint name) = true
-is_still (Call.RemoveCheckpoint name) = true
-is_still Call.Begin = true
-is_still Call.End = true
-is_still Call.Abandon = true
-is_still _ = false
+is_still call = (facts_of call).still
 
 -- what a call leaves, whatever it answers: what one try of its change does, in which it writes as many nodes at most as it
 -- needs; a call that changes no tree only reads; one that does no device operation leaves all as it was; and one that only

@@ -1,6 +1,6 @@
 -- What look-ups ask of the device.
-use Rattle.std.specs.Prelude.{◌≡◌, ℕ, ◌+◌, ◌*◌, ◌≤◌, Bool, true, false, Option, Some, None, List, length}
-use Rattle.fs_types.specs.declared.calls.Call.{Call}
+use Rattle.std.specs.Prelude.{◌≡◌, ℕ, ◌+◌, ◌*◌, ◌≤◌, Bool, Option, Some, None, List, length}
+use Rattle.fs_types.specs.declared.call.Call.{Call}
 use Rattle.fs_types.specs.Names.{Path}
 use Rattle.plain_trees.specs.Trees.{Tree, bytes_at, entry_count, nodes_for, path_need}
 use Rattle.history_machine.specs.Descriptors.{Descriptor, descriptor_at}
@@ -8,6 +8,7 @@ use Rattle.history_machine.specs.Machine.{Machine, working_tree, view_tree}
 use Rattle.flash_model.specs.Device.{Device}
 use Rattle.block_trees.specs.Bodies.{head_index}
 use Rattle.skip_list_file.specs.Reading.{HasDigits, nodes_of_range}
+use Rattle.working_state.specs.Facts.{facts_of}
 use Rattle.working_state.specs.Seen.{capacity_of}
 
 -- the device was asked for no more than the pages of so many blocks
@@ -39,11 +40,7 @@ AsksForOpen old (Some file) t offset count new = AsksForRange old (look_nodes t 
 
 -- calls that only look at what stands at a path, or at the bytes of a file
 abbrev pub only_looks : Call → Bool
-only_looks (Call.Stat view path) = true
-only_looks (Call.List view path) = true
-only_looks (Call.ReadAt view path offset count) = true
-only_looks (Call.Pread descriptor offset count) = true
-only_looks _ = false
+only_looks call = (facts_of call).looks
 
 -- such a call looks once: it reads the nodes of each directory on its path, and then those of the directory or the bytes of the file
 abbrev pub LooksOnce : Machine → Call → Device → Device → Type 0

@@ -2,13 +2,13 @@
 use Rattle.std.specs.Prelude.{◌≡◌, ℕ, true, false, Result, Ok, IfOk, OnErr}
 use Rattle.std.specs.FinSet as set
 use Rattle.history_machine.specs.Machine.{IsMachine, Space, answer}
-use Rattle.fs_types.specs.declared.calls.Call.{Call}
-use Rattle.fs_types.specs.declared.calls.Reply.{Reply}
-use Rattle.fs_types.specs.declared.faults.Fault.{Fault}
+use Rattle.fs_types.specs.declared.call.Call.{Call}
+use Rattle.fs_types.specs.declared.call.Reply.{Reply}
+use Rattle.fs_types.specs.declared.fault.Fault.{Fault}
 use Rattle.flash_model.specs.Device.{Device, block_of}
 use Rattle.flash_model.specs.Geometry.{IsGeometry}
 use Rattle.allocator.specs.Ring.{Ring}
-use Rattle.node_format.specs.declared.places.Place.TheVariants.{Dir}
+use Rattle.node_format.specs.declared.place.Place.TheVariants.{Dir}
 use Rattle.node_store.specs.Fitting.{Fits}
 use Rattle.node_store.specs.NodePages.{node_of}
 use Rattle.block_trees.specs.Trees.{IsRoot}

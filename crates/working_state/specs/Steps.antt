@@ -1,12 +1,13 @@
 -- What a call on a mounted system answers and leaves: the step of the machine, or a further refusal with its cause.
-use Rattle.std.specs.Prelude.{◌≡◌, ◌⊎◌, ℕ, ◌+◌, ◌-◌, ◌^◌, ◌<◌, ◌≤◌, Bool, true, false, not, ◌==◌, ◌&&◌, ◌||◌, is_some, is_none, Option, Some, None, [], length, Result, Ok, Err, if◌then◌else◌}
+use Rattle.std.specs.Prelude.{◌≡◌, ◌⊎◌, ℕ, ◌+◌, ◌-◌, ◌^◌, ◌<◌, ◌≤◌, Bool, true, false, not, ◌==◌, ◌&&◌, ◌||◌, is_some, is_none, Option, Some, None, length, Result, Ok, Err, if◌then◌else◌}
 use Rattle.history_machine.specs.Descriptors.{are_lawful}
 use Rattle.history_machine.specs.History.{view_refusal}
 use Rattle.history_machine.specs.Machine.{Machine, Space, refusal, answer, next, is_accepted, makes_version, need, tree_after, version_after}
-use Rattle.fs_types.specs.declared.calls.Call.{Call}
-use Rattle.fs_types.specs.declared.calls.Reply.{Reply}
-use Rattle.fs_types.specs.declared.faults.Fault.{Fault}
-use Rattle.fs_types.specs.declared.faults.Fault.TheVariants.{Exists, Invalid, Busy, FlashFull, ReadOnly, Overflow, ReadFailed, PowerCut, NoMemory}
+use Rattle.fs_types.specs.declared.call.Call.{Call}
+use Rattle.fs_types.specs.declared.call.Reply.{Reply}
+use Rattle.fs_types.specs.declared.fault.Fault.{Fault}
+use Rattle.fs_types.specs.declared.fault.Fault.TheVariants.{Exists, Invalid, Busy, FlashFull, ReadOnly, Overflow, ReadFailed, PowerCut, NoMemory}
+use Rattle.working_state.specs.Facts.{facts_of}
 use Rattle.working_state.specs.Seen.{Seen}
 
 -- the greatest serial is given to no version
@@ -23,15 +24,7 @@ empty x = Reply.Empty
 
 -- calls that take no memory and do no device operation
 abbrev pub is_light : Call → Bool
-is_light (Call.Close descriptor) = true
-is_light (Call.Pwrite descriptor offset []) = true
-is_light Call.Undo = true
-is_light Call.Redo = true
-is_light (Call.Goto serial) = true
-is_light Call.Begin = true
-is_light Call.End = true
-is_light Call.Abandon = true
-is_light _ = false
+is_light call = (facts_of call).light
 
 -- the refusal of a call that comes before anything is looked up
 abbrev pub unlooked_refusal : Machine → Call → Option Fault
@@ -51,23 +44,15 @@ begins_work m call = not (is_light call) && is_none (unlooked_refusal m call)
 
 -- calls that make no version and are refused in read-only mode all the same
 abbrev pub is_for_record : Call → Bool
-is_for_record (Call.Fsync descriptor) = true
-is_for_record Call.Sync = true
-is_for_record (Call.Forget count) = true
-is_for_record (Call.Checkpoint name) = true
-is_for_record (Call.RemoveCheckpoint name) = true
-is_for_record _ = false
+is_for_record call = (facts_of call).for_record
 
 -- calls that commit the history
 abbrev pub is_sync : Call → Bool
-is_sync (Call.Fsync descriptor) = true
-is_sync Call.Sync = true
-is_sync _ = false
+is_sync call = (facts_of call).sync
 
 -- what `df` tells is no fact of the machine: it is the space that is left of the flash
 abbrev pub tells_space : Call → Bool
-tells_space Call.Df = true
-tells_space _ = false
+tells_space call = (facts_of call).tells_space
 
 -- an accepted call that read-only mode refuses: one that changes a tree, in a group too, one that makes a version, or one that
 -- the record has to take

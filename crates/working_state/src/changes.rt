@@ -5,7 +5,6 @@
 ghost use Rattle.std.specs.Prelude.{◌≡◌, ℕ, ◌<◌, Some, None};
 ghost use Rattle.history_machine.specs.History.{working_root, history_with, group_with};
 ghost use Rattle.working_state.specs.Steps.{last_serial};
-ghost use Rattle.node_store.specs.Stores.{IsSound, Follows};
 ghost use Rattle.working_state.specs.Changes.{IsReady, CanApply, IsTried, IsChanged};
 ghost use Rattle.working_state.specs.Mounted.{IsStanding};
 
@@ -68,21 +67,5 @@ fn try_change<F: Flash>(
     ensures { IsTried (F.device flash.old) storage.old edit.entry root result (F.device flash.new) storage.new }
 {
     let mut store = Store::new(flash, storage);
-    write_edit(alloc, &mut store, root, edit)
-}
-
-/// Writes an edit of the tree of a root to a store, and answers the new root.
-fn write_edit<F: Flash>(
-    alloc: Global,
-    store: &mut Store<'_, F>,
-    root: u32,
-    edit: Edit<'_, '_>,
-) -> Result<u32, Fault>
-    requires sound { IsSound F.device store.old }
-    requires stands { IsStanding (F.device store.old.flash.now) store.old.storage.now.ring root }
-    requires editable { CanApply (F.device store.old.flash.now) store.old.storage.now root edit }
-    ensures follows { Follows F.device store.old store.new }
-    ensures tried { IsTried (F.device store.old.flash.now) store.old.storage.now edit.entry root result (F.device store.new.flash.now) store.new.storage.now }
-{
-    apply(alloc, store, root, edit)
+    apply(alloc, &mut store, root, edit)
 }

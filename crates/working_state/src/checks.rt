@@ -1,17 +1,18 @@
 //! What calls check before they work, and what they remember after it.
-ghost use Rattle.std.specs.Prelude.{◌≡◌, ◌<◌, ◌⊎◌, ◌||◌, true, false, is_some, Some, None, IfOk, IfErr, OnOk};
+ghost use Rattle.std.specs.Prelude.{◌≡◌, ◌<◌, ◌⊎◌, ◌||◌, true, false, is_some, Some, None, IfErr, OnOk};
 ghost use Rattle.history_machine.specs.Descriptors.{any_open};
-ghost use Rattle.fs_types.specs.declared.faults.Fault.{Fault};
+ghost use Rattle.fs_types.specs.Requests.{call_of};
+ghost use Rattle.fs_types.specs.declared.fault.Fault.{Fault};
 ghost use Rattle.working_state.specs.Changes.{IsReadOnly, IsOverflow};
-ghost use Rattle.read_only.specs.Modes.{is_read_only};
+ghost use Rattle.bad_blocks.specs.Mode.{is_read_only};
 ghost use Rattle.working_state.specs.Steps.{last_serial, is_cut_answer};
-ghost use Rattle.working_state.specs.Travels.{TravelCause};
+ghost use Rattle.working_state.specs.Facts.{group_refusal};
 
 use crate::state::State;
-use fs_types::{Fault, Group};
+use bad_blocks::is_read_only;
+use fs_types::{Fault, Group, Request};
 use history::History;
 use node_store::Storage;
-use read_only::is_read_only;
 
 impl State {
     /// Refuses a call where an earlier one answered that the power is off.
@@ -38,19 +39,20 @@ impl State {
         }
     }
 
-    /// Refuses to end a change group where none is open; else answers it.
-    pub(crate) fn check_inside(&self) -> Result<Group<u32>, Fault>
-        ensures ok { IfOk result (λ group. self.now.group ≡ Some group) }
+    /// Refuses to end a change group where none is open.
+    fn check_inside(&self) -> Result<(), Fault>
+        ensures ok { OnOk result (is_some self.now.group ≡ true) }
         ensures err { IfErr result (λ fault. (fault ≡ Fault.NoGroup) × (self.now.group ≡ None)) }
     {
-        match &self.group {
-            Some(group) => Ok(*group),
-            None => Err(Fault::NoGroup),
+        if self.group.is_none() {
+            Err(Fault::NoGroup)
+        } else {
+            Ok(())
         }
     }
 
     /// Refuses to move the present version, and to begin or end a change group, while a file is open.
-    pub(crate) fn check_none_open(&self) -> Result<(), Fault>
+    fn check_none_open(&self) -> Result<(), Fault>
         ensures ok { OnOk result (any_open self.now.files ≡ false) }
         ensures err { IfErr result (λ fault. (fault ≡ Fault.Busy) × (any_open self.now.files ≡ true)) }
     {
@@ -61,17 +63,31 @@ impl State {
         }
     }
 
-    /// Refuses to move the present version, and to begin a change group: where an earlier call answered
-    /// that the power is off, in a group, and while a file is open.
-    pub(crate) fn check_travel(&self) -> Result<(), Fault>
-        ensures on { OnOk result (self.now.is_off ≡ false) }
-        ensures outside { OnOk result (self.now.group ≡ None) }
-        ensures closed { OnOk result (any_open self.now.files ≡ false) }
-        ensures err { IfErr result (TravelCause self.now) }
+    /// Refuses a call on the history in a change group, one that ends a group where none is open, and,
+    /// while a file is open, one that moves the present version, or begins or ends a group.
+    pub(crate) fn check_group(&self, request: Request<'_>) -> Result<(), Fault>
+        ensures ok { OnOk result (group_refusal self.now.group self.now.files (call_of request.entry) ≡ None) }
+        ensures err { IfErr result (λ fault. group_refusal self.now.group self.now.files (call_of request.entry) ≡ Some fault) }
     {
-        self.check_power()?;
-        self.check_outside()?;
-        self.check_none_open()
+        match request {
+            Request::Undo
+            | Request::Redo
+            | Request::Goto { .. }
+            | Request::Rollback { .. }
+            | Request::Begin => {
+                self.check_outside()?;
+                self.check_none_open()
+            }
+            Request::Forget { .. }
+            | Request::Checkpoint { .. }
+            | Request::RemoveCheckpoint { .. }
+            | Request::Sync => self.check_outside(),
+            Request::End | Request::Abandon => {
+                self.check_inside()?;
+                self.check_none_open()
+            }
+            _ => Ok(()),
+        }
     }
 
     /// Remembers that the power is off, where a call answers that.

@@ -1,22 +1,21 @@
-//! The calls on open files, on the working state and the flash. Each checks in order: whether an
-//! earlier call answered that the power is off; its own refusals; read-only mode; outside a change
-//! group the greatest serial; and then it works.
-ghost use Rattle.std.specs.Prelude.{◌≡◌, ◌<◌, ℕ, true, false, length, Some, None, Ok, IfOk, IfErr, OnOk, unwrap_or};
+//! Files opened and closed, on the working state and the flash. Each call checks in order: its own
+//! refusals; read-only mode; outside a change group the greatest serial; and then it works.
+ghost use Rattle.std.specs.Prelude.{◌≡◌, ◌<◌, true, false, length, Some, None, Ok, IfOk, IfErr, OnOk};
 ghost use Rattle.history_machine.specs.History.{working_root};
 ghost use Rattle.fs_types.specs.Names.{is_path};
 ghost use Rattle.history_machine.specs.Descriptors.{least_free};
 ghost use Rattle.history_machine.specs.Machine.{refusal};
-ghost use Rattle.fs_types.specs.declared.calls.Call.{Call};
-ghost use Rattle.fs_types.specs.declared.calls.Reply.{Reply};
+ghost use Rattle.fs_types.specs.declared.call.Call.{Call};
+ghost use Rattle.fs_types.specs.declared.call.Reply.{Reply};
 ghost use Rattle.flash_model.specs.Device.{Device};
 ghost use Rattle.node_store.specs.NodePages.{node_of};
 ghost use Rattle.directory.specs.Lookups.{look_up};
 ghost use Rattle.directory.specs.Trails.{IsTrail};
-ghost use Rattle.working_state.specs.Mounted.{IsMounted, StateStep, KeepsPages};
-ghost use Rattle.working_state.specs.Opening.{found_refusal, changes_found, IsAnswered};
-ghost use Rattle.working_state.specs.Steps.{replied, empty, is_cut_answer, Refuses};
+ghost use Rattle.working_state.specs.Mounted.{IsMounted};
+ghost use Rattle.working_state.specs.Opening.{found_refusal, changes_found};
+ghost use Rattle.working_state.specs.Steps.{replied, empty, Refuses};
 ghost use Rattle.working_state.specs.Worked.{IsLooked};
-ghost use Rattle.working_state.specs.Moments.{IsRefused, moment, machine_at};
+ghost use Rattle.working_state.specs.Moments.{IsAnswered, IsRefused, moment, machine_at};
 
 use crate::changes::change;
 use crate::lookups::find_path;
@@ -31,11 +30,10 @@ use tree_edits::Edit;
 
 impl State {
     /// The descriptor is free.
-    pub fn close(&mut self, descriptor: u64) -> Result<(), Fault>
-        ensures mounted { (device : Device) → IsMounted device self.old → IsMounted device self.new }
-        ensures step { (device : Device) → StateStep device self.old (Call.Close descriptor) (replied empty result) device self.new }
+    pub(crate) fn close(&mut self, descriptor: u64) -> Result<(), Fault>
+        requires { self.old.is_off ≡ false }
+        ensures { (device : Device) → IsMounted device self.old → IsAnswered (moment device self.old) (Call.Close descriptor) (replied empty result) (moment device self.new) }
     {
-        self.check_power()?;
         if self.files.get(descriptor).is_none() {
             return Err(Fault::BadDescriptor);
         }
@@ -43,8 +41,9 @@ impl State {
         Ok(())
     }
 
-    /// Opens the file at a path under the least free descriptor, and answers the descriptor.
-    pub fn open<F: Flash>(
+    /// Opens the file at a path under the least free descriptor, and answers the descriptor. The path is
+    /// copied before anything is written, so that want of memory changes nothing.
+    pub(crate) fn open_file<F: Flash>(
         &mut self,
         alloc: Global,
         flash: &mut F,
@@ -52,26 +51,7 @@ impl State {
         flags: OpenFlags,
     ) -> Result<u8, Fault>
         requires { IsMounted (F.device flash.old) self.old }
-        ensures mounted { IsMounted (F.device flash.new) self.new }
-        ensures step { StateStep (F.device flash.old) self.old (Call.Open path.now flags) (replied Reply.Fd result) (F.device flash.new) self.new }
-        ensures pages { KeepsPages (F.device flash.old) self.old (F.device flash.new) }
-    {
-        self.check_power()?;
-        let opened = self.open_file(alloc, flash, path, flags);
-        self.remember_cut(opened)
-    }
-
-    /// Opens it, where no call answered before that the power is off. The path is copied before
-    /// anything is written, so that want of memory changes nothing.
-    fn open_file<F: Flash>(
-        &mut self,
-        alloc: Global,
-        flash: &mut F,
-        path: &Path,
-        flags: OpenFlags,
-    ) -> Result<u8, Fault>
-        requires { IsMounted (F.device flash.old) self.old }
-        ensures { IsAnswered (moment (F.device flash.old) self.old) (Call.Open path.now flags) (replied Reply.Fd result) (moment (F.device flash.new) self.new) (is_cut_answer result) }
+        ensures { IsAnswered (moment (F.device flash.old) self.old) (Call.Open path.now flags) (replied Reply.Fd result) (moment (F.device flash.new) self.new) }
     {
         let root = self.root();
         let (found, trail, descriptor) = self.check_open(flash, root, path, flags)?;
@@ -107,13 +87,19 @@ impl State {
     ) -> Result<(Found, Trail, u8), Fault>
         requires mounted { IsMounted (F.device flash.old) self.old }
         requires working { working_root self.old.history self.old.group ≡ Some root }
+
+        // Nodes were read alone.
         ensures looked { IsLooked (moment (F.device flash.old) self.old) (moment (F.device flash.new) self.new) }
+
+        // What may be opened.
         ensures lawful { OnOk result (is_path path.now ≡ true) }
         ensures nodes { node_of (F.device flash.new) ≡ node_of (F.device flash.old) }
         ensures found { IfOk result (λ r. look_up (node_of (F.device flash.old)) root path.now ≡ Ok r.0) }
         ensures fits { IfOk result (λ r. found_refusal flags r.0 ≡ None) }
         ensures way { IfOk result (λ r. IsTrail (node_of (F.device flash.old)) root path.now r.1) }
         ensures descriptor { IfOk result (λ r. least_free self.old.files ≡ Some r.2) }
+
+        // What the machine says of the call.
         ensures accepted { OnOk result (refusal (machine_at (moment (F.device flash.old) self.old)) (Call.Open path.now flags) ≡ None) }
         ensures refused { IfErr result (λ fault. IsRefused (moment (F.device flash.old) self.old) (Call.Open path.now flags) fault (moment (F.device flash.new) self.new)) }
     {

@@ -1,14 +1,13 @@
 //! Changes of the bytes of open files, on the working state and the flash. Each call checks in order:
-//! whether an earlier one answered that the power is off; its own refusals; read-only mode; outside a
-//! change group the greatest serial; and then it works.
-ghost use Rattle.std.specs.Prelude.{◌≡◌, ℕ, ◌<◌, ◌≤◌, ◌+◌, false, length, Some, None, Ok, IfOk, IfErr, OnOk};
+//! its own refusals; read-only mode; outside a change group the greatest serial; and then it works.
+ghost use Rattle.std.specs.Prelude.{◌≡◌, ℕ, ◌<◌, ◌≤◌, ◌+◌, length, Some, None, Ok, IfOk, IfErr, OnOk};
 ghost use Rattle.std.specs.Option.{option_map_or};
 ghost use Rattle.history_machine.specs.Descriptors.{descriptor_at};
 ghost use Rattle.history_machine.specs.Machine.{pwrite_refusal, ftruncate_refusal};
 ghost use Rattle.fs_types.specs.declared.limits.TheConstants.{MAX_FILE_BYTES};
-ghost use Rattle.fs_types.specs.declared.calls.Call.{Call};
-ghost use Rattle.fs_types.specs.declared.calls.Reply.{Reply};
-ghost use Rattle.fs_types.specs.declared.faults.Fault.TheVariants.{BadDescriptor};
+ghost use Rattle.fs_types.specs.declared.call.Call.{Call};
+ghost use Rattle.fs_types.specs.declared.call.Reply.{Reply};
+ghost use Rattle.fs_types.specs.declared.fault.Fault.TheVariants.{BadDescriptor};
 ghost use Rattle.node_store.specs.NodePages.{node_of};
 ghost use Rattle.directory.specs.declared.lookups.Found.TheVariants as found;
 ghost use Rattle.directory.specs.Lookups.{look_up, LeadsToDirectories};
@@ -16,12 +15,11 @@ ghost use Rattle.directory.specs.Trails.{IsTrail};
 ghost use Rattle.working_state.specs.Changes.{IsReady};
 ghost use Rattle.working_state.specs.Leaves.{HasLooked};
 ghost use Rattle.working_state.specs.Changing.{IsPathOf};
-ghost use Rattle.working_state.specs.Mounted.{IsMounted, StateStep, KeepsPages};
-ghost use Rattle.working_state.specs.Opening.{IsAnswered};
+ghost use Rattle.working_state.specs.Mounted.{IsMounted};
 ghost use Rattle.working_state.specs.Seen.{seen_of};
-ghost use Rattle.working_state.specs.Steps.{replied, empty, is_cut_answer};
+ghost use Rattle.working_state.specs.Steps.{replied, empty};
 ghost use Rattle.working_state.specs.Worked.{ReadCause};
-ghost use Rattle.working_state.specs.Moments.{moment};
+ghost use Rattle.working_state.specs.Moments.{IsAnswered, moment};
 
 use crate::changes::change;
 use crate::lookups::find_path;
@@ -41,7 +39,7 @@ const MOST_BYTES: u64 = MAX_FILE_BYTES as u64;
 
 impl State {
     /// Writes bytes at an offset of an open file, and answers how many.
-    pub fn pwrite<F: Flash>(
+    pub(crate) fn write_file<F: Flash>(
         &mut self,
         alloc: Global,
         flash: &mut F,
@@ -50,26 +48,7 @@ impl State {
         bytes: &[u8],
     ) -> Result<u64, Fault>
         requires { IsMounted (F.device flash.old) self.old }
-        ensures mounted { IsMounted (F.device flash.new) self.new }
-        ensures step { StateStep (F.device flash.old) self.old (Call.Pwrite descriptor offset bytes.now) (replied Reply.Count result) (F.device flash.new) self.new }
-        ensures pages { KeepsPages (F.device flash.old) self.old (F.device flash.new) }
-    {
-        self.check_power()?;
-        let written = self.write_file(alloc, flash, descriptor, offset, bytes);
-        self.remember_cut(written)
-    }
-
-    /// Writes them, where no call answered before that the power is off.
-    fn write_file<F: Flash>(
-        &mut self,
-        alloc: Global,
-        flash: &mut F,
-        descriptor: u64,
-        offset: u64,
-        bytes: &[u8],
-    ) -> Result<u64, Fault>
-        requires { IsMounted (F.device flash.old) self.old }
-        ensures { IsAnswered (moment (F.device flash.old) self.old) (Call.Pwrite descriptor offset bytes.now) (replied Reply.Count result) (moment (F.device flash.new) self.new) (is_cut_answer result) }
+        ensures { IsAnswered (moment (F.device flash.old) self.old) (Call.Pwrite descriptor offset bytes.now) (replied Reply.Count result) (moment (F.device flash.new) self.new) }
     {
         let root = self.root();
         let path = check_write(&self.files, descriptor, offset, bytes)?;
@@ -96,7 +75,7 @@ impl State {
     }
 
     /// Makes the length of an open file this.
-    pub fn ftruncate<F: Flash>(
+    pub(crate) fn resize_file<F: Flash>(
         &mut self,
         alloc: Global,
         flash: &mut F,
@@ -104,25 +83,7 @@ impl State {
         size: u64,
     ) -> Result<(), Fault>
         requires { IsMounted (F.device flash.old) self.old }
-        ensures mounted { IsMounted (F.device flash.new) self.new }
-        ensures step { StateStep (F.device flash.old) self.old (Call.Ftruncate descriptor size) (replied empty result) (F.device flash.new) self.new }
-        ensures pages { KeepsPages (F.device flash.old) self.old (F.device flash.new) }
-    {
-        self.check_power()?;
-        let resized = self.resize_file(alloc, flash, descriptor, size);
-        self.remember_cut(resized)
-    }
-
-    /// Makes it this, where no call answered before that the power is off.
-    fn resize_file<F: Flash>(
-        &mut self,
-        alloc: Global,
-        flash: &mut F,
-        descriptor: u64,
-        size: u64,
-    ) -> Result<(), Fault>
-        requires { IsMounted (F.device flash.old) self.old }
-        ensures { IsAnswered (moment (F.device flash.old) self.old) (Call.Ftruncate descriptor size) (replied empty result) (moment (F.device flash.new) self.new) (is_cut_answer result) }
+        ensures { IsAnswered (moment (F.device flash.old) self.old) (Call.Ftruncate descriptor size) (replied empty result) (moment (F.device flash.new) self.new) }
     {
         let root = self.root();
         let path = check_resize(&self.files, descriptor, size)?;

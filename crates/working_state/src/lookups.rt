@@ -37,11 +37,17 @@ pub(crate) fn find_path<F: Flash>(
     path: &Path,
 ) -> Result<(Found, Trail), Fault>
     requires { IsReady (F.device flash.old) storage.old }
+
+    // Nodes were read alone, and how many.
     ensures looked { HasLooked (F.device flash.old) storage.old (F.device flash.new) storage.new }
     ensures asks { Asks (F.device flash.old) (way_nodes (node_of (F.device flash.old)) root path.now) (F.device flash.new) }
     ensures nodes { node_of (F.device flash.new) ≡ node_of (F.device flash.old) }
+
+    // What was found.
     ensures found { IfOk result (λ r. look_up (node_of (F.device flash.old)) root path.now ≡ Ok r.0) }
     ensures trail { LeadsToDirectories (node_of (F.device flash.old)) root → IfOk result (λ r. IsTrail (node_of (F.device flash.old)) root path.now r.1) }
+
+    // Why not.
     ensures refused { IfErr result (λ fault. is_path_fault fault ≡ true → look_up (node_of (F.device flash.old)) root path.now ≡ Err fault) }
     ensures why { IfErr result (λ fault. is_path_fault fault ≡ false → WorkCause (seen_of (F.device flash.old) storage.old) fault (seen_of (F.device flash.new) storage.new)) }
     ensures faults { IfErr result IsLookupFault }

@@ -1,25 +1,24 @@
-//! Bytes of files, on the working state and the flash. Checked in order: whether an earlier call
-//! answered that the power is off, and the call's own refusals.
-ghost use Rattle.std.specs.Prelude.{◌≡◌, ℕ, ◌+◌, ◌-◌, ◌≤◌, true, false, length, Some, None, IfOk, IfErr};
+//! Bytes of files, on the working state and the flash.
+ghost use Rattle.std.specs.Prelude.{◌≡◌, ℕ, ◌+◌, ◌-◌, ◌≤◌, true, false, length, Some, IfOk, IfErr};
 ghost use Rattle.std.specs.Option.{option_map_or};
 ghost use Rattle.plain_trees.specs.Trees.{bytes_at};
 ghost use Rattle.history_machine.specs.Descriptors.{Descriptor, descriptor_at, can_read};
-ghost use Rattle.fs_types.specs.declared.calls.Call.{Call};
-ghost use Rattle.fs_types.specs.declared.calls.Reply.{Reply};
-ghost use Rattle.fs_types.specs.declared.faults.Fault.TheVariants.{BadDescriptor};
+ghost use Rattle.fs_types.specs.declared.call.Call.{Call};
+ghost use Rattle.fs_types.specs.declared.call.Reply.{Reply};
+ghost use Rattle.fs_types.specs.declared.fault.Fault.TheVariants.{BadDescriptor};
 ghost use Rattle.node_format.specs.Headers.{body_header};
 ghost use Rattle.node_store.specs.NodePages.{node_of};
 ghost use Rattle.block_trees.specs.Trees.{root_tree, IsRoot};
 ghost use Rattle.skip_list_file.specs.Reading.{is_body_fault};
 ghost use Rattle.working_state.specs.Changes.{IsReady};
 ghost use Rattle.working_state.specs.Leaves.{HasLooked};
-ghost use Rattle.working_state.specs.Looking.{AsksForRange, IsReadOf, LooksOnce, look_nodes};
-ghost use Rattle.working_state.specs.Mounted.{IsMounted, StateStep};
+ghost use Rattle.working_state.specs.Looking.{AsksForRange, IsReadOf, look_nodes};
+ghost use Rattle.working_state.specs.Mounted.{IsMounted};
 ghost use Rattle.working_state.specs.Reading.{file_refusal, IsRead};
 ghost use Rattle.working_state.specs.Seen.{capacity_of, tree_on, seen_of};
-ghost use Rattle.working_state.specs.Steps.{replied, is_cut_answer};
-ghost use Rattle.working_state.specs.Worked.{IsLooked, WorkCause};
-ghost use Rattle.working_state.specs.Moments.{IsStep, moment, machine_at};
+ghost use Rattle.working_state.specs.Steps.{replied};
+ghost use Rattle.working_state.specs.Worked.{WorkCause};
+ghost use Rattle.working_state.specs.Moments.{IsAnswered, moment};
 
 use crate::state::State;
 use bitflags::Flags;
@@ -33,7 +32,7 @@ use std::alloc::Global;
 
 impl State {
     /// The bytes of a file of the tree that a view shows, from `offset` on, at most `count`.
-    pub fn read_at<F: Flash>(
+    pub(crate) fn read_view<F: Flash>(
         &mut self,
         alloc: Global,
         flash: &mut F,
@@ -43,36 +42,14 @@ impl State {
         count: u64,
     ) -> Result<Bytes, Fault>
         requires { IsMounted (F.device flash.old) self.old }
-        ensures mounted { IsMounted (F.device flash.new) self.new }
-        ensures step { StateStep (F.device flash.old) self.old (Call.ReadAt view.now path.now offset count) (replied Reply.Bytes result) (F.device flash.new) self.new }
-        ensures pages { (p : ℕ) → (F.device flash.new).pages p ≡ (F.device flash.old).pages p }
-    {
-        self.check_power()?;
-        let bytes = self.read_view(alloc, flash, view, path, offset, count);
-        self.remember_cut(bytes)
-    }
-
-    /// The same, where no call answered before that the power is off.
-    fn read_view<F: Flash>(
-        &mut self,
-        alloc: Global,
-        flash: &mut F,
-        view: &View,
-        path: &Path,
-        offset: u64,
-        count: u64,
-    ) -> Result<Bytes, Fault>
-        requires { IsMounted (F.device flash.old) self.old }
-        ensures looked { IsLooked (moment (F.device flash.old) self.old) (moment (F.device flash.new) self.new) }
-        ensures asks { LooksOnce (machine_at (moment (F.device flash.old) self.old)) (Call.ReadAt view.now path.now offset count) (F.device flash.old) (F.device flash.new) }
-        ensures step { IsStep (moment (F.device flash.old) self.old) (Call.ReadAt view.now path.now offset count) (replied Reply.Bytes result) (moment (F.device flash.new) self.new) (is_cut_answer result) }
+        ensures { IsAnswered (moment (F.device flash.old) self.old) (Call.ReadAt view.now path.now offset count) (replied Reply.Bytes result) (moment (F.device flash.new) self.new) }
     {
         let root = self.seen(view)?;
         read_below(alloc, flash, &mut self.storage, root, path, offset, count)
     }
 
     /// The bytes of an open file, from `offset` on, at most `count`.
-    pub fn pread<F: Flash>(
+    pub(crate) fn read_open<F: Flash>(
         &mut self,
         alloc: Global,
         flash: &mut F,
@@ -81,28 +58,7 @@ impl State {
         count: u64,
     ) -> Result<Bytes, Fault>
         requires { IsMounted (F.device flash.old) self.old }
-        ensures mounted { IsMounted (F.device flash.new) self.new }
-        ensures step { StateStep (F.device flash.old) self.old (Call.Pread descriptor offset count) (replied Reply.Bytes result) (F.device flash.new) self.new }
-        ensures pages { (p : ℕ) → (F.device flash.new).pages p ≡ (F.device flash.old).pages p }
-    {
-        self.check_power()?;
-        let bytes = self.read_open(alloc, flash, descriptor, offset, count);
-        self.remember_cut(bytes)
-    }
-
-    /// The same, where no call answered before that the power is off.
-    fn read_open<F: Flash>(
-        &mut self,
-        alloc: Global,
-        flash: &mut F,
-        descriptor: u64,
-        offset: u64,
-        count: u64,
-    ) -> Result<Bytes, Fault>
-        requires { IsMounted (F.device flash.old) self.old }
-        ensures looked { IsLooked (moment (F.device flash.old) self.old) (moment (F.device flash.new) self.new) }
-        ensures asks { LooksOnce (machine_at (moment (F.device flash.old) self.old)) (Call.Pread descriptor offset count) (F.device flash.old) (F.device flash.new) }
-        ensures step { IsStep (moment (F.device flash.old) self.old) (Call.Pread descriptor offset count) (replied Reply.Bytes result) (moment (F.device flash.new) self.new) (is_cut_answer result) }
+        ensures { IsAnswered (moment (F.device flash.old) self.old) (Call.Pread descriptor offset count) (replied Reply.Bytes result) (moment (F.device flash.new) self.new) }
     {
         let root = self.root();
         let path = readable(&self.files, descriptor)?;
@@ -154,9 +110,13 @@ fn read_file<N: Nodes>(
 ) -> Result<Bytes, Fault>
     requires sound { N.is_sound nodes.old }
     requires rooted { IsRoot (N.limit nodes.old - body_header) (N.node nodes.old) root }
+
+    // What was read, and why not.
     ensures read { IfOk result (IsRead (root_tree (N.limit nodes.old - body_header) (N.node nodes.old) root) path.now offset count) }
     ensures refused { IfErr result (λ fault. is_body_fault fault ≡ false → file_refusal (root_tree (N.limit nodes.old - body_header) (N.node nodes.old) root) path.now ≡ Some fault) }
     ensures why { IfErr result (λ fault. is_body_fault fault ≡ true → N.causes nodes.old nodes.new fault) }
+
+    // What was asked of the nodes.
     ensures reads { (most : ℕ) → IsReadOf (N.limit nodes.old - body_header) (look_nodes (root_tree (N.limit nodes.old - body_header) (N.node nodes.old) root) path.now) (bytes_at (root_tree (N.limit nodes.old - body_header) (N.node nodes.old) root) path.now) offset count most → N.reads nodes.new ≤ N.reads nodes.old + most }
     ensures writes { N.writes nodes.new ≡ N.writes nodes.old }
     ensures follows { N.follows nodes.old nodes.new }

@@ -1,21 +1,20 @@
 //! Entries taken out of the tree that calls work on, on the working state and the flash. Each call
-//! checks in order: whether an earlier one answered that the power is off; its own refusals; read-only
-//! mode; outside a change group the greatest serial; and then it works.
-ghost use Rattle.std.specs.Prelude.{◌≡◌, ◌<◌, ℕ, true, false, length, None, Some, [], Ok, Err, IfOk, IfErr, OnOk};
+//! checks in order: its own refusals; read-only mode; outside a change group the greatest serial; and
+//! then it works.
+ghost use Rattle.std.specs.Prelude.{◌≡◌, ◌<◌, ℕ, true, length, None, Some, [], Ok, Err, IfOk, IfErr, OnOk};
 ghost use Rattle.history_machine.specs.History.{working_root};
 ghost use Rattle.history_machine.specs.Machine.{refusal};
 ghost use Rattle.fs_types.specs.Names.{is_path};
-ghost use Rattle.fs_types.specs.declared.calls.Call.{Call};
+ghost use Rattle.fs_types.specs.declared.call.Call.{Call};
 ghost use Rattle.node_store.specs.NodePages.{node_of};
 ghost use Rattle.block_trees.specs.Trees.{entries_in};
 ghost use Rattle.directory.specs.declared.lookups.Found.TheVariants as found;
 ghost use Rattle.directory.specs.Lookups.{look_up};
 ghost use Rattle.directory.specs.Trails.{IsTrail};
-ghost use Rattle.working_state.specs.Mounted.{IsMounted, StateStep, KeepsPages};
-ghost use Rattle.working_state.specs.Opening.{IsAnswered};
-ghost use Rattle.working_state.specs.Steps.{replied, empty, is_cut_answer, Refuses};
+ghost use Rattle.working_state.specs.Mounted.{IsMounted};
+ghost use Rattle.working_state.specs.Steps.{replied, empty, Refuses};
 ghost use Rattle.working_state.specs.Worked.{IsLooked};
-ghost use Rattle.working_state.specs.Moments.{IsRefused, moment, machine_at};
+ghost use Rattle.working_state.specs.Moments.{IsAnswered, IsRefused, moment, machine_at};
 
 use crate::changes::change;
 use crate::lookups::find_path;
@@ -28,31 +27,14 @@ use tree_edits::Edit;
 
 impl State {
     /// Removes an empty directory.
-    pub fn rmdir<F: Flash>(
+    pub(crate) fn remove_directory<F: Flash>(
         &mut self,
         alloc: Global,
         flash: &mut F,
         path: &Path,
     ) -> Result<(), Fault>
         requires { IsMounted (F.device flash.old) self.old }
-        ensures mounted { IsMounted (F.device flash.new) self.new }
-        ensures step { StateStep (F.device flash.old) self.old (Call.Rmdir path.now) (replied empty result) (F.device flash.new) self.new }
-        ensures pages { KeepsPages (F.device flash.old) self.old (F.device flash.new) }
-    {
-        self.check_power()?;
-        let removed = self.remove_directory(alloc, flash, path);
-        self.remember_cut(removed)
-    }
-
-    /// Removes it, where no call answered before that the power is off.
-    fn remove_directory<F: Flash>(
-        &mut self,
-        alloc: Global,
-        flash: &mut F,
-        path: &Path,
-    ) -> Result<(), Fault>
-        requires { IsMounted (F.device flash.old) self.old }
-        ensures { IsAnswered (moment (F.device flash.old) self.old) (Call.Rmdir path.now) (replied empty result) (moment (F.device flash.new) self.new) (is_cut_answer result) }
+        ensures { IsAnswered (moment (F.device flash.old) self.old) (Call.Rmdir path.now) (replied empty result) (moment (F.device flash.new) self.new) }
     {
         let root = self.root();
         let trail = self.check_empty(flash, root, path)?;
@@ -80,11 +62,17 @@ impl State {
     ) -> Result<Trail, Fault>
         requires mounted { IsMounted (F.device flash.old) self.old }
         requires working { working_root self.old.history self.old.group ≡ Some root }
+
+        // Nodes were read alone.
         ensures looked { IsLooked (moment (F.device flash.old) self.old) (moment (F.device flash.new) self.new) }
+
+        // What may be removed.
         ensures lawful { OnOk result (is_path path.now ≡ true) }
         ensures below { OnOk result (0 < length path.now) }
         ensures way { IfOk result (IsTrail (node_of (F.device flash.new)) root path.now) }
         ensures empty { OnOk result ((block : ℕ) × (look_up (node_of (F.device flash.new)) root path.now ≡ Ok (found.Dir block)) × (entries_in (node_of (F.device flash.new)) block ≡ Some [])) }
+
+        // What the machine says of the call.
         ensures accepted { OnOk result (refusal (machine_at (moment (F.device flash.old) self.old)) (Call.Rmdir path.now) ≡ None) }
         ensures refused { IfErr result (λ fault. IsRefused (moment (F.device flash.old) self.old) (Call.Rmdir path.now) fault (moment (F.device flash.new) self.new)) }
     {
@@ -96,7 +84,8 @@ impl State {
             Found::Missing { .. } => Err(Fault::NoEntry),
             Found::File { .. } => Err(Fault::NotDirectory),
             Found::Dir { block } => {
-                if self.count_in(flash, block)? > 0 {
+                let empty = self.is_empty_directory(flash, block)?;
+                if !empty {
                     return Err(Fault::NotEmpty);
                 }
                 Ok(trail)
@@ -105,31 +94,14 @@ impl State {
     }
 
     /// Removes a file.
-    pub fn unlink<F: Flash>(
+    pub(crate) fn remove_file<F: Flash>(
         &mut self,
         alloc: Global,
         flash: &mut F,
         path: &Path,
     ) -> Result<(), Fault>
         requires { IsMounted (F.device flash.old) self.old }
-        ensures mounted { IsMounted (F.device flash.new) self.new }
-        ensures step { StateStep (F.device flash.old) self.old (Call.Unlink path.now) (replied empty result) (F.device flash.new) self.new }
-        ensures pages { KeepsPages (F.device flash.old) self.old (F.device flash.new) }
-    {
-        self.check_power()?;
-        let removed = self.remove_file(alloc, flash, path);
-        self.remember_cut(removed)
-    }
-
-    /// Removes it, where no call answered before that the power is off.
-    fn remove_file<F: Flash>(
-        &mut self,
-        alloc: Global,
-        flash: &mut F,
-        path: &Path,
-    ) -> Result<(), Fault>
-        requires { IsMounted (F.device flash.old) self.old }
-        ensures { IsAnswered (moment (F.device flash.old) self.old) (Call.Unlink path.now) (replied empty result) (moment (F.device flash.new) self.new) (is_cut_answer result) }
+        ensures { IsAnswered (moment (F.device flash.old) self.old) (Call.Unlink path.now) (replied empty result) (moment (F.device flash.new) self.new) }
     {
         let root = self.root();
         let trail = self.check_file(flash, root, path)?;
@@ -157,10 +129,16 @@ impl State {
     ) -> Result<Trail, Fault>
         requires mounted { IsMounted (F.device flash.old) self.old }
         requires working { working_root self.old.history self.old.group ≡ Some root }
+
+        // Nodes were read alone.
         ensures looked { IsLooked (moment (F.device flash.old) self.old) (moment (F.device flash.new) self.new) }
+
+        // What may be removed.
         ensures lawful { OnOk result (is_path path.now ≡ true) }
         ensures way { IfOk result (IsTrail (node_of (F.device flash.new)) root path.now) }
         ensures found { OnOk result ((head size : ℕ) × (look_up (node_of (F.device flash.new)) root path.now ≡ Ok (found.File head size))) }
+
+        // What the machine says of the call.
         ensures accepted { OnOk result (refusal (machine_at (moment (F.device flash.old) self.old)) (Call.Unlink path.now) ≡ None) }
         ensures refused { IfErr result (λ fault. IsRefused (moment (F.device flash.old) self.old) (Call.Unlink path.now) fault (moment (F.device flash.new) self.new)) }
     {

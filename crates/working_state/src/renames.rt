@@ -1,30 +1,29 @@
-//! What stands at a path moved to another, on the working state and the flash. Checked in order:
-//! whether an earlier call answered that the power is off; the call's own refusals; read-only mode;
-//! outside a change group the greatest serial; and then the work.
-ghost use Rattle.std.specs.Prelude.{◌≡◌, ◌⊎◌, ◌≤◌, ◌-◌, ◌&&◌, ◌||◌, ℕ, true, false, not, length, None, Some, Option, Ok, Err, IfOk, IfErr, OnOk, IfSome};
+//! What stands at a path moved to another, on the working state and the flash. Checked in order: the
+//! call's own refusals; read-only mode; outside a change group the greatest serial; and then the work.
+ghost use Rattle.std.specs.Prelude.{◌≡◌, ◌⊎◌, ◌≤◌, ◌-◌, ◌&&◌, ◌||◌, true, false, not, length, None, Some, Option, Ok, Err, IfOk, IfErr, OnOk};
 ghost use Rattle.plain_trees.specs.Contents.{Entry, is_dir, begins, parent_of};
 ghost use Rattle.history_machine.specs.Descriptors.{is_open, is_open_within};
 ghost use Rattle.history_machine.specs.History.{working_root};
 ghost use Rattle.history_machine.specs.Machine.{refusal, found_refusal, rename_refusal, working_tree};
 ghost use Rattle.fs_types.specs.declared.limits.TheConstants.{MAX_NAMES};
 ghost use Rattle.fs_types.specs.Names.{is_path, same_path};
-ghost use Rattle.fs_types.specs.declared.calls.Call.{Call};
-ghost use Rattle.fs_types.specs.declared.faults.Fault.TheVariants as faults;
+ghost use Rattle.fs_types.specs.declared.call.Call.{Call};
+ghost use Rattle.fs_types.specs.declared.fault.Fault.TheVariants as faults;
 ghost use Rattle.node_format.specs.Items.{is_place};
-ghost use Rattle.node_format.specs.declared.places.Place.{Place};
-ghost use Rattle.node_format.specs.declared.places.Place.TheVariants.{Dir};
+ghost use Rattle.node_format.specs.declared.place.Place.{Place};
+ghost use Rattle.node_format.specs.declared.place.Place.TheVariants.{Dir};
 ghost use Rattle.node_store.specs.NodePages.{node_of};
 ghost use Rattle.block_trees.specs.Laws.{IsShallow};
 ghost use Rattle.block_trees.specs.Trees.{leads, is_dir_place};
-ghost use Rattle.directory.specs.Depths.{IsDeeper, IsDepthFault};
+ghost use Rattle.node_store.specs.Faults.{IsLookFault};
+ghost use Rattle.directory.specs.Depths.{IsDeeper};
 ghost use Rattle.directory.specs.Lookups.{look_up, LeadsToDirectories};
 ghost use Rattle.directory.specs.Trails.{IsTrail, has_room};
-ghost use Rattle.working_state.specs.Mounted.{IsMounted, StateStep, KeepsPages};
-ghost use Rattle.working_state.specs.Opening.{IsAnswered};
+ghost use Rattle.working_state.specs.Mounted.{IsMounted};
 ghost use Rattle.working_state.specs.Renames.{IsToMove, target_refusal, lacks_room};
-ghost use Rattle.working_state.specs.Steps.{replied, empty, is_cut_answer, Refuses};
+ghost use Rattle.working_state.specs.Steps.{replied, empty, Refuses};
 ghost use Rattle.working_state.specs.Worked.{IsLooked, WorkCause, ReadCause};
-ghost use Rattle.working_state.specs.Moments.{IsRefused, moment, seen_at, machine_at};
+ghost use Rattle.working_state.specs.Moments.{IsAnswered, IsRefused, moment, seen_at, machine_at};
 
 use crate::changes::change;
 use crate::lookups::find_path;
@@ -48,7 +47,7 @@ struct ToMove {
 
 impl State {
     /// Moves what stands at a path to another.
-    pub fn rename<F: Flash>(
+    pub(crate) fn move_entry<F: Flash>(
         &mut self,
         alloc: Global,
         flash: &mut F,
@@ -56,25 +55,7 @@ impl State {
         new: &Path,
     ) -> Result<(), Fault>
         requires { IsMounted (F.device flash.old) self.old }
-        ensures mounted { IsMounted (F.device flash.new) self.new }
-        ensures step { StateStep (F.device flash.old) self.old (Call.Rename old.now new.now) (replied empty result) (F.device flash.new) self.new }
-        ensures pages { KeepsPages (F.device flash.old) self.old (F.device flash.new) }
-    {
-        self.check_power()?;
-        let moved = self.move_entry(alloc, flash, old, new);
-        self.remember_cut(moved)
-    }
-
-    /// Moves it, where no call answered before that the power is off.
-    fn move_entry<F: Flash>(
-        &mut self,
-        alloc: Global,
-        flash: &mut F,
-        old: &Path,
-        new: &Path,
-    ) -> Result<(), Fault>
-        requires { IsMounted (F.device flash.old) self.old }
-        ensures { IsAnswered (moment (F.device flash.old) self.old) (Call.Rename old.now new.now) (replied empty result) (moment (F.device flash.new) self.new) (is_cut_answer result) }
+        ensures { IsAnswered (moment (F.device flash.old) self.old) (Call.Rename old.now new.now) (replied empty result) (moment (F.device flash.new) self.new) }
     {
         let root = self.root();
         let Some(moves) = self.check_rename(alloc, flash, root, old, new)? else {
@@ -135,11 +116,17 @@ impl State {
     ) -> Result<(Place, Trail), Fault>
         requires mounted { IsMounted (F.device flash.old) self.old }
         requires working { working_root self.old.history self.old.group ≡ Some root }
+
+        // Nodes were read alone.
         ensures looked { IsLooked (moment (F.device flash.old) self.old) (moment (F.device flash.new) self.new) }
         ensures nodes { node_of (F.device flash.new) ≡ node_of (F.device flash.old) }
+
+        // What stands there.
         ensures stands { IfOk result (λ r. leads (node_of (F.device flash.old)) (Dir root) path.now ≡ Some r.0) }
         ensures way { IfOk result (λ r. IsTrail (node_of (F.device flash.old)) root path.now r.1) }
         ensures place { IfOk result (λ r. is_place r.0 ≡ true) }
+
+        // What the machine says of the call.
         ensures found { IfOk result (λ r. (entry : Entry) × (is_dir entry ≡ is_dir_place r.0) × ((refuse : Entry → Option Fault) → found_refusal (working_tree (machine_at (moment (F.device flash.old) self.old))) path.now refuse ≡ refuse entry)) }
         ensures refused { IfErr result (λ fault. ((refuse : Entry → Option Fault) → found_refusal (working_tree (machine_at (moment (F.device flash.old) self.old))) path.now refuse ≡ Some fault) ⊎ ReadCause (seen_at (moment (F.device flash.old) self.old)) fault (seen_at (moment (F.device flash.new) self.new))) }
     {
@@ -166,12 +153,18 @@ impl State {
         requires working { working_root self.old.history self.old.group ≡ Some root }
         requires differ { same_path old.now new.now ≡ false }
         requires stands { leads (node_of (F.device flash.old)) (Dir root) old.now ≡ Some place }
+
+        // Nodes were read alone.
         ensures looked { IsLooked (moment (F.device flash.old) self.old) (moment (F.device flash.new) self.new) }
         ensures nodes { node_of (F.device flash.new) ≡ node_of (F.device flash.old) }
+
+        // What may be moved.
         ensures lawful { OnOk result (is_path old.now && is_path new.now ≡ true) }
         ensures way { IfOk result (IsTrail (node_of (F.device flash.old)) root new.now) }
         ensures shallow { OnOk result (IsShallow (node_of (F.device flash.old)) place (MAX_NAMES - length new.now)) }
         ensures room { OnOk result (same_path (parent_of old.now) (parent_of new.now) ≡ false → has_room (look_up (node_of (F.device flash.old)) root new.now) ≡ true) }
+
+        // What the machine says of the call.
         ensures accepted { OnOk result ((entry : Entry) → is_dir entry ≡ is_dir_place place → rename_refusal (machine_at (moment (F.device flash.old) self.old)) old.now new.now entry ≡ None) }
         ensures refused { IfErr result (λ fault. ((entry : Entry) → is_dir entry ≡ is_dir_place place → rename_refusal (machine_at (moment (F.device flash.old) self.old)) old.now new.now entry ≡ Some fault) ⊎ ReadCause (seen_at (moment (F.device flash.old) self.old)) fault (seen_at (moment (F.device flash.new) self.new))) }
     {
@@ -195,11 +188,17 @@ impl State {
     ) -> Result<(bool, Trail), Fault>
         requires mounted { IsMounted (F.device flash.old) self.old }
         requires working { working_root self.old.history self.old.group ≡ Some root }
+
+        // Nodes were read alone.
         ensures looked { IsLooked (moment (F.device flash.old) self.old) (moment (F.device flash.new) self.new) }
         ensures nodes { node_of (F.device flash.new) ≡ node_of (F.device flash.old) }
+
+        // What may be replaced.
         ensures room { IfOk result (λ r. r.0 ≡ lacks_room (working_tree (machine_at (moment (F.device flash.old) self.old))) path.now) }
         ensures fits { IfOk result (λ r. r.0 ≡ false → has_room (look_up (node_of (F.device flash.old)) root path.now) ≡ true) }
         ensures way { IfOk result (λ r. IsTrail (node_of (F.device flash.old)) root path.now r.1) }
+
+        // What the machine says of the call.
         ensures allowed { OnOk result ((entry : Entry) → is_dir entry ≡ moves_directory → target_refusal (working_tree (machine_at (moment (F.device flash.old) self.old))) path.now entry ≡ None) }
         ensures refused { IfErr result (λ fault. ((entry : Entry) → is_dir entry ≡ moves_directory → target_refusal (working_tree (machine_at (moment (F.device flash.old) self.old))) path.now entry ≡ Some fault) ⊎ ReadCause (seen_at (moment (F.device flash.old) self.old)) fault (seen_at (moment (F.device flash.new) self.new))) }
     {
@@ -216,7 +215,8 @@ impl State {
                 if !moves_directory {
                     return Err(Fault::IsDirectory);
                 }
-                if self.count_in(flash, block)? > 0 {
+                let empty = self.is_empty_directory(flash, block)?;
+                if !empty {
                     return Err(Fault::NotEmpty);
                 }
                 Ok((false, trail))
@@ -283,12 +283,16 @@ impl State {
     ) -> Result<bool, Fault>
         requires mounted { IsMounted (F.device flash.old) self.old }
         requires most { most ≤ MAX_NAMES }
+
+        // Nodes were read alone.
         ensures looked { IsLooked (moment (F.device flash.old) self.old) (moment (F.device flash.new) self.new) }
         ensures nodes { node_of (F.device flash.new) ≡ node_of (F.device flash.old) }
+
+        // What was found, and why not.
         ensures deeper { LeadsToDirectories (node_of (F.device flash.old)) block → IfOk result (λ deep. deep ≡ true → IsDeeper (node_of (F.device flash.old)) (Dir block) most) }
         ensures shallow { IfOk result (λ deep. deep ≡ false → IsShallow (node_of (F.device flash.old)) (Dir block) most) }
         ensures why { IfErr result (λ fault. WorkCause (seen_at (moment (F.device flash.old) self.old)) fault (seen_at (moment (F.device flash.new) self.new))) }
-        ensures faults { IfErr result IsDepthFault }
+        ensures faults { IfErr result IsLookFault }
     {
         let mut store = Store::new(flash, &mut self.storage);
         is_deeper(alloc, &mut store, block, most)

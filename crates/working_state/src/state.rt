@@ -1,18 +1,17 @@
 //! The working state: all that a mounted system keeps in memory, apart from the flash.
-ghost use Rattle.std.specs.Prelude.{◌≡◌, ℕ, ◌<◌, ◌≤◌, ◌↔◌, ◌⊎◌, true, Some, Err, [], IfOk, IfErr};
+ghost use Rattle.std.specs.Prelude.{◌≡◌, ℕ, ◌<◌, ◌≤◌, true, Some, [], IfOk, IfErr};
 ghost use Rattle.std.specs.FinSet as set;
 ghost use Rattle.history_machine.specs.History.{working_root};
-ghost use Rattle.fs_types.specs.declared.limits.TheConstants.{MIN_VERSIONS, MAX_VERSIONS};
-ghost use Rattle.fs_types.specs.declared.faults.Fault.{Fault};
-ghost use Rattle.flash_model.specs.Device.{Device};
+ghost use Rattle.fs_types.specs.declared.limits.TheConstants.{ANCHORS, MAX_VERSIONS, MIN_VERSIONS};
+ghost use Rattle.fs_types.specs.declared.fault.Fault.{Fault};
 ghost use Rattle.flash_model.specs.Geometry.{IsGeometry};
 ghost use Rattle.allocator.specs.Ring.{IsDataBlock};
 ghost use Rattle.node_store.specs.Fitting.{Fits};
-ghost use Rattle.node_store.specs.NodePages.{first_data, node_of};
+ghost use Rattle.node_store.specs.NodePages.{node_of};
 ghost use Rattle.node_store.specs.Storage as parts;
 ghost use Rattle.block_trees.specs.Trees.{entries_in};
 ghost use Rattle.working_state.specs.Leaves.{HasWritten};
-ghost use Rattle.working_state.specs.Fresh.{unused_ring, IsBegun, AsksForRoot, BeginCause, RootCause};
+ghost use Rattle.working_state.specs.Fresh.{IsBegun, AsksForRoot, BeginCause, RootCause};
 ghost use Rattle.working_state.specs.Moments.{moment};
 ghost use Rattle.working_state.specs.Seen.{IsLaterFlash};
 
@@ -65,7 +64,9 @@ impl State {
         requires lawful { IsGeometry (F.device flash.old).geometry }
         requires at_least { MIN_VERSIONS ≤ limit }
         requires at_most { limit ≤ MAX_VERSIONS }
-        requires anchors { (b : ℕ) → set.contains bad b ≡ true → b < first_data }
+        requires anchors { (b : ℕ) → set.contains bad b ≡ true → b < ANCHORS }
+
+        // What is begun, what was asked for, and why not.
         ensures later { IsLaterFlash (F.device flash.old) (F.device flash.new) }
         ensures begun { IfOk result (λ state. IsBegun (F.device flash.old) bad limit (moment (F.device flash.new) state)) }
         ensures asks { AsksForRoot (F.device flash.old) (F.device flash.new) }
@@ -101,10 +102,16 @@ fn write_root<F: Flash>(flash: &mut F, storage: &mut Storage) -> Result<u32, Fau
     requires lawful { IsGeometry (F.device flash.old).geometry }
     requires ring_blocks { storage.old.ring.blocks ≡ (F.device flash.old).geometry.blocks }
     requires fits { Fits (F.device flash.old) storage.old }
+
+    // What is left.
     ensures written { HasWritten (F.device flash.old) storage.old 1 (F.device flash.new) storage.new }
+
+    // The root.
     ensures kept { IfOk result (λ root. set.contains storage.new.ring.used root ≡ true) }
     ensures empty { IfOk result (λ root. entries_in (node_of (F.device flash.new)) root ≡ Some []) }
     ensures next { IfOk result (λ root. parts.IsNextBlock (parts.storage (F.device flash.old) storage.old.bad storage.old.ring) (parts.storage (F.device flash.new) storage.new.bad storage.new.ring) root) }
+
+    // What was asked for, and why not.
     ensures asks { AsksForRoot (F.device flash.old) (F.device flash.new) }
     ensures data_blocks { (b : ℕ) → set.contains storage.new.ring.used b ≡ true → IsDataBlock storage.new.ring.blocks b }
     ensures why { IfErr result (λ fault. RootCause (parts.storage (F.device flash.old) storage.old.bad storage.old.ring) fault (parts.storage (F.device flash.new) storage.new.bad storage.new.ring)) }

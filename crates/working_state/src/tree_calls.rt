@@ -1,13 +1,12 @@
-//! The calls on trees, on the working state and the flash. Each checks in order: whether an earlier
-//! call answered that the power is off; its own refusals; read-only mode; outside a change group the
-//! greatest serial; and then it works.
-ghost use Rattle.std.specs.Prelude.{◌≡◌, ℕ, true, false, None, Some, List, length, Ok, Err, IfOk, IfErr, OnOk, IsErrOf};
+//! Directories made and listed, on the working state and the flash. Each call checks in order: its own
+//! refusals; read-only mode; outside a change group the greatest serial; and then it works.
+ghost use Rattle.std.specs.Prelude.{◌≡◌, true, false, None, Some, List, length, Ok, Err, IfOk, IfErr, OnOk, IsErrOf};
 ghost use Rattle.history_machine.specs.History.{working_root};
 ghost use Rattle.fs_types.specs.Names.{is_path};
 ghost use Rattle.history_machine.specs.Machine.{refusal};
-ghost use Rattle.fs_types.specs.declared.calls.Call.{Call};
-ghost use Rattle.fs_types.specs.declared.calls.Reply.{Reply};
-ghost use Rattle.fs_types.specs.declared.faults.Fault.TheVariants.{Damaged};
+ghost use Rattle.fs_types.specs.declared.call.Call.{Call};
+ghost use Rattle.fs_types.specs.declared.call.Reply.{Reply};
+ghost use Rattle.fs_types.specs.declared.fault.Fault.TheVariants.{Damaged};
 ghost use Rattle.node_format.specs.Items.{Item};
 ghost use Rattle.node_store.specs.Faults.{IsReadFault};
 ghost use Rattle.node_store.specs.NodePages.{node_of};
@@ -16,12 +15,11 @@ ghost use Rattle.block_trees.specs.Trees.{entries_in, names_of};
 ghost use Rattle.directory.specs.declared.lookups.Found.TheVariants.{Missing};
 ghost use Rattle.directory.specs.Lookups.{look_up, is_path_fault};
 ghost use Rattle.directory.specs.Trails.{IsTrail};
-ghost use Rattle.working_state.specs.Looking.{Asks, LooksOnce};
-ghost use Rattle.working_state.specs.Mounted.{IsMounted, StateStep, KeepsPages};
-ghost use Rattle.working_state.specs.Opening.{IsAnswered};
-ghost use Rattle.working_state.specs.Steps.{replied, empty, is_cut_answer, Refuses};
+ghost use Rattle.working_state.specs.Looking.{Asks};
+ghost use Rattle.working_state.specs.Mounted.{IsMounted};
+ghost use Rattle.working_state.specs.Steps.{replied, empty, Refuses};
 ghost use Rattle.working_state.specs.Worked.{IsLooked, WorkCause};
-ghost use Rattle.working_state.specs.Moments.{IsStep, IsRefused, moment, seen_at, machine_at};
+ghost use Rattle.working_state.specs.Moments.{IsAnswered, IsRefused, moment, seen_at, machine_at};
 
 use crate::changes::change;
 use crate::lookups::find_path;
@@ -35,7 +33,7 @@ use tree_edits::Edit;
 
 impl State {
     /// The names in a directory of the tree that a view shows.
-    pub fn list<F: Flash>(
+    pub(crate) fn list_view<F: Flash>(
         &mut self,
         alloc: Global,
         flash: &mut F,
@@ -43,27 +41,7 @@ impl State {
         path: &Path,
     ) -> Result<Sequence<(Name, bool)>, Fault>
         requires { IsMounted (F.device flash.old) self.old }
-        ensures mounted { IsMounted (F.device flash.new) self.new }
-        ensures step { StateStep (F.device flash.old) self.old (Call.List view.now path.now) (replied Reply.Names result) (F.device flash.new) self.new }
-        ensures pages { (p : ℕ) → (F.device flash.new).pages p ≡ (F.device flash.old).pages p }
-    {
-        self.check_power()?;
-        let names = self.list_view(alloc, flash, view, path);
-        self.remember_cut(names)
-    }
-
-    /// The names, where no call answered before that the power is off.
-    fn list_view<F: Flash>(
-        &mut self,
-        alloc: Global,
-        flash: &mut F,
-        view: &View,
-        path: &Path,
-    ) -> Result<Sequence<(Name, bool)>, Fault>
-        requires { IsMounted (F.device flash.old) self.old }
-        ensures looked { IsLooked (moment (F.device flash.old) self.old) (moment (F.device flash.new) self.new) }
-        ensures asks { LooksOnce (machine_at (moment (F.device flash.old) self.old)) (Call.List view.now path.now) (F.device flash.old) (F.device flash.new) }
-        ensures step { IsStep (moment (F.device flash.old) self.old) (Call.List view.now path.now) (replied Reply.Names result) (moment (F.device flash.new) self.new) (is_cut_answer result) }
+        ensures { IsAnswered (moment (F.device flash.old) self.old) (Call.List view.now path.now) (replied Reply.Names result) (moment (F.device flash.new) self.new) }
     {
         let root = self.seen(view)?;
         let (found, _trail) = find_path(flash, &mut self.storage, root, path)?;
@@ -75,31 +53,14 @@ impl State {
     }
 
     /// Makes an empty directory.
-    pub fn mkdir<F: Flash>(
+    pub(crate) fn add_directory<F: Flash>(
         &mut self,
         alloc: Global,
         flash: &mut F,
         path: &Path,
     ) -> Result<(), Fault>
         requires { IsMounted (F.device flash.old) self.old }
-        ensures mounted { IsMounted (F.device flash.new) self.new }
-        ensures step { StateStep (F.device flash.old) self.old (Call.Mkdir path.now) (replied empty result) (F.device flash.new) self.new }
-        ensures pages { KeepsPages (F.device flash.old) self.old (F.device flash.new) }
-    {
-        self.check_power()?;
-        let made = self.add_directory(alloc, flash, path);
-        self.remember_cut(made)
-    }
-
-    /// Makes it, where no call answered before that the power is off.
-    fn add_directory<F: Flash>(
-        &mut self,
-        alloc: Global,
-        flash: &mut F,
-        path: &Path,
-    ) -> Result<(), Fault>
-        requires { IsMounted (F.device flash.old) self.old }
-        ensures { IsAnswered (moment (F.device flash.old) self.old) (Call.Mkdir path.now) (replied empty result) (moment (F.device flash.new) self.new) (is_cut_answer result) }
+        ensures { IsAnswered (moment (F.device flash.old) self.old) (Call.Mkdir path.now) (replied empty result) (moment (F.device flash.new) self.new) }
     {
         let root = self.root();
         let trail = self.check_missing(flash, root, path)?;
@@ -127,10 +88,16 @@ impl State {
     ) -> Result<Trail, Fault>
         requires mounted { IsMounted (F.device flash.old) self.old }
         requires working { working_root self.old.history self.old.group ≡ Some root }
+
+        // Nodes were read alone.
         ensures looked { IsLooked (moment (F.device flash.old) self.old) (moment (F.device flash.new) self.new) }
+
+        // Where it may be made.
         ensures lawful { OnOk result (is_path path.now ≡ true) }
         ensures way { IfOk result (IsTrail (node_of (F.device flash.new)) root path.now) }
         ensures missing { OnOk result (look_up (node_of (F.device flash.new)) root path.now ≡ Ok (Missing false)) }
+
+        // What the machine says of the call.
         ensures accepted { OnOk result (refusal (machine_at (moment (F.device flash.old) self.old)) (Call.Mkdir path.now) ≡ None) }
         ensures refused { IfErr result (λ fault. IsRefused (moment (F.device flash.old) self.old) (Call.Mkdir path.now) fault (moment (F.device flash.new) self.new)) }
     {

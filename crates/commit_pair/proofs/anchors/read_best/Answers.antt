@@ -1,7 +1,7 @@
 use Rattle.std.proofs.Common.{◌≡◌, Some, Result, refl, ap, sym, ◌∙◌, inl, inr, arith}
-use Rattle.fs_types.specs.declared.faults.Fault.{Fault}
-use Rattle.record_format.specs.declared.records.Record.{Record}
-use Rattle.commit_pair.specs.Reading.{OnlyReads_itself}
+use Rattle.fs_types.specs.declared.fault.Fault.{Fault}
+use Rattle.flash_model.specs.Reading.{OnlyReads_itself}
+use Rattle.record_format.specs.declared.record.Record.{Record}
 use Rattle.commit_pair.proofs.ReadParts.{found_once}
 use Rattle.std.proofs.lemmas.Result.{err_from_is_err_and}
 use Rattle.commit_pair.specs.declared.best.Best.{Best}

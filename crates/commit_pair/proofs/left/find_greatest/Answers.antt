@@ -1,10 +1,11 @@
 use Rattle.std.proofs.Common.{◌≡◌, ◌≤◌, ℕ, ◌+◌, ◌*◌, refl, sym, ap, subst, ◌∙◌, arith}
 use Rattle.std.proofs.Math.Nat.{mul-le-mul_right}
 use Rattle.std.proofs.lemmas.Result.{err_from_is_err_and}
+use Rattle.fs_types.specs.declared.limits.TheConstants.{ANCHORS}
 use Rattle.flash_model.specs.Device.{Page}
+use Rattle.flash_model.specs.Reading.{OnlyReads_itself, OnlyReads_on, same_pages}
 use Rattle.commit_pair.specs.Parts.{parts_on, best_below, sequence_of}
 use Rattle.commit_pair.specs.declared.best.Best.{Best}
-use Rattle.commit_pair.specs.Reading.{OnlyReads_itself, OnlyReads_on}
 use Rattle.commit_pair.proofs.ReadParts.{ReadCause_on, erased_read, best_none}
 use Rattle.commit_pair.proofs.left.find_greatest.Goals as goal
 
@@ -30,7 +31,7 @@ loop-anchor-preserved g c =
       only_reads = OnlyReads_on old mid (g.F.Flash.device c.scan_left.new.flash) so_far.only_reads one.only_reads;
       operations = let a = so_far.operations in let b = one.operations in let sum : (anchor + 1) * size.pages ≡ anchor * size.pages + size.pages = omega arith in omega arith;
       quiet = λ good. one.quiet (good anchor c.loop-anchor-test.true) ∙ so_far.quiet good;
-      best = one.best ∙ ap (λ (pages : ℕ → Page). best_below size (parts_on size pages) ((anchor + 1) * size.pages)) so_far.only_reads.pages;
+      best = one.best ∙ ap (λ (pages : ℕ → Page). best_below size (parts_on size pages) ((anchor + 1) * size.pages)) (same_pages so_far.only_reads);
     }
 
 pub scan_left-requires-clause-same : goal.scan_left-requires-clause-same
@@ -38,11 +39,11 @@ scan_left-requires-clause-same g c = c.loop-anchor.invariant.only_reads.geometry
 
 pub scan_left-requires-clause-erased : goal.scan_left-requires-clause-erased
 scan_left-requires-clause-erased g c =
-    erased_read (g.F.Flash.device c.args.flash.now) (g.F.Flash.device c.loop-anchor.flash) c.args.bad.now 8 c.loop-anchor.invariant.only_reads c.requires.erased
+    erased_read (g.F.Flash.device c.args.flash.now) (g.F.Flash.device c.loop-anchor.flash) c.args.bad.now ANCHORS c.loop-anchor.invariant.only_reads c.requires.erased
 
 pub scan_left-requires-clause-best : goal.scan_left-requires-clause-best
 scan_left-requires-clause-best g c =
-    c.loop-anchor.invariant.best ∙ ap (λ (pages : ℕ → Page). best_below c.args.geometry (parts_on c.args.geometry pages) (c.loop-anchor.anchor * c.args.geometry.pages)) (sym c.loop-anchor.invariant.only_reads.pages)
+    c.loop-anchor.invariant.best ∙ ap (λ (pages : ℕ → Page). best_below c.args.geometry (parts_on c.args.geometry pages) (c.loop-anchor.anchor * c.args.geometry.pages)) (sym (same_pages c.loop-anchor.invariant.only_reads))
 
 pub returns-in_err-best-clause-only_reads : goal.returns-in_err-best-clause-only_reads
 returns-in_err-best-clause-only_reads g c =
@@ -66,7 +67,7 @@ returns-in_err-best-clause-why g c =
 
 pub returns-clause-greatest : goal.returns-clause-greatest
 returns-clause-greatest g c =
-    let all : c.loop-anchor.anchor ≡ 8 = let end = c.loop-anchor-test.false in let within = c.loop-anchor.auto.anchor-end in omega arith in
+    let all : c.loop-anchor.anchor ≡ ANCHORS = let end = c.loop-anchor-test.false in let within = c.loop-anchor.auto.anchor-end in omega arith in
     c.sequence.ensures
     ∙ ap (λ (best : Best). sequence_of best.found) (c.loop-anchor.invariant.best ∙ ap (λ (n : ℕ). best_below c.args.geometry (parts_on c.args.geometry (g.F.Flash.device c.args.flash.now).pages) (n * c.args.geometry.pages)) all)
 
@@ -75,7 +76,7 @@ returns-clause-only_reads g c = c.loop-anchor.invariant.only_reads
 
 pub returns-clause-operations : goal.returns-clause-operations
 returns-clause-operations g c =
-    let all : c.loop-anchor.anchor ≡ 8 = let end = c.loop-anchor-test.false in let within = c.loop-anchor.auto.anchor-end in omega arith in
+    let all : c.loop-anchor.anchor ≡ ANCHORS = let end = c.loop-anchor-test.false in let within = c.loop-anchor.auto.anchor-end in omega arith in
     subst (λ (n : ℕ). (g.F.Flash.device c.loop-anchor.flash).operations ≤ (g.F.Flash.device c.args.flash.now).operations + n * c.args.geometry.pages) all c.loop-anchor.invariant.operations
 
 pub returns-clause-quiet : goal.returns-clause-quiet

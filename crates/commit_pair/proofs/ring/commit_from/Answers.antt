@@ -1,6 +1,6 @@
 use Rattle.std.proofs.Common.{ℕ, ◌/◌, ap, ◌∙◌, inl, arith}
 use Rattle.std.specs.FinSet as set
-use Rattle.read_only.specs.Modes.{is_read_only}
+use Rattle.bad_blocks.specs.Mode.{is_read_only}
 use Rattle.std.proofs.lemmas.Result.{err_from_is_err_and}
 use Rattle.std.proofs.lemmas.Nat.{div-mul-add}
 use Rattle.commit_pair.proofs.Anchoring.{OnlyAnchors_on}

@@ -1,6 +1,7 @@
 use Rattle.std.proofs.Common.{◌≡◌, ℕ, ◌+◌, ◌*◌, ◌≤◌, ◌%◌, refl, sym, ap, subst, ◌∙◌, arith}
-use Rattle.read_only.specs.Modes.{is_read_only}
+use Rattle.bad_blocks.specs.Mode.{is_read_only}
 use Rattle.std.proofs.lemmas.Result.{err_from_is_err_and}
+use Rattle.fs_types.specs.declared.limits.TheConstants.{ANCHORS}
 use Rattle.commit_pair.proofs.Anchoring.{OnlyAnchors_itself, OnlyAnchors_on}
 use Rattle.commit_pair.proofs.Asking.{Asked_itself, Asked_later, next_tried}
 use Rattle.commit_pair.proofs.Sparing.{Keeps_itself, Keeps_on}
@@ -12,7 +13,7 @@ commit_anew-requires-clause-spares g c =
     let old = g.F.Flash.device c.args.flash.now in
     let mid = g.F.Flash.device c.loop-step.flash in
     let so_far = c.loop-step.invariant in
-    let anchor = (c.args.home + c.loop-step.step) % 8 in
+    let anchor = (c.args.home + c.loop-step.step) % ANCHORS in
     spared old mid c.args.bad.now c.loop-step.bad c.args.saved.now.geometry anchor c.requires.same so_far.only_anchors so_far.keeps so_far.untouched
     (c.requires.spares anchor (omega arith) (λ e. absurd (let t = c.loop-step-test.true in let s = c.loop-step.auto.step in let h = c.requires.home in omega arith)))
 
@@ -36,7 +37,7 @@ returns-in_err-tried-clause-only_anchors g c =
 
 pub returns-in-Some-clause-next : goal.returns-in-Some-clause-next
 returns-in-Some-clause-next g c = (
-  (c.args.home + c.loop-step.step) % 8,
+  (c.args.home + c.loop-step.step) % ANCHORS,
   rw c.in-Some.is at c.in_ok-tried.ensures.place,
   next_is c.loop-step.bad c.commit_anew.new.bad c.args.home c.loop-step.step (rw c.in-Some.is at c.in_ok-tried.ensures.list) (let s = c.loop-step.auto.step in omega arith) c.loop-step-test.true
       (rw c.in-Some.is at c.in_ok-tried.ensures.good) c.loop-step.invariant.tried,
@@ -177,6 +178,6 @@ returns-in-Some-clause-operations g c =
 
 pub returns-clause-operations : goal.returns-clause-operations
 returns-clause-operations g c =
-    let all : c.loop-step.step ≡ 8 = let end = c.loop-step-test.false in let within = c.loop-step.auto.step-end in omega arith in
+    let all : c.loop-step.step ≡ ANCHORS = let end = c.loop-step-test.false in let within = c.loop-step.auto.step-end in omega arith in
     let h = subst (λ (n : ℕ). (g.F.Flash.device c.loop-step.flash).operations + (c.args.saved.now.geometry.pages + 1) ≤ (g.F.Flash.device c.args.flash.now).operations + n * (c.args.saved.now.geometry.pages + 1)) all c.loop-step.invariant.operations in
     omega (arith, h)

@@ -1,8 +1,9 @@
 use Rattle.std.proofs.Common.{◌≡◌, ℕ, ◌+◌, ◌*◌, sym, ap, subst, ◌∙◌, arith}
 use Rattle.std.specs.Prelude.{◌/◌}
 use Rattle.flash_model.specs.Device.{Page}
+use Rattle.flash_model.specs.Reading.{OnlyReads_itself, OnlyReads_on, same_pages}
 use Rattle.commit_pair.specs.Parts.{parts_on, best_below}
-use Rattle.commit_pair.specs.Reading.{IsEnd, OnlyReads_itself, OnlyReads_on}
+use Rattle.commit_pair.specs.Reading.{IsEnd}
 use Rattle.commit_pair.proofs.ReadParts.{best_none}
 use Rattle.commit_pair.proofs.ScanLaws.{found_before}
 use Rattle.commit_pair.proofs.scan.find_best.Goals as goal
@@ -27,7 +28,7 @@ loop-anchor-preserved g c =
     let anchor = c.loop-anchor.anchor in
     let so_far = c.loop-anchor.invariant in
     let now : c.in_ok-next.next ≡ best_below size parts ((anchor + 1) * size.pages) =
-    c.in_ok-next.ensures.best ∙ ap (λ (pages : ℕ → Page). best_below size (parts_on size pages) ((anchor + 1) * size.pages)) so_far.only_reads.pages in
+    c.in_ok-next.ensures.best ∙ ap (λ (pages : ℕ → Page). best_below size (parts_on size pages) ((anchor + 1) * size.pages)) (same_pages so_far.only_reads) in
     record {
       only_reads = OnlyReads_on old mid (g.F.Flash.device c.scan_anchor.new.flash) so_far.only_reads c.in_ok-next.ensures.only_reads;
       operations = let a = so_far.operations in let b = c.in_ok-next.ensures.operations in let sum : (anchor + 1) * size.pages ≡ anchor * size.pages + size.pages = omega arith in omega arith;
@@ -36,7 +37,7 @@ loop-anchor-preserved g c =
         | then-is_on w ↦
             let block : found.page / size.pages ≡ anchor = (rw w.if-is_on.true at c.is_on.ensures.on) found at in
             subst (IsEnd size old.pages (found.page / size.pages) size.pages) (sym w.end-is) (subst (λ b. IsEnd size old.pages b size.pages c.in_ok-next.anchor_end) (sym block)
-            (subst (λ (pages : ℕ → Page). IsEnd size pages anchor size.pages c.in_ok-next.anchor_end) so_far.only_reads.pages c.in_ok-next.ensures.end))
+            (subst (λ (pages : ℕ → Page). IsEnd size pages anchor size.pages c.in_ok-next.anchor_end) (same_pages so_far.only_reads) c.in_ok-next.ensures.end))
         | else-is_on w ↦
             subst (IsEnd size old.pages (found.page / size.pages) size.pages) (sym w.end-is) (so_far.end found (found_before size parts anchor c.loop-anchor.best c.in_ok-next.next found so_far.best now at ((rw w.if-is_on.false at c.is_on.ensures.apart) found at)))
       ];

@@ -1,8 +1,9 @@
 use Rattle.std.proofs.Common.{◌≡◌, ◌+◌, ◌*◌, ◌≤◌, Some}
 use Rattle.std.specs.Prelude.{◌/◌}
+use Rattle.flash_model.specs.Reading.{OnlyReads}
 use Rattle.commit_pair.specs.declared.best.Found.{Found}
 use Rattle.commit_pair.specs.Parts.{parts_on, best_below}
-use Rattle.commit_pair.specs.Reading.{IsEnd, OnlyReads}
+use Rattle.commit_pair.specs.Reading.{IsEnd}
 use Rattle.commit_pair.proofs.scan.find_best.Given as goal
 
 abbrev pub invariant-loop-anchor : goal.invariant-loop-anchor

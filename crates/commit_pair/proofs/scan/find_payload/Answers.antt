@@ -1,9 +1,10 @@
 use Rattle.std.proofs.Common.{◌≡◌, ℕ, List, ◌+◌, ◌-◌, ◌*◌, ◌++◌, sym, ap, ◌∙◌, inl, inr, arith}
 use Rattle.record_format.specs.Payloads.{payload_at}
 use Rattle.std.proofs.lemmas.Result.{err_from_is_err_and}
+use Rattle.fs_types.specs.declared.limits.TheConstants.{ANCHORS}
+use Rattle.flash_model.specs.Reading.{OnlyReads_on, same_pages}
 use Rattle.commit_pair.specs.Parts.{parts_on, bytes_from}
 use Rattle.commit_pair.specs.Payloads.{IsFront}
-use Rattle.commit_pair.specs.Reading.{OnlyReads_on}
 use Rattle.commit_pair.proofs.Places.{below_end, long_enough}
 use Rattle.commit_pair.proofs.ReadParts.{ReadCause_on, part_held, read_on, bytes_go_on, bytes_end, long_refused}
 use Rattle.commit_pair.proofs.scan.find_payload.Goals as goal
@@ -14,7 +15,7 @@ loop-n-preserved g c =
     let mid = g.F.Flash.device c.loop-n.flash in
     let parts = parts_on c.args.geometry old.pages in
     let p = c.args.found.page + c.loop-n.n in
-    let read = read_on c.args.geometry old.pages mid.pages p c.read_head.new.buffer c.in_ok-head.head c.loop-n.invariant.only_reads.pages c.in_ok-head.ensures.part in
+    let read = read_on c.args.geometry old.pages mid.pages p c.read_head.new.buffer c.in_ok-head.head (same_pages c.loop-n.invariant.only_reads) c.in_ok-head.ensures.part in
     let added : c.push_bytes.new.payload.items ≡ c.loop-n.payload.items ++ c.bytes_of.result.now = rw c.if-not-push_bytes.false at c.push_bytes.ensures.all in
     record {
       only_reads = OnlyReads_on old mid (g.F.Flash.device c.read_head.new.flash) c.loop-n.invariant.only_reads c.in_ok-head.ensures.only_reads;
@@ -35,7 +36,7 @@ pub read_head-requires-clause-lawful : goal.read_head-requires-clause-lawful
 read_head-requires-clause-lawful g c = c.requires.lawful
 
 pub read_head-requires-clause-in_range : goal.read_head-requires-clause-in_range
-read_head-requires-clause-in_range g c = below_end c.args.found.page c.loop-n.n c.args.found.head.count (8 * c.args.geometry.pages) c.requires.in_range c.loop-n-test.true
+read_head-requires-clause-in_range g c = below_end c.args.found.page c.loop-n.n c.args.found.head.count (ANCHORS * c.args.geometry.pages) c.requires.in_range c.loop-n-test.true
 
 pub read_head-requires-clause-whole : goal.read_head-requires-clause-whole
 read_head-requires-clause-whole g c = c.loop-n.auto.buffer ∙ c.requires.whole
@@ -56,7 +57,7 @@ returns-then-not-push_bytes-clause-why g c =
     let old = g.F.Flash.device c.args.flash.now in
     let parts = parts_on c.args.geometry old.pages in
     let p = c.args.found.page + c.loop-n.n in
-    let read = read_on c.args.geometry old.pages (g.F.Flash.device c.loop-n.flash).pages p c.read_head.new.buffer c.in_ok-head.head c.loop-n.invariant.only_reads.pages c.in_ok-head.ensures.part in
+    let read = read_on c.args.geometry old.pages (g.F.Flash.device c.loop-n.flash).pages p c.read_head.new.buffer c.in_ok-head.head (same_pages c.loop-n.invariant.only_reads) c.in_ok-head.ensures.part in
     let front : IsFront (c.loop-n.payload.items ++ c.bytes_of.result.now) c.push_bytes.new.payload.items = rw c.if-not-push_bytes.true at c.push_bytes.ensures.front in
     inr (long_refused c.args.geometry c.args.found.head.sequence c.push_bytes.new.payload.items (c.loop-n.payload.items ++ c.bytes_of.result.now)
     (bytes_from c.args.geometry parts c.args.found.page (c.loop-n.n + 1) (c.args.found.head.count - (c.loop-n.n + 1))) _ c.refuse_long.result front

@@ -1,6 +1,6 @@
 use Rattle.std.proofs.Common.{◌≡◌, ◌≤◌, ◌+◌, ◌-◌, ◌++◌}
+use Rattle.flash_model.specs.Reading.{OnlyReads}
 use Rattle.commit_pair.specs.Parts.{parts_on, bytes_from, payload_of}
-use Rattle.commit_pair.specs.Reading.{OnlyReads}
 use Rattle.commit_pair.proofs.scan.find_payload.Given as goal
 
 abbrev pub invariant-loop-n : goal.invariant-loop-n

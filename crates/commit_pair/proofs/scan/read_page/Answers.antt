@@ -1,9 +1,9 @@
 use Rattle.std.proofs.Common.{◌<◌, sym, ap, subst, ◌∙◌, arith}
 use Rattle.std.specs.Option.{option_map}
-use Rattle.flash_model.specs.declared.sizes.Geometry.{Geometry}
+use Rattle.flash_model.specs.declared.geometry.Geometry.{Geometry}
 use Rattle.flash_model.specs.Geometry.{page_count}
+use Rattle.flash_model.specs.Reading.{OnlyReads_from_read}
 use Rattle.commit_pair.specs.Parts.{Part, part_of, parts_on}
-use Rattle.commit_pair.specs.Reading.{OnlyReads_from}
 use Rattle.commit_pair.proofs.Places.{long_enough, anchor_below, page_below}
 use Rattle.commit_pair.proofs.ReadParts.{data_part, no_part, part_head, reads_one}
 use Rattle.commit_pair.proofs.scan.read_page.Goals as goal
@@ -21,13 +21,13 @@ returns-in-Ok-Data-clause-head g c =
     (anchor_below c.args.geometry c.args.page c.requires.lawful c.requires.in_range) (rw c.in-Ok-Data.field-0-is at c.in-Ok-Data.ensures.shows) c.of.ensures)
 
 pub returns-in-Ok-Data-clause-only_reads : goal.returns-in-Ok-Data-clause-only_reads
-returns-in-Ok-Data-clause-only_reads g c = OnlyReads_from _ _ _ _ _ _ c.in-Ok-Data.ensures
+returns-in-Ok-Data-clause-only_reads g c = OnlyReads_from_read _ _ _ _ _ _ c.in-Ok-Data.ensures
 
 pub returns-in-Err-Failed-clause-only_reads : goal.returns-in-Err-Failed-clause-only_reads
-returns-in-Err-Failed-clause-only_reads g c = OnlyReads_from _ _ _ _ _ _ c.in-Err-Failed.ensures
+returns-in-Err-Failed-clause-only_reads g c = OnlyReads_from_read _ _ _ _ _ _ c.in-Err-Failed.ensures
 
 pub returns-in-Err-PowerCut-clause-only_reads : goal.returns-in-Err-PowerCut-clause-only_reads
-returns-in-Err-PowerCut-clause-only_reads g c = OnlyReads_from _ _ _ _ _ _ c.in-Err-PowerCut.ensures
+returns-in-Err-PowerCut-clause-only_reads g c = OnlyReads_from_read _ _ _ _ _ _ c.in-Err-PowerCut.ensures
 
 pub of-requires : goal.of-requires
 of-requires g c = long_enough c.args.geometry c.read.new.buffer c.requires.lawful (c.read.auto.buffer ∙ c.requires.whole)
@@ -37,14 +37,14 @@ returns-in-Ok-Erased-clause-head g c =
     ap (option_map (λ (part : Part). part.head)) (no_part c.args.geometry (g.F.Flash.device c.args.flash.now).pages c.args.page (ap part_of (rw c.in-Ok-Erased.field-0-is at c.in-Ok-Erased.ensures.shows).0))
 
 pub returns-in-Ok-Erased-clause-only_reads : goal.returns-in-Ok-Erased-clause-only_reads
-returns-in-Ok-Erased-clause-only_reads g c = OnlyReads_from _ _ _ _ _ _ c.in-Ok-Erased.ensures
+returns-in-Ok-Erased-clause-only_reads g c = OnlyReads_from_read _ _ _ _ _ _ c.in-Ok-Erased.ensures
 
 pub returns-in-Ok-Unreadable-clause-head : goal.returns-in-Ok-Unreadable-clause-head
 returns-in-Ok-Unreadable-clause-head g c =
     ap (option_map (λ (part : Part). part.head)) (no_part c.args.geometry (g.F.Flash.device c.args.flash.now).pages c.args.page (ap part_of (rw c.in-Ok-Unreadable.field-0-is at c.in-Ok-Unreadable.ensures.shows).0))
 
 pub returns-in-Ok-Unreadable-clause-only_reads : goal.returns-in-Ok-Unreadable-clause-only_reads
-returns-in-Ok-Unreadable-clause-only_reads g c = OnlyReads_from _ _ _ _ _ _ c.in-Ok-Unreadable.ensures
+returns-in-Ok-Unreadable-clause-only_reads g c = OnlyReads_from_read _ _ _ _ _ _ c.in-Ok-Unreadable.ensures
 
 pub returns-in-Err-Failed-clause-why : goal.returns-in-Err-Failed-clause-why
 returns-in-Err-Failed-clause-why g c =

@@ -1,6 +1,7 @@
 use Rattle.std.proofs.Common.{◌+◌, ◌*◌, ◌≤◌}
+use Rattle.flash_model.specs.Reading.{OnlyReads}
 use Rattle.commit_pair.specs.Parts.{parts_on}
-use Rattle.commit_pair.specs.Reading.{IsEnd, OnlyReads}
+use Rattle.commit_pair.specs.Reading.{IsEnd}
 use Rattle.commit_pair.specs.Scanning.{IsMet}
 use Rattle.commit_pair.proofs.scan.scan_anchor.Given as goal
 

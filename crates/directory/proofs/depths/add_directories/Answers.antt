@@ -2,7 +2,7 @@ use Rattle.std.proofs.Common.{◌<◌, ◌||◌, ◌&&◌, List, nat_lt, ap, sym
 use Rattle.std.specs.FinSet as set
 use Rattle.allocator.specs.BlockSet.{BlockSet}
 use Rattle.node_format.specs.Items.{Item}
-use Rattle.node_format.specs.declared.places.Place.{Place}
+use Rattle.node_format.specs.declared.place.Place.{Place}
 use Rattle.directory.specs.Depths.{names_directory, is_directory_at}
 use Rattle.directory.proofs.Levels.{added_one}
 use Rattle.directory.proofs.depths.add_directories.Goals as goal

@@ -4,10 +4,9 @@ use Rattle.std.proofs.lemmas.Nat.{mul-le}
 use Rattle.block_trees.specs.Bodies.{Blocks}
 use Rattle.block_trees.specs.Chains.{link_items}
 use Rattle.directory.specs.Depths.{AreNamedBy}
-use Rattle.directory.proofs.Results.{on_ok, on_err}
 use Rattle.directory.proofs.LevelNodes.{later_has}
 use Rattle.directory.proofs.Levels.{IsLevel, one_level_more, first_level, next_is_level, no_first_items, last_shallow, last_deeper}
-use Rattle.std.proofs.lemmas.Result.{err_from_is_err_and}
+use Rattle.std.proofs.lemmas.Result.{err_from_is_err_and, IfErr-weaker, IfOk-weaker}
 use Rattle.directory.proofs.depths.any_is_deeper.Goals as goal
 
 pub loop-done-init : goal.loop-done-init
@@ -54,7 +53,7 @@ returns-clause-deeper g c =
     let level = c.loop-done.level in
     let at_end : c.loop-done.done ≡ c.args.most = search rules in
     let last : IsLevel f roots c.args.most c.args.most level.blocks level.members = subst (λ (k : ℕ). IsLevel f roots c.args.most k level.blocks level.members) at_end c.loop-done.invariant.level in
-    λ whole. on_ok _ _ c.any_has_entries.result (λ deep found is.
+    λ whole. IfOk-weaker c.any_has_entries.result _ _ (λ deep found is.
     let entry = found is in
     last_deeper f roots c.args.most level.blocks entry.0 level.members whole last entry.1 (subst (λ (f : Blocks). 0 < length (link_items (f entry.0))) c.loop-done.invariant.looks.same_nodes entry.2)) c.any_has_entries.ensures.some
 
@@ -65,7 +64,7 @@ returns-clause-shallow g c =
     let level = c.loop-done.level in
     let at_end : c.loop-done.done ≡ c.args.most = search rules in
     let last : IsLevel f roots c.args.most c.args.most level.blocks level.members = subst (λ (k : ℕ). IsLevel f roots c.args.most k level.blocks level.members) at_end c.loop-done.invariant.level in
-    on_ok _ _ c.any_has_entries.result (λ deep none is.
+    IfOk-weaker c.any_has_entries.result _ _ (λ deep none is.
     last_shallow f roots c.args.most level.blocks level.members last
     (λ b here. no_first_items f b (subst (λ (f : Blocks). length (link_items (f b)) ≡ 0) c.loop-done.invariant.looks.same_nodes (none is b here)))) c.any_has_entries.ensures.none
 
@@ -110,7 +109,7 @@ any_has_entries-requires-clause-sound g c = c.loop-done.invariant.looks.sound
 
 pub returns-clause-why : goal.returns-clause-why
 returns-clause-why g c =
-    on_err _ _ c.any_has_entries.result
+    IfErr-weaker c.any_has_entries.result _ _
     (λ fault why. g.met.N.Nodes.causes_on c.args.nodes.now c.loop-done.nodes c.any_has_entries.new.nodes fault c.loop-done.invariant.looks.came why) c.any_has_entries.ensures.why
 
 pub next_level-requires-clause-size : goal.next_level-requires-clause-size

@@ -1,7 +1,7 @@
 -- A look up in a tree finds what stands at the path, or is refused as the path is.
 use Rattle.std.specs.Prelude.{◌≡◌, ℕ, Result, Ok, Err}
 use Rattle.fs_types.specs.Names.{Path}
-use Rattle.fs_types.specs.declared.faults.Fault.{Fault}
+use Rattle.fs_types.specs.declared.fault.Fault.{Fault}
 use Rattle.block_trees.specs.Bodies.{Blocks}
 use Rattle.block_trees.specs.Trees.{tree, IsRoot}
 use Rattle.directory.specs.Lookups.{look_up, Tells}

@@ -1,7 +1,7 @@
 use Rattle.std.proofs.Common.{◌≡◌, ◌+◌, Bool, true, false, Err, refl, sym, ap, ◌∙◌, arith}
 use Rattle.std.specs.Prelude.{not}
 use Rattle.std.proofs.lemmas.Result.{err_from_is_err_and}
-use Rattle.fs_types.specs.declared.faults.Fault.{Fault}
+use Rattle.fs_types.specs.declared.fault.Fault.{Fault}
 use Rattle.directory.proofs.Sights.{begins, ends_found, ends_counted, ends_none, ends_alone, ends_long, goes_on, no_first, read_most, read_more, refused_is}
 use Rattle.directory.proofs.lookups.seek.Goals as goal
 

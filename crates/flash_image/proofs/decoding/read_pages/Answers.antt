@@ -1,5 +1,5 @@
 use Rattle.std.proofs.Common.{◌≡◌, ◌≤◌, ◌+◌, ◌*◌, ◌++◌, List, ℕ, ap, sym, refl, ◌∙◌, arith}
-use Rattle.flash_model.specs.declared.sizes.Geometry.{Geometry}
+use Rattle.flash_model.specs.declared.geometry.Geometry.{Geometry}
 use Rattle.flash_model.specs.Device.{Device}
 use Rattle.flash_model.specs.Stored.{shown}
 use Rattle.flash_model.specs.Simulation.{device_of}

@@ -1,7 +1,7 @@
-use Rattle.std.proofs.Common.{rules, append_assoc}
-use Rattle.flash_image.specs.Images.{header}
+use Rattle.flash_image.proofs.Texts.{header-pushed}
 use Rattle.flash_image.proofs.encoding.push_header.Goals as goal
 
 pub returns : goal.returns
-unfolding header
-returns c = search (rules, append_assoc)
+returns c =
+    header-pushed c.args.sizes c.args.image.now.items c.extend_from_slice.new.self.items c.push_u32.new.out.items c.push_u32-2.new.out.items c.push_u32-3.new.out.items
+    c.in_ok-extend_from_slice.ensures.items c.in_ok-push_u32.ensures.items c.in_ok-push_u32-2.ensures.items c.in_ok-push_u32-3.ensures.items

@@ -1,7 +1,7 @@
-use Rattle.std.proofs.Common.{◌≡◌, ◌∙◌, ap, ap₂}
+use Rattle.std.proofs.Common.{◌∙◌, ap, ap₂}
 use Rattle.std.proofs.lemmas.Result.{IfOk-weaker}
-use Rattle.clap.specs.Words.{App, app_of, with_subcommand, new_app}
-use Rattle.jobs.specs.Grammar.{changing_app, with_image_apps}
+use Rattle.clap.specs.Words.{App, with_subcommand}
+use Rattle.jobs.specs.Grammar.{with_image_apps}
 use Rattle.jobs.proofs.grammar.program.Goals as goal
 
 pub returns : goal.returns

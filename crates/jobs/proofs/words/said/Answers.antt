@@ -1,7 +1,25 @@
+use Rattle.std.proofs.Common.{◌∙◌, sym}
 use Rattle.clap.specs.Words.{found_of, rows_of}
-use Rattle.jobs.proofs.Said.{none_said}
+use Rattle.jobs.proofs.Said.{none_said, job_said}
 use Rattle.jobs.proofs.words.said.Goals as goal
 
 pub returns-in_err-page-clause-none : goal.returns-in_err-page-clause-none
 returns-in_err-page-clause-none c =
     rw c.from_residual-in_err-page.ensures (none_said c.args.matches.now c.in_ok-name.name.now (rows_of (found_of c.in_ok-name.given.now)) c.in_ok-name.ensures.name c.in_ok-name.ensures.rows c.in_err-page.ensures.none)
+
+pub returns-clause-some : goal.returns-clause-some
+returns-clause-some c =
+    let numbers = c.in_ok-page.ensures.some in
+    job_said c.args.matches.now c.in_ok-name.name.now (rows_of (found_of c.in_ok-name.given.now)) _ c.in_ok-name.ensures.name c.in_ok-name.ensures.rows (record {
+      command = sym c.task_named.ensures ∙ c.in_ok-command.was;
+      image = c.in_ok-image.ensures.some;
+      page = numbers.page;
+      pages = numbers.pages;
+      blocks = numbers.blocks;
+      history = numbers.history;
+      refusal = numbers.refusal;
+      stop = c.has_flag.ensures;
+      path = c.word.ensures;
+      file = c.word-2.ensures;
+      progress = c.has_flag-2.ensures;
+    })

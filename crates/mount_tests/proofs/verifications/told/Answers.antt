@@ -1,10 +1,10 @@
-use Rattle.std.proofs.Common.{◌≡◌, rules, refl, ap, sym, subst, ◌∙◌}
+use Rattle.std.proofs.Common.{◌≡◌, rules, ap, sym, subst, ◌∙◌}
 use Rattle.flash_model.specs.Simulation.{device_of}
 use Rattle.node_store.specs.Fitting.{Fits}
 use Rattle.node_store.specs.Stores.{IsSound}
 use Rattle.node_store.specs.declared.storage.Storage.{Storage}
-use Rattle.node_store.specs.declared.stores.Store.{Store}
-use Rattle.flash_model.specs.declared.simulation.SimFlash.{SimFlash}
+use Rattle.node_store.specs.declared.store.Store.{Store}
+use Rattle.flash_model.specs.declared.sim_flash.SimFlash.{SimFlash}
 use Rattle.mount_tests.proofs.verifications.told.Goals as goal
 
 pub verify-answer-requires-clause-sound : goal.verify-answer-requires-clause-sound

@@ -1,8 +1,9 @@
 use Rattle.std.proofs.Common.{◌↔◌, ℕ, List, Bool, Option, subst}
 use Rattle.std.specs.Prelude.{IsTrue, slice_index}
+use Rattle.std.proofs.lemmas.Result.{IfOk-weaker}
 use Rattle.reclaim.specs.Sound.{AreSoundNames}
 use Rattle.reclaim.specs.Looks.{ArePartsOf, IsSoundAt}
-use Rattle.reclaim.proofs.Looking.{parts_bad, parts_plain, parts_body, parts_places, parts_at, if_ok}
+use Rattle.reclaim.proofs.Looking.{parts_bad, parts_plain, parts_body, parts_places, parts_at}
 use Rattle.reclaim.proofs.looks.are_sound_names.Goals as goal
 
 pub returns-then-not-good-clause-exact : goal.returns-then-not-good-clause-exact
@@ -21,9 +22,7 @@ pub returns-in-Some-clause-exact : goal.returns-in-Some-clause-exact
 returns-in-Some-clause-exact g c =
     let f = g.N.Nodes.node c.args.nodes.now in
     let f' = g.N.Nodes.node c.are_sound_places.new.nodes in
-    if_ok (λ (good : Bool). IsTrue good ↔ IsSoundAt c.args.capacity f' (slice_index c.args.pointers.now) c.in-Some.index)
-    (λ (good : Bool). (node : Option (List ℕ)) → ArePartsOf node c.args.places.now c.args.pointers.now c.args.index → IsTrue good ↔ AreSoundNames c.args.capacity f node)
-    c.is_sound_at.result
+    IfOk-weaker c.is_sound_at.result (λ (good : Bool). IsTrue good ↔ IsSoundAt c.args.capacity f' (slice_index c.args.pointers.now) c.in-Some.index) (λ (good : Bool). (node : Option (List ℕ)) → ArePartsOf node c.args.places.now c.args.pointers.now c.args.index → IsTrue good ↔ AreSoundNames c.args.capacity f node)
     (λ good own node parts. parts_body c.args.capacity f f' c.args.places.now c.args.pointers.now c.in-Some.index c.in_ok-good.good good c.are_sound_places.ensures.looks.same_nodes c.in_ok-good.ensures.exact c.if-not-good.false own node
     (subst (ArePartsOf node c.args.places.now c.args.pointers.now) c.in-Some.is parts))
     c.is_sound_at.ensures.exact

@@ -1,6 +1,6 @@
 use Rattle.std.proofs.Common.{◌↔◌, sym, subst}
 use Rattle.std.specs.Prelude.{IsTrue, IfOk}
-use Rattle.node_format.specs.declared.places.Place.{Place}
+use Rattle.node_format.specs.declared.place.Place.{Place}
 use Rattle.reclaim.specs.Sound.{IsSoundPlace}
 use Rattle.reclaim.proofs.looks.is_sound_place.Goals as goal
 

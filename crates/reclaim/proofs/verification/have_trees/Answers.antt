@@ -1,6 +1,6 @@
 use Rattle.std.proofs.Common.{◌↔◌, ◌-◌, ℕ, sym, subst, ◌∙◌, arith}
 use Rattle.std.specs.Prelude.{IsTrue, All, Contains}
-use Rattle.node_format.specs.declared.places.Place.TheVariants.{Dir}
+use Rattle.node_format.specs.declared.place.Place.TheVariants.{Dir}
 use Rattle.block_trees.specs.Bodies.{Blocks}
 use Rattle.block_trees.specs.Laws.{IsShallow}
 use Rattle.std.specs.List.{filter}

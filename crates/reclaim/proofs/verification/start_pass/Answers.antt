@@ -1,7 +1,7 @@
 use Rattle.std.proofs.Common.{◌+◌, length, ◌≡◌, ◌↔◌, ◌≤◌, ℕ, List, sym, subst, ◌∙◌}
 use Rattle.std.specs.Prelude.{Contains}
 use Rattle.std.proofs.lemmas.Result.{err_from_is_err_and}
-use Rattle.fs_types.specs.declared.faults.Fault.TheVariants.{Damaged}
+use Rattle.fs_types.specs.declared.fault.Fault.TheVariants.{Damaged}
 use Rattle.reclaim.proofs.Costs.{root_reads, none_read}
 use Rattle.reclaim.proofs.Looking.{never, look_read, look_other}
 use Rattle.reclaim.proofs.Verifying.{roots_are_data, roots_directories, directories_roots}

@@ -1,8 +1,8 @@
 use Rattle.std.proofs.Common.{refl, ◌≡◌, ◌≢◌, ◌↔◌, ℕ, Err, None, ap, sym, subst, ◌∙◌}
 use Rattle.std.specs.Prelude.{IsTrue, All}
 use Rattle.std.proofs.lemmas.Result.{err_from_is_err_and}
-use Rattle.fs_types.specs.declared.faults.Fault.TheVariants.{Damaged}
-use Rattle.fs_types.specs.declared.faults.Fault.{Fault}
+use Rattle.fs_types.specs.declared.fault.Fault.TheVariants.{Damaged}
+use Rattle.fs_types.specs.declared.fault.Fault.{Fault}
 use Rattle.block_trees.specs.Bodies.{Blocks}
 use Rattle.block_trees.specs.Reached.{Reached}
 use Rattle.reclaim.specs.Sound.{HoldsLink}

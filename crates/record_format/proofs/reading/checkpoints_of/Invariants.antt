@@ -1,5 +1,5 @@
 use Rattle.std.proofs.Common.{◌≡◌, ◌-◌}
-use Rattle.record_format.specs.Fields.{many_at, checkpoint_at}
+use Rattle.record_format.specs.Items.{many_at, checkpoint_at}
 use Rattle.record_format.proofs.Many.{onto}
 use Rattle.record_format.proofs.reading.checkpoints_of.Given as goal
 

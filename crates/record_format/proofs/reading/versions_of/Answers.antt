@@ -1,5 +1,5 @@
 use Rattle.std.proofs.Common.{◌+◌, ◌-◌, ap, ◌∙◌, arith}
-use Rattle.record_format.specs.Fields.{many_at, version_at}
+use Rattle.record_format.specs.Items.{many_at, version_at}
 use Rattle.record_format.proofs.Many.{onto, many_goes_on, many_stops, many_ends}
 use Rattle.record_format.proofs.reading.versions_of.Goals as goal
 

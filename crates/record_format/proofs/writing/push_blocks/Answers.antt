@@ -7,14 +7,14 @@ use Rattle.record_format.proofs.writing.push_blocks.Goals as goal
 pub loop-block-init : goal.loop-block-init
 loop-block-init c = pushed_none _ _ _ _ _ _
 
-pub push_number-requires : goal.push_number-requires
-push_number-requires c = omega (arith, c.loop-block.invariant.len)
+pub put_u32-requires : goal.put_u32-requires
+put_u32-requires c = omega (arith, c.loop-block.invariant.len)
 
 pub loop-block-preserved : goal.loop-block-preserved
 loop-block-preserved c =
     pushed_more block_bytes (λ block. true) 4 c.args.blocks.now c.args.out.now.items (array_vec_len c.args.out.now)
-    c.loop-block.block-index c.loop-block.out.items c.push_number.new.out.items (array_vec_len c.loop-block.out) (array_vec_len c.push_number.new.out)
-    0 c.loop-block-test.true c.loop-block.invariant c.push_number.ensures.items (omega arith) refl
+    c.loop-block.block-index c.loop-block.out.items c.put_u32.new.out.items (array_vec_len c.loop-block.out) (array_vec_len c.put_u32.new.out)
+    0 c.loop-block-test.true c.loop-block.invariant c.put_u32.ensures.items (omega arith) refl
 
 pub returns-clause-items : goal.returns-clause-items
 returns-clause-items c = pushed_items _ _ _ _ _ _ _ _ _ c.loop-block-test.false c.loop-block.invariant

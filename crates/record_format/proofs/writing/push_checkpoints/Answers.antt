@@ -10,8 +10,8 @@ use Rattle.record_format.proofs.LawfulRecords.{name_length, and_true}
 use Rattle.record_format.proofs.Pushed.{pushed_item}
 use Rattle.record_format.proofs.writing.push_checkpoints.Goals as goal
 
-pub push_byte-requires : goal.push_byte-requires
-push_byte-requires c = omega (arith, c.loop-checkpoint.invariant.len)
+pub push-requires : goal.push-requires
+push-requires c = omega (arith, c.loop-checkpoint.invariant.len)
 
 pub push_bytes-requires : goal.push_bytes-requires
 push_bytes-requires c =
@@ -19,8 +19,8 @@ push_bytes-requires c =
     let h = name_length c.checkpoint-item.result.name c.as_bytes-name.ensures.lawful in
     omega (arith, c.loop-checkpoint.invariant.len)
 
-pub push_number-requires : goal.push_number-requires
-push_number-requires c =
+pub put_u32-requires : goal.put_u32-requires
+put_u32-requires c =
     let e = ap length c.as_bytes-name.ensures.bytes in
     let h = name_length c.checkpoint-item.result.name c.as_bytes-name.ensures.lawful in
     omega (arith, c.loop-checkpoint.invariant.len)
@@ -30,12 +30,12 @@ loop-checkpoint-preserved c =
     let name = c.checkpoint-item.result.name in
     let e = ap length c.as_bytes-name.ensures.bytes in
     let h = name_length name c.as_bytes-name.ensures.lawful in
-    let first : c.push_byte.new.out.items ≡ c.loop-checkpoint.out.items ++ length name ∷ [] =
-    c.push_byte.ensures.items ∙ ap (λ (x : List ℕ). c.loop-checkpoint.out.items ++ length x ∷ []) c.as_bytes-name.ensures.bytes in
-    let second : c.push_bytes.new.out.items ≡ c.push_byte.new.out.items ++ name =
-    c.push_bytes.ensures.items ∙ ap (λ (x : List ℕ). c.push_byte.new.out.items ++ x) c.as_bytes-name.ensures.bytes in
+    let first : c.push.new.self.items ≡ c.loop-checkpoint.out.items ++ length name ∷ [] =
+    c.push.ensures.items ∙ ap (λ (x : List ℕ). c.loop-checkpoint.out.items ++ length x ∷ []) c.as_bytes-name.ensures.bytes in
+    let second : c.push_bytes.new.out.items ≡ c.push.new.self.items ++ name =
+    c.push_bytes.ensures.items ∙ ap (λ (x : List ℕ). c.push.new.self.items ++ x) c.as_bytes-name.ensures.bytes in
     pushed_item checkpoint_bytes (λ checkpoint. is_checkpoint_name checkpoint.name && nat_lt checkpoint.root (2 ^ 32)) 36 c.args.checkpoints.now c.args.out.now.items (array_vec_len c.args.out.now)
-    c.loop-checkpoint.checkpoint-index c.loop-checkpoint.out.items c.push_number.new.out.items (array_vec_len c.loop-checkpoint.out) (array_vec_len c.push_number.new.out)
+    c.loop-checkpoint.checkpoint-index c.loop-checkpoint.out.items c.put_u32.new.out.items (array_vec_len c.loop-checkpoint.out) (array_vec_len c.put_u32.new.out)
     c.checkpoint-item.result c.loop-checkpoint-test.true c.checkpoint-item.is c.loop-checkpoint.invariant
-    (then_three _ (length name ∷ []) name (little_bytes 4 c.checkpoint-item.result.root) _ _ _ first second c.push_number.ensures.items)
-    (omega arith) (and_true _ _ c.as_bytes-name.ensures.lawful (lt-ltb _ _ c.push_number.ensures.fits))
+    (then_three _ (length name ∷ []) name (little_bytes 4 c.checkpoint-item.result.root) _ _ _ first second c.put_u32.ensures.items)
+    (omega arith) (and_true _ _ c.as_bytes-name.ensures.lawful (lt-ltb _ _ c.put_u32.ensures.fits))

@@ -10,19 +10,19 @@ use Rattle.record_format.proofs.writing.push_versions.Goals as goal
 pub loop-version-init : goal.loop-version-init
 loop-version-init c = pushed_none _ _ _ _ _ _
 
-pub push_long-requires : goal.push_long-requires
-push_long-requires c = omega (arith, c.loop-version.invariant.len)
+pub put_u64-requires : goal.put_u64-requires
+put_u64-requires c = omega (arith, c.loop-version.invariant.len)
 
-pub push_number-requires : goal.push_number-requires
-push_number-requires c = omega (arith, c.loop-version.invariant.len)
+pub put_u32-requires : goal.put_u32-requires
+put_u32-requires c = omega (arith, c.loop-version.invariant.len)
 
 pub loop-version-preserved : goal.loop-version-preserved
 loop-version-preserved c =
     pushed_more version_bytes (λ version. nat_lt version.root (2 ^ 32)) 12 c.args.versions.now c.args.out.now.items (array_vec_len c.args.out.now)
-    c.loop-version.version-index c.loop-version.out.items c.push_number.new.out.items (array_vec_len c.loop-version.out) (array_vec_len c.push_number.new.out)
+    c.loop-version.version-index c.loop-version.out.items c.put_u32.new.out.items (array_vec_len c.loop-version.out) (array_vec_len c.put_u32.new.out)
     (record { serial = 0; root = 0 }) c.loop-version-test.true c.loop-version.invariant
-    (then_two _ _ _ _ _ c.push_long.ensures.items c.push_number.ensures.items)
-    (omega arith) (lt-ltb _ _ c.push_number.ensures.fits)
+    (then_two _ _ _ _ _ c.put_u64.ensures.items c.put_u32.ensures.items)
+    (omega arith) (lt-ltb _ _ c.put_u32.ensures.fits)
 
 pub returns-clause-items : goal.returns-clause-items
 returns-clause-items c = pushed_items _ _ _ _ _ _ _ _ _ c.loop-version-test.false c.loop-version.invariant

@@ -1,6 +1,6 @@
 use Rattle.std.specs.Prelude.{IfSome}
 use Rattle.flash_model.specs.Simulation.{device_of}
-use Rattle.upkeep.specs.Systems.{IsSystem}
+use Rattle.system.specs.Systems.{IsSystem}
 use Rattle.rows.proofs.nodes.run_lines.Given as goal
 
 -- a system that is mounted stands on the flash

@@ -1,7 +1,6 @@
-use Rattle.std.proofs.Common.{◌≡◌, ◌++◌, take}
-use Rattle.std.specs.List.{flat_map}
-use Rattle.script.specs.Replies.{escaped_byte}
+use Rattle.std.proofs.Common.{◌≡◌, ◌++◌}
+use Rattle.percent_encoding.specs.Iter.{encoded_text}
 use Rattle.script.proofs.digits.print_name.Given as goal
 
-abbrev pub invariant-loop-byte : goal.invariant-loop-byte
-invariant-loop-byte l = l.out.items ≡ l.fn.out.items ++ flat_map escaped_byte (take l.byte-index l.name)
+abbrev pub invariant-loop-piece : goal.invariant-loop-piece
+invariant-loop-piece l = l.out.items ++ encoded_text l.piece-iterator ≡ l.fn.out.items ++ encoded_text l.initial.piece-iterator

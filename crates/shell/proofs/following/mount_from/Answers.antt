@@ -1,7 +1,7 @@
 use Rattle.std.proofs.Common.{IfErr, subst}
 use Rattle.flash_model.specs.Simulation.{device_of}
-use Rattle.flash_model.specs.declared.simulation.SimFlash.{SimFlash}
-use Rattle.upkeep.specs.Mounts.{MountCause}
+use Rattle.flash_model.specs.declared.sim_flash.SimFlash.{SimFlash}
+use Rattle.system.specs.Mounts.{MountCause}
 use Rattle.shell.proofs.following.mount_from.Goals as goal
 
 pub returns-clause-why : goal.returns-clause-why

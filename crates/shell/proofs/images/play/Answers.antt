@@ -1,5 +1,5 @@
-use Rattle.std.proofs.Common.{Option, Some, Ok, Err, inr, refl, sym, ap}
-use Rattle.shell.specs.declared.failures.Failure.{Failure}
+use Rattle.std.proofs.Common.{Some, Ok, Err, inr, refl, sym, ap}
+use Rattle.shell.specs.declared.failure.Failure.{Failure}
 use Rattle.shell.proofs.images.play.Goals as goal
 
 pub returns-in-Ok-None : goal.returns-in-Ok-None

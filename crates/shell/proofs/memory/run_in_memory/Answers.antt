@@ -1,5 +1,5 @@
 use Rattle.std.proofs.Common.{inl, inr, refl}
-use Rattle.shell.specs.Scripts.{IsRefused, LineSession}
+use Rattle.shell.specs.Scripts.{ground, IsRefusedOn, LineSession}
 use Rattle.shell.specs.Memory.{memory_sizes, kept_versions, IsNewFlash, IsFormatOf, NewSession, NewCause}
 use Rattle.shell.proofs.TurnLemmas.{ends_map}
 use Rattle.shell.proofs.memory.run_in_memory.Goals as goal
@@ -12,7 +12,7 @@ returns-in-Ok-format_as_planned g c =
     let made : IsNewFlash memory_sizes start = record { new = c.in-Ok.ensures.new; plan = c.in-Ok.ensures.plan } in
     let holds = c.in-Ok-format_as_planned.ensures in
     let done : IsFormatOf kept_versions start formatted = record { formatted = holds.ok; sizes = holds.stay; listed = holds.listed; numbered = holds.numbered } in
-    ends_map (LineSession formatted end) (NewSession memory_sizes) (IsRefused formatted end) (NewCause memory_sizes)
+    ends_map (LineSession formatted end) (NewSession memory_sizes) (IsRefusedOn (ground formatted) (ground end)) (NewCause memory_sizes)
     (λ lines answers carried. (start, formatted, end, made, done, c.format_as_planned.ensures.plan, carried)) (λ fault cause. inr (inr (start, formatted, end, made, done, cause.0)))
     (g.R.Read.remaining c.args.reader.now) (g.R.Read.remaining c.run_script.new.reader) c.run_script.result (g.W.Write.contents c.args.out.now) (g.W.Write.contents c.run_script.new.writer) c.run_script.ensures.ends
 

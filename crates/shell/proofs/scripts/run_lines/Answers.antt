@@ -1,11 +1,11 @@
 use Rattle.std.proofs.Common.{◌∙◌, sym}
-use Rattle.shell.specs.Turns.{seat}
+use Rattle.shell.specs.Turns.{seat_at}
 use Rattle.shell.proofs.TurnLemmas.{starts, turns, ends_at_once, ends_at_end, ends_unread, ends_unwritten, ends_stopped, ends_after_all}
 use Rattle.shell.proofs.scripts.run_lines.Goals as goal
 
 pub returns-in-Err-clause-ends : goal.returns-in-Err-clause-ends
 returns-in-Err-clause-ends g c =
-    ends_at_once c.args.stop (seat c.args.flash.now c.args.system.now) (g.R.Read.remaining c.args.reader.now) (g.W.Write.contents c.args.writer.now)
+    ends_at_once c.args.stop (seat_at (g.F.Flash.device c.args.flash.now) c.args.system.now (g.P.Planning.plan c.args.flash.now)) (g.R.Read.remaining c.args.reader.now) (g.W.Write.contents c.args.writer.now)
 
 pub loop-carried-init : goal.loop-carried-init
 loop-carried-init g c = (c.requires, starts _ _ _ _)
@@ -22,26 +22,26 @@ returns-in-Err-next-clause-ends g c =
 pub returns-in-Err-write_answer-clause-ends : goal.returns-in-Err-write_answer-clause-ends
 returns-in-Err-write_answer-clause-ends g c =
     let gets = rw c.in-Ok-Some.field-0-is at c.in-Ok-Some.ensures in
-    let carried = c.carry_out-answer in
+    let carried = c.carry_out_on-answer in
     ends_unwritten _ _ _ _ _ _ _ _ c.in-Ok-Some.line (g.R.Read.remaining c.next.new.reader) (g.W.Write.contents c.write_answer.new.writer) carried.result
-    (seat carried.new.flash carried.new.system) c.in-Err-write_answer.fault
+    (seat_at (g.F.Flash.device carried.new.flash) carried.new.system (g.P.Planning.plan carried.new.flash)) c.in-Err-write_answer.fault
     c.loop-carried.invariant.1 gets carried.ensures.does c.in-Err-write_answer.ensures
 
 pub returns-in-Some-clause-ends : goal.returns-in-Some-clause-ends
 returns-in-Some-clause-ends g c =
     let gets = rw c.in-Ok-Some.field-0-is at c.in-Ok-Some.ensures in
-    let carried = c.carry_out-answer in
+    let carried = c.carry_out_on-answer in
     ends_stopped _ _ _ _ _ _ _ _ c.in-Ok-Some.line (g.R.Read.remaining c.next.new.reader) (g.W.Write.contents c.write_answer.new.writer) carried.result
-    (seat carried.new.flash carried.new.system) c.in-Some.refusal
+    (seat_at (g.F.Flash.device carried.new.flash) carried.new.system (g.P.Planning.plan carried.new.flash)) c.in-Some.refusal
     c.loop-carried.invariant.1 gets carried.ensures.does c.in-Ok-write_answer.ensures (sym c.stops.ensures ∙ c.in-Some.is)
 
 pub loop-carried-preserved : goal.loop-carried-preserved
 loop-carried-preserved g c =
     let gets = rw c.in-Ok-Some.field-0-is at c.in-Ok-Some.ensures in
-    let carried = c.carry_out-answer in (
+    let carried = c.carry_out_on-answer in (
       carried.ensures.mounted,
       turns _ _ _ _ _ _ _ _ c.in-Ok-Some.line (g.R.Read.remaining c.next.new.reader) (g.W.Write.contents c.write_answer.new.writer) carried.result
-          (seat carried.new.flash carried.new.system)
+          (seat_at (g.F.Flash.device carried.new.flash) carried.new.system (g.P.Planning.plan carried.new.flash))
           c.loop-carried.invariant.1 gets carried.ensures.does c.in-Ok-write_answer.ensures (sym c.stops.ensures ∙ c.in_default.is),
     )
 

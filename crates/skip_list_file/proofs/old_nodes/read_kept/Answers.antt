@@ -3,7 +3,7 @@ use Rattle.std.proofs.lemmas.Result.{err_from_is_err_and}
 use Rattle.std.specs.Prelude.{min}
 use Rattle.std.proofs.lemmas.List.{length-take-le}
 use Rattle.block_trees.specs.Bodies.{Blocks, index_of, data_of, back, body}
-use Rattle.skip_list_file.proofs.Chains.{chain_node}
+use Rattle.block_trees.proofs.Bodies.{chain_node}
 use Rattle.skip_list_file.proofs.Fronts.{body_length}
 use Rattle.skip_list_file.proofs.Kept.{part_of, listed_chain, none_kept, part_kept}
 use Rattle.skip_list_file.proofs.old_nodes.read_kept.Goals as goal

@@ -1,9 +1,7 @@
-use Rattle.std.proofs.Common.{◌≡◌, rules, refl, ap, sym, subst, ◌∙◌}
-use Rattle.flash_model.specs.Geometry.{IsGeometry}
+use Rattle.std.proofs.Common.{◌≡◌, rules, ap, sym, subst}
 use Rattle.flash_model.specs.Simulation.{device_of}
 use Rattle.node_store.specs.Fitting.{Fits}
 use Rattle.node_store.specs.declared.storage.Storage.{Storage}
-use Rattle.flash_model.specs.declared.simulation.SimFlash.{SimFlash}
 use Rattle.tests.proofs.stores.a_node_is_written_past_a_block_that_fails.Goals as goal
 
 pub write-requires-clause-sound : goal.write-requires-clause-sound

@@ -1,6 +1,6 @@
 use Rattle.std.proofs.Common.{◌-◌, [], refl}
 use Rattle.node_format.specs.Headers.{body_header}
-use Rattle.skip_list_file.specs.declared.bodies.Body.{Body}
+use Rattle.skip_list_file.specs.declared.body.Body.{Body}
 use Rattle.tree_edits.proofs.NewBytes.{file_result, keeps_itself, empty_written, empty_from}
 use Rattle.tree_edits.proofs.files.put_empty.Goals as goal
 

@@ -6,11 +6,11 @@ use Rattle.block_trees.specs.Trees.{root_tree}
 use Rattle.directory.specs.declared.lookups.Found.TheVariants as found
 use Rattle.directory.proofs.Held.{held_later}
 use Rattle.directory.proofs.LookupLaws.{rooted_leads}
-use Rattle.directory.proofs.TrailEdits.{if_err, look_later, trail_later}
+use Rattle.directory.proofs.TrailEdits.{look_later, trail_later}
 use Rattle.skip_list_file.specs.Writing.{IsWritten}
 use Rattle.tree_edits.proofs.NewBytes.{file_result, from_file, file_whole, file_held, file_bytes}
-use Rattle.std.proofs.lemmas.Result.{err_from_is_err_and}
-use Rattle.fs_types.specs.declared.faults.Fault.{Fault}
+use Rattle.std.proofs.lemmas.Result.{err_from_is_err_and, IfErr-weaker}
+use Rattle.fs_types.specs.declared.fault.Fault.{Fault}
 use Rattle.tree_edits.proofs.Needs.{path_nodes-later}
 use Rattle.tree_edits.proofs.files.resize.Goals as goal
 
@@ -64,7 +64,7 @@ returns-in_err-new-clause-follows g c = c.set_length.ensures.works.came
 
 pub returns-clause-why : goal.returns-clause-why
 returns-clause-why g c =
-    if_err _ (λ (fault : Fault). g.N.Nodes.causes c.args.nodes.now c.put_body.new.nodes fault) c.put_body.result
+    IfErr-weaker c.put_body.result _ (λ (fault : Fault). g.N.Nodes.causes c.args.nodes.now c.put_body.new.nodes fault)
     (λ fault why. g.met.N.Nodes.causes_on c.args.nodes.now c.set_length.new.nodes c.put_body.new.nodes fault c.set_length.ensures.works.came why) c.put_body.ensures.why
 
 pub returns-clause-faults : goal.returns-clause-faults

@@ -1,8 +1,8 @@
 use Rattle.std.proofs.Common.{◌+◌, ◌∙◌, refl, sym, ap, arith}
 use Rattle.std.proofs.lemmas.Bool.{both_ways}
-use Rattle.flash_model.specs.declared.sizes.Geometry.{Geometry}
-use Rattle.read_only.specs.Modes.{is_read_only}
-use Rattle.commit_pair.specs.Reading.{OnlyReads_itself}
+use Rattle.flash_model.specs.declared.geometry.Geometry.{Geometry}
+use Rattle.flash_model.specs.Reading.{OnlyReads_itself, same_pages}
+use Rattle.bad_blocks.specs.Mode.{is_read_only}
 use Rattle.commit_pair.proofs.Sparing.{Keeps_itself}
 use Rattle.std.proofs.lemmas.Result.{err_from_is_err_and}
 use Rattle.commit_pair.specs.Parts.{greatest_on}
@@ -14,7 +14,7 @@ use Rattle.commit_pair.proofs.anchors.Anchors.commit.Goals as goal
 
 pub commit_as-requires-clause-older : goal.commit_as-requires-clause-older
 commit_as-requires-clause-older g c =
-    above_all c.args.saved.now.geometry (g.F.Flash.device c.args.flash.now).pages (g.F.Flash.device c.greatest.new.flash).pages c.in_ok-greatest.greatest c.in_ok-greatest.ensures.only_reads.pages c.in_ok-greatest.ensures.greatest
+    above_all c.args.saved.now.geometry (g.F.Flash.device c.args.flash.now).pages (g.F.Flash.device c.greatest.new.flash).pages c.in_ok-greatest.greatest (same_pages c.in_ok-greatest.ensures.only_reads) c.in_ok-greatest.ensures.greatest
 
 pub returns-clause-untouched : goal.returns-clause-untouched
 returns-clause-untouched g c =
@@ -62,7 +62,7 @@ returns-then-greatest-clause-untouched g c = λ on.
     reads_untouched (g.F.Flash.device c.args.flash.now) (g.F.Flash.device c.greatest.new.flash) c.args.bad.now c.in_ok-greatest.ensures.only_reads
 
 pub returns-then-greatest-clause-commits : goal.returns-then-greatest-clause-commits
-returns-then-greatest-clause-commits g c = reads_keep c.args.saved.now.geometry _ _ c.in_ok-greatest.ensures.only_reads.pages
+returns-then-greatest-clause-commits g c = reads_keep c.args.saved.now.geometry _ _ (same_pages c.in_ok-greatest.ensures.only_reads)
 
 pub commit_as-requires-clause-same : goal.commit_as-requires-clause-same
 commit_as-requires-clause-same g c = c.in_ok-greatest.ensures.only_reads.geometry ∙ c.requires.same
@@ -77,7 +77,7 @@ pub returns-clause-commits : goal.returns-clause-commits
 returns-clause-commits g c =
     let reads = c.in_ok-greatest.ensures.only_reads in
     rw (← c.in_ok-greatest.ensures.greatest) (Commits_on (g.F.Flash.device c.args.flash.now).pages (g.F.Flash.device c.greatest.new.flash).pages (g.F.Flash.device c.commit_as.new.flash).pages c.args.saved.now (c.in_ok-greatest.greatest + 1) c.commit_as.new.bad c.commit_as.result
-    (reads_keep c.args.saved.now.geometry _ _ reads.pages) c.commit_as.ensures.commits)
+    (reads_keep c.args.saved.now.geometry _ _ (same_pages reads)) c.commit_as.ensures.commits)
 
 pub returns-clause-ready : goal.returns-clause-ready
 returns-clause-ready g c = c.commit_as.ensures.ready
@@ -200,7 +200,7 @@ returns-in_err-greatest-clause-at_once g c = λ full. absurd (both_ways (is_read
 pub returns-in_err-greatest-clause-last : goal.returns-in_err-greatest-clause-last
 returns-in_err-greatest-clause-last g c = λ all. record {
   refused = c.from_residual-in_err-greatest.ensures.0;
-  pages = c.in_err-greatest.ensures.only_reads.pages;
+  pages = (same_pages c.in_err-greatest.ensures.only_reads);
   list = refl;
   known = λ some good. absurd (one_left (g.F.Flash.device c.args.flash.now) c.args.saved.now.geometry c.args.bad.now c.args.self.now c.has_next_sequence.result c.requires.same c.requires.ready c.has_next_sequence.ensures c.if-not-has_next_sequence.false all some);
 }
@@ -220,7 +220,7 @@ returns-then-greatest-clause-at_once g c = λ full. absurd (both_ways (is_read_o
 pub returns-then-greatest-clause-last : goal.returns-then-greatest-clause-last
 returns-then-greatest-clause-last g c = λ all. record {
   refused = refl;
-  pages = c.in_ok-greatest.ensures.only_reads.pages;
+  pages = (same_pages c.in_ok-greatest.ensures.only_reads);
   list = refl;
   known = λ some good. absurd (one_left (g.F.Flash.device c.args.flash.now) c.args.saved.now.geometry c.args.bad.now c.args.self.now c.has_next_sequence.result c.requires.same c.requires.ready c.has_next_sequence.ensures c.if-not-has_next_sequence.false all some);
 }
@@ -228,7 +228,7 @@ returns-then-greatest-clause-last g c = λ all. record {
 pub returns-then-greatest-clause-why : goal.returns-then-greatest-clause-why
 returns-then-greatest-clause-why g c =
     let old = g.F.Flash.device c.args.flash.now in
-    (ap (λ (h : Geometry). greatest_on h old.pages) c.requires.same ∙ sym c.in_ok-greatest.ensures.greatest ∙ c.if-greatest.true, c.in_ok-greatest.ensures.only_reads.pages, refl)
+    (ap (λ (h : Geometry). greatest_on h old.pages) c.requires.same ∙ sym c.in_ok-greatest.ensures.greatest ∙ c.if-greatest.true, (same_pages c.in_ok-greatest.ensures.only_reads), refl)
 
 pub returns-clause-at_once : goal.returns-clause-at_once
 returns-clause-at_once g c = λ full. absurd (both_ways (is_read_only c.args.bad.now) (sym c.is_read_only.ensures ∙ c.if-is_read_only.false) full)

@@ -1,6 +1,6 @@
 use Rattle.std.proofs.Common.{◌≢◌, Err, ap, ◌∙◌}
 use Rattle.std.proofs.lemmas.Result.{err_from_is_err_and}
-use Rattle.fs_types.specs.declared.faults.Fault.TheVariants.{PowerCut}
+use Rattle.fs_types.specs.declared.fault.Fault.TheVariants.{PowerCut}
 use Rattle.commit_pair.proofs.Beginning.{begins_below, begins_blank, begins_spares, may_follow}
 use Rattle.commit_pair.proofs.anchors.Anchors.commit_as.Goals as goal
 

@@ -1,7 +1,7 @@
 use Rattle.std.proofs.Common.{sym, subst, arith}
 use Rattle.std.proofs.lemmas.Result.{err_from_is_err_and}
 use Rattle.flash_model.specs.Geometry.{IsGeometry}
-use Rattle.commit_pair.specs.Reading.{OnlyReads_itself}
+use Rattle.flash_model.specs.Reading.{OnlyReads_itself}
 use Rattle.commit_pair.proofs.anchors.Anchors.newest.Goals as goal
 
 pub read_newest-requires-clause-same : goal.read_newest-requires-clause-same

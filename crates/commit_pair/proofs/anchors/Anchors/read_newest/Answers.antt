@@ -1,8 +1,8 @@
 use Rattle.std.proofs.Common.{ℕ, Some, refl, sym, ap, ◌∙◌, arith}
 use Rattle.std.proofs.lemmas.Result.{err_from_is_err_and}
 use Rattle.flash_model.specs.Device.{Page}
+use Rattle.flash_model.specs.Reading.{OnlyReads_itself, OnlyReads_on, same_pages}
 use Rattle.commit_pair.specs.Parts.{parts_on, best_on}
-use Rattle.commit_pair.specs.Reading.{OnlyReads_itself, OnlyReads_on}
 use Rattle.commit_pair.specs.declared.anchors.Anchors.{Anchors}
 use Rattle.commit_pair.proofs.Beginning.{remembers_at, knows_end_at, ready_at}
 use Rattle.commit_pair.proofs.Committed.{newest_stays, none_committed, read_cause, cause_stays}
@@ -29,7 +29,7 @@ read_best-requires-clause-whole g c = c.find_best.auto.buffer ∙ c.requires.who
 
 pub read_best-requires-clause-best : goal.read_best-requires-clause-best
 read_best-requires-clause-best g c =
-    c.in_ok-best.ensures.best ∙ ap (λ (pages : ℕ → Page). best_on c.args.geometry (parts_on c.args.geometry pages)) (sym c.in_ok-best.ensures.only_reads.pages)
+    c.in_ok-best.ensures.best ∙ ap (λ (pages : ℕ → Page). best_on c.args.geometry (parts_on c.args.geometry pages)) (sym (same_pages c.in_ok-best.ensures.only_reads))
 
 pub returns-in_err-best-clause-newest : goal.returns-in_err-best-clause-newest
 returns-in_err-best-clause-newest g c = rw (err_from_is_err_and c.from_residual.result c.from_residual.ensures.1).1 tt

@@ -1,4 +1,4 @@
-use Rattle.flash_model.specs.declared.plans.Operation.{Operation}
+use Rattle.flash_model.specs.declared.fault_kind.Operation.{Operation}
 use Rattle.shell.proofs.PlanLemmas.{goes_on_more}
 use Rattle.shell.proofs.following.FollowingFlash.read.Goals as goal
 

@@ -3,7 +3,7 @@ use Rattle.std.proofs.lemmas.Bool.{and_parts}
 use Rattle.std.proofs.lemmas.Result.{err_from_is_err_and}
 use Rattle.fs_types.specs.Names.{is_path}
 use Rattle.history_machine.specs.Machine.{working_tree}
-use Rattle.node_format.specs.declared.places.Place.TheVariants.{Dir}
+use Rattle.node_format.specs.declared.place.Place.TheVariants.{Dir}
 use Rattle.node_store.specs.NodePages.{node_of}
 use Rattle.block_trees.specs.Bodies.{Blocks}
 use Rattle.block_trees.specs.Trees.{leads}

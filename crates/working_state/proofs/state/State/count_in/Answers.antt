@@ -5,7 +5,7 @@ use Rattle.block_trees.specs.Chains.{chain}
 use Rattle.working_state.specs.Looking.{Asks}
 use Rattle.working_state.proofs.Looks.{on_devices, store_asks}
 use Rattle.std.specs.Prelude.{◌≡◌, List, Some, None, IfOk, IsErrOf}
-use Rattle.fs_types.specs.declared.faults.Fault.TheVariants.{Damaged}
+use Rattle.fs_types.specs.declared.fault.Fault.TheVariants.{Damaged}
 use Rattle.node_format.specs.Items.{Item}
 use Rattle.block_trees.specs.Trees.{entries_in}
 use Rattle.working_state.proofs.state.State.count_in.Goals as goal

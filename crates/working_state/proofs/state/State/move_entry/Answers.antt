@@ -1,7 +1,7 @@
 use Rattle.std.proofs.Common.{Err, refl, ap, subst, ◌∙◌}
 use Rattle.std.proofs.lemmas.Result.{err_from_is_err_and}
-use Rattle.fs_types.specs.declared.calls.Call.{Call}
-use Rattle.fs_types.specs.declared.calls.Reply.{Reply}
+use Rattle.fs_types.specs.declared.call.Call.{Call}
+use Rattle.fs_types.specs.declared.call.Reply.{Reply}
 use Rattle.plain_trees.specs.Contents.{Apart}
 use Rattle.tree_edits.specs.Edits.{IsMovable}
 use Rattle.working_state.specs.Moments.{Moment, moment, nodes_at}

@@ -4,9 +4,9 @@ use Rattle.history_machine.specs.Descriptors.{Descriptor, opened}
 use Rattle.history_machine.specs.Machine.{working_tree, open_changes}
 use Rattle.fs_types.specs.Names.{is_path}
 use Rattle.plain_trees.specs.Contents.{Entry}
-use Rattle.fs_types.specs.declared.calls.Call.{Call}
-use Rattle.fs_types.specs.declared.calls.Reply.{Reply}
-use Rattle.fs_types.specs.declared.faults.Fault.TheVariants.{NoMemory}
+use Rattle.fs_types.specs.declared.call.Call.{Call}
+use Rattle.fs_types.specs.declared.call.Reply.{Reply}
+use Rattle.fs_types.specs.declared.fault.Fault.TheVariants.{NoMemory}
 use Rattle.block_trees.specs.Bodies.{Blocks}
 use Rattle.directory.specs.Lookups.{look_up}
 use Rattle.directory.specs.Trails.{IsTrail}

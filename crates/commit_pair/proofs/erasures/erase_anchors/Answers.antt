@@ -1,0 +1,31 @@
+use Rattle.std.proofs.Common.{◌∙◌, arith}
+use Rattle.commit_pair.proofs.Anchoring.{OnlyAnchors_on, Fades_on, erased_next, good_behind, room_behind}
+use Rattle.commit_pair.proofs.Asking.{tried_once}
+use Rattle.commit_pair.proofs.erasures.erase_anchors.Goals as goal
+
+pub loop-anchor-preserved : goal.loop-anchor-preserved
+loop-anchor-preserved g c =
+    let old = g.F.Flash.device c.args.flash.now in
+    let mid = g.F.Flash.device c.loop-anchor.flash in
+    let new = g.F.Flash.device c.erase_anchor.new.flash in
+    let so_far = c.loop-anchor.invariant in
+    let done = c.in_ok-erase_anchor.field-0 in
+    let after = c.in_ok-erase_anchor.ensures in
+    let anchor = c.loop-anchor.anchor in
+    let list = c.loop-anchor.bad in
+    record {
+      only_anchors = OnlyAnchors_on old mid new c.args.bad.now list c.erase_anchor.new.bad so_far.only_anchors after.only_anchors;
+      fades = Fades_on old.pages mid.pages new.pages so_far.fades after.fades;
+      reads = after.reads ∙ so_far.reads;
+      operations = let one = tried_once mid new done after.tries in let h = so_far.operations in omega arith;
+      erased = erased_next mid new list c.erase_anchor.new.bad anchor done after.only_anchors.geometry so_far.erased after.erased after.others after.list;
+      good = good_behind list c.erase_anchor.new.bad anchor done after.list so_far.good;
+      room = let h = room_behind list c.erase_anchor.new.bad anchor done after.list (so_far.good anchor (omega arith) c.loop-anchor-test.true) in let r = so_far.room in omega arith;
+    }
+
+pub returns-in_err-erase_anchor-clause-operations : goal.returns-in_err-erase_anchor-clause-operations
+returns-in_err-erase_anchor-clause-operations g c =
+    let h = c.loop-anchor.invariant.operations in
+    let one = c.in_err-erase_anchor.ensures.operations in
+    let lt = c.loop-anchor-test.true in
+    omega arith

@@ -1,0 +1,169 @@
+use Rattle.std.proofs.Common.{true, false, Some, ap, ◌∙◌, arith}
+use Rattle.std.proofs.lemmas.Result.{err_from_is_err_and}
+use Rattle.block_trees.specs.Chains.{link_of}
+use Rattle.block_trees.specs.Reached.{Keeps}
+use Rattle.node_format.specs.declared.place.Place.TheVariants.{Dir}
+use Rattle.directory.specs.Trails.{has_room}
+use Rattle.directory.proofs.EditedPaths.{made_reaches}
+use Rattle.directory.proofs.Held.{held_later}
+use Rattle.directory.proofs.NewDirectories.{rewritten_before}
+use Rattle.directory.proofs.TrailEdits.{look_later, trail_later, path_nodes-later}
+use Rattle.directory.proofs.WrittenNodes.{empty_written}
+use Rattle.directory.proofs.edits.put_directory.Goals as goal
+
+pub put_entry-requires-clause-held : goal.put_entry-requires-clause-held
+put_entry-requires-clause-held g c =
+    let old = c.args.nodes.now in
+    let mid = c.write.new.self in
+    let keeps : Keeps (g.N.Nodes.kept old) (g.N.Nodes.node old) (g.N.Nodes.kept mid) (g.N.Nodes.node mid) = record {
+      same = λ b kept. g.met.N.Nodes.same_node old mid b c.requires.sound c.write.ensures.works.came kept;
+      stays = λ b kept. g.met.N.Nodes.stays_kept old mid b c.write.ensures.works.came kept;
+    } in
+    held_later (g.N.Nodes.node old) (g.N.Nodes.node mid) (g.N.Nodes.kept old) (g.N.Nodes.kept mid) keeps c.args.root c.requires.held
+
+pub put_entry-requires-clause-way : goal.put_entry-requires-clause-way
+put_entry-requires-clause-way g c =
+    let old = c.args.nodes.now in
+    let mid = c.write.new.self in
+    let keeps : Keeps (g.N.Nodes.kept old) (g.N.Nodes.node old) (g.N.Nodes.kept mid) (g.N.Nodes.node mid) = record {
+      same = λ b kept. g.met.N.Nodes.same_node old mid b c.requires.sound c.write.ensures.works.came kept;
+      stays = λ b kept. g.met.N.Nodes.stays_kept old mid b c.write.ensures.works.came kept;
+    } in
+    trail_later (g.N.Nodes.node old) (g.N.Nodes.node mid) (g.N.Nodes.kept old) (g.N.Nodes.kept mid) keeps c.args.path.now c.args.root c.args.trail.now c.requires.held c.requires.way
+
+pub put_entry-requires-clause-room : goal.put_entry-requires-clause-room
+put_entry-requires-clause-room g c =
+    let old = c.args.nodes.now in
+    let mid = c.write.new.self in
+    let keeps : Keeps (g.N.Nodes.kept old) (g.N.Nodes.node old) (g.N.Nodes.kept mid) (g.N.Nodes.node mid) = record {
+      same = λ b kept. g.met.N.Nodes.same_node old mid b c.requires.sound c.write.ensures.works.came kept;
+      stays = λ b kept. g.met.N.Nodes.stays_kept old mid b c.write.ensures.works.came kept;
+    } in
+    ap has_room (look_later (g.N.Nodes.node old) (g.N.Nodes.node mid) (g.N.Nodes.kept old) (g.N.Nodes.kept mid) keeps c.args.path.now c.args.root c.requires.held ∙ c.requires.missing)
+
+pub returns-in_err-to-clause-why : goal.returns-in_err-to-clause-why
+returns-in_err-to-clause-why g c =
+    let why = g.met.N.Nodes.causes_on c.args.nodes.now c.write.new.self c.put_entry.new.nodes c.in_err-to.field-0.0 c.write.ensures.works.came c.in_err-to.ensures.why in
+    let p = err_from_is_err_and c.from_residual-in_err-to.result c.from_residual-in_err-to.ensures.1 in
+    rw (p.1, p.2) why
+
+pub returns-clause-made : goal.returns-clause-made
+returns-clause-made g c =
+    let old = c.args.nodes.now in
+    let mid = c.write.new.self in
+    let new = c.put_entry.new.nodes in
+    let keeps : Keeps (g.N.Nodes.kept old) (g.N.Nodes.node old) (g.N.Nodes.kept mid) (g.N.Nodes.node mid) = record {
+      same = λ b kept. g.met.N.Nodes.same_node old mid b c.requires.sound c.write.ensures.works.came kept;
+      stays = λ b kept. g.met.N.Nodes.stays_kept old mid b c.write.ensures.works.came kept;
+    } in
+    let block = c.in_ok-block.block in
+    let same = g.met.N.Nodes.same_node mid new block c.write.ensures.works.sound c.put_entry.ensures.works.came c.in_ok-block.ensures.kept in
+    record {
+      block = block;
+      empty = empty_written (g.N.Nodes.node new) block (ap link_of (same ∙ c.in_ok-block.ensures.written) ∙ c.empty_directory.ensures.read);
+      was_free = c.in_ok-block.ensures.fresh;
+      is_kept = g.met.N.Nodes.stays_kept mid new block c.put_entry.ensures.works.came c.in_ok-block.ensures.kept;
+      rewritten = rewritten_before (g.N.Nodes.node old) (g.N.Nodes.node mid) (g.N.Nodes.node new) (g.N.Nodes.kept old) (g.N.Nodes.kept mid) (g.N.Nodes.kept new) keeps (λ b free. g.met.N.Nodes.was_fresh old mid b c.write.ensures.works.came free) c.args.path.now c.args.root c.in_ok-to.to (Some (Dir block)) c.requires.held c.in_ok-to.ensures.rewritten;
+    }
+
+pub returns-clause-reaches : goal.returns-clause-reaches
+returns-clause-reaches g c =
+    let old = c.args.nodes.now in
+    let new = c.put_entry.new.nodes in
+    let before = g.met.N.Nodes.follows_on old c.write.new.self new c.write.ensures.works.came c.put_entry.ensures.works.came in
+    let keeps : Keeps (g.N.Nodes.kept old) (g.N.Nodes.node old) (g.N.Nodes.kept new) (g.N.Nodes.node new) = record {
+      same = λ b kept. g.met.N.Nodes.same_node old new b c.requires.sound before kept;
+      stays = λ b kept. g.met.N.Nodes.stays_kept old new b before kept;
+    } in
+    made_reaches (g.N.Nodes.node old) (g.N.Nodes.node new) (g.N.Nodes.kept old) (g.N.Nodes.kept new) c.args.root c.in_ok-to.to c.args.path.now keeps c.requires.held (returns-clause-made g c)
+
+pub returns-in_err-block-clause-keeps : goal.returns-in_err-block-clause-keeps
+returns-in_err-block-clause-keeps g c = record {
+  same = λ b kept. g.met.N.Nodes.same_node c.args.nodes.now c.write.new.self b c.requires.sound c.write.ensures.works.came kept;
+  stays = λ b kept. g.met.N.Nodes.stays_kept c.args.nodes.now c.write.new.self b c.write.ensures.works.came kept;
+}
+
+pub returns-in_err-block-clause-works : goal.returns-in_err-block-clause-works
+returns-in_err-block-clause-works g c = c.write.ensures.works
+
+pub returns-in_err-block-clause-why : goal.returns-in_err-block-clause-why
+returns-in_err-block-clause-why g c =
+    let p = err_from_is_err_and c.from_residual.result c.from_residual.ensures.1 in
+    rw (p.1, p.2) c.in_err-block.ensures.why
+
+pub returns-in_err-to-clause-keeps : goal.returns-in_err-to-clause-keeps
+returns-in_err-to-clause-keeps g c = record {
+  same = λ b kept. g.met.N.Nodes.same_node c.args.nodes.now c.put_entry.new.nodes b c.requires.sound (g.met.N.Nodes.follows_on c.args.nodes.now c.write.new.self c.put_entry.new.nodes c.write.ensures.works.came c.put_entry.ensures.works.came) kept;
+  stays = λ b kept. g.met.N.Nodes.stays_kept c.args.nodes.now c.put_entry.new.nodes b (g.met.N.Nodes.follows_on c.args.nodes.now c.write.new.self c.put_entry.new.nodes c.write.ensures.works.came c.put_entry.ensures.works.came) kept;
+}
+
+pub returns-in_err-to-clause-works : goal.returns-in_err-to-clause-works
+returns-in_err-to-clause-works g c =
+    g.met.N.Nodes.works_on c.args.nodes.now c.write.new.self c.put_entry.new.nodes c.write.ensures.works c.put_entry.ensures.works
+
+pub returns-clause-keeps : goal.returns-clause-keeps
+returns-clause-keeps g c = record {
+  same = λ b kept. g.met.N.Nodes.same_node c.args.nodes.now c.put_entry.new.nodes b c.requires.sound (g.met.N.Nodes.follows_on c.args.nodes.now c.write.new.self c.put_entry.new.nodes c.write.ensures.works.came c.put_entry.ensures.works.came) kept;
+  stays = λ b kept. g.met.N.Nodes.stays_kept c.args.nodes.now c.put_entry.new.nodes b (g.met.N.Nodes.follows_on c.args.nodes.now c.write.new.self c.put_entry.new.nodes c.write.ensures.works.came c.put_entry.ensures.works.came) kept;
+}
+
+pub returns-clause-works : goal.returns-clause-works
+returns-clause-works g c =
+    g.met.N.Nodes.works_on c.args.nodes.now c.write.new.self c.put_entry.new.nodes c.write.ensures.works c.put_entry.ensures.works
+
+pub returns-in_err-to-clause-faults : goal.returns-in_err-to-clause-faults
+returns-in_err-to-clause-faults g c =
+    let p = err_from_is_err_and c.from_residual-in_err-to.result c.from_residual-in_err-to.ensures.1 in
+    rw (p.1, p.2) c.in_err-to.ensures.faults
+
+pub returns-clause-writes : goal.returns-clause-writes
+returns-clause-writes g c =
+    let old = c.args.nodes.now in
+    let mid = c.write.new.self in
+    let keeps : Keeps (g.N.Nodes.kept old) (g.N.Nodes.node old) (g.N.Nodes.kept mid) (g.N.Nodes.node mid) = record {
+      same = λ b kept. g.met.N.Nodes.same_node old mid b c.requires.sound c.write.ensures.works.came kept;
+      stays = λ b kept. g.met.N.Nodes.stays_kept old mid b c.write.ensures.works.came kept;
+    } in
+    let same = path_nodes-later (g.N.Nodes.node old) (g.N.Nodes.node mid) (g.N.Nodes.kept old) (g.N.Nodes.kept mid) c.args.path.now c.args.trail.now true 0 keeps (record { root = c.args.root; trail_of = c.requires.way; held = c.requires.held }) in
+    let wrote = c.write.ensures.writes in
+    let put = c.put_entry.ensures.writes in
+    omega (arith, same, wrote, put)
+
+pub returns-in_err-to-clause-writes : goal.returns-in_err-to-clause-writes
+returns-in_err-to-clause-writes g c =
+    let old = c.args.nodes.now in
+    let mid = c.write.new.self in
+    let keeps : Keeps (g.N.Nodes.kept old) (g.N.Nodes.node old) (g.N.Nodes.kept mid) (g.N.Nodes.node mid) = record {
+      same = λ b kept. g.met.N.Nodes.same_node old mid b c.requires.sound c.write.ensures.works.came kept;
+      stays = λ b kept. g.met.N.Nodes.stays_kept old mid b c.write.ensures.works.came kept;
+    } in
+    let same = path_nodes-later (g.N.Nodes.node old) (g.N.Nodes.node mid) (g.N.Nodes.kept old) (g.N.Nodes.kept mid) c.args.path.now c.args.trail.now true 0 keeps (record { root = c.args.root; trail_of = c.requires.way; held = c.requires.held }) in
+    let wrote = c.write.ensures.writes in
+    let put = c.put_entry.ensures.writes in
+    omega (arith, same, wrote, put)
+
+pub returns-clause-reads : goal.returns-clause-reads
+returns-clause-reads g c =
+    let old = c.args.nodes.now in
+    let mid = c.write.new.self in
+    let keeps : Keeps (g.N.Nodes.kept old) (g.N.Nodes.node old) (g.N.Nodes.kept mid) (g.N.Nodes.node mid) = record {
+      same = λ b kept. g.met.N.Nodes.same_node old mid b c.requires.sound c.write.ensures.works.came kept;
+      stays = λ b kept. g.met.N.Nodes.stays_kept old mid b c.write.ensures.works.came kept;
+    } in
+    let same = path_nodes-later (g.N.Nodes.node old) (g.N.Nodes.node mid) (g.N.Nodes.kept old) (g.N.Nodes.kept mid) c.args.path.now c.args.trail.now false 0 keeps (record { root = c.args.root; trail_of = c.requires.way; held = c.requires.held }) in
+    let read = c.write.ensures.reads in
+    let put = c.put_entry.ensures.reads in
+    omega (arith, same, read, put)
+
+pub returns-in_err-to-clause-reads : goal.returns-in_err-to-clause-reads
+returns-in_err-to-clause-reads g c =
+    let old = c.args.nodes.now in
+    let mid = c.write.new.self in
+    let keeps : Keeps (g.N.Nodes.kept old) (g.N.Nodes.node old) (g.N.Nodes.kept mid) (g.N.Nodes.node mid) = record {
+      same = λ b kept. g.met.N.Nodes.same_node old mid b c.requires.sound c.write.ensures.works.came kept;
+      stays = λ b kept. g.met.N.Nodes.stays_kept old mid b c.write.ensures.works.came kept;
+    } in
+    let same = path_nodes-later (g.N.Nodes.node old) (g.N.Nodes.node mid) (g.N.Nodes.kept old) (g.N.Nodes.kept mid) c.args.path.now c.args.trail.now false 0 keeps (record { root = c.args.root; trail_of = c.requires.way; held = c.requires.held }) in
+    let read = c.write.ensures.reads in
+    let put = c.put_entry.ensures.reads in
+    omega (arith, same, read, put)

@@ -1,0 +1,28 @@
+use Rattle.std.proofs.Common.{ℕ, List, None, sym, subst, rules}
+use Rattle.fs_types.specs.Names.{Path}
+use Rattle.block_trees.specs.Reached.{Keeps}
+use Rattle.directory.specs.Trails.{IsTaken}
+use Rattle.directory.proofs.EditedPaths.{only_reaches}
+use Rattle.directory.proofs.TrailEdits.{stands_taken}
+use Rattle.directory.proofs.edits.remove_entry.Goals as goal
+
+pub rewrite_from-requires-clause-taken : goal.rewrite_from-requires-clause-taken
+rewrite_from-requires-clause-taken g c =
+    let f = g.N.Nodes.node c.args.nodes.now in
+    let taken = stands_taken f c.args.root c.args.path.now c.args.trail.now c.requires.way c.requires.below c.requires.stands in
+    subst (λ (t : List ℕ). IsTaken f t c.names.result.now None) (sym c.blocks-blocks.ensures)
+    (subst (λ (p : Path). IsTaken f c.args.trail.now p None) (sym c.names.ensures.names) taken)
+
+pub returns-clause-reaches : goal.returns-clause-reaches
+returns-clause-reaches g c =
+    let old = c.args.nodes.now in
+    let new = c.rewrite_from.new.nodes in
+    let f = g.N.Nodes.node old in
+    let h = g.N.Nodes.node new in
+    let k = g.N.Nodes.kept old in
+    let l = g.N.Nodes.kept new in
+    let keeps : Keeps (g.N.Nodes.kept old) (g.N.Nodes.node old) (g.N.Nodes.kept new) (g.N.Nodes.node new) = record {
+      same = λ b kept. g.met.N.Nodes.same_node old new b c.requires.sound c.rewrite_from.ensures.works.came kept;
+      stays = λ b kept. g.met.N.Nodes.stays_kept old new b c.rewrite_from.ensures.works.came kept;
+    } in
+    only_reaches f h k l c.args.root c.args.path.now None c.rewrite_from.result keeps c.requires.held (search rules)

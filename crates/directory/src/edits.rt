@@ -1,0 +1,186 @@
+//! Entries put and taken out: the directories that a look up went through written anew, from the
+//! deepest up.
+ghost use Rattle.std.specs.Prelude.{◌≡◌, ℕ, ◌+◌, ◌≤◌, ◌<◌, true, false, length, drop, slice_index, Some, None, IsSome, Ok, IfOk, IfErr, IfSome};
+ghost use Rattle.std.specs.Option.{is_some};
+ghost use Rattle.node_format.specs.Items.{is_place};
+ghost use Rattle.node_format.specs.declared.place.Place.TheVariants.{Dir};
+ghost use Rattle.block_trees.specs.Trees.{leads, entries_in, items_in};
+ghost use Rattle.block_trees.specs.Reached.{IsHeld, Keeps};
+ghost use Rattle.block_trees.specs.Rewritten.{IsDirectoryEdit, IsFreshChain, IsRewritten};
+ghost use Rattle.directory.specs.Counts.{edit_nodes, read_nodes, written_nodes, path_nodes};
+ghost use Rattle.directory.specs.Lookups.{look_up};
+ghost use Rattle.directory.specs.declared.lookups.Found.TheVariants.{Missing};
+ghost use Rattle.directory.specs.Edits.{OnlyReaches};
+ghost use Rattle.directory.specs.Making.{IsMade};
+ghost use Rattle.directory.specs.Trails as spec;
+ghost use Rattle.node_store.specs.Frames.{Works};
+
+use crate::list_writes::write_list;
+use crate::node_lists::{edit_list, read_list};
+use crate::trail::Trail;
+use fs_types::{Fault, Name, Path};
+use node_format::{Place, empty_directory};
+use node_store::Nodes;
+use std::alloc::Global;
+
+/// Writes the directory that begins in a block anew, with a name leading to a place, or to nothing.
+/// Where a name that is there leads to another place, the nodes after the one with the name stay as
+/// they are, and are neither read nor written. Answers the block of its first node.
+pub(crate) fn edit_directory<N: Nodes>(
+    alloc: Global,
+    nodes: &mut N,
+    block: u32,
+    name: &Name,
+    place: Option<Place>,
+) -> Result<u32, Fault>
+    requires sound { N.is_sound nodes.old }
+    requires place { IfSome place (λ p. is_place p ≡ true) }
+    requires takes { spec.takes (entries_in (N.node nodes.old) block) name.now place ≡ true }
+    requires held { IsHeld (N.node nodes.old) (N.kept nodes.old) (Dir block) }
+
+    // The new directory.
+    ensures edited { IfOk result (λ to. IsDirectoryEdit (N.node nodes.old) (N.node nodes.new) block to name.now place) }
+    ensures chain { IfOk result (λ to. IsFreshChain (N.node nodes.old) (N.node nodes.new) (N.kept nodes.old) (N.kept nodes.new) block to) }
+
+    // What it is refused with, and what it asks for.
+    ensures why { IfErr result (λ fault. N.causes nodes.old nodes.new fault) }
+    ensures faults { IfErr result spec.IsChangeFault }
+    ensures written { IfOk result (λ _. N.writes nodes.new ≡ N.writes nodes.old + written_nodes (items_in (N.node nodes.old) block) name.now place) }
+    ensures writes { N.writes nodes.new ≤ N.writes nodes.old + edit_nodes (items_in (N.node nodes.old) block) name.now (is_some place) }
+    ensures reads { N.reads nodes.new ≤ N.reads nodes.old + read_nodes (items_in (N.node nodes.old) block) name.now (is_some place) }
+    ensures works { Works N.follows N.is_sound N.limit N.blocks nodes.old nodes.new }
+{
+    let (read, tail) = read_list(alloc, nodes, block, name, place)?;
+    let edited = edit_list(alloc, &read.list(), name, place)?;
+    write_list(alloc, nodes, &edited.list(), tail)
+}
+
+/// Writes the directories of a trail anew from one level down, the deepest first, so that the last
+/// name leads to a place, or to nothing. Answers the block of the new one in place of the first.
+pub(crate) fn rewrite_from<N: Nodes>(
+    alloc: Global,
+    nodes: &mut N,
+    trail: &[u32],
+    names: &[Name],
+    level: usize,
+    place: Option<Place>,
+) -> Result<u32, Fault>
+    requires sound { N.is_sound nodes.old }
+    requires level { level < length names.now }
+    requires place { IfSome place (λ p. is_place p ≡ true) }
+    requires way { spec.IsHeldTrail (N.node nodes.old) (N.kept nodes.old) names.now trail.now }
+    requires taken { spec.IsTaken (N.node nodes.old) trail.now names.now place }
+    ensures rewritten { IfOk result (λ to. IsRewritten (N.node nodes.old) (N.node nodes.new) (N.kept nodes.old) (N.kept nodes.new) (slice_index trail.now level) to (drop level names.now) place) }
+    ensures why { IfErr result (λ fault. N.causes nodes.old nodes.new fault) }
+    ensures faults { IfErr result spec.IsChangeFault }
+    ensures writes { N.writes nodes.new ≤ N.writes nodes.old + path_nodes (N.node nodes.old) trail.now names.now (is_some place) level }
+    ensures reads { N.reads nodes.new ≤ N.reads nodes.old + path_nodes (N.node nodes.old) trail.now names.now false level }
+    ensures works { Works N.follows N.is_sound N.limit N.blocks nodes.old nodes.new }
+{
+    let last = names.len() - 1;
+    let mut to = edit_directory(alloc, nodes, trail[last], &names[last], place)?;
+    for i in (level..last).rev() {
+        let below = Place::Dir { block: to };
+        to = edit_directory(alloc, nodes, trail[i], &names[i], Some(below))?;
+    }
+    Ok(to)
+}
+
+/// Puts an entry: the last name of a path below a root leads to a place, and all else stays. `trail`
+/// is that of the path below the root, and the name is there, or there is room for it, as a look up
+/// told. Each directory along the path is read once more and written anew, the deepest first, but for
+/// the nodes after the one with its name. Answers the block of the new root. The old root stays as it
+/// was, whatever is answered.
+///
+/// Refused only with what reads and writes are refused with, and with `NoMemory`.
+pub fn put_entry<N: Nodes>(
+    alloc: Global,
+    nodes: &mut N,
+    root: u32,
+    trail: &Trail,
+    path: &Path,
+    place: Place,
+) -> Result<u32, Fault>
+    requires sound { N.is_sound nodes.old }
+    requires below { 0 < length path.now }
+    requires place { is_place place ≡ true }
+    requires held { IsHeld (N.node nodes.old) (N.kept nodes.old) (Dir root) }
+    requires way { spec.IsTrail (N.node nodes.old) root path.now trail.now }
+    requires room { spec.has_room (look_up (N.node nodes.old) root path.now) ≡ true }
+    ensures rewritten { IfOk result (λ to. IsRewritten (N.node nodes.old) (N.node nodes.new) (N.kept nodes.old) (N.kept nodes.new) root to path.now (Some place)) }
+    ensures reaches { IfOk result (λ to. OnlyReaches (N.node nodes.old) (N.node nodes.new) (N.kept nodes.old) root to (Some place)) }
+    ensures keeps { Keeps (N.kept nodes.old) (N.node nodes.old) (N.kept nodes.new) (N.node nodes.new) }
+    ensures why { IfErr result (λ fault. N.causes nodes.old nodes.new fault) }
+    ensures faults { IfErr result spec.IsChangeFault }
+    ensures writes { N.writes nodes.new ≤ N.writes nodes.old + path_nodes (N.node nodes.old) trail.now path.now true 0 }
+    ensures reads { N.reads nodes.new ≤ N.reads nodes.old + path_nodes (N.node nodes.old) trail.now path.now false 0 }
+    ensures works { Works N.follows N.is_sound N.limit N.blocks nodes.old nodes.new }
+{
+    let blocks = trail.blocks();
+    let begins = blocks[0] == root;
+    prove!(begins);
+    rewrite_from(alloc, nodes, blocks, path.names(), 0, Some(place))
+}
+
+/// Takes an entry out: the last name of a path below a root leads nowhere, and all else stays.
+/// `trail` is that of the path below the root, and something stands there, as a look up told. What
+/// is read, written, answered and refused is as with `put_entry`.
+pub fn remove_entry<N: Nodes>(
+    alloc: Global,
+    nodes: &mut N,
+    root: u32,
+    trail: &Trail,
+    path: &Path,
+) -> Result<u32, Fault>
+    requires sound { N.is_sound nodes.old }
+    requires below { 0 < length path.now }
+    requires held { IsHeld (N.node nodes.old) (N.kept nodes.old) (Dir root) }
+    requires way { spec.IsTrail (N.node nodes.old) root path.now trail.now }
+    requires stands { IsSome (leads (N.node nodes.old) (Dir root) path.now) }
+    ensures rewritten { IfOk result (λ to. IsRewritten (N.node nodes.old) (N.node nodes.new) (N.kept nodes.old) (N.kept nodes.new) root to path.now None) }
+    ensures reaches { IfOk result (λ to. OnlyReaches (N.node nodes.old) (N.node nodes.new) (N.kept nodes.old) root to None) }
+    ensures keeps { Keeps (N.kept nodes.old) (N.node nodes.old) (N.kept nodes.new) (N.node nodes.new) }
+    ensures why { IfErr result (λ fault. N.causes nodes.old nodes.new fault) }
+    ensures faults { IfErr result spec.IsChangeFault }
+    ensures writes { N.writes nodes.new ≤ N.writes nodes.old + path_nodes (N.node nodes.old) trail.now path.now false 0 }
+    ensures reads { N.reads nodes.new ≤ N.reads nodes.old + path_nodes (N.node nodes.old) trail.now path.now false 0 }
+    ensures works { Works N.follows N.is_sound N.limit N.blocks nodes.old nodes.new }
+{
+    let blocks = trail.blocks();
+    let begins = blocks[0] == root;
+    prove!(begins);
+    rewrite_from(alloc, nodes, blocks, path.names(), 0, None)
+}
+
+/// Puts a new empty directory at a path whose last name is missing from a directory with room for
+/// it, as a look up told, with `trail` that of the path below the root. Its node is written first,
+/// then the directories along the path anew, each of which is read once more. Answers the block of
+/// the new root. The old root stays as it was, whatever is answered.
+///
+/// Refused only with what reads and writes are refused with, and with `NoMemory`.
+pub fn put_directory<N: Nodes>(
+    alloc: Global,
+    nodes: &mut N,
+    root: u32,
+    trail: &Trail,
+    path: &Path,
+) -> Result<u32, Fault>
+    requires sound { N.is_sound nodes.old }
+    requires held { IsHeld (N.node nodes.old) (N.kept nodes.old) (Dir root) }
+    requires way { spec.IsTrail (N.node nodes.old) root path.now trail.now }
+    requires missing { look_up (N.node nodes.old) root path.now ≡ Ok (Missing false) }
+    ensures made { IfOk result (λ to. IsMade (N.node nodes.old) (N.node nodes.new) (N.kept nodes.old) (N.kept nodes.new) root to path.now) }
+    ensures reaches { IfOk result (λ to. OnlyReaches (N.node nodes.old) (N.node nodes.new) (N.kept nodes.old) root to None) }
+    ensures keeps { Keeps (N.kept nodes.old) (N.node nodes.old) (N.kept nodes.new) (N.node nodes.new) }
+    ensures why { IfErr result (λ fault. N.causes nodes.old nodes.new fault) }
+    ensures faults { IfErr result spec.IsChangeFault }
+    ensures writes { N.writes nodes.new ≤ N.writes nodes.old + (path_nodes (N.node nodes.old) trail.now path.now true 0 + 1) }
+    ensures reads { N.reads nodes.new ≤ N.reads nodes.old + path_nodes (N.node nodes.old) trail.now path.now false 0 }
+    ensures works { Works N.follows N.is_sound N.limit N.blocks nodes.old nodes.new }
+{
+    let fits = nodes.block_bytes() >= 4096;
+    prove!(fits);
+    let block = nodes.write(&empty_directory())?;
+    let to = put_entry(alloc, nodes, root, trail, path, Place::Dir { block })?;
+    Ok(to)
+}

@@ -1,0 +1,196 @@
+//! What stands at one path moved to another, by the directories that a look up of each went through.
+ghost use Rattle.std.specs.Prelude.{◌≡◌, ℕ, ◌+◌, ◌≤◌, ◌<◌, true, false, length, drop, slice_index, slice_index_or, [], Some, None, IsSome, IfOk, IfErr, IfSome};
+ghost use Rattle.std.specs.Option.{is_some};
+ghost use Rattle.fs_types.specs.Names.{same_name, same_path};
+ghost use Rattle.plain_trees.specs.Contents.{Apart, parent_of};
+ghost use Rattle.plain_trees.specs.Trees.{nodes_for};
+ghost use Rattle.node_format.specs.Items.{is_place};
+ghost use Rattle.node_format.specs.declared.place.Place.TheVariants.{Dir};
+ghost use Rattle.block_trees.specs.Trees.{child, leads, entries_in, items_in};
+ghost use Rattle.block_trees.specs.Reached.{IsHeld, Keeps};
+ghost use Rattle.block_trees.specs.Rewritten.{IsSecondEdit, IsFreshChain, IsBranch, IsMoved};
+ghost use Rattle.directory.specs.Counts.{nodes_in, edit_nodes, path_nodes, fork_nodes, move_nodes};
+ghost use Rattle.directory.specs.Lookups.{look_up};
+ghost use Rattle.directory.specs.Edits.{OnlyReaches};
+ghost use Rattle.directory.specs.Trails.{IsTrail, IsHeldTrail, IsTaken, IsChangeFault, has_room, takes};
+ghost use Rattle.directory.specs.Moves as spec;
+ghost use Rattle.node_store.specs.Frames.{Works};
+
+use crate::edits::{edit_directory, rewrite_from};
+use crate::list_writes::write_list;
+use crate::node_lists::{edit_list_twice, read_list};
+use crate::trail::Trail;
+use fs_types::{Fault, Name, Path};
+use node_format::Place;
+use node_store::Nodes;
+use std::alloc::Global;
+
+/// How many names two paths begin with in common.
+fn common_names(old: &[Name], new: &[Name]) -> usize
+    ensures { result ≡ spec.common old.now new.now }
+{
+    for (i, name) in old.iter().enumerate() {
+        if i == new.len() {
+            return i;
+        }
+        if *name != new[i] {
+            return i;
+        }
+    }
+    old.len()
+}
+
+/// Writes the directory that begins in a block anew, with one of its names leading to a place, or to
+/// nothing, and another name to another place. Answers the block of its first node.
+fn edit_directory_twice<N: Nodes>(
+    alloc: Global,
+    nodes: &mut N,
+    block: u32,
+    name: &Name,
+    gone: Option<Place>,
+    other: &Name,
+    here: Option<Place>,
+) -> Result<u32, Fault>
+    requires sound { N.is_sound nodes.old }
+    requires gone { IfSome gone (λ p. is_place p ≡ true) }
+    requires here { IfSome here (λ p. is_place p ≡ true) }
+    requires apart { same_name name.now other.now ≡ false }
+    requires named { IsSome (child (N.node nodes.old) (Dir block) name.now) }
+    requires room { IsSome gone → takes (entries_in (N.node nodes.old) block) other.now here ≡ true }
+    ensures edited { IfOk result (λ to. IsSecondEdit (N.node nodes.old) (N.node nodes.new) block to name.now gone other.now here) }
+    ensures chain { IfOk result (λ to. IsFreshChain (N.node nodes.old) (N.node nodes.new) (N.kept nodes.old) (N.kept nodes.new) block to) }
+    ensures why { IfErr result (λ fault. N.causes nodes.old nodes.new fault) }
+    ensures faults { IfErr result IsChangeFault }
+    ensures written { IfOk result (λ _. N.writes nodes.new ≡ N.writes nodes.old + nodes_for (spec.edited_twice_count (items_in (N.node nodes.old) block) name.now gone other.now here)) }
+    ensures writes { N.writes nodes.new ≤ N.writes nodes.old + edit_nodes (items_in (N.node nodes.old) block) other.now (is_some gone) }
+    ensures reads { N.reads nodes.new ≤ N.reads nodes.old + nodes_in (N.node nodes.old) block }
+    ensures works { Works N.follows N.is_sound N.limit N.blocks nodes.old nodes.new }
+{
+    let (read, tail) = read_list(alloc, nodes, block, name, None)?;
+    let edited = edit_list_twice(alloc, &read.list(), name, gone, other, here)?;
+    write_list(alloc, nodes, &edited.list(), tail)
+}
+
+/// What a name of a trail leads to once the directories below it are written anew, so that the last
+/// name leads to a place, or to nothing; that itself where the name is the last.
+fn rewrite_branch<N: Nodes>(
+    alloc: Global,
+    nodes: &mut N,
+    trail: &[u32],
+    names: &[Name],
+    fork: usize,
+    place: Option<Place>,
+) -> Result<Option<Place>, Fault>
+    requires sound { N.is_sound nodes.old }
+    requires fork { fork < length names.now }
+    requires place { IfSome place (λ p. is_place p ≡ true) }
+    requires way { IsHeldTrail (N.node nodes.old) (N.kept nodes.old) names.now trail.now }
+    requires taken { fork + 1 < length names.now → IsTaken (N.node nodes.old) trail.now names.now place }
+    ensures branch { IfOk result (λ now. IsBranch (N.node nodes.old) (N.node nodes.new) (N.kept nodes.old) (N.kept nodes.new) (slice_index trail.now fork) (slice_index_or names.now fork []) (drop (fork + 1) names.now) place now) }
+    ensures lawful { IfOk result (λ now. IfSome now (λ p. is_place p ≡ true)) }
+    ensures why { IfErr result (λ fault. N.causes nodes.old nodes.new fault) }
+    ensures faults { IfErr result IsChangeFault }
+    ensures writes { N.writes nodes.new ≤ N.writes nodes.old + path_nodes (N.node nodes.old) trail.now names.now (is_some place) (fork + 1) }
+    ensures reads { N.reads nodes.new ≤ N.reads nodes.old + path_nodes (N.node nodes.old) trail.now names.now false (fork + 1) }
+    ensures works { Works N.follows N.is_sound N.limit N.blocks nodes.old nodes.new }
+{
+    if fork + 1 == names.len() {
+        return Ok(place);
+    }
+    let next = rewrite_from(alloc, nodes, trail, names, fork + 1, place)?;
+    Ok(Some(Place::Dir { block: next }))
+}
+
+/// Writes the directories of two trails anew from where their paths part down, the deepest first:
+/// the old one leads to nothing, the new one to a place. The directory where they part is written
+/// once; answers the block of the new one.
+fn rewrite_fork<N: Nodes>(
+    alloc: Global,
+    nodes: &mut N,
+    old_trail: &[u32],
+    old: &[Name],
+    new_trail: &[u32],
+    new: &[Name],
+    fork: usize,
+    place: Place,
+) -> Result<u32, Fault>
+    requires sound { N.is_sound nodes.old }
+    requires place { is_place place ≡ true }
+    requires fork { spec.IsFork (N.node nodes.old) (N.kept nodes.old) old.now old_trail.now new.now new_trail.now place fork }
+    ensures moved { IfOk result (λ to. IsMoved (N.node nodes.old) (N.node nodes.new) (N.kept nodes.old) (N.kept nodes.new) (slice_index old_trail.now fork) to (drop fork old.now) (drop fork new.now) place) }
+    ensures why { IfErr result (λ fault. N.causes nodes.old nodes.new fault) }
+    ensures faults { IfErr result IsChangeFault }
+    ensures writes { N.writes nodes.new ≤ N.writes nodes.old + fork_nodes (N.node nodes.old) old_trail.now old.now new_trail.now new.now fork }
+    ensures reads { N.reads nodes.new ≤ N.reads nodes.old + fork_nodes (N.node nodes.old) old_trail.now old.now new_trail.now new.now fork }
+    ensures works { Works N.follows N.is_sound N.limit N.blocks nodes.old nodes.new }
+{
+    let gone = rewrite_branch(alloc, nodes, old_trail, old, fork, None)?;
+    let here = rewrite_branch(alloc, nodes, new_trail, new, fork, Some(place))?;
+    edit_directory_twice(
+        alloc,
+        nodes,
+        old_trail[fork],
+        &old[fork],
+        gone,
+        &new[fork],
+        here,
+    )
+}
+
+/// Moves what stands at one path to another: nothing stands at `old`, what stood there and below
+/// stands at `new`, in place of what stood there, and all else stays. `place` is what the path `old`
+/// leads to, neither path begins the other, and the trails are those of the paths below the root, as
+/// look ups told. Where the two parents are not the same path, `new` stands, or its parent has room
+/// for it. Each directory along the two paths is read once more and written anew, the deepest first,
+/// and those that both go through once. Answers the block of the new root. The old root stays as it
+/// was, whatever is answered.
+///
+/// Refused only with what reads and writes are refused with, and with `NoMemory`.
+pub fn move_entry<N: Nodes>(
+    alloc: Global,
+    nodes: &mut N,
+    root: u32,
+    old_trail: &Trail,
+    old: &Path,
+    new_trail: &Trail,
+    new: &Path,
+    place: Place,
+) -> Result<u32, Fault>
+    requires sound { N.is_sound nodes.old }
+    requires apart { Apart old.now new.now }
+    requires place { is_place place ≡ true }
+    requires held { IsHeld (N.node nodes.old) (N.kept nodes.old) (Dir root) }
+    requires old_way { IsTrail (N.node nodes.old) root old.now old_trail.now }
+    requires new_way { IsTrail (N.node nodes.old) root new.now new_trail.now }
+    requires stands { leads (N.node nodes.old) (Dir root) old.now ≡ Some place }
+    requires room { same_path (parent_of old.now) (parent_of new.now) ≡ false → has_room (look_up (N.node nodes.old) root new.now) ≡ true }
+    ensures moved { IfOk result (λ to. IsMoved (N.node nodes.old) (N.node nodes.new) (N.kept nodes.old) (N.kept nodes.new) root to old.now new.now place) }
+    ensures reaches { IfOk result (λ to. OnlyReaches (N.node nodes.old) (N.node nodes.new) (N.kept nodes.old) root to None) }
+    ensures keeps { Keeps (N.kept nodes.old) (N.node nodes.old) (N.kept nodes.new) (N.node nodes.new) }
+    ensures why { IfErr result (λ fault. N.causes nodes.old nodes.new fault) }
+    ensures faults { IfErr result IsChangeFault }
+    ensures writes { N.writes nodes.new ≤ N.writes nodes.old + move_nodes (N.node nodes.old) old_trail.now old.now new_trail.now new.now }
+    ensures reads { N.reads nodes.new ≤ N.reads nodes.old + move_nodes (N.node nodes.old) old_trail.now old.now new_trail.now new.now }
+    ensures works { Works N.follows N.is_sound N.limit N.blocks nodes.old nodes.new }
+{
+    let blocks = old_trail.blocks();
+    let names = old.names();
+    let fork = common_names(names, new.names());
+    let mut to = rewrite_fork(
+        alloc,
+        nodes,
+        blocks,
+        names,
+        new_trail.blocks(),
+        new.names(),
+        fork,
+        place,
+    )?;
+    for i in (0..fork).rev() {
+        let below = Place::Dir { block: to };
+        to = edit_directory(alloc, nodes, blocks[i], &names[i], Some(below))?;
+    }
+    let begins = blocks[0] == root;
+    prove!(begins);
+    Ok(to)
+}

@@ -1,0 +1,4 @@
+pub mod Pages
+pub mod Showing
+pub mod Working
+pub mod Running

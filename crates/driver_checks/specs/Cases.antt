@@ -1,0 +1,84 @@
+-- The cases of a checklist: the word of each, and what is so where it ends well.
+use Rattle.std.specs.Prelude.{◌≡◌, ℕ, ◌+◌, ◌-◌, ◌*◌, List, codes}
+use Rattle.driver_checks.specs.declared.case.Case.{Case}
+use Rattle.driver_checks.specs.declared.case.Case.TheVariants.{Sizes, Fresh, ReadBack, InOrder, OneBlock, FailedProgram, FailedErase, CutProgram, CutErase, Restart, Ends, Neighbours}
+use Rattle.driver_checks.specs.declared.scene.Scene.{Scene}
+use Rattle.driver_checks.specs.declared.expected.Expected.{Expected}
+use Rattle.driver_checks.specs.declared.expected.Expected.TheVariants.{Erased, Filled, Spoilt, Left}
+use Rattle.driver_checks.specs.Driver.{Driver}
+use Rattle.driver_checks.specs.Scenes.{IsShown}
+
+abbrev pub word_of : Case → List ℕ
+word_of Sizes = codes "sizes"
+word_of Fresh = codes "fresh"
+word_of ReadBack = codes "read-back"
+word_of InOrder = codes "in-order"
+word_of OneBlock = codes "one-block"
+word_of FailedProgram = codes "failed-program"
+word_of FailedErase = codes "failed-erase"
+word_of CutProgram = codes "cut-program"
+word_of CutErase = codes "cut-erase"
+word_of Restart = codes "restart"
+word_of Ends = codes "ends"
+word_of Neighbours = codes "neighbours"
+
+-- each case has bytes of its own
+abbrev pub round_of : Case → ℕ
+round_of Sizes = 0
+round_of Fresh = 1
+round_of ReadBack = 2
+round_of InOrder = 3
+round_of OneBlock = 4
+round_of FailedProgram = 5
+round_of FailedErase = 6
+round_of CutProgram = 7
+round_of CutErase = 8
+round_of Restart = 9
+round_of Ends = 10
+round_of Neighbours = 11
+
+-- the first page of the case's own block, its other pages, and the two blocks beside it
+abbrev pub scene_from : Expected → Expected → Expected → Scene
+scene_from page rest sides = record { page = page; rest = rest; sides = sides }
+
+-- what the blocks show at the end of a case
+abbrev pub scene_of : Case → Scene
+scene_of Sizes = scene_from Erased Erased Erased
+scene_of Fresh = scene_from Erased Erased Erased
+scene_of ReadBack = scene_from (Filled 2) Erased Erased
+scene_of InOrder = scene_from (Filled 3) (Filled 3) Erased
+scene_of OneBlock = scene_from Erased Erased (Filled 4)
+scene_of FailedProgram = scene_from Spoilt Erased (Filled 5)
+scene_of FailedErase = scene_from (Left 6) (Left 6) (Filled 6)
+scene_of CutProgram = scene_from (Left 7) Erased (Filled 7)
+scene_of CutErase = scene_from (Left 8) (Left 8) (Filled 8)
+scene_of Restart = scene_from (Filled 9) Erased (Filled 9)
+scene_of Ends = scene_from Erased Erased (Filled 10)
+scene_of Neighbours = scene_from (Filled 11) (Filled 11) (Filled 11)
+
+-- the second block of the area between its neighbours shows the scene of a case
+abbrev pub ShowsBeside : Case → Driver → Type 0
+ShowsBeside case d = IsShown (scene_of case) d.area d.area.first (d.area.first + 1) (d.area.first + 2) d.pages
+
+-- the last block of the area shows it, with the first and the second one
+abbrev pub ShowsAtEnds : Case → Driver → Type 0
+ShowsAtEnds case d = IsShown (scene_of case) d.area d.area.first (d.area.first + (d.area.count - 1)) (d.area.first + 1) d.pages
+
+-- what is so of a driver at the end of a case that it passed
+abbrev pub Passes : Case → Driver → Type 0
+Passes Sizes d = d.told ≡ d.area.sizes
+Passes Fresh d = ShowsBeside Fresh d
+Passes ReadBack d = ShowsBeside ReadBack d
+Passes InOrder d = ShowsBeside InOrder d
+Passes OneBlock d = ShowsBeside OneBlock d
+Passes FailedProgram d = ShowsBeside FailedProgram d
+Passes FailedErase d = ShowsBeside FailedErase d
+Passes CutProgram d = ShowsBeside CutProgram d
+Passes CutErase d = ShowsBeside CutErase d
+Passes Restart d = ShowsBeside Restart d
+Passes Ends d = ShowsAtEnds Ends d
+Passes Neighbours d = ShowsBeside Neighbours d
+
+-- a case asks at most so many operations of a flash with blocks of so many pages
+abbrev pub most_asked : ℕ → ℕ
+most_asked pages = 255 * (6 * pages + 5) + 8 * pages + 8

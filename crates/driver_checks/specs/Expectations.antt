@@ -1,0 +1,23 @@
+-- What pages are to show.
+use Rattle.std.specs.Prelude.{◌≡◌, ◌⊎◌, ℕ, ◌<◌, ◌≤◌}
+use Rattle.flash_model.specs.Device.{Page, erased, unreadable}
+use Rattle.driver_checks.specs.declared.area.Area.{Area}
+use Rattle.driver_checks.specs.declared.expected.Expected.{Expected}
+use Rattle.driver_checks.specs.declared.expected.Expected.TheVariants.{Erased, Filled, Spoilt, Left}
+use Rattle.driver_checks.specs.Areas.{page_of}
+use Rattle.driver_checks.specs.Patterns.{Holds}
+
+-- a page of so many bytes shows what is expected
+abbrev pub Meets : Expected → ℕ → ℕ → Page → Type 0
+Meets Erased size page held = held ≡ erased
+Meets (Filled round) size page held = Holds size page round held
+Meets Spoilt size page held = held ≡ unreadable
+Meets (Left round) size page held = (held ≡ erased) ⊎ ((held ≡ unreadable) ⊎ Holds size page round held)
+
+-- a page of the area shows it
+abbrev pub PageMeets : Expected → Area → (ℕ → Page) → ℕ → Type 0
+PageMeets expected g pages p = Meets expected g.sizes.page p (pages p)
+
+-- the pages of a block show it, from a place on
+pub record BlockMeets (expected : Expected) (g : Area) (pages : ℕ → Page) (b from : ℕ) : Type 0 where
+  pub each : (place : ℕ) → from ≤ place → place < g.sizes.pages → PageMeets expected g pages (page_of g b place)

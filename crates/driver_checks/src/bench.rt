@@ -1,0 +1,59 @@
+//! The trait of a driver on a bench.
+ghost use Rattle.std.specs.Prelude.{◌≡◌, length};
+ghost use Rattle.flash_model.specs.Device.{erased, Shows};
+ghost use Rattle.driver_checks.specs.Areas.{GivesBlock, GivesPage};
+ghost use Rattle.driver_checks.specs.Driver.{Driver, Works, OnlyLooks};
+
+use crate::area::Area;
+use flash_model::{DevFault, Geometry, Operation, PageState};
+
+/// A driver on a bench: beside what a `Flash` does, its next operation can be troubled, and power be
+/// put off and on again.
+///
+/// Nothing is promised here of what a program, an erase or a restart does to pages: that is what a
+/// checklist looks at. A read tells what the driver shows of a page, and changes nothing of it.
+pub trait Bench {
+    ghost driver: { Self → Driver };
+
+    /// The sizes by the data sheet, and the blocks that may be used up, the same each time.
+    fn area(&self) -> Area
+        ensures { result ≡ (driver self.now).area };
+
+    /// The sizes that the driver tells.
+    fn geometry(&self) -> Geometry
+        ensures { result ≡ (driver self.now).told };
+
+    /// At how many moments of an operation of this class such a fault can be planned. None is tried
+    /// where it tells 0, and the case fails.
+    fn moments(&self, class: Operation, fault: DevFault) -> u8;
+
+    /// Asks the driver what a page holds.
+    fn read(&mut self, page: u32, buffer: &mut [u8]) -> Result<PageState, DevFault>
+        requires given { GivesPage (driver self.old).area page }
+        requires whole { length buffer.old ≡ (driver self.old).area.sizes.page }
+        ensures shows { Shows ((driver self.old).pages page) buffer.old buffer.new result }
+        ensures looks { OnlyLooks (driver self.old) (driver self.new) 1 };
+
+    /// Lets the driver program a whole page that it shows as erased.
+    fn program(&mut self, page: u32, bytes: &[u8]) -> Result<(), DevFault>
+        requires given { GivesPage (driver self.old).area page }
+        requires whole { length bytes.now ≡ (driver self.old).area.sizes.page }
+        requires blank { (driver self.old).pages page ≡ erased }
+        ensures { Works (driver self.old) (driver self.new) 1 };
+
+    /// Lets the driver erase a block.
+    fn erase(&mut self, block: u32) -> Result<(), DevFault>
+        requires { GivesBlock (driver self.old).area block }
+        ensures { Works (driver self.old) (driver self.new) 1 };
+
+    /// Plans this fault for the next operation, which is of this class, at this moment of it: the
+    /// operation fails, or power goes in it. At moment 0 it comes for certain; at a later one the
+    /// operation may have been done before.
+    fn plan(&mut self, class: Operation, fault: DevFault, moment: u8)
+        ensures { OnlyLooks (driver self.old) (driver self.new) 0 };
+
+    /// Takes back what is planned, puts the power off and on again, and makes the driver anew, with
+    /// nothing left of what it had in memory.
+    fn restart(&mut self)
+        ensures { Works (driver self.old) (driver self.new) 0 };
+}

@@ -1,0 +1,75 @@
+//! Flashes whose next operation can be troubled.
+ghost use Rattle.std.specs.Prelude.{◌≡◌};
+
+use crate::memory_part::MemoryPart;
+use flash_model::{DevFault, FaultKind, Flash, Operation, Planned, SimFlash};
+use nor_part::Trouble;
+
+/// A flash whose next operation can be troubled.
+pub(crate) trait Troubled: Flash {
+    /// At how many moments of an operation such a fault can be planned.
+    fn moments(&self, class: Operation, fault: DevFault) -> u8;
+
+    /// Plans a fault for the next operation, which is of this class.
+    fn trouble(&mut self, class: Operation, fault: DevFault, moment: u8)
+        ensures { Self.device self.new ≡ Self.device self.old };
+
+    /// Takes back what is planned.
+    fn calm(&mut self)
+        ensures { Self.device self.new ≡ Self.device self.old };
+}
+
+impl Troubled for SimFlash {
+    // A cut leaves a page as it was, torn or whole.
+    fn moments(&self, _class: Operation, fault: DevFault) -> u8 {
+        match fault {
+            DevFault::Failed => 1,
+            DevFault::PowerCut => 3,
+        }
+    }
+
+    fn trouble(&mut self, class: Operation, fault: DevFault, moment: u8) {
+        let _ = self.plan_fault(1, kind_of(class, fault, moment));
+    }
+
+    // What is planned befalls the operation that comes next, so nothing is left.
+    fn calm(&mut self) {}
+}
+
+fn kind_of(class: Operation, fault: DevFault, moment: u8) -> FaultKind {
+    match (class, fault, moment) {
+        (Operation::Read, DevFault::Failed, _) => FaultKind::ReadFail,
+        (Operation::Read, DevFault::PowerCut, _) => FaultKind::ReadCut,
+        (Operation::Program, DevFault::Failed, _) => FaultKind::ProgramFail,
+        (Operation::Program, DevFault::PowerCut, 0) => FaultKind::ProgramCutNone,
+        (Operation::Program, DevFault::PowerCut, 1) => FaultKind::ProgramCutTorn,
+        (Operation::Program, DevFault::PowerCut, _) => FaultKind::ProgramCutWhole,
+        (Operation::Erase, DevFault::Failed, _) => FaultKind::EraseFail,
+        (Operation::Erase, DevFault::PowerCut, 0) => FaultKind::EraseCutNone,
+        (Operation::Erase, DevFault::PowerCut, 1) => FaultKind::EraseCutTorn,
+        (Operation::Erase, DevFault::PowerCut, _) => FaultKind::EraseCutWhole,
+    }
+}
+
+impl Troubled for MemoryPart {
+    // A program and an erase are two of the part each; power goes before, in or after one of these.
+    fn moments(&self, _class: Operation, fault: DevFault) -> u8 {
+        match fault {
+            DevFault::Failed => 2,
+            DevFault::PowerCut => 6,
+        }
+    }
+
+    fn trouble(&mut self, _class: Operation, fault: DevFault, moment: u8) {
+        match (fault, moment % 3) {
+            (DevFault::Failed, _) => self.flash.plan(u64::from(moment), Trouble::Fails),
+            (DevFault::PowerCut, 0) => self.flash.plan(u64::from(moment / 3), Trouble::CutBefore),
+            (DevFault::PowerCut, 1) => self.flash.plan(u64::from(moment / 3), Trouble::CutWithin),
+            (DevFault::PowerCut, _) => self.flash.plan(u64::from(moment / 3), Trouble::CutAfter),
+        }
+    }
+
+    fn calm(&mut self) {
+        self.flash.forget_plan();
+    }
+}

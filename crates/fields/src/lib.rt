@@ -1,0 +1,10 @@
+//! Numbers of 1, 2, 4 and 8 bytes in a format, the lowest byte first: their readers and writers.
+#![tactic(auto)]
+
+mod laws;
+mod reading;
+mod writing;
+
+pub use laws::number_laws;
+pub use reading::{read_u8, read_u16, read_u32, read_u64, u16_at, u32_at, u64_at};
+pub use writing::{push_u16, push_u32, push_u64, put_u16, put_u32, put_u64};

@@ -1,0 +1,27 @@
+//! What befalls a flash with a system on it, and what is answered.
+use crate::call::{Call, Reply};
+use crate::fault::Fault;
+
+/// An event of a run.
+#[derive(Debug, Drop)]
+pub enum Event {
+    /// A call.
+    Call(Call),
+    /// A step of reclaiming, which reads so many blocks at most.
+    ReclaimStep(u64),
+    /// The power is put on, and the system is mounted anew.
+    Restart,
+}
+
+/// The answer to an event.
+#[derive(Debug, Drop)]
+pub enum Answer {
+    /// The call was carried out.
+    Done(Reply),
+    /// It was refused, or no system could be mounted.
+    Refused(Fault),
+    /// The system is mounted.
+    Mounted,
+    /// No system is mounted.
+    Unmounted,
+}

@@ -1,0 +1,9 @@
+pub mod Asking
+pub mod Formatting
+pub mod Installed
+pub mod LawfulContents
+pub mod Loading
+pub mod Marking
+pub mod PlainRoots
+pub mod RestoredParts
+pub mod SameNodes

@@ -1,0 +1,7 @@
+use Rattle.std.proofs.Common.{Ok, rules}
+use Rattle.mounting.proofs.Formatting.{record_asked}
+use Rattle.mounting.proofs.formats.commit_first.Goals as goal
+
+pub returns-in-Ok-clause-asks : goal.returns-in-Ok-clause-asks
+returns-in-Ok-clause-asks g c =
+    record_asked (g.F.Flash.device c.args.flash.now) (g.F.Flash.device c.commit.new.flash) c.args.state.now.storage.bad c.commit.new.bad c.args.anchors.now c.in_ok-saved.saved (Ok tt) (search rules) c.in-Ok.ensures.placed

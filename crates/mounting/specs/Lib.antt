@@ -1,0 +1,5 @@
+pub mod Contents
+pub mod Costs
+pub mod Formats
+pub mod Records
+pub mod Saved

@@ -1,0 +1,19 @@
+use Rattle.std.proofs.Common.{◌∙◌, ap, subst}
+use Rattle.node_cache.specs.Cache.{NodeCache, with_first, IsBounded}
+use Rattle.node_cache.proofs.Plain.{view, bounded_plain, put_first}
+use Rattle.node_cache.proofs.cache.NodeCache.list_copy.Goals as goal
+
+pub returns-clause-listed : goal.returns-clause-listed
+returns-clause-listed c =
+    ap view c.in_ok-put.ensures.entries ∙ put_first c.self.inside.nodes c.args.block c.in_ok-node.node c.len.ensures.valid.2 c.len.ensures.valid.1
+    ∙ ap (with_first (view c.self.inside.nodes) c.args.block) (c.in_ok-node.ensures.items_if_clones_equal (λ x y e. e))
+    ∙ ap (λ (k : NodeCache). with_first k c.args.block c.args.bytes.now) c.self.view_is
+
+pub returns-clause-bounded : goal.returns-clause-bounded
+returns-clause-bounded c = subst IsBounded c.self.view_is (bounded_plain c.self.inside.nodes c.len.ensures.valid)
+
+pub returns-in_err-node-clause-bounded : goal.returns-in_err-node-clause-bounded
+returns-in_err-node-clause-bounded c = subst IsBounded c.self.view_is (bounded_plain c.self.inside.nodes c.len.ensures.valid)
+
+pub returns-in_err-put-clause-bounded : goal.returns-in_err-put-clause-bounded
+returns-in_err-put-clause-bounded c = subst IsBounded c.self.view_is (bounded_plain c.self.inside.nodes c.len.ensures.valid)

@@ -1,0 +1,175 @@
+use Rattle.std.proofs.Common.{◌≡◌, ℕ, ◌+◌, ◌*◌, ◌<◌, ◌≤◌, Err, length, refl, sym, subst, arith}
+use Rattle.std.proofs.lemmas.Result.{err_from_is_err_and}
+use Rattle.flash_model.specs.declared.flash.DevFault.TheVariants.{Failed}
+use Rattle.allocator.specs.Ring.{free_count}
+use Rattle.node_store.specs.NodePages.{pages_for}
+use Rattle.node_store.specs.Writing.{WritesBlock}
+use Rattle.node_store.specs.Storage.{storage, Evolved, PassesBad, Pays}
+use Rattle.node_store.specs.StorageLaws.{took_good, took_bad, took_added, took_passed, pays_good, pays_bad, less_free}
+use Rattle.node_store.proofs.new_nodes.try_block.Goals as goal
+use Rattle.node_store.proofs.new_nodes.try_block.Goals.{After-list_block}
+use Rattle.node_store.proofs.new_nodes.try_block.Given.{Over}
+
+-- one block was taken, and so many operations spent on it
+spends_once : (old new takes later each : ℕ) → later ≡ takes + 1 → new ≤ old + each → new + takes * each ≤ old + later * each
+spends_once old new takes later each one few = subst (λ (n : ℕ). new + takes * each ≤ old + n * each) (sym one) (omega arith)
+
+pub returns-in-Ok-clause-tries : goal.returns-in-Ok-clause-tries
+returns-in-Ok-clause-tries g c =
+    took_added (storage (g.F.Flash.device c.args.flash.now) c.args.bad.now c.args.ring.now) c.args.block c.take_block.new.ring
+    c.args.bytes.now (g.F.Flash.device c.write_block.new.flash) c.in-Ok.field-0 c.requires.lawful c.requires.ring_blocks c.requires.node c.requires.room
+    c.take_block.ensures c.in-Ok.ensures.writes
+
+pub returns-in-Ok-clause-evolved : goal.returns-in-Ok-clause-evolved
+returns-in-Ok-clause-evolved g c =
+    took_good (storage (g.F.Flash.device c.args.flash.now) c.args.bad.now c.args.ring.now) c.args.block c.take_block.new.ring
+    c.args.bytes.now (g.F.Flash.device c.write_block.new.flash) _ c.requires.node c.take_block.ensures c.in-Ok.ensures.writes refl
+
+-- the block of the failed write, and the list with it
+module _ (g : Over) (c : After-list_block g) where
+  writes : WritesBlock (g.F.Flash.device c.args.flash.now) c.args.block c.args.bytes.now (g.F.Flash.device c.write_block.new.flash) (Err Failed)
+  writes = rw c.in-Err-Failed.field-0-is at c.in-Err-Failed.ensures.writes
+
+  evolved : Evolved (storage (g.F.Flash.device c.args.flash.now) c.args.bad.now c.args.ring.now)
+      (storage (g.F.Flash.device c.write_block.new.flash) c.list_block.new.bad c.take_block.new.ring)
+  evolved =
+      let old = storage (g.F.Flash.device c.args.flash.now) c.args.bad.now c.args.ring.now in
+      subst (λ bads. Evolved old (storage (g.F.Flash.device c.write_block.new.flash) bads c.take_block.new.ring)) (sym c.list_block.ensures.listed)
+      (took_bad old c.args.block c.take_block.new.ring c.args.bytes.now (g.F.Flash.device c.write_block.new.flash) c.take_block.ensures writes)
+
+  pays : Pays (storage (g.F.Flash.device c.args.flash.now) c.args.bad.now c.args.ring.now)
+      (storage (g.F.Flash.device c.write_block.new.flash) c.list_block.new.bad c.take_block.new.ring) 0
+  pays =
+      let old = storage (g.F.Flash.device c.args.flash.now) c.args.bad.now c.args.ring.now in
+      subst (λ bads. Pays old (storage (g.F.Flash.device c.write_block.new.flash) bads c.take_block.new.ring) 0) (sym c.list_block.ensures.listed)
+      (pays_bad old c.args.block c.take_block.new.ring (g.F.Flash.device c.write_block.new.flash) c.take_block.ensures)
+
+  passes : PassesBad (storage (g.F.Flash.device c.args.flash.now) c.args.bad.now c.args.ring.now)
+      (storage (g.F.Flash.device c.write_block.new.flash) c.list_block.new.bad c.take_block.new.ring)
+  passes =
+      let old = storage (g.F.Flash.device c.args.flash.now) c.args.bad.now c.args.ring.now in
+      subst (λ bads. PassesBad old (storage (g.F.Flash.device c.write_block.new.flash) bads c.take_block.new.ring)) (sym c.list_block.ensures.listed)
+      (took_passed old c.args.block c.take_block.new.ring (g.F.Flash.device c.write_block.new.flash) c.take_block.ensures)
+
+  less : free_count c.take_block.new.ring c.list_block.new.bad < free_count c.args.ring.now c.args.bad.now
+  less =
+      let old = storage (g.F.Flash.device c.args.flash.now) c.args.bad.now c.args.ring.now in
+      subst (λ bads. free_count c.take_block.new.ring bads < free_count c.args.ring.now c.args.bad.now) (sym c.list_block.ensures.listed)
+      (less_free old c.args.block c.take_block.new.ring c.take_block.ensures)
+
+pub returns-in_err-list_block-in-Err-Failed-clause-evolved : goal.returns-in_err-list_block-in-Err-Failed-clause-evolved
+returns-in_err-list_block-in-Err-Failed-clause-evolved g c =
+    evolved g (goal.at.returns-in_err-list_block-in-Err-Failed-clause-evolved g c).After-list_block
+
+pub returns-in_err-list_block-in-Err-Failed-clause-pays : goal.returns-in_err-list_block-in-Err-Failed-clause-pays
+returns-in_err-list_block-in-Err-Failed-clause-pays g c =
+    let answer = c.from_residual in
+    let p = err_from_is_err_and answer.result answer.ensures.1 in
+    rw (p.1, p.2, c.in_err-list_block-in-Err-Failed.ensures.limit.0)
+    (pays g (goal.at.returns-in_err-list_block-in-Err-Failed-clause-pays g c).After-list_block)
+
+pub returns-in_ok-list_block-in-Err-Failed-clause-tries : goal.returns-in_ok-list_block-in-Err-Failed-clause-tries
+returns-in_ok-list_block-in-Err-Failed-clause-tries g c =
+    (less g (goal.at.returns-in_ok-list_block-in-Err-Failed-clause-tries g c).After-list_block, c.in_ok-list_block-in-Err-Failed.ensures.limit)
+
+pub returns-in_ok-list_block-in-Err-Failed-clause-evolved : goal.returns-in_ok-list_block-in-Err-Failed-clause-evolved
+returns-in_ok-list_block-in-Err-Failed-clause-evolved g c =
+    evolved g (goal.at.returns-in_ok-list_block-in-Err-Failed-clause-evolved g c).After-list_block
+
+pub returns-in_ok-list_block-in-Err-Failed-clause-pays : goal.returns-in_ok-list_block-in-Err-Failed-clause-pays
+returns-in_ok-list_block-in-Err-Failed-clause-pays g c =
+    pays g (goal.at.returns-in_ok-list_block-in-Err-Failed-clause-pays g c).After-list_block
+
+pub returns-in_ok-list_block-in-Err-Failed-clause-next : goal.returns-in_ok-list_block-in-Err-Failed-clause-next
+returns-in_ok-list_block-in-Err-Failed-clause-next g c =
+    passes g (goal.at.returns-in_ok-list_block-in-Err-Failed-clause-next g c).After-list_block
+
+pub returns-in-Ok-clause-pays : goal.returns-in-Ok-clause-pays
+returns-in-Ok-clause-pays g c = pays_good (storage (g.F.Flash.device c.args.flash.now) c.args.bad.now c.args.ring.now) c.args.block c.take_block.new.ring (g.F.Flash.device c.write_block.new.flash) c.take_block.ensures
+
+pub returns-in-Err-PowerCut-clause-evolved : goal.returns-in-Err-PowerCut-clause-evolved
+returns-in-Err-PowerCut-clause-evolved g c =
+    took_good (storage (g.F.Flash.device c.args.flash.now) c.args.bad.now c.args.ring.now) c.args.block c.take_block.new.ring
+    c.args.bytes.now (g.F.Flash.device c.write_block.new.flash) _ c.requires.node c.take_block.ensures (rw c.in-Err-PowerCut.field-0-is at c.in-Err-PowerCut.ensures.writes) refl
+
+pub returns-in-Err-PowerCut-clause-pays : goal.returns-in-Err-PowerCut-clause-pays
+returns-in-Err-PowerCut-clause-pays g c = pays_good (storage (g.F.Flash.device c.args.flash.now) c.args.bad.now c.args.ring.now) c.args.block c.take_block.new.ring (g.F.Flash.device c.write_block.new.flash) c.take_block.ensures
+
+pub returns-in-Ok-clause-operations : goal.returns-in-Ok-clause-operations
+returns-in-Ok-clause-operations g c =
+    spends_once (g.F.Flash.device c.args.flash.now).operations (g.F.Flash.device c.write_block.new.flash).operations c.args.ring.now.takes c.take_block.new.ring.takes (1 + pages_for (g.F.Flash.device c.args.flash.now).geometry.page (length c.args.bytes.now)) c.take_block.ensures.takes c.write_block.ensures.operations
+
+pub returns-in-Err-PowerCut-clause-operations : goal.returns-in-Err-PowerCut-clause-operations
+returns-in-Err-PowerCut-clause-operations g c =
+    spends_once (g.F.Flash.device c.args.flash.now).operations (g.F.Flash.device c.write_block.new.flash).operations c.args.ring.now.takes c.take_block.new.ring.takes (1 + pages_for (g.F.Flash.device c.args.flash.now).geometry.page (length c.args.bytes.now)) c.take_block.ensures.takes c.write_block.ensures.operations
+
+pub returns-in_err-list_block-in-Err-Failed-clause-operations : goal.returns-in_err-list_block-in-Err-Failed-clause-operations
+returns-in_err-list_block-in-Err-Failed-clause-operations g c =
+    spends_once (g.F.Flash.device c.args.flash.now).operations (g.F.Flash.device c.write_block.new.flash).operations c.args.ring.now.takes c.take_block.new.ring.takes (1 + pages_for (g.F.Flash.device c.args.flash.now).geometry.page (length c.args.bytes.now)) c.take_block.ensures.takes c.write_block.ensures.operations
+
+pub returns-in_ok-list_block-in-Err-Failed-clause-operations : goal.returns-in_ok-list_block-in-Err-Failed-clause-operations
+returns-in_ok-list_block-in-Err-Failed-clause-operations g c =
+    spends_once (g.F.Flash.device c.args.flash.now).operations (g.F.Flash.device c.write_block.new.flash).operations c.args.ring.now.takes c.take_block.new.ring.takes (1 + pages_for (g.F.Flash.device c.args.flash.now).geometry.page (length c.args.bytes.now)) c.take_block.ensures.takes c.write_block.ensures.operations
+
+pub returns-in-Ok-clause-page : goal.returns-in-Ok-clause-page
+returns-in-Ok-clause-page g c = c.write_block.ensures.page
+
+pub returns-in-Ok-clause-taken : goal.returns-in-Ok-clause-taken
+returns-in-Ok-clause-taken g c = c.take_block.ensures.only
+
+pub returns-in-Ok-clause-fresh : goal.returns-in-Ok-clause-fresh
+returns-in-Ok-clause-fresh g c = c.take_block.ensures.fresh
+
+pub returns-in-Ok-clause-others : goal.returns-in-Ok-clause-others
+returns-in-Ok-clause-others g c = c.write_block.ensures.writes.others
+
+pub returns-in-Err-PowerCut-clause-page : goal.returns-in-Err-PowerCut-clause-page
+returns-in-Err-PowerCut-clause-page g c = c.write_block.ensures.page
+
+pub returns-in-Err-PowerCut-clause-taken : goal.returns-in-Err-PowerCut-clause-taken
+returns-in-Err-PowerCut-clause-taken g c = c.take_block.ensures.only
+
+pub returns-in-Err-PowerCut-clause-fresh : goal.returns-in-Err-PowerCut-clause-fresh
+returns-in-Err-PowerCut-clause-fresh g c = c.take_block.ensures.fresh
+
+pub returns-in-Err-PowerCut-clause-others : goal.returns-in-Err-PowerCut-clause-others
+returns-in-Err-PowerCut-clause-others g c = c.write_block.ensures.writes.others
+
+pub returns-in_err-list_block-in-Err-Failed-clause-page : goal.returns-in_err-list_block-in-Err-Failed-clause-page
+returns-in_err-list_block-in-Err-Failed-clause-page g c = c.write_block.ensures.page
+
+pub returns-in_err-list_block-in-Err-Failed-clause-taken : goal.returns-in_err-list_block-in-Err-Failed-clause-taken
+returns-in_err-list_block-in-Err-Failed-clause-taken g c = c.take_block.ensures.only
+
+pub returns-in_err-list_block-in-Err-Failed-clause-fresh : goal.returns-in_err-list_block-in-Err-Failed-clause-fresh
+returns-in_err-list_block-in-Err-Failed-clause-fresh g c = c.take_block.ensures.fresh
+
+pub returns-in_err-list_block-in-Err-Failed-clause-others : goal.returns-in_err-list_block-in-Err-Failed-clause-others
+returns-in_err-list_block-in-Err-Failed-clause-others g c = c.write_block.ensures.writes.others
+
+pub returns-in_ok-list_block-in-Err-Failed-clause-page : goal.returns-in_ok-list_block-in-Err-Failed-clause-page
+returns-in_ok-list_block-in-Err-Failed-clause-page g c = c.write_block.ensures.page
+
+pub returns-in_ok-list_block-in-Err-Failed-clause-taken : goal.returns-in_ok-list_block-in-Err-Failed-clause-taken
+returns-in_ok-list_block-in-Err-Failed-clause-taken g c = c.take_block.ensures.only
+
+pub returns-in_ok-list_block-in-Err-Failed-clause-fresh : goal.returns-in_ok-list_block-in-Err-Failed-clause-fresh
+returns-in_ok-list_block-in-Err-Failed-clause-fresh g c = c.take_block.ensures.fresh
+
+pub returns-in_ok-list_block-in-Err-Failed-clause-others : goal.returns-in_ok-list_block-in-Err-Failed-clause-others
+returns-in_ok-list_block-in-Err-Failed-clause-others g c = c.write_block.ensures.writes.others
+
+pub write_block-requires-clause-lawful : goal.write_block-requires-clause-lawful
+write_block-requires-clause-lawful g c = c.requires.lawful
+
+pub write_block-requires-clause-whole : goal.write_block-requires-clause-whole
+write_block-requires-clause-whole g c = c.requires.whole
+
+pub take_block-requires : goal.take_block-requires
+take_block-requires g c = c.requires.next
+
+pub list_block-requires-clause-good : goal.list_block-requires-clause-good
+list_block-requires-clause-good g c = c.take_block.ensures.good
+
+pub list_block-requires-clause-room : goal.list_block-requires-clause-room
+list_block-requires-clause-room g c = c.requires.room

@@ -1,0 +1,152 @@
+//! Nodes in the data blocks of a flash.
+use crate::first_pages::read_first;
+use crate::new_nodes::write_node;
+use crate::nodes::Nodes;
+use crate::storage::Storage;
+use counts::Count;
+use flash_model::Flash;
+use fs_types::Fault;
+
+/// Keeps nodes in the data blocks of a lent flash. The kept blocks are those that the ring has as
+/// used.
+///
+/// A node is lent from the cache of those that were used last: a listed block is read without the
+/// device, and one that is read or written goes first.
+///
+/// A write takes a block, erases it and programs its pages. A block of which an operation failed
+/// goes into the bad list, and the next one is taken.
+#[derive(Drop)]
+pub struct Store<'a, F: Flash> {
+    /// The flash.
+    pub flash: &'a mut F,
+    /// The bad and the used blocks, and the nodes that were used last.
+    pub storage: &'a mut Storage,
+    /// How many reads were asked.
+    pub reads: Count,
+    /// How many writes were asked.
+    pub writes: Count,
+}
+
+impl<'a, F: Flash> Store<'a, F> {
+    ghost use Rattle.std.specs.Prelude.{◌≡◌};
+
+    /// The nodes on a flash, of which no read and no write was asked yet.
+    pub fn new(flash: &'a mut F, storage: &'a mut Storage) -> Store<'a, F>
+        ensures flash { result.flash ≡ flash.entry }
+        ensures storage { result.storage ≡ storage.entry }
+        ensures reads { result.reads.n ≡ 0 }
+        ensures writes { result.writes.n ≡ 0 }
+    {
+        Store {
+            flash,
+            storage,
+            reads: Count::zero(),
+            writes: Count::zero(),
+        }
+    }
+}
+
+impl<F: Flash> Nodes for Store<'_, F> {
+    ghost use Rattle.std.specs.Prelude.{◌≡◌, ◌≢◌, ◌+◌, Some, None, OnOk, IfErr, IsErrOf};
+    ghost use Rattle.node_store.specs.Caching.{Fetches};
+    ghost use Rattle.node_store.specs.Faults.{IsReadFault};
+    ghost use Rattle.node_store.specs.Frames.{OnlyLooks};
+    ghost use Rattle.std.proofs.Common.{ap};
+    ghost use Rattle.std.specs.FinSet as set;
+    ghost use Rattle.flash_model.specs.Geometry.{block_bytes as bytes_of_block};
+    ghost use Rattle.node_cache.specs.Cache.{first_bytes};
+    ghost use Rattle.node_store.specs.NodePages.{node_of};
+    ghost use Rattle.node_store.specs.NodeLaws.{node_of-whole, node_of-anchor, node_of-beyond};
+    ghost use Rattle.node_store.specs.StorageLaws.{Evolved_fresh};
+    ghost use Rattle.node_store.specs.Stores.{parts, IsSound, Follows, Causes};
+    ghost use Rattle.node_store.specs.FrameLaws.{Looks_on, Works_on, Looks_works};
+    ghost use Rattle.node_store.specs.StoreLaws.{Evolved_node, Follows_itself, Follows_on, Causes_on, Sound_on};
+
+    ghost node = { λ s. node_of (F.device s.flash.now) };
+
+    ghost kept = { λ s. set.contains s.storage.now.ring.used };
+
+    ghost shown = { λ s. first_bytes s.storage.now.cache.entries };
+
+    ghost lends = { λ _. Unit {0} };
+
+    ghost reads = { λ s. s.reads.n };
+
+    ghost writes = { λ s. s.writes.n };
+
+    ghost limit = { λ s. bytes_of_block (F.device s.flash.now).geometry };
+
+    ghost blocks = { λ s. (F.device s.flash.now).geometry.blocks };
+
+    ghost is_sound = { IsSound F.device };
+
+    ghost follows = { Follows F.device };
+
+    ghost causes = { Causes F.device };
+
+    fn block_bytes(&self) -> u32 {
+        self.flash.geometry().block_bytes() as u32
+    }
+
+    fn block_count(&self) -> u32 {
+        self.flash.geometry().blocks
+    }
+
+    fn read(&mut self, block: u32) -> Result<(), Fault>
+        requires { IsSound F.device self.old }
+        ensures shown { OnOk result (node_of (F.device self.old.flash.now) block ≡ Some (first_bytes self.new.storage.now.cache.entries)) }
+        ensures lends { OnOk result (Unit {0}) }
+        ensures damaged { IsErrOf result Fault.Damaged → node_of (F.device self.old.flash.now) block ≡ None }
+        ensures why { IfErr result (λ fault. fault ≢ Fault.Damaged → Causes F.device self.old self.new fault) }
+        ensures faults { IfErr result IsReadFault }
+        ensures looks { OnlyLooks (λ s. node_of (F.device s.flash.now)) (λ s. set.contains s.storage.now.ring.used) (λ s. s.writes.n) (Follows F.device) (IsSound F.device) (λ s. bytes_of_block (F.device s.flash.now).geometry) (λ s. (F.device s.flash.now).geometry.blocks) self.old self.new }
+        ensures reads { self.new.reads.n ≡ self.old.reads.n + 1 }
+
+        // A listed block is answered without the device, and after Ok the block is listed first.
+        ensures fetches { Fetches (F.device self.old.flash.now) self.old.storage.now.cache block (F.device self.new.flash.now) self.new.storage.now.cache result }
+    {
+        self.reads = self.reads.more();
+        read_first(self.flash, self.storage, block)
+    }
+
+    fn lent(&self) -> &[u8] {
+        self.storage.cache.first()
+    }
+
+    fn write(&mut self, bytes: &[u8]) -> Result<u32, Fault> {
+        self.writes = self.writes.more();
+        write_node(self.flash, self.storage, bytes)
+    }
+
+    ghost follows_itself = { Follows_itself F.device };
+
+    ghost follows_on = { Follows_on F.device };
+
+    ghost looks_on = { Looks_on (Follows_on F.device) };
+
+    ghost works_on = { Works_on (Follows_on F.device) };
+
+    ghost looks_works = { Looks_works };
+
+    ghost causes_on = { Causes_on F.device };
+
+    ghost memory_may_want = { λ s t. record { reason = tt } };
+
+    ghost stays_sound = { Sound_on F.device };
+
+    ghost same_limit = { λ s t f. ap bytes_of_block f.evolved.geometry };
+
+    ghost same_blocks = { λ s t f. ap (λ g. g.blocks) f.evolved.geometry };
+
+    ghost stays_kept = { λ s t b f kept. f.evolved.kept b kept };
+
+    ghost was_fresh = { λ s t b f. Evolved_fresh (parts F.device s) (parts F.device t) b f.evolved };
+
+    ghost same_node = { λ s t b sound f. Evolved_node (parts F.device s) (parts F.device t) b sound.lawful f.evolved };
+
+    ghost whole = { λ s b bytes sound. node_of-whole (F.device s.flash.now) b bytes sound.lawful (F.whole_pages s.flash.now) };
+
+    ghost none_below = { λ s. node_of-anchor (F.device s.flash.now) };
+
+    ghost none_beyond = { λ s. node_of-beyond (F.device s.flash.now) };
+}

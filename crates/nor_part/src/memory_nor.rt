@@ -1,0 +1,248 @@
+//! Pages of a serial NOR part in memory.
+ghost use Rattle.std.specs.Prelude.{◌≡◌, ◌≢◌, ℕ, ◌/◌, ◌*◌, ◌+◌, ◌<◌, ◌≤◌, IfOk, Ok, Err, true, length, vec_len, slice_index};
+ghost use Rattle.nor_part.specs.Part.{HasCleared, HasTorn, LeavesTrace, is_blank, ProgramsPage, ErasesSector};
+ghost use Rattle.nor_part.specs.Memory.{page_at, AreWhole, answer_of};
+
+use crate::cells::{clear, set, tear};
+use crate::nor::Nor;
+use flash_model::DevFault;
+use std::alloc::{AllocError, Global};
+
+// A page, with its 256 bytes.
+#[derive(Drop)]
+pub(crate) struct MemoryPage {
+    pub(crate) bytes: Vec<u8>,
+}
+
+impl MemoryPage {
+    fn new(alloc: Global) -> Result<MemoryPage, AllocError>
+        ensures { IfOk result (λ page. vec_len page.bytes ≡ 256) }
+    {
+        Ok(MemoryPage {
+            bytes: vec![in alloc; 0xff; 256]?,
+        })
+    }
+
+    fn set(&mut self)
+        ensures blank { is_blank self.new.bytes.items ≡ true }
+        ensures len { vec_len self.new.bytes ≡ vec_len self.old.bytes }
+    {
+        set(&mut self.bytes);
+    }
+}
+
+/// What befalls a program or an erase.
+#[derive(Clone, Copy, Debug, PartialEq, Eq)]
+pub enum Trouble {
+    /// It is torn, and told as failed.
+    Fails,
+    /// Power goes before it.
+    CutBefore,
+    /// Power goes in it, and it is torn.
+    CutWithin,
+    /// Power goes after it.
+    CutAfter,
+}
+
+/// A serial NOR part in memory, in which one program or erase is befallen by a trouble.
+#[derive(Drop)]
+pub struct MemoryNor {
+    pages: Vec<MemoryPage>,
+    powered: bool,
+    good: u64,
+    trouble: Option<Trouble>,
+    ghost whole: { AreWhole pages.items },
+}
+
+impl MemoryNor {
+    ghost use Rattle.std.specs.Prelude.{◌≡◌, ◌*◌, ◌<◌, IfOk, vec_len};
+    ghost use Rattle.nor_part.specs.MemoryParts.{held_of, count_of};
+
+    /// A blank part of so many sectors of 4,096 bytes. No trouble is planned.
+    pub fn new(alloc: Global, sectors: u32) -> Result<MemoryNor, AllocError>
+        ensures { IfOk result (λ part. count_of part ≡ 16 * sectors) }
+    {
+        Ok(MemoryNor {
+            pages: blank_pages(alloc, 16 * sectors as usize)?,
+            powered: true,
+            good: 0,
+            trouble: None,
+        })
+    }
+
+    /// After so many programs and erases more the next one is befallen by this, in the place of what
+    /// was planned before.
+    pub fn plan(&mut self, good: u64, trouble: Trouble)
+        ensures held { held_of self.new ≡ held_of self.old }
+        ensures count { count_of self.new ≡ count_of self.old }
+    {
+        self.good = good;
+        self.trouble = Some(trouble);
+    }
+
+    /// Takes back what was planned.
+    pub fn forget_plan(&mut self)
+        ensures held { held_of self.new ≡ held_of self.old }
+        ensures count { count_of self.new ≡ count_of self.old }
+    {
+        self.trouble = None;
+    }
+
+    // What befalls the next program or erase. With the power off each one is cut before it begins.
+    fn due(&mut self) -> Option<Trouble>
+        ensures { self.new.pages ≡ self.old.pages }
+    {
+        if !self.powered {
+            return Some(Trouble::CutBefore);
+        }
+        if self.good > 0 {
+            self.good -= 1;
+            return None;
+        }
+        self.trouble.take()
+    }
+
+    // Tells what befell a program or an erase.
+    fn end(&mut self, due: Option<Trouble>) -> Result<(), DevFault>
+        ensures pages { self.new.pages ≡ self.old.pages }
+        ensures answer { result ≡ answer_of due }
+    {
+        match due {
+            None => Ok(()),
+            Some(Trouble::Fails) => Err(DevFault::Failed),
+            Some(_) => {
+                self.powered = false;
+                Err(DevFault::PowerCut)
+            }
+        }
+    }
+}
+
+impl Nor for MemoryNor {
+    ghost use Rattle.nor_part.specs.MemoryParts.{held_of, count_of, whole_of};
+
+    ghost held = { held_of };
+
+    ghost count = { count_of };
+
+    ghost whole = { whole_of };
+
+    fn page_count(&self) -> usize {
+        self.pages.len()
+    }
+
+    fn read(&mut self, page: usize, buffer: &mut [u8]) {
+        let bytes = &self.pages[page].bytes;
+        buffer.copy_from_slice(&bytes[..buffer.len()]);
+    }
+
+    fn program(&mut self, page: usize, bytes: &[u8]) -> Result<(), DevFault> {
+        let due = self.due();
+        program_page(&mut self.pages, page, bytes, due);
+        self.end(due)
+    }
+
+    fn erase(&mut self, sector: usize) -> Result<(), DevFault> {
+        let due = self.due();
+        erase_sector(&mut self.pages, sector, due);
+        self.end(due)
+    }
+
+    fn power_on(&mut self) {
+        self.powered = true;
+    }
+}
+
+// Programs a page, or does to it what befalls it.
+fn program_page(pages: &mut Vec<MemoryPage>, number: usize, bytes: &[u8], due: Option<Trouble>)
+    requires in_part { number < vec_len pages.old }
+    requires whole { AreWhole pages.old.items }
+    requires short { length bytes.now ≤ 256 }
+    ensures programs { ProgramsPage (page_at pages.old.items) number bytes.now (page_at pages.new.items) (answer_of due) }
+    ensures len { vec_len pages.new ≡ vec_len pages.old }
+    ensures whole { AreWhole pages.new.items }
+{
+    match due {
+        None | Some(Trouble::CutAfter) => clear_page(pages, number, bytes),
+        Some(Trouble::CutBefore) => {}
+        Some(_) => tear_page(pages, number, bytes),
+    }
+}
+
+// Erases a sector, or does to it what befalls it: a torn erase is one of its first page alone.
+fn erase_sector(pages: &mut Vec<MemoryPage>, sector: usize, due: Option<Trouble>)
+    requires in_part { 16 * sector + 16 ≤ vec_len pages.old }
+    requires whole { AreWhole pages.old.items }
+    ensures erases { ErasesSector (page_at pages.old.items) sector (page_at pages.new.items) (answer_of due) }
+    ensures len { vec_len pages.new ≡ vec_len pages.old }
+    ensures whole { AreWhole pages.new.items }
+{
+    match due {
+        None | Some(Trouble::CutAfter) => set_sector(pages, sector),
+        Some(Trouble::CutBefore) => {}
+        Some(_) => set_page(pages, 16 * sector),
+    }
+}
+
+fn clear_page(pages: &mut Vec<MemoryPage>, number: usize, bytes: &[u8])
+    requires in_part { number < vec_len pages.old }
+    requires whole { AreWhole pages.old.items }
+    requires short { length bytes.now ≤ 256 }
+    ensures others { (n : ℕ) → n ≢ number → page_at pages.new.items n ≡ page_at pages.old.items n }
+    ensures own { HasCleared (page_at pages.old.items number) bytes.now (page_at pages.new.items number) }
+    ensures len { vec_len pages.new ≡ vec_len pages.old }
+    ensures whole { AreWhole pages.new.items }
+{
+    let page = &mut pages[number];
+    clear(&mut page.bytes, bytes);
+}
+
+fn tear_page(pages: &mut Vec<MemoryPage>, number: usize, bytes: &[u8])
+    requires in_part { number < vec_len pages.old }
+    requires whole { AreWhole pages.old.items }
+    requires short { length bytes.now ≤ 256 }
+    ensures others { (n : ℕ) → n ≢ number → page_at pages.new.items n ≡ page_at pages.old.items n }
+    ensures torn { HasTorn (page_at pages.old.items number) bytes.now (page_at pages.new.items number) }
+    ensures trace { LeavesTrace (page_at pages.old.items number) bytes.now (page_at pages.new.items number) }
+    ensures len { vec_len pages.new ≡ vec_len pages.old }
+    ensures whole { AreWhole pages.new.items }
+{
+    let page = &mut pages[number];
+    tear(&mut page.bytes, bytes);
+}
+
+fn set_page(pages: &mut Vec<MemoryPage>, number: usize)
+    requires in_part { number < vec_len pages.old }
+    requires whole { AreWhole pages.old.items }
+    ensures others { (n : ℕ) → n ≢ number → page_at pages.new.items n ≡ page_at pages.old.items n }
+    ensures own { is_blank (page_at pages.new.items number) ≡ true }
+    ensures len { vec_len pages.new ≡ vec_len pages.old }
+    ensures whole { AreWhole pages.new.items }
+{
+    let page = &mut pages[number];
+    page.set();
+}
+
+fn set_sector(pages: &mut Vec<MemoryPage>, sector: usize)
+    requires in_part { 16 * sector + 16 ≤ vec_len pages.old }
+    requires whole { AreWhole pages.old.items }
+    ensures others { (n : ℕ) → n / 16 ≢ sector → page_at pages.new.items n ≡ page_at pages.old.items n }
+    ensures own { (n : ℕ) → n / 16 ≡ sector → is_blank (page_at pages.new.items n) ≡ true }
+    ensures len { vec_len pages.new ≡ vec_len pages.old }
+    ensures whole { AreWhole pages.new.items }
+{
+    for place in 0..16 {
+        set_page(pages, 16 * sector + place);
+    }
+}
+
+fn blank_pages(alloc: Global, count: usize) -> Result<Vec<MemoryPage>, AllocError>
+    ensures len { IfOk result (λ pages. vec_len pages ≡ count) }
+    ensures whole { IfOk result (λ pages. AreWhole pages.items) }
+{
+    let mut pages = Vec::with_capacity(alloc, count)?;
+    for _ in 0..count {
+        pages.push(MemoryPage::new(alloc)?)?;
+    }
+    Ok(pages)
+}

@@ -1,0 +1,171 @@
+//! A flash over a serial NOR part.
+ghost use Rattle.std.specs.Prelude.{◌≡◌, vec_len};
+ghost use Rattle.flash_model.specs.Geometry.{IsGeometry};
+ghost use Rattle.nor_part.specs.Layout.{sizes_of, blocks_of};
+
+use crate::memory_nor::{MemoryNor, Trouble};
+use crate::nor::Nor;
+use crate::paging::{erase_block, read_page, write_page};
+use crate::sizes::{sizes, wear};
+use counts::Count;
+use flash_model::{DevFault, Flash, Geometry, PageState};
+use fs_types::Fault;
+use std::alloc::Global;
+
+/// A flash over a serial NOR part: pages of 256 bytes, 16 in a block of two sectors, the first for
+/// data and the second for marks.
+#[derive(Drop)]
+pub struct NorFlash<P: Nor> {
+    part: P,
+    blocks: u32,
+    powered: bool,
+    worn: Vec<bool>,
+    failures: Count,
+    cuts: Count,
+    operations: Count,
+    ghost lawful: { IsGeometry (sizes_of blocks) },
+    ghost all_blocks: { vec_len worn ≡ blocks },
+    ghost all_pages: { blocks_of (P.count part) ≡ blocks },
+}
+
+impl<P: Nor + Drop> NorFlash<P> {
+    ghost use Rattle.std.specs.Prelude.{◌<◌, ◌+◌, ◌↔◌, ◌⊎◌, IfOk, IfErr, OnOk, OnErr, Err, Ok, true, false};
+    ghost use Rattle.flash_model.specs.Simulation.{Ends};
+    ghost use Rattle.nor_part.specs.Flashes.{device_of, part_of, IsOver};
+
+    /// A flash over a part with power on. Its pages are those that the part holds. `BadGeometry` for a
+    /// part of fewer than 16 blocks or more than 16,384, else `NoMemory`.
+    pub fn new(alloc: Global, part: P) -> Result<NorFlash<P>, Fault>
+        ensures over { IfOk result (λ flash. IsOver (P.held part) (P.count part) (device_of flash)) }
+        ensures part { IfOk result (λ flash. part_of flash ≡ part) }
+        ensures geometry { (result ≡ Err Fault.BadGeometry) ↔ ¬ IsGeometry (sizes_of (blocks_of (P.count part))) }
+        ensures errors { IfErr result (λ fault. (fault ≡ Fault.BadGeometry) ⊎ (fault ≡ Fault.NoMemory)) }
+    {
+        let count = part.page_count() / 32;
+        if count > 65_536 {
+            return Err(Fault::BadGeometry);
+        }
+        let blocks = count as u32;
+        if !sizes(blocks).is_lawful() {
+            return Err(Fault::BadGeometry);
+        }
+        Ok(NorFlash {
+            part,
+            blocks,
+            powered: true,
+            worn: vec![in alloc; false; blocks as usize]?,
+            failures: Count::zero(),
+            cuts: Count::zero(),
+            operations: Count::zero(),
+        })
+    }
+
+    /// Gives the part back.
+    pub fn into_part(self) -> P
+        ensures { result ≡ part_of self }
+    {
+        self.part
+    }
+
+    /// A flash made anew over the part of this one, as after a restart: it shows the same pages.
+    pub fn reopen(self, alloc: Global) -> Result<NorFlash<P>, Fault>
+        ensures pages { IfOk result (λ again. (device_of again).pages ≡ (device_of self).pages) }
+        ensures geometry { IfOk result (λ again. (device_of again).geometry ≡ (device_of self).geometry) }
+        ensures errors { IfErr result (λ fault. fault ≡ Fault.NoMemory) }
+    {
+        NorFlash::new(alloc, self.into_part())
+    }
+
+    // An operation begins. With the power off none does.
+    fn begin(&mut self) -> Result<(), DevFault>
+        ensures on { OnOk result ((device_of self.old).powered ≡ true) }
+        ensures begun { OnOk result (device_of self.new ≡ record (device_of self.old) { operations = (device_of self.old).operations + 1 }) }
+        ensures part { part_of self.new ≡ part_of self.old }
+        ensures err { IfErr result (λ fault. fault ≡ DevFault.PowerCut) }
+        ensures off { OnErr result ((device_of self.old).powered ≡ false) }
+        ensures same { OnErr result (self.new ≡ self.old) }
+    {
+        if !self.powered {
+            return Err(DevFault::PowerCut);
+        }
+        self.operations = self.operations.more();
+        Ok(())
+    }
+
+    // Ends a program or an erase in a block by its answer: a failure wears the block, and in a cut
+    // power goes.
+    fn end(&mut self, block: u32, done: Result<(), DevFault>) -> Result<(), DevFault>
+        requires in_range { block < (device_of self.old).geometry.blocks }
+        requires on { (device_of self.old).powered ≡ true }
+        ensures same { result ≡ done }
+        ensures ends { Ends (device_of self.old) block (device_of self.new) done }
+    {
+        match done {
+            Ok(()) => {}
+            Err(DevFault::Failed) => {
+                wear(&mut self.worn, block as usize);
+                self.failures = self.failures.more();
+            }
+            Err(DevFault::PowerCut) => {
+                self.powered = false;
+                self.cuts = self.cuts.more();
+            }
+        }
+        done
+    }
+}
+
+impl NorFlash<MemoryNor> {
+    ghost use Rattle.std.specs.Prelude.{◌≡◌};
+    ghost use Rattle.nor_part.specs.Flashes.{device_of};
+
+    /// After so many programs and erases of the part more the next one is befallen by this, in the
+    /// place of what was planned before.
+    pub fn plan(&mut self, good: u64, trouble: Trouble)
+        ensures { device_of self.new ≡ device_of self.old }
+    {
+        self.part.plan(good, trouble);
+    }
+
+    /// Takes back what was planned.
+    pub fn forget_plan(&mut self)
+        ensures { device_of self.new ≡ device_of self.old }
+    {
+        self.part.forget_plan();
+    }
+}
+
+impl<P: Nor + Drop> Flash for NorFlash<P> {
+    ghost use Rattle.nor_part.specs.Flashes.{device_of};
+    ghost use Rattle.nor_part.specs.WholePages.{whole_pages_of};
+
+    ghost device = { device_of };
+
+    ghost whole_pages = { λ flash p bytes same. whole_pages_of (P.held flash.part) (P.whole flash.part) p bytes same };
+
+    fn geometry(&self) -> Geometry {
+        sizes(self.blocks)
+    }
+
+    fn read(&mut self, page: u32, buffer: &mut [u8]) -> Result<PageState, DevFault> {
+        self.begin()?;
+        Ok(read_page(&mut self.part, page as usize, buffer))
+    }
+
+    fn program(&mut self, page: u32, bytes: &[u8]) -> Result<(), DevFault> {
+        self.begin()?;
+        let done = write_page(&mut self.part, page as usize, bytes);
+        self.end(page / 16, done)
+    }
+
+    fn erase(&mut self, block: u32) -> Result<(), DevFault> {
+        self.begin()?;
+        let done = erase_block(&mut self.part, block as usize);
+        self.end(block, done)
+    }
+
+    fn power_on(&mut self) {
+        self.part.power_on();
+        self.powered = true;
+    }
+}

@@ -1,0 +1,350 @@
+-- Events of a put, one after the other, and what comes of them.
+use Rattle.std.proofs.Common.{◌≡◌, ◌<◌, ◌+◌, ◌≤◌, ℕ, List, [], ◌∷◌, ◌++◌, take, drop, map, length, get_or, Option, Some, None, Result, Ok, Err, IfSome, IfErr, OnOk, ◌⊎◌, inl, inr, refl, sym, ap, ◌∙◌, subst, append_assoc, append-nil, take_all, take-append-drop, arith}
+use Rattle.std.specs.List.{flat_map, Contains}
+use Rattle.std.proofs.lemmas.List.{take_more, map_more, map-append}
+use Rattle.std.proofs.lemmas.List.Concat.{flat_map-append}
+use Rattle.std.proofs.lemmas.List.Elements.{Contains-push, Contains-append_left, Contains-append_right}
+use Rattle.history_machine.specs.History.{Past}
+use Rattle.plain_trees.specs.Trees.{Tree}
+use Rattle.fs_types.specs.Names.{Path, path_refusal}
+use Rattle.fs_types.specs.declared.event.Answer.{Answer}
+use Rattle.fs_types.specs.declared.event.Event.{Event}
+use Rattle.fs_types.specs.declared.fault.Fault.{Fault}
+use Rattle.flash_model.specs.Reading.{OnlyReads}
+use Rattle.flash_model.specs.Simulation.{device_of}
+use Rattle.flash_model.specs.declared.sim_flash.SimFlash.{SimFlash}
+use Rattle.flash_image.specs.Images.{image_of}
+use Rattle.system.specs.Mounts.{IsMountOf}
+use Rattle.system.specs.Systems.{IsSystem}
+use Rattle.system.specs.declared.systems.System.{System}
+use Rattle.undofs.specs.Runs.{World, Happens, Run}
+use Rattle.undofs.specs.Sessions.{Stands, world}
+use Rattle.undofs.proofs.SessionSteps.{mount_begins, serve_law}
+use Rattle.shell.specs.Failures.{of_refusal}
+use Rattle.shell.specs.Files.{Held, IsFront}
+use Rattle.shell.specs.Puts.{thing_events, group_start, group_end, put_events, stop_of, GoOn, StopLast, IsThingBy, IsThing, AreThings, Puts, Stops, IsUnput, PlaceCause, PutsBy, PutCause, AskCause, SpellingCause, path_spelled}
+use Rattle.shell.specs.Served.{Place, place, Turns, Passes, Halts, Asks, PutsOne, PutsThrough, PutsEach, PutsAll}
+use Rattle.shell.specs.Sources.{Found, found_of, place_of, way_fault, kind_fault, either_fault, source_fault, Unplaced}
+use Rattle.shell.specs.Tools.{IsDecoded, DecodeCause, IsUnclaimed, IsUnread, IsLoaded, LoadCause, SavesChange, ChangeUnsaved, SourcesEnd}
+use Rattle.shell.specs.declared.failure.Failure.{Failure}
+use Rattle.shell.specs.declared.put.Mounted.{Mounted}
+use Rattle.shell.specs.declared.scripts.Refusal.{Refusal}
+use Rattle.shell.specs.declared.source.Source.{Source}
+use Rattle.shell.specs.declared.source.SourceKind.{SourceKind}
+use Rattle.shell.specs.declared.thing.Thing.{Thing}
+use Rattle.shell.proofs.ImageLemmas.{loaded_front, cause_front, cause_unread}
+
+-- ---- events
+
+pub passes_more : (p q r : Place) (first second : List Event) → Passes p first q → Passes q second r → Passes p (first ++ second) r
+passes_more p q r [] second h rest = subst (λ (x : Place). Passes x second r) h rest
+passes_more p q r (event ∷ events) second (answer, between, turns, goes, passes) rest = (answer, between, turns, goes, passes_more between q r events second passes rest)
+
+pub halts_more : (p q r : Place) (first made : List Event) (refusal : Refusal) → Passes p first q → Halts q made refusal r → Halts p (first ++ made) refusal r
+halts_more p q r first made refusal passes h = record {
+  earlier = first ++ h.earlier;
+  last = h.last;
+  answer = h.answer;
+  between = h.between;
+  are = ap (λ (x : List Event). first ++ x) h.are ∙ sym (append_assoc first h.earlier (h.last ∷ []));
+  passes = passes_more p q h.between first h.earlier passes h.passes;
+  turns = h.turns;
+  stops = h.stops;
+}
+
+-- the next of some events is served
+pub asks_next : (events : List Event) (i : ℕ) (event : Event) (p q r : Place) (answer : Answer) → i < length events → event ≡ get_or events i event
+    → Passes p (take i events) q → Turns q event answer r → stop_of event answer ≡ None → Passes p (take (i + 1) events) r
+asks_next events i event p q r answer below is passes turns goes =
+    let one : Passes q (event ∷ []) r = (answer, r, turns, goes, refl) in
+    let all : Passes p (take i events ++ event ∷ []) r = passes_more p q r (take i events) (event ∷ []) passes one in
+    subst (λ (x : List Event). Passes p x r) (sym (take_more events i event below ∙ ap (λ (x : Event). take i events ++ x ∷ []) (sym is))) all
+
+pub asks_all : (events : List Event) (i : ℕ) (p q : Place) → length events ≤ i → Passes p (take i events) q → Passes p events q
+asks_all events i p q over passes = subst (λ (x : List Event). Passes p x q) (take_all i events over) passes
+
+pub asks_halted : (events : List Event) (i : ℕ) (event : Event) (p q r : Place) (answer : Answer) (refusal : Refusal) → i < length events → event ≡ get_or events i event
+    → Passes p (take i events) q → Turns q event answer r → stop_of event answer ≡ Some refusal → Asks p events (Err refusal) r
+asks_halted events i event p q r answer refusal below is passes turns stops =
+    let made : List Event = take i events ++ event ∷ [] in
+    let is_made : take (i + 1) events ≡ made = take_more events i event below ∙ ap (λ (x : Event). take i events ++ x ∷ []) (sym is) in (
+      made,
+      drop (i + 1) events,
+      sym (take-append-drop (i + 1) events) ∙ ap (λ (x : List Event). x ++ drop (i + 1) events) is_made,
+      record { earlier = take i events; last = event; answer = answer; between = q; are = refl; passes = passes; turns = turns; stops = stops },
+    )
+
+-- ---- sources
+
+things_more : (held : Held) (base : Path) (all : List Found) (things : List Thing) (found : Found) (thing : Thing)
+    → AreThings held base all things → IsThing held base found thing → AreThings held base (all ++ found ∷ []) (things ++ thing ∷ [])
+things_more held base [] [] found thing h is = (is, tt)
+things_more held base [] (other ∷ things) found thing h is = absurd h
+things_more held base (other ∷ all) [] found thing h is = absurd h
+things_more held base (one ∷ all) (other ∷ things) found thing h is = (h.0, things_more held base all things found thing h.1 is)
+
+events_more : (things : List Thing) (thing : Thing) → flat_map thing_events (things ++ thing ∷ []) ≡ flat_map thing_events things ++ thing_events thing
+events_more things thing = flat_map-append thing_events things (thing ∷ []) ∙ ap (λ (x : List Event). flat_map thing_events things ++ x) (append-nil (thing_events thing))
+
+-- so many sources were put so far
+abbrev pub HasPut : Held → Path → List Found → Place → Place → Type 0
+HasPut held base all p q = PutsEach held base all p (Ok tt) q
+
+pub none_put : (held : Held) (base : Path) (p : Place) → HasPut held base [] p p
+none_put held base p = ([], tt, refl)
+
+found_more : (sources : List Source) (i : ℕ) (source : Source) → i < length sources → source ≡ get_or sources i source
+    → map found_of (take (i + 1) sources) ≡ map found_of (take i sources) ++ found_of source ∷ []
+found_more sources i source below is = map_more found_of sources i source below ∙ ap (λ (x : Source). map found_of (take i sources) ++ found_of x ∷ []) (sym is)
+
+-- the sources up to one, and those after it
+parted : (sources : List Source) (i : ℕ) (source : Source) → i < length sources → source ≡ get_or sources i source
+    → map found_of sources ≡ (map found_of (take i sources) ++ found_of source ∷ []) ++ map found_of (drop (i + 1) sources)
+parted sources i source below is =
+    ap (map found_of) (sym (take-append-drop (i + 1) sources)) ∙ map-append found_of (take (i + 1) sources) (drop (i + 1) sources)
+    ∙ ap (λ (x : List Found). x ++ map found_of (drop (i + 1) sources)) (found_more sources i source below is)
+
+pub among : (sources : List Source) (i : ℕ) (source : Source) → i < length sources → source ≡ get_or sources i source → Contains (map found_of sources) (found_of source)
+among sources i source below is =
+    let first : List Found = map found_of (take i sources) in
+    subst (λ (x : List Found). Contains x (found_of source)) (sym (parted sources i source below is))
+    (Contains-append_left (first ++ found_of source ∷ []) (map found_of (drop (i + 1) sources)) (found_of source) (Contains-push first (found_of source)))
+
+pub puts_next : (held : Held) (base : Path) (sources : List Source) (i : ℕ) (source : Source) (p q r : Place) → i < length sources → source ≡ get_or sources i source
+    → HasPut held base (map found_of (take i sources)) p q → PutsOne held base (found_of source) q (Ok tt) r → HasPut held base (map found_of (take (i + 1) sources)) p r
+puts_next held base sources i source p q r below is (things, are, passes) (thing, one, more) =
+    let all : Passes p (flat_map thing_events things ++ thing_events thing) r = passes_more p q r (flat_map thing_events things) (thing_events thing) passes more in
+    subst (λ (x : List Found). HasPut held base x p r) (sym (found_more sources i source below is)) (
+      things ++ thing ∷ [],
+      things_more held base (map found_of (take i sources)) things (found_of source) thing are one,
+      subst (λ (x : List Event). Passes p x r) (sym (events_more things thing)) all,
+    )
+
+pub puts_all : (held : Held) (base : Path) (sources : List Source) (i : ℕ) (p q : Place) → length sources ≤ i → HasPut held base (map found_of (take i sources)) p q
+    → PutsEach held base (map found_of sources) p (Ok tt) q
+puts_all held base sources i p q over h = subst (λ (x : List Source). HasPut held base (map found_of x) p q) (take_all i sources over) h
+
+pub puts_broken : (held : Held) (base : Path) (sources : List Source) (i : ℕ) (source : Source) (p q r : Place) (failure : Failure) → i < length sources → source ≡ get_or sources i source
+    → HasPut held base (map found_of (take i sources)) p q → PutsOne held base (found_of source) q (Err failure) r → PutsEach held base (map found_of sources) p (Err failure) r
+puts_broken held base sources i source p q r failure below is h (inl unput) = inr (inl (found_of source, among sources i source below is, unput))
+puts_broken held base sources i source p q r failure below is (things, are, passes) (inr (thing, made, rest, refusal, one, begins, halts, why)) =
+    let earlier : List Event = flat_map thing_events things in
+    inr (inr (
+      map found_of (take i sources) ++ found_of source ∷ [],
+      map found_of (drop (i + 1) sources),
+      things ++ thing ∷ [],
+      earlier ++ made,
+      rest,
+      refusal,
+      parted sources i source below is,
+      things_more held base (map found_of (take i sources)) things (found_of source) thing are one,
+      events_more things thing ∙ ap (λ (x : List Event). earlier ++ x) begins ∙ sym (append_assoc earlier made rest),
+      halts_more p q r earlier made refusal passes halts,
+      why,
+    ))
+
+-- ---- the change group
+
+-- it does not begin
+pub unbegun : (held : Held) (base : Path) (all : List Found) (p q : Place) (refusal : Refusal) (failure : Failure) → Asks p group_start (Err refusal) q → failure ≡ of_refusal refusal
+    → PutsAll held base all p (Err failure) q
+unbegun held base all p q refusal failure (made, rest, begins, halts) why =
+    inr (inr ([], all, [], made, rest ++ group_end, refusal, refl, tt, ap (λ (x : List Event). x ++ group_end) begins ∙ append_assoc made rest group_end, halts, why))
+
+pub broken_within : (held : Held) (base : Path) (all : List Found) (p q r : Place) (failure : Failure) → Passes p group_start q → PutsEach held base all q (Err failure) r
+    → PutsAll held base all p (Err failure) r
+broken_within held base all p q r failure begun (inl memory) = inl memory
+broken_within held base all p q r failure begun (inr (inl cause)) = inr (inl cause)
+broken_within held base all p q r failure begun (inr (inr (first, later, things, made, rest, refusal, parts, are, begins, halts, why))) =
+    let is : put_events things ≡ (group_start ++ made) ++ (rest ++ group_end) =
+    ap (λ (x : List Event). group_start ++ x ++ group_end) begins ∙ ap (λ (x : List Event). x ++ group_end) (sym (append_assoc group_start made rest)) ∙ append_assoc (group_start ++ made) rest group_end in
+    inr (inr (first, later, things, group_start ++ made, rest ++ group_end, refusal, parts, are, is, halts_more p q r group_start made refusal begun halts, why))
+
+-- all of it is carried out, or its end is refused
+pub group_ends : (held : Held) (base : Path) (all : List Found) (p q r s : Place) → Passes p group_start q → PutsEach held base all q (Ok tt) r → Asks r group_end (Ok tt) s
+    → PutsAll held base all p (Ok tt) s
+group_ends held base all p q r s begun (things, are, passes) ended =
+    let within : Passes p (group_start ++ flat_map thing_events things) r = passes_more p q r group_start (flat_map thing_events things) begun passes in
+    (things, are, passes_more p r s (group_start ++ flat_map thing_events things) group_end within ended)
+
+pub group_unended : (held : Held) (base : Path) (all : List Found) (p q r s : Place) (refusal : Refusal) (failure : Failure) → Passes p group_start q → PutsEach held base all q (Ok tt) r
+    → Asks r group_end (Err refusal) s → failure ≡ of_refusal refusal → PutsAll held base all p (Err failure) s
+group_unended held base all p q r s refusal failure begun (things, are, passes) (made, rest, begins, halts) why =
+    let within : List Event = group_start ++ flat_map thing_events things in
+    let done : Passes p within r = passes_more p q r group_start (flat_map thing_events things) begun passes in
+    inr (inr (
+      all,
+      [],
+      things,
+      within ++ made,
+      rest,
+      refusal,
+      sym (append-nil all),
+      are,
+      ap (λ (x : List Event). within ++ x) begins ∙ sym (append_assoc within made rest),
+      halts_more p r s within made refusal done halts,
+      why,
+    ))
+
+-- ---- sessions
+
+passes_run : (p q : Place) (events : List Event) → Passes p events q → (found : List (Past Tree)) → Stands (world p.device p.system found)
+    → (more : List (Past Tree)) × (answers : List Answer) × Run (world p.device p.system found) events answers (world q.device q.system more) × GoOn events answers × Stands (world q.device q.system more)
+passes_run p q [] h found stands =
+    let same : world q.device q.system found ≡ world p.device p.system found = ap (λ (x : Place). world x.device x.system found) h in
+    (found, [], same, tt, subst Stands (sym same) stands)
+passes_run p q (event ∷ events) (answer, between, turns, goes, rest) found stands =
+    let one = serve_law p.device between.device p.system between.system event answer found turns stands in
+    let all = passes_run between q events rest one.0 one.2 in
+    (all.0, answer ∷ all.1, (world between.device between.system one.0, one.1, all.2), (goes, all.3), all.4)
+
+run_more : (u v w : World) (events : List Event) (answers : List Answer) (event : Event) (answer : Answer) → Run u events answers v → Happens v event answer w
+    → Run u (events ++ event ∷ []) (answers ++ answer ∷ []) w
+run_more u v w [] [] event answer h one = (w, subst (λ (x : World). Happens x event answer w) h one, refl)
+run_more u v w [] (other ∷ answers) event answer h one = absurd h
+run_more u v w (other ∷ events) [] event answer h one = absurd h
+run_more u v w (e ∷ events) (a ∷ answers) event answer h one = (h.0, h.1, run_more h.0 v w events answers event answer h.2 one)
+
+stop_last : (events : List Event) (answers : List Answer) (event : Event) (answer : Answer) (refusal : Refusal) → GoOn events answers → stop_of event answer ≡ Some refusal
+    → StopLast (events ++ event ∷ []) (answers ++ answer ∷ []) refusal
+stop_last [] [] event answer refusal h is = is
+stop_last [] (a ∷ answers) event answer refusal h is = absurd h
+stop_last (e ∷ events) [] event answer refusal h is = absurd h
+stop_last (e ∷ []) (a ∷ []) event answer refusal h is = (h.0, is)
+stop_last (e ∷ []) (a ∷ other ∷ answers) event answer refusal h is = absurd h.1
+stop_last (e ∷ next ∷ events) (a ∷ answers) event answer refusal h is = (h.0, stop_last (next ∷ events) answers event answer refusal h.1 is)
+
+pub put_session : (start mid : SimFlash) (m : System) (end : Mounted) (things : List Thing) → OnlyReads (device_of start) (device_of mid) → IsMountOf (device_of start) (device_of mid) m
+    → IsSystem (device_of mid) m → Passes (record { device = device_of mid; system = Some m }) (put_events things) (place end) → Puts start things end.flash
+put_session start mid m end things reads begins system passes =
+    let first = mount_begins (device_of start) (device_of mid) m reads begins system in
+    let all = passes_run (record { device = device_of mid; system = Some m }) (place end) (put_events things) passes (first.0 ∷ []) first.3 in
+    (all.1, world (device_of end.flash) end.system all.0, (first.0, world (device_of mid) (Some m) (first.0 ∷ []), first.1, first.2, all.2), refl, all.3)
+
+pub stopped_session : (start mid : SimFlash) (m : System) (q : Place) (things : List Thing) (made rest : List Event) (refusal : Refusal) → OnlyReads (device_of start) (device_of mid)
+    → IsMountOf (device_of start) (device_of mid) m → IsSystem (device_of mid) m → put_events things ≡ made ++ rest → Halts (record { device = device_of mid; system = Some m }) made refusal q
+    → Stops start things refusal
+stopped_session start mid m q things made rest refusal reads begins system is h =
+    let first = mount_begins (device_of start) (device_of mid) m reads begins system in
+    let all = passes_run (record { device = device_of mid; system = Some m }) h.between h.earlier h.passes (first.0 ∷ []) first.3 in
+    let one = serve_law h.between.device q.device h.between.system q.system h.last h.answer all.0 h.turns all.4 in
+    let u : World = world (device_of mid) (Some m) (first.0 ∷ []) in
+    let v : World = world h.between.device h.between.system all.0 in
+    let w : World = world q.device q.system one.0 in
+    let answers : List Answer = all.1 ++ h.answer ∷ [] in
+    let run : Run u made answers w = subst (λ (x : List Event). Run u x answers w) (sym h.are) (run_more u v w h.earlier all.1 h.last h.answer all.2 one.1) in
+    let last : StopLast made answers refusal = subst (λ (x : List Event). StopLast x answers refusal) (sym h.are) (stop_last h.earlier all.1 h.last h.answer refusal all.3 h.stops) in
+    (made, rest, answers, w, is, (first.0, u, first.1, first.2, run), last)
+
+-- ---- one source
+
+-- what is not a folder and may be put is a file
+pub file_thing : (held : Held) (base : Path) (found : Found) (bytes : List ℕ) → source_fault base found ≡ None → (found.kind ≡ SourceKind.Folder → ⊥) → IsFront (held found.name) bytes
+    → IsThing held base found (Thing.File (place_of base found) bytes)
+file_thing held base found bytes lawful other front = (lawful, by_kind found.kind lawful other)
+  where
+    by_kind : (kind : SourceKind) → either_fault (kind_fault kind) (way_fault (path_refusal found.way) (length (place_of base found))) ≡ None → (kind ≡ SourceKind.Folder → ⊥)
+        → IsThingBy held kind (place_of base found) found.name (Thing.File (place_of base found) bytes)
+    by_kind SourceKind.Folder h other = absurd (other refl)
+    by_kind (SourceKind.File n) h other = (bytes, refl, front)
+    by_kind SourceKind.Crowded h other = absurd cc
+    by_kind SourceKind.Link h other = absurd cc
+    by_kind SourceKind.Special h other = absurd cc
+    by_kind SourceKind.Unreadable h other = absurd cc
+
+pub folder_thing : (held : Held) (base : Path) (found : Found) → source_fault base found ≡ None → found.kind ≡ SourceKind.Folder → IsThing held base found (Thing.Directory (place_of base found))
+folder_thing held base found lawful is =
+    (lawful, subst (λ (kind : SourceKind). IsThingBy held kind (place_of base found) found.name (Thing.Directory (place_of base found))) (sym is) refl)
+
+pub unput_unplaced : (held : Held) (base : Path) (found : Found) (failure : Failure) → Unplaced base found failure → IsUnput held base found failure
+unput_unplaced held base found Failure.Memory h = tt
+unput_unplaced held base found (Failure.Source fault) h = inl h
+unput_unplaced held base found failure h = absurd h
+
+pub one_put : (held : Held) (base : Path) (found : Found) (thing : Thing) (events lent : List Event) (p q : Place) → IsThing held base found thing → lent ≡ events → events ≡ thing_events thing
+    → Asks p lent (Ok tt) q → PutsOne held base found p (Ok tt) q
+one_put held base found thing events lent p q is same are h = (thing, is, subst (λ (x : List Event). Passes p x q) (same ∙ are) h)
+
+pub one_stopped : (held : Held) (base : Path) (found : Found) (thing : Thing) (events lent : List Event) (p q : Place) (refusal : Refusal) (failure : Failure) → IsThing held base found thing
+    → lent ≡ events → events ≡ thing_events thing → Asks p lent (Err refusal) q → failure ≡ of_refusal refusal → PutsOne held base found p (Err failure) q
+one_stopped held base found thing events lent p q refusal failure is same are (made, rest, begins, halts) why = inr (thing, made, rest, refusal, is, sym (same ∙ are) ∙ begins, halts, why)
+
+-- ---- on what is mounted
+
+pub all_put : (IsThere : SimFlash → Type 0) (held : Held) (base : Path) (all : List Found) (start mid : SimFlash) (m : System) (end : Mounted) → IsThere start
+    → OnlyReads (device_of start) (device_of mid) → IsMountOf (device_of start) (device_of mid) m → IsSystem (device_of mid) m
+    → PutsAll held base all (record { device = device_of mid; system = Some m }) (Ok tt) (place end) → PutsBy IsThere held base all start end.flash
+all_put IsThere held base all start mid m end there reads begins system (things, are, passes) = (things, there, are, put_session start mid m end things reads begins system passes)
+
+pub not_put : (IsThere : SimFlash → Type 0) (Cause : Failure → Type 0) (held : Held) (base : Path) (all : List Found) (start mid : SimFlash) (m : System) (q : Place) (failure : Failure) → IsThere start
+    → OnlyReads (device_of start) (device_of mid) → IsMountOf (device_of start) (device_of mid) m → IsSystem (device_of mid) m
+    → PutsAll held base all (record { device = device_of mid; system = Some m }) (Err failure) q → PutCause IsThere Cause held base all failure
+not_put IsThere Cause held base all start mid m q failure there reads begins system (inl memory) = inr (inl memory)
+not_put IsThere Cause held base all start mid m q failure there reads begins system (inr (inl cause)) = inr (inr (inl cause))
+not_put IsThere Cause held base all start mid m q failure there reads begins system (inr (inr (first, later, things, made, rest, refusal, parts, are, is, halts, why))) =
+    inr (inr (inr (inr (start, first, later, things, refusal, there, parts, are, stopped_session start mid m q things made rest refusal reads begins system is halts, why))))
+
+-- ---- the image
+
+puts_front : (held : Held) (name bytes : List ℕ) → IsFront (held name) bytes → (base : Path) (all : List Found) (start end : SimFlash) → PutsBy (IsDecoded bytes) held base all start end
+    → PutsBy (IsLoaded (held name)) held base all start end
+puts_front held name bytes front base all start end (things, there, are, puts) = (things, loaded_front (held name) bytes front start there, are, puts)
+
+put_cause : (held : Held) (name bytes : List ℕ) → IsFront (held name) bytes → (base : Path) (all : List Found) (failure : Failure) → PutCause (IsDecoded bytes) (DecodeCause bytes) held base all failure
+    → PutCause (IsLoaded (held name)) (LoadCause (held name)) held base all failure
+put_cause held name bytes front base all failure (inl cause) = inl (cause_front (held name) bytes front failure cause)
+put_cause held name bytes front base all failure (inr (inl memory)) = inr (inl memory)
+put_cause held name bytes front base all failure (inr (inr (inl cause))) = inr (inr (inl cause))
+put_cause held name bytes front base all failure (inr (inr (inr (inl (start, end, fault, there, unmounted, why))))) =
+    inr (inr (inr (inl (start, end, fault, loaded_front (held name) bytes front start there, unmounted, why))))
+put_cause held name bytes front base all failure (inr (inr (inr (inr (start, first, later, things, refusal, there, parts, are, stops, why))))) =
+    inr (inr (inr (inr (start, first, later, things, refusal, loaded_front (held name) bytes front start there, parts, are, stops, why))))
+
+-- sources are put so whatever the files hold that were claimed, since a claim changes none
+once_claimed : (name : List ℕ) (base : Path) (all : List Found) (held claimed saved : Held) (result : Result (Unit {0}) Failure) → claimed ≡ held → SourcesEnd name base all claimed saved result
+    → SourcesEnd name base all held saved result
+once_claimed name base all held claimed saved result same ends = subst (λ (h : Held). SourcesEnd name base all h saved result) same ends
+
+pub sources_unclaimed : (name : List ℕ) (base : Path) (all : List Found) (held claimed : Held) (failure : Failure) → claimed ≡ held → IsUnclaimed failure
+    → SourcesEnd name base all held claimed (Err failure)
+sources_unclaimed name base all held claimed failure same cause = inl (inl cause, same)
+
+pub sources_unread : (name : List ℕ) (base : Path) (all : List Found) (held claimed : Held) (failure : Failure) → claimed ≡ held → IsUnread (claimed name) failure
+    → SourcesEnd name base all held claimed (Err failure)
+sources_unread name base all held claimed failure same unread =
+    once_claimed name base all held claimed claimed (Err failure) same (inl (inr (inl (cause_unread (claimed name) failure unread)), refl))
+
+pub sources_unput : (name : List ℕ) (base : Path) (all : List Found) (held claimed : Held) (bytes : List ℕ) (failure : Failure) → claimed ≡ held → IsFront (claimed name) bytes
+    → PutCause (IsDecoded bytes) (DecodeCause bytes) claimed base all failure → SourcesEnd name base all held claimed (Err failure)
+sources_unput name base all held claimed bytes failure same front cause =
+    once_claimed name base all held claimed claimed (Err failure) same (inl (inr (put_cause claimed name bytes front base all failure cause), refl))
+
+pub sources_saved : (name : List ℕ) (base : Path) (all : List Found) (held claimed saved : Held) (bytes kept : List ℕ) (start end : SimFlash) (result : Result (Unit {0}) Failure) → claimed ≡ held
+    → IsFront (claimed name) bytes → PutsBy (IsDecoded bytes) claimed base all start end → kept ≡ bytes → OnOk result (SavesChange name claimed saved kept (image_of (device_of end)))
+    → IfErr result (ChangeUnsaved name claimed saved kept (image_of (device_of end))) → SourcesEnd name base all held saved result
+sources_saved name base all held claimed saved bytes kept start end (Ok done) same front puts is ok err =
+    once_claimed name base all held claimed saved (Ok done) same (
+      start,
+      end,
+      puts_front claimed name bytes front base all start end puts,
+      subst (λ (was : List ℕ). SavesChange name claimed saved was (image_of (device_of end))) (is ∙ puts.1.spelled) ok,
+    )
+sources_saved name base all held claimed saved bytes kept start end (Err failure) same front puts is ok err =
+    once_claimed name base all held claimed saved (Err failure) same (inr (
+      start,
+      end,
+      puts_front claimed name bytes front base all start end puts,
+      subst (λ (was : List ℕ). ChangeUnsaved name claimed saved was (image_of (device_of end)) failure) (is ∙ puts.1.spelled) err,
+    ))
+
+-- ---- the words
+
+pub unspelled : (held : Held) (gathered : Option (List Found)) (word : List ℕ) (failure : Failure) → SpellingCause word failure → AskCause held gathered word failure
+unspelled held gathered word failure (inl memory) = inl memory
+unspelled held gathered word failure (inr refused) = inr (inl refused)
+
+pub unplaced : (held : Held) (gathered : Option (List Found)) (word : List ℕ) (base : Path) (failure : Failure) → path_spelled word ≡ Ok base
+    → (failure ≡ Failure.Memory) ⊎ ((all : List Found) × IfSome gathered (λ found. all ≡ found) × PlaceCause base all failure) → AskCause held gathered word failure
+unplaced held gathered word base failure spelled (inl memory) = inl memory
+unplaced held gathered word base failure spelled (inr (all, known, (found, there, cause))) =
+    inr (inr (base, all, record { spelled = spelled; known = known }, (found, there, unput_unplaced held base found failure cause)))

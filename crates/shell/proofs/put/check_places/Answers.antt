@@ -1,0 +1,8 @@
+use Rattle.std.proofs.Common.{arith}
+use Rattle.shell.specs.Sources.{found_of}
+use Rattle.shell.proofs.PutLemmas.{among}
+use Rattle.shell.proofs.put.check_places.Goals as goal
+
+pub returns-in-Err : goal.returns-in-Err
+returns-in-Err g c =
+    (found_of c.source-item.result, among c.args.sources.now c.loop-source.source-index c.source-item.result c.loop-source-test.true c.source-item.is, c.in-Err.ensures.err)

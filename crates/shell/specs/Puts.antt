@@ -1,0 +1,160 @@
+-- Files of the host that are put into an image, all in one change group.
+use Rattle.std.specs.Prelude.{◌≡◌, ◌⊎◌, ℕ, Bool, true, false, Option, Some, None, Result, Ok, Err, IfSome, List, [], ◌∷◌, ◌++◌, codes, Contains, if◌then◌else◌}
+use Rattle.std.specs.List.{flat_map}
+use Rattle.fs_types.specs.Names.{Path}
+use Rattle.fs_types.specs.declared.call.Call.{Call}
+use Rattle.fs_types.specs.declared.call.Reply.{Reply}
+use Rattle.fs_types.specs.declared.call.Stat.{Stat}
+use Rattle.fs_types.specs.declared.call.View.{View}
+use Rattle.fs_types.specs.declared.event.Answer.{Answer}
+use Rattle.fs_types.specs.declared.event.Event.{Event}
+use Rattle.fs_types.specs.declared.fault.Fault.{Fault}
+use Rattle.flash_model.specs.Simulation.{device_of}
+use Rattle.flash_model.specs.declared.sim_flash.SimFlash.{SimFlash}
+use Rattle.script.specs.Lines.{line_of}
+use Rattle.script.specs.declared.line.Line.{Line}
+use Rattle.undofs.specs.Runs.{World}
+use Rattle.undofs.specs.Sessions.{Session}
+use Rattle.shell.specs.Failures.{of_system, of_refusal}
+use Rattle.shell.specs.Files.{Held, IsFront}
+use Rattle.shell.specs.Scripts.{IsUnmounted}
+use Rattle.shell.specs.Sources.{Found, place_of, source_fault, Unplaced}
+use Rattle.shell.specs.declared.failure.Failure.{Failure}
+use Rattle.shell.specs.declared.scripts.Refusal.{Refusal}
+use Rattle.shell.specs.declared.source.SourceFault.{SourceFault}
+use Rattle.shell.specs.declared.source.SourceKind.{SourceKind}
+use Rattle.shell.specs.declared.thing.Thing.{Thing}
+
+-- the events that put a thing: a directory is made, and has to be there then; a file is made or emptied, and its bytes are
+-- written. No other file is open, so its descriptor is 0
+abbrev pub thing_events : Thing → List Event
+thing_events (Thing.Directory path) = Event.Call (Call.Mkdir path) ∷ Event.Call (Call.Stat View.Present path) ∷ []
+thing_events (Thing.File path bytes) = Event.Call (Call.Open path (record { 0 = 22 })) ∷ Event.Call (Call.Pwrite 0 0 bytes) ∷ Event.Call (Call.Close 0) ∷ []
+
+-- one change group, which is synced
+abbrev pub group_start : List Event
+group_start = Event.Call Call.Begin ∷ []
+
+abbrev pub group_end : List Event
+group_end = Event.Call Call.End ∷ Event.Call Call.Sync ∷ []
+
+abbrev pub put_events : List Thing → List Event
+put_events things = group_start ++ flat_map thing_events things ++ group_end
+
+abbrev pub makes_directory : Call → Bool
+makes_directory (Call.Mkdir path) = true
+makes_directory _ = false
+
+abbrev pub is_mkdir : Event → Bool
+is_mkdir (Event.Call call) = makes_directory call
+is_mkdir _ = false
+
+-- how an answer ends a put, if it does: an event is refused, but a directory that is to be made may be there already; or a file
+-- stands where a directory has to be
+abbrev pub refused_by : Fault → Bool → Option Refusal
+refused_by Fault.Exists is_made = if is_made then None else Some (Refusal.Fault Fault.Exists)
+refused_by fault is_made = Some (Refusal.Fault fault)
+
+abbrev pub stop_of_reply : Reply → Option Refusal
+stop_of_reply (Reply.Stat (Stat.File bytes)) = Some (Refusal.Fault Fault.Exists)
+stop_of_reply _ = None
+
+abbrev pub stop_of : Event → Answer → Option Refusal
+stop_of event (Answer.Refused fault) = refused_by fault (is_mkdir event)
+stop_of event (Answer.Done reply) = stop_of_reply reply
+stop_of event Answer.Unmounted = Some Refusal.Unmounted
+stop_of event Answer.Mounted = None
+
+-- none of the answers ends a put; or the last one does, and no other
+abbrev pub GoOn : List Event → List Answer → Type 0
+GoOn [] [] = Unit {0}
+GoOn (event ∷ events) (answer ∷ answers) = (stop_of event answer ≡ None) × GoOn events answers
+GoOn _ _ = ⊥
+
+abbrev pub StopLast : List Event → List Answer → Refusal → Type 0
+StopLast (event ∷ []) (answer ∷ []) refusal = stop_of event answer ≡ Some refusal
+StopLast (event ∷ next ∷ events) (answer ∷ answers) refusal = (stop_of event answer ≡ None) × StopLast (next ∷ events) answers refusal
+StopLast _ _ refusal = ⊥
+
+-- a thing is what stands at a name of the host, at its place below a path: a file has the bytes that are read of it
+abbrev pub IsThingBy : Held → SourceKind → Path → List ℕ → Thing → Type 0
+IsThingBy held SourceKind.Folder path name thing = thing ≡ Thing.Directory path
+IsThingBy held (SourceKind.File length) path name thing = (bytes : List ℕ) × (thing ≡ Thing.File path bytes) × IsFront (held name) bytes
+IsThingBy held _ path name thing = ⊥
+
+abbrev pub IsThing : Held → Path → Found → Thing → Type 0
+IsThing held base found thing = (source_fault base found ≡ None) × IsThingBy held found.kind (place_of base found) found.name thing
+
+abbrev pub AreThings : Held → Path → List Found → List Thing → Type 0
+AreThings held base [] [] = Unit {0}
+AreThings held base (found ∷ all) (thing ∷ things) = IsThing held base found thing × AreThings held base all things
+AreThings held base _ _ = ⊥
+
+-- what is mounted on a flash carries out all events of a put, and no answer ends it
+abbrev pub Puts : SimFlash → List Thing → SimFlash → Type 0
+Puts start things end = (answers : List Answer) × (v : World) × Session (device_of start) (put_events things) (Answer.Mounted ∷ answers) v
+    × (v.device ≡ device_of end) × GoOn (put_events things) answers
+
+-- it carries out the first events, and the answer to the last of them ends it
+abbrev pub Stops : SimFlash → List Thing → Refusal → Type 0
+Stops start things refusal = (made : List Event) × (rest : List Event) × (answers : List Answer) × (v : World) × (put_events things ≡ made ++ rest)
+    × Session (device_of start) made (Answer.Mounted ∷ answers) v × StopLast made answers refusal
+
+-- the path that a line `mkdir` names, or how the line is refused
+abbrev pub path_of_call : Call → Result Path Failure
+path_of_call (Call.Mkdir path) = Ok path
+path_of_call _ = Err (Failure.Refused Refusal.Syntax)
+
+abbrev pub path_of_line : Line → Result Path Failure
+path_of_line (Line.Call call) = path_of_call call
+path_of_line (Line.Refused fault) = Err (Failure.Refused (Refusal.Fault fault))
+path_of_line _ = Err (Failure.Refused Refusal.Syntax)
+
+-- the path that a word spells, as in a line of a script
+abbrev pub path_spelled : List ℕ → Result Path Failure
+path_spelled word = path_of_line (line_of (codes "mkdir " ++ word))
+
+-- why it is not had: the word spells none, or for want of memory
+abbrev pub SpellingCause : List ℕ → Failure → Type 0
+SpellingCause word failure = (failure ≡ Failure.Memory) ⊎ (path_spelled word ≡ Err failure)
+
+-- why a source is not put: it has no place, or its file is not read; or for want of memory
+abbrev pub IsUnput : Held → Path → Found → Failure → Type 0
+IsUnput held base found Failure.Memory = Unit {0}
+IsUnput held base found (Failure.Source fault) = (source_fault base found ≡ Some fault) ⊎ ((fault ≡ SourceFault.Unreadable) × (held found.name ≡ None))
+IsUnput held base found _ = ⊥
+
+-- one of the sources has no place
+abbrev pub PlaceCause : Path → List Found → Failure → Type 0
+PlaceCause base all failure = (found : Found) × Contains all found × Unplaced base found failure
+
+-- one of them is not put
+abbrev pub SourceCause : Held → Path → List Found → Failure → Type 0
+SourceCause held base all failure = (found : Found) × Contains all found × IsUnput held base found failure
+
+-- all sources are put below a path, on a flash that is found so, which gives the flash as it is left
+abbrev pub PutsBy : (SimFlash → Type 0) → Held → Path → List Found → SimFlash → SimFlash → Type 0
+PutsBy IsThere held base all start end = (things : List Thing) × IsThere start × AreThings held base all things × Puts start things end
+
+-- the first of them are put, and then an event is refused
+abbrev pub StopsBy : (SimFlash → Type 0) → Held → Path → List Found → Failure → Type 0
+StopsBy IsThere held base all failure = (start : SimFlash) × (first : List Found) × (later : List Found) × (things : List Thing) × (refusal : Refusal)
+    × IsThere start × (all ≡ first ++ later) × AreThings held base first things × Stops start things refusal × (failure ≡ of_refusal refusal)
+
+-- a flash that is found so is not mounted
+abbrev pub UnmountedBy : (SimFlash → Type 0) → Failure → Type 0
+UnmountedBy IsThere failure = (start : SimFlash) × (end : SimFlash) × (fault : Fault) × IsThere start × IsUnmounted start end fault × (failure ≡ of_system fault)
+
+-- why they are not put: there is no flash for its cause, or memory was wanted; one of them is not put; no system is mounted; or an
+-- event is refused
+abbrev pub PutCause : (SimFlash → Type 0) → (Failure → Type 0) → Held → Path → List Found → Failure → Type 0
+PutCause IsThere Cause held base all failure = Cause failure ⊎ ((failure ≡ Failure.Memory) ⊎ (SourceCause held base all failure ⊎ (UnmountedBy IsThere failure ⊎ StopsBy IsThere held base all failure)))
+
+-- a word of the program spells this path, and all of this stands at a name of the host, where that is known
+pub record IsAsked (gathered : Option (List Found)) (word : List ℕ) (base : Path) (all : List Found) : Type 0 where
+  pub spelled : path_spelled word ≡ Ok base
+  pub known : IfSome gathered (λ found. all ≡ found)
+
+-- why nothing is asked for that is to be put: memory was wanted, the word spells no path, or a source is not to be put
+abbrev pub AskCause : Held → Option (List Found) → List ℕ → Failure → Type 0
+AskCause held gathered word failure = (failure ≡ Failure.Memory) ⊎ ((path_spelled word ≡ Err failure) ⊎ ((base : Path) × (all : List Found) × IsAsked gathered word base all × SourceCause held base all failure))

@@ -1,0 +1,156 @@
+//! Why a job of the program did not run to its end, with its status.
+use crate::scripts::{Refusal, ScriptFault, Stop};
+use crate::source::SourceFault;
+use flash_image::ImageFault;
+use fs_types::Fault;
+use std::io;
+use std::io::Write;
+use thiserror::Error;
+
+/// Why a job did not run to its end.
+#[derive(Clone, Copy, Debug, PartialEq, Eq, Error)]
+pub enum Failure {
+    /// The file of the image could not be read.
+    #[error("the image cannot be read")]
+    CannotRead,
+    /// The file of the image is no plain file, or another program has it. Nothing was done.
+    #[error("the image is not to be had")]
+    Unavailable,
+    /// The file of the image could not be written. It is as it was.
+    #[error("the image cannot be written")]
+    CannotWrite,
+    /// The file of the image is the new one, but was not brought to the disk.
+    #[error("the image was not brought to the disk")]
+    Unsynced,
+    /// The input failed.
+    #[error("input failed")]
+    Input,
+    /// The output failed.
+    #[error("output failed")]
+    Output,
+    /// Memory could not be had.
+    #[error("out of memory")]
+    Memory,
+    /// The file is no image.
+    #[error("no image: {0}")]
+    Image(ImageFault),
+    /// A format or a mount was refused.
+    #[error("no system: {0}")]
+    System(Fault),
+    /// Something of the host is not put into an image. It was told with its name.
+    #[error("not put: {0}")]
+    Source(SourceFault),
+    /// What was asked for was refused.
+    #[error("refused")]
+    Refused(Refusal),
+    /// The script stopped at a refused line.
+    #[error("stopped at a refused line")]
+    Stopped(Stop),
+}
+
+impl Failure {
+    ghost use Rattle.std.specs.Prelude.{◌≡◌};
+    ghost use Rattle.shell.specs.Failures.{failure_status, of_script, of_system, of_refusal, of_image};
+
+    /// By why a script ended.
+    pub(crate) fn of_script(fault: ScriptFault) -> Failure
+        ensures { result ≡ of_script fault }
+    {
+        match fault {
+            ScriptFault::Mount(fault) => Failure::of_system(fault),
+            ScriptFault::Read => Failure::Input,
+            ScriptFault::Write => Failure::Output,
+            ScriptFault::Memory => Failure::Memory,
+        }
+    }
+
+    /// By why there is no system.
+    pub(crate) fn of_system(fault: Fault) -> Failure
+        ensures { result ≡ of_system fault }
+    {
+        match fault {
+            Fault::NoMemory => Failure::Memory,
+            _ => Failure::System(fault),
+        }
+    }
+
+    /// By how a call was refused.
+    pub(crate) fn of_refusal(refusal: Refusal) -> Failure
+        ensures { result ≡ of_refusal refusal }
+    {
+        match refusal {
+            Refusal::Fault(Fault::NoMemory) => Failure::Memory,
+            _ => Failure::Refused(refusal),
+        }
+    }
+
+    /// By why a file is no image.
+    pub(crate) fn of_image(fault: ImageFault) -> Failure
+        ensures { result ≡ of_image fault }
+    {
+        match fault {
+            ImageFault::Memory => Failure::Memory,
+            _ => Failure::Image(fault),
+        }
+    }
+
+    /// The status of the program: 3 where the image, a format or a mount was refused, 4 where a call or
+    /// a line of a script was, else 1.
+    pub fn status(self) -> u8
+        ensures { result ≡ failure_status self }
+    {
+        match self {
+            Failure::Image(_) | Failure::System(_) => 3,
+            Failure::Refused(_) | Failure::Stopped(_) => 4,
+            _ => 1,
+        }
+    }
+
+    /// Writes the line that says why, with the name of the file.
+    pub(crate) fn explain<E: Write>(self, name: &str, err: &mut E) {
+        let _ = match self {
+            Failure::CannotRead => writeln!(err, "uffs: cannot read {name}"),
+            Failure::Unavailable | Failure::CannotWrite | Failure::Unsynced => {
+                writeln!(err, "uffs: cannot write {name}")
+            }
+            Failure::Input => writeln!(err, "uffs: input"),
+            Failure::Output => writeln!(err, "uffs: output"),
+            Failure::Memory => writeln!(err, "uffs: ENOMEM 25"),
+            Failure::Image(fault) => writeln!(err, "uffs: image {fault}"),
+            Failure::System(fault) => explain_fault(fault, err),
+            Failure::Source(_) => Ok(()),
+            Failure::Refused(refusal) => explain_refusal(refusal, err),
+            Failure::Stopped(stop) => explain_stop(stop, err),
+        };
+    }
+}
+
+/// Writes the line of a refused system.
+fn explain_fault<E: Write>(fault: Fault, err: &mut E) -> io::Result<()> {
+    let word = fault.word();
+    let number = fault.number();
+    writeln!(err, "uffs: {word} {number}")
+}
+
+/// Writes the line of what was refused.
+fn explain_refusal<E: Write>(refusal: Refusal, err: &mut E) -> io::Result<()> {
+    match refusal {
+        Refusal::Fault(fault) => explain_fault(fault, err),
+        Refusal::Syntax => writeln!(err, "uffs: SYNTAX"),
+        Refusal::Unmounted => writeln!(err, "uffs: unmounted"),
+    }
+}
+
+/// Writes the line of a script that stopped.
+fn explain_stop<E: Write>(stop: Stop, err: &mut E) -> io::Result<()> {
+    let line = stop.line;
+    match stop.refusal {
+        Refusal::Fault(fault) => {
+            let word = fault.word();
+            let number = fault.number();
+            writeln!(err, "uffs: line {line}: {word} {number}")
+        }
+        Refusal::Syntax => writeln!(err, "uffs: line {line}: SYNTAX"),
+        Refusal::Unmounted => writeln!(err, "uffs: line {line}: unmounted"),
+    }
+}

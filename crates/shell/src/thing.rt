@@ -1,0 +1,89 @@
+//! What is put at a path of an image.
+ghost use Rattle.std.specs.Prelude.{◌≡◌, IfOk, IfErr};
+ghost use Rattle.shell.specs.Puts.{thing_events, IsThing, IsUnput};
+ghost use Rattle.shell.specs.Sources.{found_of};
+
+use crate::failure::Failure;
+use crate::image_files::{FileFault, ImageFiles};
+use crate::source::{Source, SourceFault, SourceKind, place_of};
+use bitflags::Flags;
+use fs_types::{Bytes, Call, Event, OpenFlags, Path, View};
+use std::alloc::{AllocError, Global};
+
+/// The flags of `open` that ask to write a file, and to make or empty it: `WRITE`, `CREAT` and `TRUNC`.
+const WRITTEN_ANEW: u64 = 22;
+
+/// What is put at a path.
+#[derive(Debug, Drop)]
+pub(crate) enum Thing {
+    /// A directory, which may be there already.
+    Directory(Path),
+    /// A file of these bytes, in the place of one that is there.
+    File(Path, Bytes),
+}
+
+/// What a source is put as, below a path.
+pub(crate) fn thing_of<F: ImageFiles>(
+    files: &F,
+    alloc: Global,
+    base: &Path,
+    source: &Source,
+) -> Result<Thing, Failure>
+    ensures ok { IfOk result (IsThing (F.held files.now) base.now (found_of source.now)) }
+    ensures err { IfErr result (IsUnput (F.held files.now) base.now (found_of source.now)) }
+{
+    let path = match place_of(alloc, base, source) {
+        Ok(path) => path,
+        Err(failure) => return Err(failure),
+    };
+    match source.kind {
+        SourceKind::Folder => Ok(Thing::Directory(path)),
+        _ => match files.read(alloc, &source.name) {
+            Ok(bytes) => Ok(Thing::File(path, Bytes::from_vec(bytes))),
+            Err(FileFault::Memory) => Err(Failure::Memory),
+            Err(_) => Err(Failure::Source(SourceFault::Unreadable)),
+        },
+    }
+}
+
+/// The events that put a thing.
+pub(crate) fn events_of(alloc: Global, thing: Thing) -> Result<Vec<Event>, AllocError>
+    ensures { IfOk result (λ events. events.items ≡ thing_events thing) }
+{
+    match thing {
+        Thing::Directory(path) => {
+            let made = Call::Mkdir {
+                path: path.clone()?,
+            };
+            let looked = Call::Stat {
+                view: View::Present,
+                path,
+            };
+            Ok(vec![in alloc; Event::Call(made), Event::Call(looked)]?)
+        }
+        Thing::File(path, bytes) => {
+            let opened = Call::Open {
+                path,
+                flags: written_anew(),
+            };
+            let written = Call::Pwrite {
+                descriptor: 0,
+                offset: 0,
+                bytes,
+            };
+            let closed = Call::Close { descriptor: 0 };
+            Ok(vec![in alloc;
+                Event::Call(opened),
+                Event::Call(written),
+                Event::Call(closed),
+            ]?)
+        }
+    }
+}
+
+/// A file is made or emptied, and may be written.
+fn written_anew() -> OpenFlags
+    ensures { result ≡ record { 0 = WRITTEN_ANEW } }
+{
+    OpenFlags::from_bits_retain(WRITTEN_ANEW)
+}

@@ -1,0 +1,188 @@
+//! Folders of the host that are put into an image.
+use crate::host_files::{folder_of, name_in};
+use crate::programs::assert_calls;
+use shell::HostFiles;
+use std::fs;
+use std::fs::{File, Permissions};
+use std::os::unix::fs::{PermissionsExt, symlink};
+use std::process::Abort;
+use std::rt::Files;
+use std::test::Fail;
+
+/// A new folder with a folder `new` in it, and the names of both and of an image beside that.
+fn begun(rt: &HostRuntime, word: &str) -> Result<(String, String, String), Fail> {
+    let alloc = rt.alloc();
+    let folder = folder_of(rt, word)?;
+    let image = name_in(alloc, folder.as_str(), "image")?;
+    let source = name_in(alloc, folder.as_str(), "new")?;
+    fs::create_dir(rt, source.as_str())?;
+    Ok((folder, image, source))
+}
+
+/// Asserts that an image of 128 blocks is made.
+fn assert_formatted<R: Abort + Files<File = File> + AllocGlobal>(
+    rt: &R,
+    image: &str,
+) -> Result<(), Fail> {
+    assert_given(rt, &["format", image, "--blocks", "128"], "", (0, "", ""))
+}
+
+/// Asserts what a call of the program on the host's files gives.
+fn assert_given<R: Abort + Files<File = File> + AllocGlobal>(
+    rt: &R,
+    words: &[&str],
+    script: &str,
+    wanted: (u8, &str, &str),
+) -> Result<(), Fail> {
+    assert_calls(
+        rt,
+        &mut HostFiles::new(rt),
+        rt.alloc(),
+        &[(words, script, wanted)],
+    )
+}
+
+/// Asserts that a folder is not put, that one name in it is told with a reason, and that the image
+/// stays as it was.
+fn assert_unput<R: Abort + Files<File = File> + AllocGlobal>(
+    rt: &R,
+    image: &str,
+    source: &str,
+    name: &str,
+    reason: &str,
+) -> Result<(), Fail> {
+    let told = format!(in rt.alloc(); "uffs: cannot put {name}: {reason}\n")?;
+    let before = fs::read(rt, image)?;
+    assert_given(rt, &["put", image, source, "/"], "", (1, "", told.as_str()))?;
+    assert_eq!(rt; fs::read(rt, image)?.as_slice(), before.as_slice());
+    Ok(())
+}
+
+/// Writes so many files into a folder, each with its number.
+fn write_files(rt: &HostRuntime, folder: &str, count: u32) -> Result<(), Fail> {
+    for number in 0..count {
+        let name = format!(in rt.alloc(); "{folder}/file{number:04}")?;
+        let text = format!(in rt.alloc(); "{number}")?;
+        fs::write(rt, name.as_str(), text.as_str())?;
+    }
+    Ok(())
+}
+
+#[test]
+fn a_folder_is_put_as_one_version(rt: HostRuntime) -> Result<(), Fail> {
+    let (folder, image, source) = begun(&rt, "put")?;
+    let image = image.as_str();
+    assert_formatted(&rt, image)?;
+    let below = name_in(rt.alloc(), source.as_str(), "below")?;
+    fs::create_dir(&rt, below.as_str())?;
+    write_files(&rt, below.as_str(), 40)?;
+    let lines =
+        "mkdir /below\nopen /below/kept 6\nclose 0\nopen /below/file0007 6\npwrite 0 0 4142434445\nclose 0\nsync\n";
+    let replies = "ok\nfd 0\nok\nfd 0\nwrote 5\nok\nok\n";
+    assert_given(&rt, &["run", image], lines, (0, replies, ""))?;
+    let told = "uffs: 42 of 42\n";
+    assert_given(
+        &rt,
+        &["put", image, source.as_str(), "/", "--progress"],
+        "",
+        (0, "", told),
+    )?;
+    let looked =
+        "stat /below\nread /below/file0007 0 9\nread /below/file0039 0 9\nlog\nundo\nstat /below\nread /below/file0007 0 9\n";
+    let seen =
+        "dir 41\ndata 37\ndata 3339\nlog next 7 dropped 0 versions 1 2 3 4 5 *6 checkpoints\nok\ndir 2\ndata 4142434445\n";
+    assert_given(&rt, &["run", image], looked, (0, seen, ""))?;
+    fs::remove_dir_all(&rt, folder.as_str())?;
+    Ok(())
+}
+
+#[test]
+fn a_folder_with_what_is_not_put_is_refused_whole(rt: HostRuntime) -> Result<(), Fail> {
+    let alloc = rt.alloc();
+    let (folder, image, source) = begun(&rt, "unput")?;
+    let (image, source) = (image.as_str(), source.as_str());
+    assert_formatted(&rt, image)?;
+    write_files(&rt, source, 2)?;
+    let link = name_in(alloc, source, "link")?;
+    symlink(&rt, "file0000", link.as_str())?;
+    assert_unput(&rt, image, source, link.as_str(), "it is a link")?;
+    fs::remove_file(&rt, link.as_str())?;
+    let device = "/dev/null";
+    assert_unput(
+        &rt,
+        image,
+        device,
+        device,
+        "it is neither a folder nor a plain file",
+    )?;
+    let big = name_in(alloc, source, "big")?;
+    let made = fs::create(&rt, big.as_str())?;
+    made.set_len(16_777_217)?;
+    assert_unput(
+        &rt,
+        image,
+        source,
+        big.as_str(),
+        "it has over 16777216 bytes",
+    )?;
+    fs::remove_file(&rt, big.as_str())?;
+    let long = format!(in alloc; "{source}/{:065}", 1)?;
+    fs::write(&rt, long.as_str(), "1")?;
+    let too_long = "its name has over 64 bytes, or its path over 16 names";
+    assert_unput(&rt, image, source, long.as_str(), too_long)?;
+    fs::remove_dir_all(&rt, folder.as_str())?;
+    Ok(())
+}
+
+#[test]
+fn a_folder_that_is_too_deep_or_too_full_is_refused(rt: HostRuntime) -> Result<(), Fail> {
+    let alloc = rt.alloc();
+    let (folder, image, source) = begun(&rt, "deep")?;
+    let (image, source) = (image.as_str(), source.as_str());
+    assert_formatted(&rt, image)?;
+    let mut deep = String::from_str(alloc, source)?;
+    for _ in 0..17 {
+        deep.push_str("/d")?;
+        fs::create_dir(&rt, deep.as_str())?;
+    }
+    let too_long = "its name has over 64 bytes, or its path over 16 names";
+    assert_unput(&rt, image, source, deep.as_str(), too_long)?;
+    fs::remove_dir_all(&rt, source)?;
+    fs::create_dir(&rt, source)?;
+    write_files(&rt, source, 1025)?;
+    assert_unput(&rt, image, source, source, "it has over 1024 entries")?;
+    fs::remove_dir_all(&rt, folder.as_str())?;
+    Ok(())
+}
+
+#[test]
+fn a_file_that_may_not_be_read_is_told(rt: HostRuntime) -> Result<(), Fail> {
+    let alloc = rt.alloc();
+    let (folder, image, source) = begun(&rt, "secret")?;
+    let (image, source) = (image.as_str(), source.as_str());
+    assert_formatted(&rt, image)?;
+    let secret = name_in(alloc, source, "secret")?;
+    let secret = secret.as_str();
+    fs::write(&rt, secret, "1")?;
+    fs::set_permissions(&rt, secret, Permissions::from_mode(0))?;
+    // Who may read all files reads this one too.
+    if fs::read(&rt, secret).is_err() {
+        let told = format!(in alloc; "uffs: cannot read {secret}\n")?;
+        assert_given(
+            &rt,
+            &["put", image, source, "/"],
+            "",
+            (1, "", told.as_str()),
+        )?;
+    }
+    let missing = name_in(alloc, source, "missing")?;
+    let told = format!(in alloc; "uffs: cannot read {missing}\n")?;
+    assert_given(
+        &rt,
+        &["put", image, missing.as_str(), "/"],
+        "",
+        (1, "", told.as_str()),
+    )?;
+    fs::remove_dir_all(&rt, folder.as_str())?;
+    Ok(())
+}

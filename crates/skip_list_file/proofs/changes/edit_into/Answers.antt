@@ -1,0 +1,15 @@
+use Rattle.std.proofs.Common.{◌≡◌, ℕ, ◌*◌, List, length, ap, ◌∙◌, arith}
+use Rattle.plain_trees.specs.Contents.{read_from}
+use Rattle.block_trees.specs.Bodies.{body}
+use Rattle.skip_list_file.specs.Writing.{edited}
+use Rattle.skip_list_file.proofs.Kept.{overlaid_edit}
+use Rattle.skip_list_file.proofs.changes.edit_into.Goals as goal
+
+pub returns-clause-edited : goal.returns-clause-edited
+returns-clause-edited g c size fits =
+    let file : List ℕ = body c.args.capacity (g.N.Nodes.node c.args.nodes.now) c.args.body.head c.args.body.length in
+    let mid = c.read_kept.new.out in
+    let start : ℕ = c.args.index * c.args.capacity in
+    let long : length mid ≡ length c.args.out.now = omega (arith, c.read_kept.auto.out) in
+    let all = overlaid_edit file mid c.overlay.new.out c.args.bytes.now start c.args.offset size (omega (arith, c.overlay.auto.out)) (λ i lt which. c.in_ok-read_kept.ensures.kept i (omega (arith, long)) which) c.overlay.ensures (omega (arith, long)) in
+    all ∙ ap (read_from (edited file c.args.offset c.args.bytes.now size) start) long

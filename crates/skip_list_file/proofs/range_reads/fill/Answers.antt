@@ -1,0 +1,72 @@
+use Rattle.std.proofs.Common.{◌≡◌, ◌≤◌, ◌<◌, ◌-◌, ◌*◌, ◌/◌, length, take, drop, refl, ap, ◌∙◌, arith}
+use borrow.Rule.Slice.PartMut.{put_mid}
+use Rattle.block_trees.specs.Bodies.{Blocks, index_of, pointer_of, data_of}
+use Rattle.block_trees.proofs.Bodies.{chain_node}
+use Rattle.skip_list_file.proofs.Parts.{piece_length, part_length, filled_length, step_of, step_left, one_fewer}
+use Rattle.skip_list_file.proofs.range_reads.fill.Goals as goal
+
+pub copy_data-requires-clause-node : goal.copy_data-requires-clause-node
+copy_data-requires-clause-node g c =
+    let now = c.loop-end.invariant in
+    let here = ap (λ (f : Blocks). index_of (f c.loop-end.block)) now.looks.same_nodes in
+    ((c.loop-end.end - 1) / c.args.capacity, here ∙ chain_node c.args.capacity ((c.loop-end.end - 1) / c.args.capacity) c.loop-end.block (g.N.Nodes.node c.args.nodes.now) (now.left.chain c.loop-end-test.true))
+
+pub copy_data-requires-clause-within : goal.copy_data-requires-clause-within
+copy_data-requires-clause-within g c =
+    let now = c.loop-end.invariant in
+    let lt = c.loop-end-test.true in
+    let index = (c.loop-end.end - 1) / c.args.capacity in
+    let last = now.left.last lt in
+    let is = c.max-from.ensures in
+    let whole = piece_length c.args.capacity (g.N.Nodes.node c.args.nodes.now) c.args.start c.loop-end.end index c.loop-end.block c.loop-end.out _ lt now.left in
+    let same = ap (λ (f : Blocks). length (data_of (f c.loop-end.block))) now.looks.same_nodes in
+    let le : c.args.start ≤ c.max-from.result = omega (arith, is) in
+    let le' : c.max-from.result ≤ c.loop-end.end = omega (arith, is, last.starts) in
+    let part = part_length c.args.start c.loop-end.end c.max-from.result c.loop-end.out le le' now.left.size in
+    omega (arith, whole, same, part, is, le')
+
+pub returns-in_err-block-clause-reads : goal.returns-in_err-block-clause-reads
+returns-in_err-block-clause-reads g c =
+    let now = c.loop-end.invariant in
+    let fewer = one_fewer c.args.capacity c.args.start c.loop-end.end c.max-from.result c.requires.capacity c.loop-end-test.true c.max-from.ensures in
+    omega (arith, fewer, now.reads, c.in_err-block.ensures.reads)
+
+pub loop-end-preserved : goal.loop-end-preserved
+loop-end-preserved g c =
+    let old = c.args.nodes.now in
+    let f = g.N.Nodes.node old in
+    let now = c.loop-end.invariant in
+    let done = c.in_ok-block.ensures in
+    let lt = c.loop-end-test.true in
+    let end = c.loop-end.end in
+    let from = c.max-from.result in
+    let index = (end - 1) / c.args.capacity in
+    let out = c.loop-end.out in
+    let ys = c.copy_data.new.out in
+    let new = put_mid (from - c.args.start) (end - c.args.start - (from - c.args.start)) out ys in
+    let last = now.left.last lt in
+    let is = c.max-from.ensures in
+    let le : c.args.start ≤ from = omega (arith, is) in
+    let le' : from ≤ end = omega (arith, is, last.starts) in
+    let part = part_length c.args.start end from out le le' now.left.size in
+    let long : length ys ≡ end - c.args.start - (from - c.args.start) = omega (arith, c.copy_data.auto.out, part) in
+    let same = filled_length (from - c.args.start) (end - c.args.start - (from - c.args.start)) out ys (omega (arith, now.left.size)) long in
+    let copied = done.copied ∙ ap (λ (f : Blocks). take (length (take (end - c.args.start - (from - c.args.start)) (drop (from - c.args.start) out))) (drop (from - index * c.args.capacity) (data_of (f c.loop-end.block)))) now.looks.same_nodes in
+    let before : 0 < index → c.in_ok-block.block ≡ pointer_of (f c.loop-end.block) 0 = λ some.
+    done.before index (ap (λ (f : Blocks). index_of (f c.loop-end.block)) now.looks.same_nodes ∙ chain_node c.args.capacity index c.loop-end.block f (now.left.chain lt)) some
+    ∙ ap (λ (f : Blocks). pointer_of (f c.loop-end.block) 0) now.looks.same_nodes in
+    let step = step_of c.args.capacity f c.args.start end index c.loop-end.block from c.in_ok-block.block out ys new lt last now.left.size is copied refl before in
+    let fewer = one_fewer c.args.capacity c.args.start end from c.requires.capacity lt is in
+    record {
+      left = step_left c.args.capacity f c.args.start end index c.loop-end.block from c.in_ok-block.block out new _ ((from - 1) / c.args.capacity) c.requires.capacity lt now.left step same refl;
+      below = omega (arith, le', now.below);
+      size = same ∙ now.size;
+      reads = omega (arith, fewer, now.reads, done.reads);
+      looks = g.met.N.Nodes.looks_on old c.loop-end.nodes c.copy_data.new.nodes now.looks done.looks;
+    }
+
+pub copy_data-requires-clause-sound : goal.copy_data-requires-clause-sound
+copy_data-requires-clause-sound g c = c.loop-end.invariant.looks.sound
+
+pub returns-in_err-block-clause-looks : goal.returns-in_err-block-clause-looks
+returns-in_err-block-clause-looks g c = g.met.N.Nodes.looks_on c.args.nodes.now c.loop-end.nodes c.copy_data.new.nodes c.loop-end.invariant.looks c.copy_data.ensures.looks

@@ -1,0 +1,19 @@
+use Rattle.std.proofs.Common.{◌≡◌, ◌+◌, ◌-◌, ◌/◌, ◌≤◌, length, take, drop}
+use Rattle.node_store.specs.Frames.{OnlyLooks}
+use Rattle.block_trees.specs.Bodies.{data_to}
+use Rattle.skip_list_file.specs.Reading.{nodes_between}
+use Rattle.skip_list_file.proofs.Parts.{IsLeft}
+use Rattle.skip_list_file.proofs.range_reads.fill.Given as goal
+
+abbrev pub decreases-loop-end : goal.decreases-loop-end
+decreases-loop-end g l = l.end
+
+-- what is left to read and what was filled are what is wanted
+abbrev pub invariant-loop-end : goal.invariant-loop-end
+invariant-loop-end g l = record {
+  left : IsLeft l.capacity (g.N.Nodes.node l.initial.nodes) l.start l.end ((l.end - 1) / l.capacity) l.block l.out (take (l.initial.end - l.start) (drop l.start (data_to (g.N.Nodes.node l.initial.nodes) ((l.initial.end - 1) / l.capacity) l.initial.block)));
+  below : l.end ≤ l.initial.end;
+  size : length l.out ≡ l.initial.end - l.start;
+  reads : g.N.Nodes.reads l.nodes + nodes_between l.capacity l.start l.end ≤ g.N.Nodes.reads l.initial.nodes + nodes_between l.capacity l.start l.initial.end;
+  looks : OnlyLooks g.N.Nodes.node g.N.Nodes.kept g.N.Nodes.writes g.N.Nodes.follows g.N.Nodes.is_sound g.N.Nodes.limit g.N.Nodes.blocks l.initial.nodes l.nodes;
+}

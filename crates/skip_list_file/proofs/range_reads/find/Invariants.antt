@@ -1,0 +1,16 @@
+use Rattle.std.proofs.Common.{◌-◌}
+use Rattle.node_store.specs.Frames.{OnlyLooks}
+use Rattle.node_format.specs.Headers.{body_header}
+use Rattle.skip_list_file.proofs.Chains.{IsOnWay, FewReads}
+use Rattle.skip_list_file.proofs.range_reads.find.Given as goal
+
+abbrev pub decreases-loop-at : goal.decreases-loop-at
+decreases-loop-at g l = l.at
+
+-- the node of an index was come to, and the hops are as few as can be
+abbrev pub invariant-loop-at : goal.invariant-loop-at
+invariant-loop-at g l = record {
+  way : IsOnWay (g.N.Nodes.limit l.initial.nodes - body_header) (g.N.Nodes.node l.initial.nodes) l.head l.head_index l.index l.at l.block;
+  few : FewReads l.head_index l.index l.at (g.N.Nodes.reads l.initial.nodes) (g.N.Nodes.reads l.nodes);
+  looks : OnlyLooks g.N.Nodes.node g.N.Nodes.kept g.N.Nodes.writes g.N.Nodes.follows g.N.Nodes.is_sound g.N.Nodes.limit g.N.Nodes.blocks l.initial.nodes l.nodes;
+}

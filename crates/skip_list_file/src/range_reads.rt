@@ -1,0 +1,183 @@
+//! Reading the bytes of a file.
+ghost use Rattle.std.specs.Prelude.{◌≡◌, ℕ, ◌+◌, ◌-◌, ◌*◌, ◌/◌, ◌^◌, ◌<◌, ◌≤◌, length, take, drop, Some, OnOk, IfOk, IfErr};
+ghost use Rattle.plain_trees.specs.Contents.{read_from};
+ghost use Rattle.node_format.specs.Headers.{body_header};
+ghost use Rattle.node_format.specs.BodyNodes.{HasSlot};
+ghost use Rattle.block_trees.specs.Bodies.{index_of, pointer_of, data_of, back, data_to, head_index, IsChain, IsLinked, IsBody};
+ghost use Rattle.block_trees.specs.Bodies as trees;
+ghost use Rattle.skip_list_file.specs.Reading as spec;
+ghost use Rattle.node_store.specs.Frames.{OnlyLooks};
+
+use crate::body::Body;
+use fs_types::{Bytes, Fault};
+use node_format::{BODY_HEADER, BodyNode, SLOTS};
+use node_store::Nodes;
+use std::alloc::Global;
+
+/// The farthest slot that leads from an index to one before it, or to one between.
+fn farthest_slot(index: u32, before: u32) -> u32
+    requires { before < index }
+    ensures { spec.IsLargest result index before }
+{
+    let slot = index.trailing_zeros().min((index - before).ilog2());
+    slot.min(SLOTS as u32 - 1)
+}
+
+/// The block that a slot of a body node names, of a slot that it has.
+pub(crate) fn pointer_at<N: Nodes>(nodes: &mut N, block: u32, slot: u32) -> Result<u32, Fault>
+    requires sound { N.is_sound nodes.old }
+    requires slot { (index : ℕ) × (index_of (N.node nodes.old block) ≡ Some index) × HasSlot index slot }
+    ensures found { IfOk result (λ next. next ≡ pointer_of (N.node nodes.old block) slot) }
+    ensures why { IfErr result (λ fault. N.causes nodes.old nodes.new fault) }
+    ensures faults { IfErr result spec.IsBodyFault }
+    ensures looks { OnlyLooks N.node N.kept N.writes N.follows N.is_sound N.limit N.blocks nodes.old nodes.new }
+    ensures reads { N.reads nodes.new ≡ N.reads nodes.old + 1 }
+{
+    nodes.read(block)?;
+    let Some(node) = BodyNode::of(nodes.lent()) else {
+        unreachable!()
+    };
+    let Some(next) = node.pointer(slot as usize) else {
+        unreachable!()
+    };
+    Ok(next)
+}
+
+/// The block of the node of an index, from the head of a linked chain: one read for each hop, at most
+/// two hops for each binary digit of the head's index, of at most 16 digits.
+///
+/// Refused only with what reads are refused with: the chain is whole.
+pub(crate) fn find<N: Nodes>(
+    nodes: &mut N,
+    head: u32,
+    head_index: u32,
+    index: u32,
+) -> Result<u32, Fault>
+    requires sound { N.is_sound nodes.old }
+    requires chain { IsChain (N.limit nodes.old - body_header) (N.node nodes.old) head_index head }
+    requires linked { IsLinked (N.node nodes.old) head_index head }
+    requires before { index ≤ head_index }
+    ensures found { IfOk result (λ block. block ≡ back (N.node nodes.old) head (head_index - index)) }
+    ensures reads { (digits : ℕ) → spec.HasDigits head_index digits → N.reads nodes.new ≤ N.reads nodes.old + 2 * digits }
+    ensures why { IfErr result (λ fault. N.causes nodes.old nodes.new fault) }
+    ensures faults { IfErr result spec.IsBodyFault }
+    ensures looks { OnlyLooks N.node N.kept N.writes N.follows N.is_sound N.limit N.blocks nodes.old nodes.new }
+{
+    let mut block = head;
+    let mut at = head_index;
+    while at > index {
+        let slot = farthest_slot(at, index);
+        block = pointer_at(nodes, block, slot)?;
+        at -= 2u32.pow(slot);
+    }
+    Ok(block)
+}
+
+/// Fills a slice with the data of a body node from a place on. Answers the block of the node before it,
+/// or 0 where it is the first.
+pub(crate) fn copy_data<N: Nodes>(
+    nodes: &mut N,
+    block: u32,
+    from: u32,
+    out: &mut [u8],
+) -> Result<u32, Fault>
+    requires sound { N.is_sound nodes.old }
+    requires node { (index : ℕ) × (index_of (N.node nodes.old block) ≡ Some index) }
+    requires within { from + length out.old ≤ length (data_of (N.node nodes.old block)) }
+    ensures copied { OnOk result (out.new ≡ take (length out.old) (drop from (data_of (N.node nodes.old block)))) }
+    ensures before { IfOk result (λ before. (index : ℕ) → index_of (N.node nodes.old block) ≡ Some index → 0 < index → before ≡ pointer_of (N.node nodes.old block) 0) }
+    ensures first { IfOk result (λ before. index_of (N.node nodes.old block) ≡ Some 0 → before ≡ 0) }
+    ensures why { IfErr result (λ fault. N.causes nodes.old nodes.new fault) }
+    ensures faults { IfErr result spec.IsBodyFault }
+    ensures looks { OnlyLooks N.node N.kept N.writes N.follows N.is_sound N.limit N.blocks nodes.old nodes.new }
+    ensures reads { N.reads nodes.new ≡ N.reads nodes.old + 1 }
+{
+    nodes.read(block)?;
+    let Some(node) = BodyNode::of(nodes.lent()) else {
+        unreachable!()
+    };
+    let from = from as usize;
+    out.copy_from_slice(&node.bytes()[from..from + out.len()]);
+    Ok(node.pointer(0).unwrap_or(0))
+}
+
+/// Fills a slice with the bytes from `start` to `end` of a chain, whose node of the last of them is in
+/// the block. The nodes are read from the last one back, each once.
+fn fill<N: Nodes>(
+    nodes: &mut N,
+    capacity: u32,
+    block: u32,
+    start: u32,
+    end: u32,
+    out: &mut [u8],
+) -> Result<(), Fault>
+    requires sound { N.is_sound nodes.old }
+    requires capacity { 0 < capacity }
+    requires order { start < end }
+    requires chain { IsChain capacity (N.node nodes.old) ((end - 1) / capacity) block }
+    requires within { end ≤ length (data_to (N.node nodes.old) ((end - 1) / capacity) block) }
+    requires size { length out.old ≡ end - start }
+    ensures filled { OnOk result (out.new ≡ take (end - start) (drop start (data_to (N.node nodes.old) ((end - 1) / capacity) block))) }
+    ensures reads { N.reads nodes.new ≤ N.reads nodes.old + spec.nodes_between capacity start end }
+    ensures why { IfErr result (λ fault. N.causes nodes.old nodes.new fault) }
+    ensures faults { IfErr result spec.IsBodyFault }
+    ensures looks { OnlyLooks N.node N.kept N.writes N.follows N.is_sound N.limit N.blocks nodes.old nodes.new }
+{
+    let mut block = block;
+    let mut end = end;
+    while start < end {
+        let first = (end - 1) / capacity * capacity;
+        let from = start.max(first);
+        let part = &mut out[(from - start) as usize..(end - start) as usize];
+        block = copy_data(nodes, block, from - first, part)?;
+        end = from;
+    }
+    Ok(())
+}
+
+/// The data bytes of a full node.
+pub(crate) fn capacity_in<N: Nodes>(nodes: &N) -> u32
+    requires { N.is_sound nodes.now }
+    ensures capacity { result ≡ N.limit nodes.now - body_header }
+    ensures some { 0 < result }
+{
+    nodes.block_bytes() - BODY_HEADER
+}
+
+/// The bytes of a file from an offset on, at most `count`: fewer near its end, none at or past it.
+///
+/// The node of the last of them is found by few hops from the head, and the nodes that hold them are
+/// read once each. Nothing is read where there is no such byte. Refused only with what reads are
+/// refused with, and with `NoMemory`: the body is whole.
+pub fn read_range<N: Nodes>(
+    alloc: Global,
+    nodes: &mut N,
+    body: Body,
+    offset: u64,
+    count: u64,
+) -> Result<Bytes, Fault>
+    requires sound { N.is_sound nodes.old }
+    requires body { IsBody (N.limit nodes.old - body_header) (N.node nodes.old) body.head body.length }
+    ensures read { IfOk result (λ bytes. bytes ≡ read_from (trees.body (N.limit nodes.old - body_header) (N.node nodes.old) body.head body.length) offset count) }
+    ensures reads { (digits : ℕ) → spec.HasDigits (head_index (N.limit nodes.old - body_header) body.length) digits → N.reads nodes.new ≤ N.reads nodes.old + (spec.nodes_of_range (N.limit nodes.old - body_header) body.length offset count + 2 * digits) }
+    ensures unread { spec.nodes_of_range (N.limit nodes.old - body_header) body.length offset count ≡ 0 → N.reads nodes.new ≡ N.reads nodes.old }
+    ensures why { IfErr result (λ fault. N.causes nodes.old nodes.new fault) }
+    ensures faults { IfErr result spec.IsBodyFault }
+    ensures looks { OnlyLooks N.node N.kept N.writes N.follows N.is_sound N.limit N.blocks nodes.old nodes.new }
+{
+    let end = offset.saturating_add(count).min(u64::from(body.length));
+    if offset >= end {
+        return Ok(Bytes::new(alloc));
+    }
+    let (start, end) = (offset as u32, end as u32);
+    let capacity = capacity_in(nodes);
+    let mut bytes = vec![in alloc; 0; (end - start) as usize]?;
+    let block = find(
+        nodes,
+        body.head,
+        (body.length - 1) / capacity,
+        (end - 1) / capacity,
+    )?;
+    fill(nodes, capacity, block, start, end, &mut bytes)?;
+    Ok(Bytes::from_vec(bytes))
+}

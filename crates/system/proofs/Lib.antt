@@ -1,0 +1,16 @@
+pub mod AfterCommits
+pub mod AllMarked
+pub mod Committed
+pub mod Costing
+pub mod Measured
+pub mod MountedSystems
+pub mod Mounting
+pub mod Passing
+pub mod Retried
+pub mod Running
+pub mod SameRecords
+pub mod Spent
+pub mod StateSteps
+pub mod Syncs
+pub mod Tried
+pub mod Twice

@@ -1,0 +1,20 @@
+use Rattle.std.proofs.Common.{Err, refl, sym, subst}
+use Rattle.std.proofs.lemmas.Result.{err_from_is_err_and}
+use Rattle.fs_types.specs.declared.call.Call.{Call}
+use Rattle.fs_types.specs.declared.fault.Fault.{Fault}
+use Rattle.working_state.specs.Seen.{machine_on}
+use Rattle.system.specs.Commits.{TriesOnce}
+use Rattle.system.proofs.Syncs.{ungrouped_on, refused_in_group, grouped_step, sync_syncs, committed}
+use Rattle.system.proofs.systems.System.sync.Goals as goal
+
+pub returns-clause-step : goal.returns-clause-step
+returns-clause-step g c =
+    let d = g.F.Flash.device c.args.flash.now in
+    let e = g.F.Flash.device c.commit.new.flash in
+    committed d e c.args.self.now c.commit.new.self c.commit.result c.requires c.in_ok-check_power.ensures.ok c.commit.ensures.saves Call.Sync (sync_syncs (machine_on d c.args.self.now.state) (ungrouped_on d c.args.self.now c.in_ok-check_outside.ensures.ok)) c.commit.ensures.why c.commit.ensures.pass c.commit.ensures.last
+
+pub returns-in_err-check_outside-clause-step : goal.returns-in_err-check_outside-clause-step
+returns-in_err-check_outside-clause-step g c =
+    let d = g.F.Flash.device c.args.flash.now in
+    let p = err_from_is_err_and c.from_residual-in_err-check_outside.result c.from_residual-in_err-check_outside.ensures.1 in
+    rw (p.1, p.2) (subst (λ (fault : Fault). TriesOnce d c.args.self.now Call.Sync (Err fault) d c.args.self.now) (sym c.in_err-check_outside.ensures.err.0) (grouped_step d c.args.self.now Call.Sync refl c.in_ok-check_power.ensures.ok (refused_in_group d c.args.self.now c.in_err-check_outside.ensures.err.1)))

@@ -1,0 +1,484 @@
+//! A mounted file system.
+ghost use Rattle.std.specs.Prelude.{◌≡◌};
+ghost use Rattle.working_state.specs.Steps.{replied, empty};
+ghost use Rattle.system.specs.Systems.{IsSystem};
+ghost use Rattle.system.specs.Props.{system-prop};
+
+use flash_model::{FaultKind, Flash, Planned};
+use fs_types::{
+    Bytes, Call, CpName, Fault, Name, OpenFlags, Path, Reply, Request, Sequence, Stat, View,
+};
+use std::alloc::Global;
+use system::{System, mount, mount_with};
+
+/// A file system that is mounted on a flash.
+///
+/// Each call checks in order: [`Fault::PowerCut`] where a call answered that before; the refusals of
+/// its own in the order of docs/scripts.md; [`Fault::ReadOnly`] in read-only mode, which is on while
+/// at least seven anchors or 256 blocks are bad; [`Fault::Overflow`] where no serial is left; and then
+/// what the work meets: [`Fault::FlashFull`], [`Fault::ReadOnly`], [`Fault::ReadFailed`],
+/// [`Fault::PowerCut`], [`Fault::NoMemory`]. A refused call changes nothing.
+#[derive(Drop)]
+pub struct Fs<'f, F: Flash> {
+    flash: &'f mut F,
+    system: System,
+    /// The allocator of the calls that are passed none.
+    alloc: Global,
+    ghost mounted: { IsSystem (F.device flash.now) system } by { system-prop (F.device flash.now) system },
+}
+
+impl<'f, F: Flash> Fs<'f, F> {
+    ghost use Rattle.std.specs.Prelude.{ℕ, ◌<◌, ◌≢◌, ◌↔◌, ◌⊎◌, true, Err, IfOk, IfErr};
+    ghost use Rattle.node_cache.specs.declared.cache.TheConstants.{MAX_CACHED_NODES};
+    ghost use Rattle.fs_types.specs.Requests.{call_of};
+    ghost use Rattle.fs_types.specs.declared.fault.Fault.{Fault};
+    ghost use Rattle.fs_types.specs.declared.call.Call.{Call};
+    ghost use Rattle.fs_types.specs.declared.call.Reply.{Reply};
+    ghost use Rattle.flash_model.specs.Reading.{OnlyReads};
+    ghost use Rattle.working_state.specs.Leaves.{is_still};
+    ghost use Rattle.working_state.specs.Looking.{only_looks};
+    ghost use Rattle.system.specs.Moments.{moment};
+    ghost use Rattle.system.specs.Mounts.{AsksToMount};
+    ghost use Rattle.system.specs.Mounts.{IsMountOf};
+    ghost use Rattle.system.specs.Reclaiming.{Reclaims};
+    ghost use Rattle.system.specs.declared.mounts.TheConstants.{MOUNTED_NODES};
+    ghost use Rattle.undofs.specs.Refusals.{RefusesMount};
+    ghost use Rattle.undofs.specs.Systems.{moment_of, without_nodes, Steps, TellsNothing, KeepsAllPages, flash_name};
+
+    /// Mounts what the newest record of a flash holds, as [`mount`] does.
+    pub fn mount(alloc: Global, flash: &'f mut F) -> Result<Fs<'f, F>, Fault>
+        ensures mounted { IfOk result (λ fs. IsMountOf (F.device flash.old) (F.device fs.flash.now) fs.system) }
+        ensures only_reads { IfOk result (λ fs. OnlyReads (F.device flash.old) (F.device fs.flash.now)) }
+        ensures asks { IfOk result (λ fs. AsksToMount (F.device flash.old) (F.device fs.flash.now)) }
+        ensures room { IfOk result (λ fs. fs.system.state.storage.cache.room ≡ MOUNTED_NODES) }
+        ensures refused { IfErr result (RefusesMount (F.device flash.old)) }
+        ensures same_flash { IfOk result (λ fs. flash_name fs ≡ flash.entry.ghost_name) }
+    {
+        let system = mount(alloc, flash)?;
+        Ok(Fs::on(alloc, flash, system))
+    }
+
+    /// The same, with `nodes` nodes kept in memory, 1 to 64 ([`mount_with`]); [`Fault::Invalid`] for
+    /// another number, before any read.
+    pub fn mount_with(alloc: Global, flash: &'f mut F, nodes: usize) -> Result<Fs<'f, F>, Fault>
+        ensures mounted { IfOk result (λ fs. IsMountOf (F.device flash.old) (F.device fs.flash.now) fs.system) }
+        ensures only_reads { IfOk result (λ fs. OnlyReads (F.device flash.old) (F.device fs.flash.now)) }
+        ensures asks { IfOk result (λ fs. AsksToMount (F.device flash.old) (F.device fs.flash.now)) }
+        ensures room { IfOk result (λ fs. fs.system.state.storage.cache.room ≡ nodes) }
+        ensures invalid { (result ≡ Err Fault.Invalid) ↔ ((nodes < 1) ⊎ (MAX_CACHED_NODES < nodes)) }
+        ensures refused { IfErr result (λ fault. fault ≢ Fault.Invalid → RefusesMount (F.device flash.old) fault) }
+        ensures same_flash { IfOk result (λ fs. flash_name fs ≡ flash.entry.ghost_name) }
+    {
+        let system = mount_with(alloc, flash, nodes)?;
+        Ok(Fs::on(alloc, flash, system))
+    }
+
+    /// The system that is mounted on a flash. Calls that are passed no allocator use this one.
+    pub fn on(alloc: Global, flash: &'f mut F, system: System) -> Fs<'f, F>
+        requires { IsSystem (F.device flash.old) system }
+        ensures moment { moment_of result ≡ moment (F.device flash.old) system }
+        ensures same_flash { flash_name result ≡ flash.entry.ghost_name }
+    {
+        Fs {
+            flash,
+            system,
+            alloc,
+        }
+    }
+
+    /// Forgets the nodes that are kept in memory: each is read from the flash again when it is wanted.
+    pub fn forget_nodes(&mut self)
+        ensures forgotten { moment_of self.new ≡ without_nodes (moment_of self.old) }
+        ensures same_flash { flash_name self.new ≡ flash_name self.old }
+    {
+        self.system.forget_nodes();
+    }
+
+    /// Commits the whole history, with the checkpoints, so that a restart finds it (POSIX.1-2017 `sync`,
+    /// which answers nothing). A record is written each time.
+    ///
+    /// [`Fault::InGroup`] where a change group is open; [`Fault::Overflow`] where the sequence of the
+    /// newest record is the greatest number there is. After a refusal but `PowerCut` the newest record is
+    /// the one it was.
+    pub fn sync(&mut self, alloc: Global) -> Result<(), Fault>
+        ensures step { Steps self.old Call.Sync (replied empty result) self.new }
+        ensures same_flash { flash_name self.new ≡ flash_name self.old }
+    {
+        self.carry_out_empty(alloc, Request::Sync)
+    }
+
+    /// The same, where the descriptor is of an open file; else [`Fault::BadDescriptor`], before
+    /// [`Fault::InGroup`] (POSIX.1-2017 `fsync`, which speaks of one file).
+    pub fn fsync(&mut self, alloc: Global, descriptor: u64) -> Result<(), Fault>
+        ensures step { Steps self.old (Call.Fsync descriptor) (replied empty result) self.new }
+        ensures same_flash { flash_name self.new ≡ flash_name self.old }
+    {
+        self.carry_out_empty(alloc, Request::Fsync { descriptor })
+    }
+
+    /// Opens the file at a path, and answers its descriptor, the least that is free (POSIX.1-2017 `open`,
+    /// without a mode; a directory is refused for reading too).
+    pub fn open(&mut self, alloc: Global, path: &Path, flags: OpenFlags) -> Result<u8, Fault>
+        ensures step { Steps self.old (Call.Open path.now flags) (replied Reply.Fd result) self.new }
+        ensures pages { KeepsAllPages self.old self.new }
+        ensures same_flash { flash_name self.new ≡ flash_name self.old }
+    {
+        match self.carry_out(alloc, Request::Open { path, flags })? {
+            Reply::Fd(descriptor) => Ok(descriptor),
+            _ => unreachable!(),
+        }
+    }
+
+    /// Closes the open file of a descriptor, which is free then.
+    pub fn close(&mut self, descriptor: u64) -> Result<(), Fault>
+        ensures step { Steps self.old (Call.Close descriptor) (replied empty result) self.new }
+        ensures still { F.device self.new.flash.now ≡ F.device self.old.flash.now }
+        ensures same_flash { flash_name self.new ≡ flash_name self.old }
+    {
+        self.carry_out_empty(self.alloc, Request::Close { descriptor })
+    }
+
+    /// Writes these bytes at an offset of the open file of a descriptor, all or none, and answers how many
+    /// (POSIX.1-2017 `pwrite`). A gap past the end of the file is zeros; no bytes make no version.
+    pub fn pwrite(
+        &mut self,
+        alloc: Global,
+        descriptor: u64,
+        offset: u64,
+        bytes: &[u8],
+    ) -> Result<u64, Fault>
+        ensures step { Steps self.old (Call.Pwrite descriptor offset bytes.now) (replied Reply.Count result) self.new }
+        ensures pages { KeepsAllPages self.old self.new }
+        ensures same_flash { flash_name self.new ≡ flash_name self.old }
+    {
+        let request = Request::Pwrite {
+            descriptor,
+            offset,
+            bytes,
+        };
+        match self.carry_out(alloc, request)? {
+            Reply::Count(count) => Ok(count),
+            _ => unreachable!(),
+        }
+    }
+
+    /// The length in bytes of the open file of a descriptor becomes this (POSIX.1-2017 `ftruncate`); what is
+    /// new of it is zeros. The same length makes no version, and is no refusal in read-only mode.
+    pub fn ftruncate(&mut self, alloc: Global, descriptor: u64, length: u64) -> Result<(), Fault>
+        ensures step { Steps self.old (Call.Ftruncate descriptor length) (replied empty result) self.new }
+        ensures pages { KeepsAllPages self.old self.new }
+        ensures same_flash { flash_name self.new ≡ flash_name self.old }
+    {
+        self.carry_out_empty(alloc, Request::Ftruncate { descriptor, length })
+    }
+
+    /// What stands at a path of the tree that a view shows: a directory, with its number of entries, or
+    /// a file, with its length in bytes (POSIX.1-2017 `stat`, which tells more).
+    pub fn stat(&mut self, view: &View, path: &Path) -> Result<Stat, Fault>
+        ensures step { Steps self.old (Call.Stat view.now path.now) (replied Reply.Stat result) self.new }
+        ensures pages { (p : ℕ) → (F.device self.new.flash.now).pages p ≡ (F.device self.old.flash.now).pages p }
+        ensures same_flash { flash_name self.new ≡ flash_name self.old }
+    {
+        match self.carry_out(self.alloc, Request::Stat { view, path })? {
+            Reply::Stat(stat) => Ok(stat),
+            _ => unreachable!(),
+        }
+    }
+
+    /// The names in the directory at a path, in byte order, each with whether it is a directory.
+    pub fn list(
+        &mut self,
+        alloc: Global,
+        view: &View,
+        path: &Path,
+    ) -> Result<Sequence<(Name, bool)>, Fault>
+        ensures step { Steps self.old (Call.List view.now path.now) (replied Reply.Names result) self.new }
+        ensures pages { (p : ℕ) → (F.device self.new.flash.now).pages p ≡ (F.device self.old.flash.now).pages p }
+        ensures same_flash { flash_name self.new ≡ flash_name self.old }
+    {
+        match self.carry_out(alloc, Request::List { view, path })? {
+            Reply::Names(names) => Ok(names),
+            _ => unreachable!(),
+        }
+    }
+
+    /// The bytes of a file from `offset` on, at most `count`: fewer near its end, none at or past it.
+    /// [`Fault::IsDirectory`] for a directory.
+    pub fn read_at(
+        &mut self,
+        alloc: Global,
+        view: &View,
+        path: &Path,
+        offset: u64,
+        count: u64,
+    ) -> Result<Bytes, Fault>
+        ensures step { Steps self.old (Call.ReadAt view.now path.now offset count) (replied Reply.Bytes result) self.new }
+        ensures pages { (p : ℕ) → (F.device self.new.flash.now).pages p ≡ (F.device self.old.flash.now).pages p }
+        ensures same_flash { flash_name self.new ≡ flash_name self.old }
+    {
+        let request = Request::ReadAt {
+            view,
+            path,
+            offset,
+            count,
+        };
+        match self.carry_out(alloc, request)? {
+            Reply::Bytes(bytes) => Ok(bytes),
+            _ => unreachable!(),
+        }
+    }
+
+    /// The same of the open file of a descriptor (POSIX.1-2017 `pread`). [`Fault::BadDescriptor`] for a
+    /// descriptor that is not open, or is open for writing alone.
+    pub fn pread(
+        &mut self,
+        alloc: Global,
+        descriptor: u64,
+        offset: u64,
+        count: u64,
+    ) -> Result<Bytes, Fault>
+        ensures step { Steps self.old (Call.Pread descriptor offset count) (replied Reply.Bytes result) self.new }
+        ensures pages { (p : ℕ) → (F.device self.new.flash.now).pages p ≡ (F.device self.old.flash.now).pages p }
+        ensures same_flash { flash_name self.new ≡ flash_name self.old }
+    {
+        let request = Request::Pread {
+            descriptor,
+            offset,
+            count,
+        };
+        match self.carry_out(alloc, request)? {
+            Reply::Bytes(bytes) => Ok(bytes),
+            _ => unreachable!(),
+        }
+    }
+
+    /// Makes an empty directory (POSIX.1-2017 `mkdir`, without a mode).
+    pub fn mkdir(&mut self, alloc: Global, path: &Path) -> Result<(), Fault>
+        ensures step { Steps self.old (Call.Mkdir path.now) (replied empty result) self.new }
+        ensures pages { KeepsAllPages self.old self.new }
+        ensures same_flash { flash_name self.new ≡ flash_name self.old }
+    {
+        self.carry_out_empty(alloc, Request::Mkdir { path })
+    }
+
+    /// Removes an empty directory (POSIX.1-2017 `rmdir`). [`Fault::Busy`] for the root.
+    pub fn rmdir(&mut self, alloc: Global, path: &Path) -> Result<(), Fault>
+        ensures step { Steps self.old (Call.Rmdir path.now) (replied empty result) self.new }
+        ensures pages { KeepsAllPages self.old self.new }
+        ensures same_flash { flash_name self.new ≡ flash_name self.old }
+    {
+        self.carry_out_empty(alloc, Request::Rmdir { path })
+    }
+
+    /// Removes a file (POSIX.1-2017 `unlink`). [`Fault::NotPermitted`] for a directory, [`Fault::Busy`]
+    /// for a file that is open.
+    pub fn unlink(&mut self, alloc: Global, path: &Path) -> Result<(), Fault>
+        ensures step { Steps self.old (Call.Unlink path.now) (replied empty result) self.new }
+        ensures pages { KeepsAllPages self.old self.new }
+        ensures same_flash { flash_name self.new ≡ flash_name self.old }
+    {
+        self.carry_out_empty(alloc, Request::Unlink { path })
+    }
+
+    /// Moves a file or a directory to another path, in place of a file or an empty directory that
+    /// stands there (POSIX.1-2017 `rename`). Nothing is done where both paths are the same, in
+    /// read-only mode too. [`Fault::Busy`] where a file that would be moved or replaced is open.
+    pub fn rename(&mut self, alloc: Global, old: &Path, new: &Path) -> Result<(), Fault>
+        ensures step { Steps self.old (Call.Rename old.now new.now) (replied empty result) self.new }
+        ensures pages { KeepsAllPages self.old self.new }
+        ensures same_flash { flash_name self.new ≡ flash_name self.old }
+    {
+        self.carry_out_empty(alloc, Request::Rename { old, new })
+    }
+
+    /// The version before becomes the present one.
+    pub fn undo(&mut self) -> Result<(), Fault>
+        ensures step { Steps self.old Call.Undo (replied empty result) self.new }
+        ensures still { F.device self.new.flash.now ≡ F.device self.old.flash.now }
+        ensures same_flash { flash_name self.new ≡ flash_name self.old }
+    {
+        self.carry_out_empty(self.alloc, Request::Undo)
+    }
+
+    /// The version after becomes the present one.
+    pub fn redo(&mut self) -> Result<(), Fault>
+        ensures step { Steps self.old Call.Redo (replied empty result) self.new }
+        ensures still { F.device self.new.flash.now ≡ F.device self.old.flash.now }
+        ensures same_flash { flash_name self.new ≡ flash_name self.old }
+    {
+        self.carry_out_empty(self.alloc, Request::Redo)
+    }
+
+    /// The version with this serial becomes the present one.
+    pub fn goto(&mut self, serial: u64) -> Result<(), Fault>
+        ensures step { Steps self.old (Call.Goto serial) (replied empty result) self.new }
+        ensures still { F.device self.new.flash.now ≡ F.device self.old.flash.now }
+        ensures same_flash { flash_name self.new ≡ flash_name self.old }
+    {
+        self.carry_out_empty(self.alloc, Request::Goto { serial })
+    }
+
+    /// Begins a change group: file calls and views of the present work on a tree of its own from then on,
+    /// which starts as the present one, and no call makes a version until [`Fs::end`]. A restart before
+    /// that finds nothing of it, and [`Fs::abandon`] gives it up. It is carried out in read-only mode too.
+    /// [`Fault::InGroup`] where a group is open, [`Fault::Busy`] where a file is.
+    ///
+    /// While a group is open, `sync`, `fsync`, `undo`, `redo`, `goto`, `rollback`, `forget`, `checkpoint`
+    /// and `remove_checkpoint` are refused by [`Fault::InGroup`].
+    pub fn begin(&mut self) -> Result<(), Fault>
+        ensures step { Steps self.old Call.Begin (replied empty result) self.new }
+        ensures still { F.device self.new.flash.now ≡ F.device self.old.flash.now }
+        ensures same_flash { flash_name self.new ≡ flash_name self.old }
+    {
+        self.carry_out_empty(self.alloc, Request::Begin)
+    }
+
+    /// Ends the change group: where a call in it changed its tree, that becomes one version, under the
+    /// next serial; else no version is made. [`Fault::NoGroup`] where none is open, [`Fault::Busy`] where
+    /// a file is; where a version is due, [`Fault::ReadOnly`] and [`Fault::Overflow`] as for a change. A
+    /// refused `end` leaves the group open.
+    pub fn end(&mut self) -> Result<(), Fault>
+        ensures step { Steps self.old Call.End (replied empty result) self.new }
+        ensures still { F.device self.new.flash.now ≡ F.device self.old.flash.now }
+        ensures same_flash { flash_name self.new ≡ flash_name self.old }
+    {
+        self.carry_out_empty(self.alloc, Request::End)
+    }
+
+    /// Gives up the change group: all is as it was at its [`Fs::begin`]. It is carried out in read-only
+    /// mode too. [`Fault::NoGroup`] where none is open, [`Fault::Busy`] where a file is.
+    pub fn abandon(&mut self) -> Result<(), Fault>
+        ensures step { Steps self.old Call.Abandon (replied empty result) self.new }
+        ensures still { F.device self.new.flash.now ≡ F.device self.old.flash.now }
+        ensures same_flash { flash_name self.new ≡ flash_name self.old }
+    {
+        self.carry_out_empty(self.alloc, Request::Abandon)
+    }
+
+    /// A change to the tree of a checkpoint. It asks nothing of the flash.
+    pub fn rollback(&mut self, alloc: Global, name: &CpName) -> Result<(), Fault>
+        ensures step { Steps self.old (Call.Rollback name.now) (replied empty result) self.new }
+        ensures still { F.device self.new.flash.now ≡ F.device self.old.flash.now }
+        ensures same_flash { flash_name self.new ≡ flash_name self.old }
+    {
+        self.carry_out_empty(alloc, Request::Rollback { name })
+    }
+
+    /// The `count` oldest versions before the present one are dropped.
+    pub fn forget(&mut self, count: u64) -> Result<(), Fault>
+        ensures step { Steps self.old (Call.Forget count) (replied empty result) self.new }
+        ensures still { F.device self.new.flash.now ≡ F.device self.old.flash.now }
+        ensures same_flash { flash_name self.new ≡ flash_name self.old }
+    {
+        self.carry_out_empty(self.alloc, Request::Forget { count })
+    }
+
+    /// The present tree is kept under a name, until it is removed by that name.
+    pub fn checkpoint(&mut self, name: &CpName) -> Result<(), Fault>
+        ensures step { Steps self.old (Call.Checkpoint name.now) (replied empty result) self.new }
+        ensures still { F.device self.new.flash.now ≡ F.device self.old.flash.now }
+        ensures same_flash { flash_name self.new ≡ flash_name self.old }
+    {
+        self.carry_out_empty(self.alloc, Request::Checkpoint { name })
+    }
+
+    /// The checkpoint of this name is given up.
+    pub fn remove_checkpoint(&mut self, name: &CpName) -> Result<(), Fault>
+        ensures step { Steps self.old (Call.RemoveCheckpoint name.now) (replied empty result) self.new }
+        ensures still { F.device self.new.flash.now ≡ F.device self.old.flash.now }
+        ensures same_flash { flash_name self.new ≡ flash_name self.old }
+    {
+        self.carry_out_empty(self.alloc, Request::RemoveCheckpoint { name })
+    }
+
+    /// The history: next serial, kept serials, the present one, and the checkpoints.
+    pub fn log(&self, alloc: Global) -> Result<Reply, Fault>
+        ensures { Steps self.now Call.Log result self.now }
+    {
+        self.system.state.log(alloc)
+    }
+
+    /// How much of the flash is used ([`System::df`]).
+    pub fn df(&mut self, alloc: Global) -> Result<Reply, Fault>
+        ensures step { Steps self.old Call.Df result self.new }
+        ensures same_flash { flash_name self.new ≡ flash_name self.old }
+    {
+        self.carry_out(alloc, Request::Df)
+    }
+
+    /// Takes a step of reclaiming: reads `budget` blocks more of those in use, or all that remain, and
+    /// then the others are free ([`System::reclaim_step`]). Whether none remained.
+    pub fn reclaim_step(&mut self, alloc: Global, budget: u64) -> Result<bool, Fault>
+        ensures step { Reclaims (F.device self.old.flash.now) self.old.system budget result (F.device self.new.flash.now) self.new.system }
+        ensures same_flash { flash_name self.new ≡ flash_name self.old }
+    {
+        self.system.reclaim_step(alloc, self.flash, budget)
+    }
+
+    /// Carries out a call, and answers its reply. Its step says what that of each call says: a call that
+    /// changes no tree changes no page, but for a sync, and those on the history and on change groups,
+    /// `close` and `log` do no device operation.
+    pub fn call(&mut self, alloc: Global, call: &Call) -> Result<Reply, Fault>
+        ensures step { Steps self.old call.now result self.new }
+        ensures pages { KeepsAllPages self.old self.new }
+        ensures same_flash { flash_name self.new ≡ flash_name self.old }
+    {
+        self.carry_out(alloc, call.lend())
+    }
+
+    /// Carries out a request, and answers its reply.
+    fn carry_out(&mut self, alloc: Global, request: Request<'_>) -> Result<Reply, Fault>
+        ensures step { Steps self.old (call_of request.entry) result self.new }
+        ensures pages { KeepsAllPages self.old self.new }
+        ensures looked { only_looks (call_of request.entry) ≡ true → (p : ℕ) → (F.device self.new.flash.now).pages p ≡ (F.device self.old.flash.now).pages p }
+        ensures still { is_still (call_of request.entry) ≡ true → F.device self.new.flash.now ≡ F.device self.old.flash.now }
+        ensures same_flash { flash_name self.new ≡ flash_name self.old }
+    {
+        self.system.call(alloc, self.flash, request)
+    }
+
+    /// Carries out a request whose reply tells nothing.
+    fn carry_out_empty(&mut self, alloc: Global, request: Request<'_>) -> Result<(), Fault>
+        requires { TellsNothing (call_of request) }
+        ensures step { Steps self.old (call_of request.entry) (replied empty result) self.new }
+        ensures pages { KeepsAllPages self.old self.new }
+        ensures still { is_still (call_of request.entry) ≡ true → F.device self.new.flash.now ≡ F.device self.old.flash.now }
+        ensures same_flash { flash_name self.new ≡ flash_name self.old }
+    {
+        match self.carry_out(alloc, request)? {
+            Reply::Empty => Ok(()),
+            _ => unreachable!(),
+        }
+    }
+
+    /// Ends the system, and gives its very flash back, as the last call left it: what was
+    /// committed is on its pages.
+    pub fn into_flash(self) -> &'f mut F
+        ensures flash { result ≡ self.entry.flash }
+        ensures mounted { IsSystem (F.device result.now) self.entry.system }
+    {
+        self.flash
+    }
+}
+
+impl<'f, F: Planned> Fs<'f, F> {
+    ghost use Rattle.std.specs.Prelude.{◌≤◌, ◌↔◌, Err, OnOk, OnErr, IfErr};
+    ghost use Rattle.fs_types.specs.declared.fault.Fault.{Fault};
+    ghost use Rattle.flash_model.specs.Plan.{planned, IsFull};
+    ghost use Rattle.undofs.specs.Systems.{moment_of, flash_name};
+
+    /// Plans a fault of the flash ([`Planned::plan_fault`]): the `k`-th operation after now of the
+    /// kind's class, in the place of what waits for the same operation. [`Fault::Invalid`] where 64
+    /// entries wait and none of them is for that operation. Nothing but the plan changes.
+    pub fn plan_fault(&mut self, k: u64, kind: FaultKind) -> Result<(), Fault>
+        requires { 1 ≤ k }
+        ensures still { moment_of self.new ≡ moment_of self.old }
+        ensures ok { OnOk result (F.schedule self.new.flash.now ≡ planned (F.schedule self.old.flash.now) k kind) }
+        ensures err { OnErr result (F.schedule self.new.flash.now ≡ F.schedule self.old.flash.now) }
+        ensures full { (result ≡ Err Fault.Invalid) ↔ IsFull (F.schedule self.old.flash.now) k kind }
+        ensures only { IfErr result (λ fault. fault ≡ Fault.Invalid) }
+        ensures same_flash { flash_name self.new ≡ flash_name self.old }
+    {
+        self.flash.plan_fault(k, kind)
+    }
+}

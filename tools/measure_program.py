@@ -1,0 +1,108 @@
+#!/usr/bin/env python3
+"""Measures what the built program takes of the host: docs/embedding.md and docs/speed.md have the figures.
+
+  tools/measure_program.py PROGRAM
+
+PROGRAM is crates/uffs/out/uffs, as `rt run` builds it there. It tells
+  - the least limit of the stack, in steps of 4 KiB, under which `uffs memory` runs scripts to their end:
+    one line, and each script of rows in which faults, calls of every kind and restarts stand;
+  - of a flash of 67,108,864 bytes, new and with data in every page, the seconds by the clock and the
+    most memory that was resident, as the system tells it of a process at its end, of `uffs format`,
+    `check` and a `run` of ten lines.
+"""
+import glob
+import os
+import resource
+import subprocess
+import sys
+import tempfile
+import time
+
+TOP = os.path.dirname(os.path.dirname(os.path.abspath(__file__)))
+P, K, N = 4096, 64, 256
+RUN = "mkdir /d\nopen /d/f 7\npwrite 0 0 4142\npwrite 0 4096 4344\nclose 0\nsync\nls /d\nstat /d/f\nread /d/f 4096 2\nlog\n"
+
+
+def script_of(row):
+    """The script of a row."""
+    with open(row, encoding="utf-8") as lines:
+        return "".join(line[2:] for line in lines if line.startswith("> "))
+
+
+def runs_with(program, kib, script):
+    """Whether the script runs with so much stack."""
+    def limit():
+        resource.setrlimit(resource.RLIMIT_STACK, (kib * 1024, kib * 1024))
+    done = subprocess.run([program, "memory"], input=script.encode(), stdout=subprocess.DEVNULL,
+                          stderr=subprocess.DEVNULL, preexec_fn=limit, check=False)
+    return done.returncode == 0
+
+
+def least_stack(program, script):
+    """The least limit with which a script runs, in KiB, in steps of 4."""
+    for kib in range(16, 1028, 4):
+        if runs_with(program, kib, script):
+            return kib
+    return None
+
+
+def tell_stack(program):
+    """The limits of a script of one line, and of the rows."""
+    print("stack: one line", least_stack(program, "ls /\n"), "KiB")
+    worst, where = 0, ""
+    for row in sorted(glob.glob(f"{TOP}/crates/rows/data/*.row")):
+        kib = least_stack(program, script_of(row)) or 1024
+        if kib > worst:
+            worst, where = kib, os.path.basename(row)
+    print("stack: every row", worst, f"KiB ({where})")
+
+
+def measured(words, script=b""):
+    """Seconds and the most resident KiB of a process."""
+    began = time.monotonic()
+    child = subprocess.Popen(words, stdin=subprocess.PIPE, stdout=subprocess.DEVNULL)
+    child.stdin.write(script)
+    child.stdin.close()
+    _, status, used = os.wait4(child.pid, 0)
+    return status, time.monotonic() - began, used.ru_maxrss
+
+
+def fill(image):
+    """Puts data into each erased page of an image."""
+    with open(image, "rb") as file:
+        old = file.read()
+    new, at = bytearray(old[:20]), 20
+    for _ in range(N):
+        new.append(old[at])
+        at += 1
+        for _ in range(K):
+            has_data = old[at] == 1
+            new += old[at : at + 1 + P] if has_data else b"\1" + b"\x5a" * P
+            at += 1 + P if has_data else 1
+    with open(image, "wb") as file:
+        file.write(new)
+
+
+def tell_image(program):
+    """The largest flash, new and full."""
+    with tempfile.TemporaryDirectory() as room:
+        image = f"{room}/large.image"
+        sizes = ["--page", str(P), "--pages", str(K), "--blocks", str(N)]
+        for kind in ("fresh", "full"):
+            print(kind, "format: status %d, %.2f s, %d KiB" % measured([program, "format", image, *sizes]))
+            if kind == "full":
+                fill(image)
+            print(kind, "check: status %d, %.2f s, %d KiB" % measured([program, "check", image]))
+            print(kind, "run: status %d, %.2f s, %d KiB" % measured([program, "run", image], RUN.encode()))
+
+
+def main():
+    if len(sys.argv) != 2:
+        sys.exit(__doc__)
+    program = os.path.abspath(sys.argv[1])
+    tell_stack(program)
+    tell_image(program)
+
+
+if __name__ == "__main__":
+    main()

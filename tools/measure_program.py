@@ -4,6 +4,7 @@
   tools/measure_program.py PROGRAM
 
 PROGRAM is crates/uffs/out/uffs, as `rt run` builds it there. It tells
+  - the bytes of the program's file, and those of its code and constants and of its data as `size` counts them;
   - the least limit of the stack, in steps of 4 KiB, under which `uffs memory` runs scripts to their end:
     one line, and each script of rows in which faults, calls of every kind and restarts stand;
   - of a flash of 67,108,864 bytes, new and with data in every page, the seconds by the clock and the
@@ -44,6 +45,13 @@ def least_stack(program, script):
         if runs_with(program, kib, script):
             return kib
     return None
+
+
+def tell_size(program):
+    """The bytes of the file, and of what is loaded of it."""
+    told = subprocess.run(["size", program], capture_output=True, text=True, check=True).stdout
+    text, data, zeros = told.splitlines()[1].split()[:3]
+    print(f"size: file {os.path.getsize(program)}, code and constants {text}, data {data}, zeros {zeros}")
 
 
 def tell_stack(program):
@@ -100,6 +108,7 @@ def main():
     if len(sys.argv) != 2:
         sys.exit(__doc__)
     program = os.path.abspath(sys.argv[1])
+    tell_size(program)
     tell_stack(program)
     tell_image(program)
 

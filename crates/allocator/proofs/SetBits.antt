@@ -1,17 +1,17 @@
 -- The set that the bits of words show: its members, one member more, and none.
 use Rattle.std.proofs.Common.{◌≡◌, ◌≢◌, ℕ, ◌+◌, ◌*◌, ◌/◌, ◌%◌, ◌^◌, ◌<◌, ◌≤◌, ◌⊎◌, max, Bool, true, false, ◌&&◌, ◌||◌, eqb, ltb, List, length, replicate, get_or, set, refl, sym, ap, ◌∙◌, subst, inl, inr, arith, w64}
-use Rattle.std.proofs.lemmas.Bool.{eq-eqb, ne_eqb, lt-ltb, le-ltb, cases_lt, cases_order}
+use Rattle.std.proofs.lemmas.Bool.{true≢false, eq-eqb, ne_eqb, lt-ltb, le-ltb, cases_lt, cases_order}
 use Rattle.std.proofs.lemmas.Cmp.{nat_cmp_total}
 use Rattle.std.proofs.lemmas.Grind.{get_or_default_zero}
 use Rattle.std.proofs.lemmas.List.{get_or-set_same, get_or-set_other, get_or-replicate, get_or_past, length-replicate}
 use Rattle.std.proofs.lemmas.List.Elements.{All-from_get_or}
 use Rattle.std.proofs.lemmas.List.Folds.{list_any_none, list_any_at}
 use Rattle.std.proofs.lemmas.List.FromFn.{length-range_with_len, get_or-range_with_len}
-use Rattle.std.proofs.lemmas.Nat.Bits.{bit_at-zero, bit_at_set_same, bit_at_set_other, bit_at_or, bit_at-lt, shr_and_one}
+use Rattle.std.proofs.lemmas.Nat.Bits.{bit_at-zero, bit_at_set_same, bit_at_set_other, bit_at_or, bit_at-lt, bit_at-trailing_zeros, shr_and_one}
 use Rattle.std.specs.Cmp.{unsigned_tied}
 use Rattle.std.specs.FinMap.{nat_cmp-IsAntisymmetric}
 use Rattle.std.specs.FinSet as fin
-use Rattle.std.specs.Int.{bit_at}
+use Rattle.std.specs.Int.{bit_at, trailing_zeros}
 use Rattle.std.specs.Int.RustNames.{bit_or, bit_and}
 use Rattle.std.specs.List.{range_with_len}
 use Rattle.std.specs.Ordering.{nat_cmp}
@@ -114,6 +114,42 @@ members_of-set n words m b word room long below read =
       | inr (inl less) ↦ kept n words b q (omega arith) within
       | inr (inr more) ↦ kept n words b q (omega arith) within
     ])
+
+-- a word that is 0 sets no bit of its blocks
+pub zero_word : (words : List ℕ) (place word q : ℕ) → word ≡ get_or words place word → place < length words → word ≡ 0 → q / 64 ≡ place → is_set words q ≡ false
+zero_word words place word q read within zero at =
+    let here : get_or words (q / 64) 0 ≡ 0 = ap (λ k. get_or words k 0) at ∙ sym (read ∙ get_or_default_zero words place word within) ∙ zero in
+    ap (λ w. eqb (bit_at w (q % 64)) 1) here ∙ ap (λ b. eqb b 1) (bit_at-zero (q % 64))
+
+-- the lowest bit of a word that is not 0 is set, and those of the blocks before are not
+pub lowest_is_set : (words : List ℕ) (place word : ℕ) → word ≡ get_or words place word → place < length words → 0 < word → word < 2 ^ 64
+    → is_set words (64 * place + trailing_zeros w64 word) ≡ true
+lowest_is_set words place word read within some fits =
+    let low = bit_at-trailing_zeros w64 word some fits in
+    let at : (64 * place + trailing_zeros w64 word) / 64 ≡ place = omega (arith, low.0) in
+    let bit : (64 * place + trailing_zeros w64 word) % 64 ≡ trailing_zeros w64 word = omega (arith, low.0) in
+    let here : get_or words ((64 * place + trailing_zeros w64 word) / 64) 0 ≡ word = ap (λ k. get_or words k 0) at ∙ sym (read ∙ get_or_default_zero words place word within) in
+    ap (λ w. eqb (bit_at w ((64 * place + trailing_zeros w64 word) % 64)) 1) here ∙ ap (λ i. eqb (bit_at word i) 1) bit ∙ ap (λ b. eqb b 1) low.1
+
+pub below_lowest : (words : List ℕ) (place word q : ℕ) → word ≡ get_or words place word → place < length words → 0 < word → word < 2 ^ 64
+    → q / 64 ≡ place → q < 64 * place + trailing_zeros w64 word → is_set words q ≡ false
+below_lowest words place word q read within some fits at below =
+    let low = bit_at-trailing_zeros w64 word some fits in
+    let here : get_or words (q / 64) 0 ≡ word = ap (λ k. get_or words k 0) at ∙ sym (read ∙ get_or_default_zero words place word within) in
+    ap (λ w. eqb (bit_at w (q % 64)) 1) here ∙ ap (λ b. eqb b 1) (low.2 (q % 64) (omega arith))
+
+-- a set with a member is not empty, and one whose bits are none is
+pub not_empty : (n : ℕ) (words : List ℕ) (q : ℕ) → q < n → is_set words q ≡ true → members_of n words ≢ fin.empty
+not_empty n words q below is none =
+    true≢false (sym (contains-members_of n words q ∙ ap (λ b. b && is_set words q) (lt-ltb q n below) ∙ is) ∙ ap (λ s. fin.contains s q) none ∙ fin.contains-empty nat_cmp q)
+
+pub members_of-none : (n : ℕ) (words : List ℕ) → ((q : ℕ) → q < n → is_set words q ≡ false) → members_of n words ≡ fin.empty
+members_of-none n words none =
+    fin.same_set nat_cmp_total nat_cmp-IsAntisymmetric _ _ (λ q.
+    contains-members_of n words q ∙ elim (cases_lt q n) [
+      | inl below ↦ ap (λ b. ltb q n && b) (none q below) ∙ and_none (ltb q n)
+      | inr past ↦ ap (λ b. b && is_set words q) (le-ltb q n past)
+    ] ∙ sym (fin.contains-empty nat_cmp q))
 
 zero_or_one : (a : ℕ) → a < 2 → (a ≡ 0) ⊎ (a ≡ 1)
 zero_or_one a few =

@@ -1,5 +1,5 @@
 //! A set of blocks, with a bit for each block of the flash.
-ghost use Rattle.std.specs.Prelude.{◌≡◌, ℕ, ◌<◌, IfOk, IfErr, length, replicate, slice_index};
+ghost use Rattle.std.specs.Prelude.{◌≡◌, ℕ, ◌<◌, ◌↔◌, IsTrue, IfOk, IfErr, length, replicate, slice_index};
 ghost use Rattle.std.specs.FinSet as set;
 ghost use Rattle.std.specs.Int.RustNames.{bit_or};
 
@@ -37,6 +37,22 @@ impl BlockSet {
     {
         let words = vec![in alloc; 0; blocks.div_ceil(64) as usize]?;
         Ok(BlockSet { blocks, words })
+    }
+
+    /// Whether no block is in the set.
+    pub fn is_empty(&self) -> bool
+        ensures { IsTrue result ↔ (self.now.members ≡ set.empty) }
+    {
+        for place in 0..self.blocks.div_ceil(64) {
+            let word = self.words[place as usize];
+            if word != 0 {
+                let lowest = 64 * u64::from(place) + u64::from(word.trailing_zeros());
+                if lowest < u64::from(self.blocks) {
+                    return false;
+                }
+            }
+        }
+        true
     }
 
     /// How many blocks the flash has.

@@ -1,6 +1,6 @@
 -- How many operations come together.
-use Rattle.std.proofs.Common.{◌≡◌, ℕ, ◌+◌, ◌*◌, ◌<◌, ◌≤◌, Bool, true, false, cond, Result, Ok, Err, refl, sym, ap, subst, ◌∙◌, arith}
-use Rattle.std.specs.Prelude.{◌/◌, ◌-◌, ◌≢◌, IfOk, OnOk}
+use Rattle.std.proofs.Common.{◌≡◌, ℕ, ◌+◌, ◌*◌, ◌<◌, ◌≤◌, Bool, true, false, cond, Result, Ok, Err, refl, sym, ap, subst, ◌∙◌, inl, inr, arith}
+use Rattle.std.specs.Prelude.{◌/◌, ◌-◌, ◌≢◌, ◌⊎◌, IfOk, OnOk}
 use Rattle.std.specs.FinSet as set
 use Rattle.std.specs.Ordering.{nat_cmp}
 use Rattle.std.proofs.Math.Nat.{mul-le-mul_right}
@@ -15,10 +15,10 @@ use Rattle.flash_model.specs.Reading.{OnlyReads}
 use Rattle.record_format.specs.declared.record.Record.{Record}
 use Rattle.commit_pair.specs.declared.best.Found.{Found}
 use Rattle.commit_pair.specs.declared.anchors.Anchors.{Anchors}
-use Rattle.commit_pair.specs.Anchored.{Tries, Asked}
-use Rattle.commit_pair.specs.Committing.{IsNext}
+use Rattle.commit_pair.specs.Anchored.{OnlyAnchors, AsksInTurn, Asked}
+use Rattle.commit_pair.specs.Committing.{IsNextAnchor, LacksRoom, StandsNext, StandsFrom}
 use Rattle.commit_pair.specs.Programming.{TriesPages}
-use Rattle.commit_pair.specs.Remembering.{BeginsAt, ReadsNone, IsPlaced, TriesOnce}
+use Rattle.commit_pair.specs.Remembering.{BeginsAt, ReadsNone, IsPlaced, TriesEach}
 
 -- one operation that was answered with the power on
 pub one_more : {T : Type 0} (old new : Device) (result : Result T DevFault) (reads fails : ℕ) → Operates old new result reads fails → power_after result ≡ true → new.operations ≡ old.operations + 1
@@ -45,7 +45,7 @@ tries_end old mid new n count Failed failures operations lt done =
 tries_end old mid new n count PowerCut failures operations lt done = tt
 
 -- an erase that was done, and programs after it
-pub tries_on : (old mid new : Device) (count : ℕ) (done : Bool) → Tries old mid 1 true → Tries mid new count done → Tries old new (1 + count) done
+pub tries_on : (old mid new : Device) (count : ℕ) (done : Bool) → AsksInTurn old mid 1 true → AsksInTurn mid new count done → AsksInTurn old new (1 + count) done
 tries_on old mid new count true first next = (omega arith, omega arith)
 tries_on old mid new count false first next = (omega arith, omega arith, omega arith)
 
@@ -73,7 +73,7 @@ pub Asked_later : (d e f : Device) (n : ℕ) → e.geometry ≡ d.geometry → A
 Asked_later d e f n same first next = subst (Asked d f) (let is : 0 + n ≡ n = omega arith in is) (Asked_on d e f 0 n same first next)
 
 -- operations on one block that were all done, and those of which one failed
-pub asked_done : (old new : Device) (n : ℕ) (done : Bool) → done ≡ true → Tries old new n done → Asked old new n
+pub asked_done : (old new : Device) (n : ℕ) (done : Bool) → done ≡ true → AsksInTurn old new n done → Asked old new n
 asked_done old new n true is tries = record {
   failed = 0;
   failures = let h = tries.0 in omega arith;
@@ -82,7 +82,7 @@ asked_done old new n true is tries = record {
 }
 asked_done old new n false is tries = absurd cc
 
-pub asked_failed : (old new : Device) (n : ℕ) (done : Bool) → done ≡ false → n ≤ old.geometry.pages + 1 → Tries old new n done → Asked old new 0
+pub asked_failed : (old new : Device) (n : ℕ) (done : Bool) → done ≡ false → n ≤ old.geometry.pages + 1 → AsksInTurn old new n done → Asked old new 0
 asked_failed old new n true is few tries = absurd cc
 asked_failed old new n false is few tries = record {
   failed = 1;
@@ -102,22 +102,31 @@ asked_after old mid new reads n only is asked = record {
       omega arith;
 }
 
+-- nothing came before
+pub asked_alone : (old new : Device) (n : ℕ) → Asked old new (0 + n) → Asked old new n
+asked_alone old new n asked = subst (Asked old new) (let same : 0 + n ≡ n = omega arith in same) asked
+
 -- the next anchor in ring order is another one
-pub begun_next : (g : Geometry) (old new : Device) (now : set.FinSet nat_cmp) (home : ℕ) (result : Result Found Fault) → 1 ≤ g.pages → home < ANCHORS
-    → IfOk result (λ found. (anchor : ℕ) × (found.page ≡ anchor * g.pages) × IsNext now home anchor) → IfOk result (λ found. found.page / g.pages ≡ home → Asked old new found.head.count)
-begun_next g old new now home (Ok found) some lt next = λ here.
+other_anchor : (g : Geometry) (now : set.FinSet nat_cmp) (home page : ℕ) → 1 ≤ g.pages → home < ANCHORS → (anchor : ℕ) × (page ≡ anchor * g.pages) × IsNextAnchor now home anchor → page / g.pages ≢ home
+other_anchor g now home page some lt next here =
     let anchor = next.0 in
-    let start : found.page ≡ anchor * g.pages + 0 = let e = next.1 in omega arith in
-    let block : found.page / g.pages ≡ anchor = ap (λ (p : ℕ). p / g.pages) start ∙ div-mul-add anchor g.pages 0 (omega arith) in
+    let start : page ≡ anchor * g.pages + 0 = let e = next.1 in omega arith in
+    let block : page / g.pages ≡ anchor = ap (λ (p : ℕ). p / g.pages) start ∙ div-mul-add anchor g.pages 0 (omega arith) in
     let apart = next.2 in
     let same : anchor ≡ home = sym block ∙ here in
     absurd (let is = apart.is in let least = apart.some in let most = apart.below in omega arith)
-begun_next g old new now home (Err fault) some lt next = tt
 
-pub elsewhere_next : (g : Geometry) (old mid new : Device) (home : ℕ) (result : Result Found Fault) → mid.geometry ≡ old.geometry → Asked old mid 0 → IfOk result (λ found. Asked mid new (1 + found.head.count))
-    → IfOk result (λ found. found.page / g.pages ≢ home → Asked old new (1 + found.head.count))
-elsewhere_next g old mid new home (Ok found) same first next = λ apart. Asked_later old mid new (1 + found.head.count) same first next
-elsewhere_next g old mid new home (Err fault) same first next = tt
+-- where home did not take the record, and the next anchor did
+pub stands_next : (old mid new : Device) (was between now : set.FinSet nat_cmp) (r : Record) (home place : ℕ) (result : Result Found Fault) → 1 ≤ r.geometry.pages → home < ANCHORS → mid.geometry ≡ old.geometry → OnlyAnchors mid between new now
+    → Asked old mid 0 → (set.contains between home ≡ true) ⊎ LacksRoom r was place → IfOk result (StandsNext mid new now r home) → IfOk result (StandsFrom old was new now r home place)
+stands_next old mid new was between now r home place (Ok found) some lt same only first lacks next = record {
+  stands = next.stands;
+  goes = inr (next.next.0, next.next.1, next.next.2, elim lacks [ inl is ↦ inl (only.stays_bad home is) | inr less ↦ inr less ]);
+  begun = λ here. absurd (other_anchor r.geometry now home found.page some lt next.next here);
+  elsewhere = λ apart. Asked_later old mid new (1 + found.head.count) same first next.asked;
+  writable = next.writable;
+}
+stands_next old mid new was between now r home place (Err fault) some lt same only first lacks next = tt
 
 -- a commit after reads
 pub placed_after : (old mid new : Device) (was now : set.FinSet nat_cmp) (anchors : Anchors) (r : Record) (result : Result (Unit {0}) Fault) → OnlyReads old mid → (ReadsNone was anchors → mid.operations ≡ old.operations)
@@ -144,13 +153,13 @@ placed_after old mid new was now anchors r (Ok u) only quiet few placed =
 placed_after old mid new was now anchors r (Err fault) only quiet few placed = tt
 
 -- an erase was asked for
-pub tried_done : (old new : Device) (b : ℕ) (u : Unit {0}) → Erases old b new (Ok u) → Tries old new 1 true
+pub tried_done : (old new : Device) (b : ℕ) (u : Unit {0}) → Erases old b new (Ok u) → AsksInTurn old new 1 true
 tried_done old new b u e = (
   let h = e.operates.failures in omega arith,
   one_more old new (Ok u) 0 0 e.operates refl,
 )
 
-pub tried_failed : (old new : Device) (b : ℕ) → Erases old b new (Err Failed) → Tries old new 1 false
+pub tried_failed : (old new : Device) (b : ℕ) → Erases old b new (Err Failed) → AsksInTurn old new 1 false
 tried_failed old new b e =
     let one = one_more old new (Err Failed) 0 1 e.operates refl in (
       e.operates.failures,
@@ -159,7 +168,7 @@ tried_failed old new b e =
     )
 
 -- one operation was asked for, whatever came of it
-pub tried_once : (old new : Device) (done : Bool) → Tries old new 1 done → new.operations ≡ old.operations + 1
+pub tried_once : (old new : Device) (done : Bool) → AsksInTurn old new 1 done → new.operations ≡ old.operations + 1
 tried_once old new true tries = tries.1
 tried_once old new false tries = omega (arith, tries.1, tries.2)
 
@@ -170,11 +179,11 @@ asks_one old new b result e = let h = e.operates.operations in let one = one_at_
 pub next_tried : (old mid new step most pages : ℕ) → mid + (pages + 1) ≤ old + step * (pages + 1) → new ≤ mid + (pages + 1) → step ≤ most → new ≤ old + most * (pages + 1)
 next_tried old mid new step most pages so_far one few = let all : step * (pages + 1) ≤ most * (pages + 1) = mul-le-mul_right (pages + 1) few in omega (arith, so_far, one, all)
 
-pub tried_none : (d : Device) (was : set.FinSet nat_cmp) (anchors : Anchors) → TriesOnce d was anchors d
+pub tried_none : (d : Device) (was : set.FinSet nat_cmp) (anchors : Anchors) → TriesEach d was anchors d
 tried_none d was anchors = record { reads = 0; none = λ _. refl; once = omega arith; most = omega arith }
 
 pub tried_after : (old mid new : Device) (was : set.FinSet nat_cmp) (anchors : Anchors) (pages : ℕ) → OnlyReads old mid → pages ≡ old.geometry.pages → (ReadsNone was anchors → mid.operations ≡ old.operations)
-    → mid.operations ≤ old.operations + ANCHORS * pages → new.operations ≤ mid.operations + ANCHORS * (pages + 1) → TriesOnce old was anchors new
+    → mid.operations ≤ old.operations + ANCHORS * pages → new.operations ≤ mid.operations + ANCHORS * (pages + 1) → TriesEach old was anchors new
 tried_after old mid new was anchors pages only same quiet few more =
     let later = only.operations in
     record {

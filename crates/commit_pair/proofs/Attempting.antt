@@ -12,17 +12,18 @@ use Rattle.flash_model.specs.Device.{Device, Page, block_of}
 use Rattle.record_format.specs.declared.record.Record.{Record}
 use Rattle.record_format.specs.declared.page_head.PageHead.{PageHead}
 use Rattle.commit_pair.specs.declared.best.Found.{Found}
-use Rattle.commit_pair.specs.Anchored.{OnlyAnchors, Asked, Tries}
-use Rattle.commit_pair.specs.Parts.{Entry}
+use Rattle.commit_pair.specs.Anchored.{Asked, ChangesAnchor}
+use Rattle.commit_pair.specs.Parts.{RecordBytes}
 use Rattle.commit_pair.specs.Payloads.{Means}
 use Rattle.commit_pair.specs.Programming.{head_for}
 use Rattle.commit_pair.specs.Reading.{IsEnd}
 use Rattle.commit_pair.specs.Keeping.{IsAt, Placed}
-use Rattle.commit_pair.specs.Committing.{IsCommitted, Stands, Attempts, Untouched, Attempted, IfPlaced, OnNone, answered}
-use Rattle.commit_pair.proofs.Anchoring.{listed_itself}
-use Rattle.commit_pair.proofs.Asking.{asked_done, asked_failed}
+use Rattle.commit_pair.specs.Committing.{IsCommitted, StandsLast, Attempts, Untouched, Attempted, IfPlaced, OnNone, answered}
+use Rattle.commit_pair.proofs.Anchoring.{listed_itself, OnlyAnchors_itself}
+use Rattle.commit_pair.proofs.Asking.{Asked_itself, asked_done, asked_failed}
+use Rattle.commit_pair.proofs.Sparing.{Keeps_itself}
 
-if_done : (g : Geometry) (was now : ℕ → Page) (found : Found) (entry : Entry) (done : Bool) → done ≡ true → Placed g was now found entry (Ok done) → IsAt g now found entry
+if_done : (g : Geometry) (was now : ℕ → Page) (found : Found) (entry : RecordBytes) (done : Bool) → done ≡ true → Placed g was now found entry (Ok done) → IsAt g now found entry
 if_done g was now found entry true is placed = placed
 if_done g was now found entry false is placed = absurd cc
 
@@ -43,7 +44,7 @@ commits_at : (was now : ℕ → Page) (r : Record) (sequence : ℕ) (before afte
     → done ≡ true → place < r.geometry.pages → found.page ≡ anchor * r.geometry.pages + place → found.head ≡ head_for r.geometry sequence bytes count 0
     → Placed r.geometry was now (record { page = anchor * r.geometry.pages + place; head = head_for r.geometry sequence bytes count 0 }) (record { sequence = sequence; payload = bytes }) (Ok done)
     → (done ≡ true → IsEnd r.geometry now anchor r.geometry.pages (place + count)) → after ≡ cond done before (set.insert before anchor) → Means r sequence before bytes
-    → IsCommitted now r sequence after × Stands now r found
+    → IsCommitted now r sequence after × StandsLast now r found
 commits_at was now r sequence before after bytes anchor place count found done is lt page head placed end list means =
     let at = if_done r.geometry was now (record { page = anchor * r.geometry.pages + place; head = head_for r.geometry sequence bytes count 0 }) (record { sequence = sequence; payload = bytes }) done is placed in
     let here : record { page = anchor * r.geometry.pages + place; head = head_for r.geometry sequence bytes count 0 } ≡ found = λ i. record { page = (sym page) i; head = (sym head) i } in (
@@ -89,75 +90,83 @@ attempts_cut : (was now : ℕ → Page) (r : Record) (sequence : ℕ) (bad : set
 attempts_cut was now r sequence bad bytes page head PowerCut is means placed = elim placed [ inl kept ↦ inl kept | inr at ↦ inr (placed_committed now r sequence bad bytes page head means at) ]
 attempts_cut was now r sequence bad bytes page head _ is means placed = absurd placed
 
-pub attempted : (old new : Device) (was now : set.FinSet nat_cmp) (r : Record) (sequence : ℕ) (bytes : List ℕ) (anchor place count more operations : ℕ) (found : Found) (done : Result Bool Fault)
-    → old.geometry ≡ r.geometry → place < r.geometry.pages → operations ≡ more + count → operations ≤ r.geometry.pages + 1 → set.contains was anchor ≡ false
-    → found.page ≡ anchor * r.geometry.pages + place → found.head ≡ head_for r.geometry sequence bytes count 0 → Means r sequence was bytes
-    → Placed r.geometry old.pages new.pages (record { page = anchor * r.geometry.pages + place; head = head_for r.geometry sequence bytes count 0 }) (record { sequence = sequence; payload = bytes }) done
-    → IfOk done (λ is. is ≡ true → IsEnd r.geometry new.pages anchor r.geometry.pages (place + count)) → IfOk done (λ is. now ≡ cond is was (set.insert was anchor)) → OnErr done (now ≡ was)
-    → ((p : ℕ) → block_of old p ≢ anchor → new.pages p ≡ old.pages p) → OnlyAnchors old was new now → IfOk done (Tries old new operations)
-    → IfErr done (λ fault. (fault ≡ PowerCut) × (new.powered ≡ false)) → new.operations ≤ old.operations + operations → Attempted old was new now r sequence anchor place more (answered done found)
-attempted old new was now r sequence bytes anchor place count more operations found (Ok true) same lt sum few good page head means placed end list stays others only tries why most = record {
-  attempts = commits_at old.pages new.pages r sequence was now bytes anchor place count found true refl lt page head placed end list means;
-  page = page;
-  fits = lt;
-  list = list;
-  good = good;
-  refused = tt;
-  untouched = tt;
-  asked =
-      let all : found.head.count ≡ count = ap (λ (h : PageHead). h.count) head in
-      subst (Asked old new) (sum ∙ ap (λ n. more + n) (sym all)) (asked_done old new operations true refl tries);
-  tried = tt;
-  operations = omega (arith, few, most);
-  only_anchors = only;
-  why = tt;
-}
-attempted old new was now r sequence bytes anchor place count more operations found (Ok false) same lt sum few good page head means placed end list stays others only tries why most =
-    let bad = failed_listed was now anchor false refl list in
-    let pages : old.geometry.pages ≡ r.geometry.pages = ap (λ (g : Geometry). g.pages) same in
-    record {
-      attempts = placed;
-      page = tt;
-      fits = tt;
-      list = tt;
-      good = tt;
-      refused = bad;
-      untouched = failed_untouched old new now anchor bad others;
-      asked = tt;
-      tried = asked_failed old new operations false refl (omega arith) tries;
-      operations = omega (arith, few, most);
-      only_anchors = only;
-      why = tt;
-    }
-attempted old new was now r sequence bytes anchor place count more operations found (Err fault) same lt sum few good page head means placed end list stays others only tries why most = record {
-  attempts =
-      attempts_cut old.pages new.pages r sequence now bytes (anchor * r.geometry.pages + place) (head_for r.geometry sequence bytes count 0) fault why.0
-      (subst (λ bad. Means r sequence bad bytes) (sym stays) means) placed;
+module _ (old new : Device) (was now : set.FinSet nat_cmp) (r : Record) (sequence : ℕ) (bytes : List ℕ) (anchor place count operations : ℕ) where
+  pub attempted : (more : ℕ) (found : Found) (done : Result Bool Fault)
+      → old.geometry ≡ r.geometry → place < r.geometry.pages → operations ≡ more + count → operations ≤ r.geometry.pages + 1 → set.contains was anchor ≡ false
+      → found.page ≡ anchor * r.geometry.pages + place → found.head ≡ head_for r.geometry sequence bytes count 0 → Means r sequence was bytes
+      → Placed r.geometry old.pages new.pages (record { page = anchor * r.geometry.pages + place; head = head_for r.geometry sequence bytes count 0 }) (record { sequence = sequence; payload = bytes }) done
+      → IfOk done (λ is. is ≡ true → IsEnd r.geometry new.pages anchor r.geometry.pages (place + count)) → ChangesAnchor old was new now anchor operations done
+      → Attempted old was new now r sequence anchor place more (answered done found)
+  attempted more found (Ok true) same lt sum few good page head means placed end changes = record {
+    attempts = commits_at old.pages new.pages r sequence was now bytes anchor place count found true refl lt page head placed end changes.list means;
+    page = page;
+    fits = lt;
+    list = changes.list;
+    good = good;
+    untouched = tt;
+    asked =
+        let all : found.head.count ≡ count = ap (λ (h : PageHead). h.count) head in
+        subst (Asked old new) (sum ∙ ap (λ n. more + n) (sym all)) (asked_done old new operations true refl changes.tries);
+    tried = tt;
+    operations = let most = changes.operations in omega (arith, few, most);
+    only_anchors = changes.only_anchors;
+    why = tt;
+  }
+  attempted more found (Ok false) same lt sum few good page head means placed end changes = record {
+    attempts = placed;
+    page = tt;
+    fits = tt;
+    list = tt;
+    good = tt;
+    untouched = failed_untouched old new now anchor (failed_listed was now anchor false refl changes.list) changes.others;
+    asked = tt;
+    tried =
+        let pages : old.geometry.pages ≡ r.geometry.pages = ap (λ (g : Geometry). g.pages) same in
+        asked_failed old new operations false refl (omega arith) changes.tries;
+    operations = let most = changes.operations in omega (arith, few, most);
+    only_anchors = changes.only_anchors;
+    why = tt;
+  }
+  attempted more found (Err fault) same lt sum few good page head means placed end changes = record {
+    attempts =
+        attempts_cut old.pages new.pages r sequence now bytes (anchor * r.geometry.pages + place) (head_for r.geometry sequence bytes count 0) fault changes.why.0
+        (subst (λ bad. Means r sequence bad bytes) (sym changes.list) means) placed;
+    page = tt;
+    fits = tt;
+    list = tt;
+    good = tt;
+    untouched = tt;
+    asked = tt;
+    tried = tt;
+    operations = let most = changes.operations in omega (arith, few, most);
+    only_anchors = changes.only_anchors;
+    why = changes.why;
+  }
+
+-- an anchor on which nothing was written was put into the list
+pub listed : (old new : Device) (was now : set.FinSet nat_cmp) (anchor n : ℕ) (found : Found) (done : Result Bool Fault) → ChangesAnchor old was new now anchor n done → OnNone (answered done found) (set.contains now anchor ≡ true)
+listed old new was now anchor n found (Ok true) changes = tt
+listed old new was now anchor n found (Ok false) changes = failed_listed was now anchor false refl changes.list
+listed old new was now anchor n found (Err fault) changes = tt
+
+-- an anchor that was not tried
+pub not_attempted : (d : Device) (bad : set.FinSet nat_cmp) (r : Record) (sequence anchor place more : ℕ) → Attempted d bad d bad r sequence anchor place more (Ok None)
+not_attempted d bad r sequence anchor place more = record {
+  attempts = Keeps_itself r.geometry d.pages;
   page = tt;
   fits = tt;
   list = tt;
   good = tt;
-  refused = tt;
-  untouched = tt;
+  untouched = λ p good. refl;
   asked = tt;
-  tried = tt;
-  operations = omega (arith, few, most);
-  only_anchors = only;
-  why = why;
+  tried = Asked_itself d;
+  operations = omega arith;
+  only_anchors = OnlyAnchors_itself d bad;
+  why = tt;
 }
 
--- a clause on the anchor that was refused, and one on a record that stands
-pub refused_more : (result : Result (Option Found) Fault) (A B : Type 0) → OnNone result A → OnNone result (A ⊎ B)
-refused_more (Ok (Some found)) A B is = tt
-refused_more (Ok None) A B is = inl is
-refused_more (Err fault) A B is = tt
-
-pub asked_alone : (old new : Device) (result : Result (Option Found) Fault) → IfPlaced result (λ found. Asked old new (0 + found.head.count)) → IfPlaced result (λ found. Asked old new found.head.count)
-asked_alone old new (Ok (Some found)) asked = subst (Asked old new) (let is : 0 + found.head.count ≡ found.head.count = omega arith in is) asked
-asked_alone old new (Ok None) asked = tt
-asked_alone old new (Err fault) asked = tt
-
-pub placed_there : (g : Geometry) (anchor : ℕ) (result : Result (Option Found) Fault) → IfPlaced result (λ found. found.page ≡ anchor * g.pages + 0) → IfPlaced result (λ found. found.page ≡ anchor * g.pages)
-placed_there g anchor (Ok (Some found)) page = omega arith
-placed_there g anchor (Ok None) page = tt
-placed_there g anchor (Err fault) page = tt
+-- the anchor may be in the list, or have no room
+pub lacks_more : (result : Result (Option Found) Fault) (A B : Type 0) → OnNone result A → OnNone result (A ⊎ B)
+lacks_more (Ok (Some found)) A B is = tt
+lacks_more (Ok None) A B is = inl is
+lacks_more (Err fault) A B is = tt

@@ -17,12 +17,12 @@ use Rattle.flash_model.specs.Reading.{OnlyReads, same_pages}
 use Rattle.record_format.specs.declared.record.Record.{Record}
 use Rattle.commit_pair.specs.declared.best.Found.{Found}
 use Rattle.commit_pair.specs.declared.anchors.Anchors.{Anchors}
-use Rattle.commit_pair.specs.Parts.{Entry, Part, part_of, parts_on, best_on, newest_at, newest_on, sequence_of, greatest_on}
+use Rattle.commit_pair.specs.Parts.{RecordBytes, Part, part_of, parts_on, best_on, newest_at, newest_on, sequence_of, greatest_on}
 use Rattle.commit_pair.specs.Reading.{IsEnd, ReadCause}
 use Rattle.commit_pair.specs.Anchored.{OnlyAnchors}
-use Rattle.commit_pair.specs.Keeping.{Keeps, AreOlder, Spares}
-use Rattle.commit_pair.specs.Committing.{IsLowest, Commits, Untouched, TryCause}
-use Rattle.commit_pair.specs.Remembering.{KnowsNewest, KnowsErased, MayCommit, begins, BeginsAt, CommitCause}
+use Rattle.commit_pair.specs.Keeping.{KeepsNewest, AreOlder, Spares}
+use Rattle.commit_pair.specs.Committing.{IsLowest, Commits, Untouched, IsInVain}
+use Rattle.commit_pair.specs.Remembering.{KnowsNewest, KnowsErased, MayCommit, begins_from, BeginsAt, CommitCause}
 use Rattle.commit_pair.specs.Newest.{remembered, KnowsEnd}
 use Rattle.commit_pair.specs.Following.{StillMayCommit, CommittedIsNewest}
 use Rattle.commit_pair.proofs.Following.{was_good}
@@ -30,11 +30,11 @@ use Rattle.commit_pair.proofs.NewestLaws.{found_is_newest, greatest_most, same_p
 use Rattle.commit_pair.proofs.Places.{anchor_below}
 use Rattle.commit_pair.proofs.Sparing.{Keeps_itself}
 
-at_newest : (g : Geometry) (bad : set.FinSet nat_cmp) (end : ℕ) (o : Option Found) (home place : ℕ) (found : Found) → o ≡ Some found → begins g bad end o home place → (home ≡ found.page / g.pages) × (place ≡ end)
-at_newest g bad end o home place found is b = subst (λ (o : Option Found). begins g bad end o home place) is b
+at_newest : (g : Geometry) (bad : set.FinSet nat_cmp) (end : ℕ) (o : Option Found) (home place : ℕ) (found : Found) → o ≡ Some found → begins_from g bad end o home place → (home ≡ found.page / g.pages) × (place ≡ end)
+at_newest g bad end o home place found is b = subst (λ (o : Option Found). begins_from g bad end o home place) is b
 
-at_lowest : (g : Geometry) (bad : set.FinSet nat_cmp) (end : ℕ) (o : Option Found) (home place : ℕ) → o ≡ None → begins g bad end o home place → IsLowest bad home × (place ≡ 0)
-at_lowest g bad end o home place is b = subst (λ (o : Option Found). begins g bad end o home place) is b
+at_lowest : (g : Geometry) (bad : set.FinSet nat_cmp) (end : ℕ) (o : Option Found) (home place : ℕ) → o ≡ None → begins_from g bad end o home place → IsLowest bad home × (place ≡ 0)
+at_lowest g bad end o home place is b = subst (λ (o : Option Found). begins_from g bad end o home place) is b
 
 module _ (d : Device) (g : Geometry) (bad : set.FinSet nat_cmp) (anchors : Anchors) (home place : ℕ) (same : d.geometry ≡ g) (lawful : IsGeometry g) (ready : MayCommit d bad anchors) (at : BeginsAt g bad anchors home place) where
   place_on : (k : KnowsNewest d bad anchors) → newest_at g (parts_on g d.pages) ≡ Some k.found
@@ -52,6 +52,17 @@ module _ (d : Device) (g : Geometry) (bad : set.FinSet nat_cmp) (anchors : Ancho
         let is = at_newest g bad anchors.end anchors.newest home place k.found k.here at in
         subst (λ b. b < ANCHORS) (sym is.0) (anchor_below g k.found.page lawful (found_is_newest g (parts_on g d.pages) k.found (place_on k)).within)
     | inr k ↦ (at_lowest g bad anchors.end anchors.newest home place k.none at).0.below
+  ]
+
+  pub begins_within : set.contains bad home ≡ false → place ≤ g.pages
+  begins_within good = elim ready [
+    | inl k ↦
+        let is = at_newest g bad anchors.end anchors.newest home place k.found k.here at in
+        let end = end_on k (ap (set.contains bad) (sym is.0) ∙ good) in
+        let within = end.within in
+        let e = is.1 in
+        omega arith
+    | inr k ↦ let e = (at_lowest g bad anchors.end anchors.newest home place k.none at).1 in omega arith
   ]
 
   pub begins_blank : set.contains bad home ≡ false → (m : ℕ) → place ≤ m → m < g.pages → d.pages (home * g.pages + m) ≡ erased
@@ -137,7 +148,7 @@ ends_still g was now anchor end same is = record {
   last = λ m at blank. is.last m at (sym (same m (let w = is.within in omega arith)) ∙ blank);
 }
 
-kept : (was now : ℕ → Page) (r : Record) (sequence : ℕ) (bad : set.FinSet nat_cmp) (fault : Fault) → fault ≢ PowerCut → Commits {T = Found} was now r sequence bad (Err fault) → Keeps r.geometry was now
+kept : (was now : ℕ → Page) (r : Record) (sequence : ℕ) (bad : set.FinSet nat_cmp) (fault : Fault) → fault ≢ PowerCut → Commits {T = Found} was now r sequence bad (Err fault) → KeepsNewest r.geometry was now
 kept was now r sequence bad PowerCut on is = absurd (on refl)
 kept was now r sequence bad _ on is = is
 
@@ -145,7 +156,7 @@ kept was now r sequence bad _ on is = is
 pub may_follow : (old new : Device) (was now : set.FinSet nat_cmp) (anchors : Anchors) (r : Record) (sequence : ℕ) (fault : Fault) → old.geometry ≡ r.geometry → OnlyAnchors old was new now
     → fault ≢ PowerCut → Commits {T = Found} old.pages new.pages r sequence now (Err fault) → Untouched old now new → MayCommit old was anchors → MayCommit new now anchors
 may_follow old new was now anchors r sequence fault same only on is untouched ready =
-    let keeps : Keeps old.geometry old.pages new.pages = subst (λ (h : Geometry). Keeps h old.pages new.pages) (sym same) (kept old.pages new.pages r sequence now fault on is) in
+    let keeps : KeepsNewest old.geometry old.pages new.pages = subst (λ (h : Geometry). KeepsNewest h old.pages new.pages) (sym same) (kept old.pages new.pages r sequence now fault on is) in
     elim ready [
       | inl k ↦ inl (record {
         found = k.found;
@@ -199,8 +210,8 @@ committed_is_newest d r sequence bad same is = (
   is.means.list,
   is.means.ascends,
   is.means.listed,
-  ap (λ (h : Geometry). option_map (λ (entry : Entry). payload_at h entry.sequence entry.payload) (newest_on h d.pages)) same
-      ∙ ap (option_map (λ (entry : Entry). payload_at r.geometry entry.sequence entry.payload)) is.newest
+  ap (λ (h : Geometry). option_map (λ (entry : RecordBytes). payload_at h entry.sequence entry.payload) (newest_on h d.pages)) same
+      ∙ ap (option_map (λ (entry : RecordBytes). payload_at r.geometry entry.sequence entry.payload)) is.newest
       ∙ ap (λ (x : Result Record Fault). Some x) is.means.means,
 )
 
@@ -209,8 +220,8 @@ committed_is_newest d r sequence bad same is = (
 pub reads_may_commit : (d e : Device) (bad : set.FinSet nat_cmp) (anchors : Anchors) → OnlyReads d e → MayCommit d bad anchors → MayCommit e bad anchors
 reads_may_commit d e bad anchors reads ready = still_may_commit d e bad bad anchors reads.geometry (λ p lt. reads.pages p) (λ b is. is) ready
 
-pub reads_keep : (g : Geometry) (was now : ℕ → Page) → now ≡ was → Keeps g was now
-reads_keep g was now same = subst (λ (pages : ℕ → Page). Keeps g was pages) (sym same) (Keeps_itself g was)
+pub reads_keep : (g : Geometry) (was now : ℕ → Page) → now ≡ was → KeepsNewest g was now
+reads_keep g was now same = subst (λ (pages : ℕ → Page). KeepsNewest g was pages) (sym same) (Keeps_itself g was)
 
 pub reads_commit : (d e : Device) (r : Record) (sequence : ℕ) (bad : set.FinSet nat_cmp) (fault : Fault) → OnlyReads d e → Commits {T = Unit {0}} d.pages e.pages r sequence bad (Err fault)
 reads_commit d e r sequence bad PowerCut reads = inl (reads_keep r.geometry d.pages e.pages (same_pages reads))
@@ -242,11 +253,11 @@ read_commit_cause old new was anchors ReadFailed none reads cause = (none, cause
 read_commit_cause old new was anchors PowerCut none reads cause = cause
 read_commit_cause old new was anchors _ none reads cause = absurd cause
 
-pub try_commit_cause : {T : Type 0} (old : Device) (was : set.FinSet nat_cmp) (anchors : Anchors) (new : Device) (now : set.FinSet nat_cmp) (result : Result T Fault) → IfErr result (TryCause new now) → IfErr result (CommitCause old was anchors new now)
-try_commit_cause old was anchors new now (Ok x) cause = tt
-try_commit_cause old was anchors new now (Err ReadOnly) cause = cause
-try_commit_cause old was anchors new now (Err PowerCut) cause = cause
-try_commit_cause old was anchors new now (Err _) cause = absurd cause
+pub try_commit_cause : {T : Type 0} (old mid : Device) (was : set.FinSet nat_cmp) (anchors : Anchors) (new : Device) (now : set.FinSet nat_cmp) (result : Result T Fault) → IfErr result (IsInVain mid new now) → IfErr result (CommitCause old was anchors new now)
+try_commit_cause old mid was anchors new now (Ok x) vain = tt
+try_commit_cause old mid was anchors new now (Err ReadOnly) vain = vain.why
+try_commit_cause old mid was anchors new now (Err PowerCut) vain = vain.why
+try_commit_cause old mid was anchors new now (Err _) vain = absurd vain.why
 
 pub if_err_each : {T E : Type 0} (result : Result T E) (P : E → Type 0) → ((e : E) → P e) → IfErr result P
 if_err_each (Ok x) P each = tt

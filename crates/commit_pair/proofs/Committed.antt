@@ -13,7 +13,7 @@ use Rattle.byteorder.specs.Endian.{little_from}
 use Rattle.record_format.specs.Payloads.{is_format, shortest, longest, tells_sizes, payload_at, meaning_of}
 use Rattle.commit_pair.specs.declared.best.Found.{Found}
 use Rattle.commit_pair.specs.declared.best.Best.{Best}
-use Rattle.commit_pair.specs.Parts.{Entry, parts_on, best_on, newest_at, newest_on, payload_of}
+use Rattle.commit_pair.specs.Parts.{RecordBytes, parts_on, best_on, newest_at, newest_on, payload_of}
 use Rattle.commit_pair.specs.Laws.{HasNone, HasTie}
 use Rattle.commit_pair.specs.Newest.{committed_on, IsNewestRecord, NewestCause}
 use Rattle.commit_pair.specs.Reading.{ReadCause}
@@ -37,8 +37,8 @@ committed_at d g best found payload same is once at held =
     let once_on : (best_on g parts).twice ≡ false = ap (λ (b : Best). b.twice) (sym is) ∙ once in
     let found_on : (best_on g parts).found ≡ Some found = ap (λ (b : Best). b.found) (sym is) ∙ at in
     let newest : newest_at g parts ≡ Some found = λ i. cond (once_on i) None (found_on i) in
-    ap (λ (h : Geometry). option_map (λ (entry : Entry). payload_at h entry.sequence entry.payload) (newest_on h d.pages)) same
-    ∙ ap (λ (o : Option Found). option_map (λ (entry : Entry). payload_at g entry.sequence entry.payload) (option_map (λ (at : Found). record { sequence = at.head.sequence; payload = payload_of g parts at }) o)) newest
+    ap (λ (h : Geometry). option_map (λ (entry : RecordBytes). payload_at h entry.sequence entry.payload) (newest_on h d.pages)) same
+    ∙ ap (λ (o : Option Found). option_map (λ (entry : RecordBytes). payload_at g entry.sequence entry.payload) (option_map (λ (at : Found). record { sequence = at.head.sequence; payload = payload_of g parts at }) o)) newest
     ∙ ap (λ (bytes : List ℕ). Some (payload_at g found.head.sequence bytes)) (sym held)
 
 abbrev refused : Fault → Result Record Fault
@@ -68,7 +68,7 @@ payload_cause old new g sequence bytes fault is refuses = absurd (elim (payload_
 
 -- reads change nothing of it
 newest_meaning : Geometry → (ℕ → Page) → Option (Result Record Fault)
-newest_meaning g pages = option_map (λ (entry : Entry). payload_at g entry.sequence entry.payload) (newest_on g pages)
+newest_meaning g pages = option_map (λ (entry : RecordBytes). payload_at g entry.sequence entry.payload) (newest_on g pages)
 
 pub committed_stays : (old new : Device) → OnlyReads old new → committed_on new ≡ committed_on old
 unfolding newest_meaning
@@ -101,8 +101,8 @@ pub none_committed : (d : Device) (g : Geometry) (found : Option Found) (newest 
 none_committed d g found None same at none is = refl
 none_committed d g found (Some r) same at none is =
     let nothing : committed_on d ≡ None =
-    ap (λ (h : Geometry). option_map (λ (entry : Entry). payload_at h entry.sequence entry.payload) (newest_on h d.pages)) same
-    ∙ ap (λ (o : Option Found). option_map (λ (entry : Entry). payload_at g entry.sequence entry.payload) (option_map (λ (at : Found). record { sequence = at.head.sequence; payload = payload_of g (parts_on g d.pages) at }) o)) (sym at ∙ none) in
+    ap (λ (h : Geometry). option_map (λ (entry : RecordBytes). payload_at h entry.sequence entry.payload) (newest_on h d.pages)) same
+    ∙ ap (λ (o : Option Found). option_map (λ (entry : RecordBytes). payload_at g entry.sequence entry.payload) (option_map (λ (at : Found). record { sequence = at.head.sequence; payload = payload_of g (parts_on g d.pages) at }) o)) (sym at ∙ none) in
     let clash = sym nothing ∙ is in
     cc
 

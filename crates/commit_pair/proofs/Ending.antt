@@ -3,7 +3,7 @@ use Rattle.std.proofs.Common.{◌≡◌, ◌≢◌, ℕ, ◌+◌, ◌-◌, ◌*�
 use Rattle.std.proofs.lemmas.Bool.{cases_eq}
 use Rattle.flash_model.specs.declared.geometry.Geometry.{Geometry}
 use Rattle.flash_model.specs.Device.{Page, erased, bytes_of}
-use Rattle.commit_pair.specs.Programming.{bytes_for, Fills, HasPages, EndsAt}
+use Rattle.commit_pair.specs.Programming.{bytes_for, Fills, HasRecordPages, EndsAt}
 use Rattle.commit_pair.specs.Reading.{IsEnd}
 
 bytes_not_erased : (page : Page) (bytes : List ℕ) → page ≡ bytes_of bytes → page ≢ erased
@@ -17,7 +17,7 @@ module _ (g : Geometry) (old new : ℕ → Page) (anchor place sequence : ℕ) (
       ap old at ∙ blank (place + m) (omega arith) (omega arith)
 
   -- a record that stands ends there, and the pages after it are erased still
-  pub ends_after : place + count ≤ g.pages → Fills g payload count → (u : Unit {0}) → (n : ℕ) × EndsAt count n (Ok u) × HasPages g old new (anchor * g.pages + place) sequence payload count n
+  pub ends_after : place + count ≤ g.pages → Fills g payload count → (u : Unit {0}) → (n : ℕ) × EndsAt count n (Ok u) × HasRecordPages g old new (anchor * g.pages + place) sequence payload count n
       → IsEnd g new anchor g.pages (place + count)
   ends_after in_block fill u (n, all, has) = record {
     within = in_block;

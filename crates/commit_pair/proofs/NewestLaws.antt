@@ -13,7 +13,7 @@ use Rattle.flash_model.specs.declared.geometry.Geometry.{Geometry}
 use Rattle.flash_model.specs.Device.{Page}
 use Rattle.record_format.specs.declared.page_head.PageHead.{PageHead}
 use Rattle.commit_pair.specs.declared.best.Found.{Found}
-use Rattle.commit_pair.specs.Parts.{Part, part_of, parts_on, head_at, is_record, record_head, considered, best_below, best_on, sequence_of, greatest_on, newest_at, newest_among}
+use Rattle.commit_pair.specs.Parts.{Part, part_of, parts_on, head_at, is_valid_record, record_head, considered, best_below, best_on, sequence_of, greatest_on, newest_at, newest_among}
 use Rattle.commit_pair.specs.Laws.{HasNone, HasTie, IsNewest, FoundIsNewest, NewestIsFound, OnlyAnchorsMatter}
 
 both_true : (a b : Bool) → (a && b) ≡ true → (a ≡ true) × (b ≡ true)
@@ -189,10 +189,10 @@ tied g parts e = tie_from g parts (best_on g parts).found (best_on g parts).twic
 pub valid_ends : (g : Geometry) (parts : ℕ → Option Part) (p : ℕ) (head : PageHead) → IsGeometry g → p < ANCHORS * g.pages → record_head g parts p ≡ Some head → p + head.count ≤ ANCHORS * g.pages
 valid_ends g parts p head lawful lt valid = from (head_at parts p) valid
   where
-    from : (o : Option PageHead) → option_and_then (λ first. cond (is_record g parts p first) (Some first) None) o ≡ Some head → p + head.count ≤ ANCHORS * g.pages
+    from : (o : Option PageHead) → option_and_then (λ first. cond (is_valid_record g parts p first) (Some first) None) o ≡ Some head → p + head.count ≤ ANCHORS * g.pages
     from None e = absurd (none-some head e)
     from (Some first) e =
-        let chosen = cond_some (is_record g parts p first) first head e in
+        let chosen = cond_some (is_valid_record g parts p first) first head e in
         let rest = (both_true (ltb 0 first.count) _ chosen.0).1 in
         let le : p % g.pages + first.count ≤ g.pages = leb-true _ _ (both_true (leb (p % g.pages + first.count) g.pages) _ rest).0 in
         let same = ap (λ (x : PageHead). x.count) chosen.1 in

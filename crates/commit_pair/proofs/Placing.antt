@@ -15,11 +15,11 @@ use Rattle.record_format.specs.Laws.{PageIsRead}
 use Rattle.record_format.specs.Pages.{used_bytes}
 use Rattle.commit_pair.specs.declared.best.Found.{Found}
 use Rattle.commit_pair.specs.Parts.{Part, room, part_of, part_bytes, parts_on, bytes_from, head_at, is_part, is_filled, newest_at, payload_of}
-use Rattle.commit_pair.specs.Writing.{IsHalfWritten, IsWritten}
+use Rattle.commit_pair.specs.Writing.{IsHalfWritten, IsWhollyWritten}
 use Rattle.flash_model.specs.declared.flash.DevFault.{DevFault}
 use Rattle.flash_model.specs.declared.flash.DevFault.TheVariants.{Failed, PowerCut}
-use Rattle.commit_pair.specs.Programming.{piece, head_for, bytes_for, Fills, HasPages, EndsAt}
-use Rattle.commit_pair.specs.Keeping.{Keeps, AreOlder, IsAt}
+use Rattle.commit_pair.specs.Programming.{piece, head_for, bytes_for, Fills, HasRecordPages, EndsAt}
+use Rattle.commit_pair.specs.Keeping.{KeepsNewest, AreOlder, IsAt}
 use Rattle.commit_pair.proofs.Places.{page_least, anchor_below, record_ends}
 use Rattle.commit_pair.proofs.WritingLaws.{half_changes_nothing, half_keeps_heads, half_keeps_place}
 use Rattle.commit_pair.proofs.WholeLaws.{whole_is_newest}
@@ -64,7 +64,7 @@ pieces_from g payload parts p n (suc k) each =
 
 module _ (law : PageIsRead) (g : Geometry) (lawful : IsGeometry g) (old new : ℕ → Page) (p sequence : ℕ) (payload : List ℕ) (count n : ℕ)
     (fits : sequence < 2 ^ 64) (small : count < 2 ^ 16) (fill : Fills g payload count) (within : p < ANCHORS * g.pages) (one_block : p % g.pages + count ≤ g.pages)
-    (blank : (m : ℕ) → m < count → old (p + m) ≡ erased) (has : HasPages g old new p sequence payload count n) where
+    (blank : (m : ℕ) → m < count → old (p + m) ≡ erased) (has : HasRecordPages g old new p sequence payload count n) where
   in_anchor : (m : ℕ) → m < count → (p + m) / g.pages < ANCHORS
   in_anchor m below =
       let ends : p + count ≤ ANCHORS * g.pages = record_ends g p count lawful within one_block in
@@ -103,7 +103,7 @@ module _ (law : PageIsRead) (g : Geometry) (lawful : IsGeometry g) (old new : �
     rest = λ m from below. on_anchor new m below ∙ has.rest m from below;
   }
 
-  pub half_keeps : n < count → Keeps g old new
+  pub half_keeps : n < count → KeepsNewest g old new
   half_keeps short = record {
     heads = λ q head valid. sym (half_keeps_heads g (parts_on g old) (parts_on g new) p count n (half short) q) ∙ valid;
     place = half_keeps_place g (parts_on g old) (parts_on g new) p count n (half short);
@@ -119,7 +119,7 @@ module _ (law : PageIsRead) (g : Geometry) (lawful : IsGeometry g) (old new : �
   head_on : n ≡ count → (m : ℕ) → m < count → head_at (parts_on g new) (p + m) ≡ Some (head_for g sequence payload count m)
   head_on all m below = ap (option_map (λ (x : Part). x.head)) (holds m (omega arith) below)
 
-  whole : n ≡ count → IsWritten g (parts_on g old) (parts_on g new) p (head_for g sequence payload count 0)
+  whole : n ≡ count → IsWhollyWritten g (parts_on g old) (parts_on g new) p (head_for g sequence payload count 0)
   whole all = record {
     within = within;
     begins = let at : p ≡ p + 0 = omega arith in ap (head_at (parts_on g new)) at ∙ head_on all 0 fill.some;
@@ -153,18 +153,18 @@ module _ (law : PageIsRead) (g : Geometry) (lawful : IsGeometry g) (old new : �
   one_block = let some = fill.some in let is : (anchor * g.pages + place) % g.pages ≡ place = mod-mul-add anchor g.pages place (omega arith) in omega arith
 
   abbrev Programmed : Result (Unit {0}) DevFault → Type 0
-  Programmed result = (n : ℕ) × EndsAt count n result × HasPages g old new (anchor * g.pages + place) sequence payload count n
+  Programmed result = (n : ℕ) × EndsAt count n result × HasRecordPages g old new (anchor * g.pages + place) sequence payload count n
 
-  abbrev Stands : Type 0
-  Stands = IsAt g new (record { page = anchor * g.pages + place; head = head_for g sequence payload count 0 }) (record { sequence = sequence; payload = payload })
+  abbrev StandsLast : Type 0
+  StandsLast = IsAt g new (record { page = anchor * g.pages + place; head = head_for g sequence payload count 0 }) (record { sequence = sequence; payload = payload })
 
-  pub written_whole : (u : Unit {0}) → Programmed (Ok u) → AreOlder g old sequence → Stands
+  pub written_whole : (u : Unit {0}) → Programmed (Ok u) → AreOlder g old sequence → StandsLast
   written_whole u (n, ends, has) older = whole_stands law g lawful old new (anchor * g.pages + place) sequence payload count n fits small fill within one_block blank has ends older
 
-  pub written_half : Programmed (Err Failed) → Keeps g old new
+  pub written_half : Programmed (Err Failed) → KeepsNewest g old new
   written_half (n, ends, has) = half_keeps law g lawful old new (anchor * g.pages + place) sequence payload count n fits small fill within one_block blank has ends
 
-  pub written_either : Programmed (Err PowerCut) → AreOlder g old sequence → Keeps g old new ⊎ Stands
+  pub written_either : Programmed (Err PowerCut) → AreOlder g old sequence → KeepsNewest g old new ⊎ StandsLast
   written_either (n, ends, has) older = elim (cases_lt n count) [
     | inl short ↦ inl (half_keeps law g lawful old new (anchor * g.pages + place) sequence payload count n fits small fill within one_block blank has short)
     | inr all ↦ inr (whole_stands law g lawful old new (anchor * g.pages + place) sequence payload count n fits small fill within one_block blank has (omega arith) older)

@@ -9,13 +9,13 @@ use Rattle.flash_model.specs.declared.flash.DevFault.TheVariants.{Failed, PowerC
 use Rattle.flash_model.specs.Device.{Page, erased, bytes_of, AfterProgram}
 use Rattle.flash_model.specs.Geometry.{IsGeometry}
 use Rattle.commit_pair.specs.Parts.{room, part_of}
-use Rattle.commit_pair.specs.Programming.{piece, bytes_for, Fills, HasPages, EndsAt}
+use Rattle.commit_pair.specs.Programming.{piece, bytes_for, Fills, HasRecordPages, EndsAt}
 use Rattle.commit_pair.proofs.Places.{page_least}
 
-module _ (g : Geometry) (old mid new : ℕ → Page) (p sequence : ℕ) (payload : List ℕ) (count n : ℕ) (so_far : HasPages g old mid p sequence payload count n) (lt : n < count)
+module _ (g : Geometry) (old mid new : ℕ → Page) (p sequence : ℕ) (payload : List ℕ) (count n : ℕ) (so_far : HasRecordPages g old mid p sequence payload count n) (lt : n < count)
     (others : (q : ℕ) → q ≢ p + n → new q ≡ mid q) where
   -- the next page is programmed
-  pub pages_next : new (p + n) ≡ bytes_of (bytes_for g sequence payload count n) → HasPages g old new p sequence payload count (n + 1)
+  pub pages_next : new (p + n) ≡ bytes_of (bytes_for g sequence payload count n) → HasRecordPages g old new p sequence payload count (n + 1)
   pages_next is = record {
     others = λ q out. others q (λ same. elim out [ inl before ↦ absurd (omega arith) | inr after ↦ absurd (omega arith) ]) ∙ so_far.others q out;
     done = λ m below. elim (cases_eq m n) [
@@ -26,7 +26,7 @@ module _ (g : Geometry) (old mid new : ℕ → Page) (p sequence : ℕ) (payload
   }
 
   -- it holds no part
-  pub pages_lost : part_of (new (p + n)) ≡ None → HasPages g old new p sequence payload count n
+  pub pages_lost : part_of (new (p + n)) ≡ None → HasRecordPages g old new p sequence payload count n
   pages_lost none = record {
     others = λ q out. others q (λ same. elim out [ inl before ↦ absurd (omega arith) | inr after ↦ absurd (omega arith) ]) ∙ so_far.others q out;
     done = λ m below. others (p + m) (λ same. absurd (omega arith)) ∙ so_far.done m below;
@@ -38,7 +38,7 @@ module _ (g : Geometry) (old mid new : ℕ → Page) (p sequence : ℕ) (payload
 
   -- a program that was not done
   pub pages_end : (fault : DevFault) → mid (p + n) ≡ erased → AfterProgram (mid (p + n)) (bytes_for g sequence payload count n) (new (p + n)) (Err fault)
-      → (k : ℕ) × EndsAt count k (Err fault) × HasPages g old new p sequence payload count k
+      → (k : ℕ) × EndsAt count k (Err fault) × HasRecordPages g old new p sequence payload count k
   pages_end Failed blank after = (n, lt, pages_lost (ap part_of after))
   pages_end PowerCut blank after = elim after [
     | inl same ↦ (n, omega arith, pages_lost (ap part_of (same ∙ blank)))

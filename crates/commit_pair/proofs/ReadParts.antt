@@ -18,9 +18,9 @@ use Rattle.record_format.specs.Pages.{head_of, used_bytes}
 use Rattle.record_format.specs.Payloads.{payload_at}
 use Rattle.record_format.specs.declared.page_head.PageHead.{PageHead}
 use Rattle.commit_pair.specs.Anchored.{AreErased}
-use Rattle.commit_pair.specs.Parts.{Part, part_of, parts_on, part_bytes, head_at, is_part, are_parts, is_record, record_head, considered, best_below, best_on, newest_at, bytes_from, held_bytes}
+use Rattle.commit_pair.specs.Parts.{Part, part_of, parts_on, part_bytes, head_at, is_part, are_parts, is_valid_record, record_head, considered, best_below, best_on, newest_at, bytes_from, held_bytes}
 use Rattle.commit_pair.specs.declared.best.Best.{Best}
-use Rattle.commit_pair.specs.Payloads.{IsFront}
+use Rattle.commit_pair.specs.Payloads.{IsLongFront}
 use Rattle.commit_pair.specs.Reading.{ReadCause}
 
 -- the part in a page of an anchor whose bytes are read
@@ -45,16 +45,16 @@ part_held parts p shown (Some head) e = ap part_bytes e
 
 -- the header of the valid record that begins at a page that was read
 record_begins : (g : Geometry) (parts : ℕ → Option Part) (p : ℕ) (shown : List ℕ) (found : Option PageHead) → option_map (λ head. record { head = head; bytes = used_bytes head shown }) found ≡ parts p
-    → option_and_then (λ first. cond (is_record g parts p first) (Some first) None) found ≡ record_head g parts p
-record_begins g parts p shown found e = ap (option_and_then (λ first. cond (is_record g parts p first) (Some first) None)) (part_head parts p shown found e)
+    → option_and_then (λ first. cond (is_valid_record g parts p first) (Some first) None) found ≡ record_head g parts p
+record_begins g parts p shown found e = ap (option_and_then (λ first. cond (is_valid_record g parts p first) (Some first) None)) (part_head parts p shown found e)
 
 pub begins_none : (g : Geometry) (parts : ℕ → Option Part) (p : ℕ) (shown : List ℕ) (found : Option PageHead) → option_map (λ head. record { head = head; bytes = used_bytes head shown }) found ≡ parts p → found ≡ None → None ≡ record_head g parts p
-begins_none g parts p shown found e is = ap (option_and_then (λ first. cond (is_record g parts p first) (Some first) None)) (sym is) ∙ record_begins g parts p shown found e
+begins_none g parts p shown found e is = ap (option_and_then (λ first. cond (is_valid_record g parts p first) (Some first) None)) (sym is) ∙ record_begins g parts p shown found e
 
 begins_as : (g : Geometry) (parts : ℕ → Option Part) (p : ℕ) (shown : List ℕ) (found : Option PageHead) (first : PageHead) (valid : Bool) → option_map (λ head. record { head = head; bytes = used_bytes head shown }) found ≡ parts p → found ≡ Some first
-    → is_record g parts p first ≡ valid → cond valid (Some first) None ≡ record_head g parts p
+    → is_valid_record g parts p first ≡ valid → cond valid (Some first) None ≡ record_head g parts p
 begins_as g parts p shown found first valid e is same =
-    ap (λ b. cond b (Some first) None) (sym same) ∙ ap (option_and_then (λ first. cond (is_record g parts p first) (Some first) None)) (sym is) ∙ record_begins g parts p shown found e
+    ap (λ b. cond b (Some first) None) (sym same) ∙ ap (option_and_then (λ first. cond (is_valid_record g parts p first) (Some first) None)) (sym is) ∙ record_begins g parts p shown found e
 
 pub begins_uncounted : (g : Geometry) (parts : ℕ → Option Part) (p : ℕ) (shown : List ℕ) (found : Option PageHead) (first : PageHead) → option_map (λ head. record { head = head; bytes = used_bytes head shown }) found ≡ parts p → found ≡ Some first
     → first.count ≡ 0 → None ≡ record_head g parts p
@@ -141,7 +141,7 @@ bytes_end g parts p n count bytes total le so_far =
     sym (ap (λ m. bytes ++ bytes_from g parts p n m) k ∙ append-nil bytes) ∙ so_far
 
 -- a payload of which the first bytes are refused whatever follows
-pub long_refused : (g : Geometry) (sequence : ℕ) (front bytes rest total : List ℕ) (fault : Fault) → IsFront bytes front → bytes ++ rest ≡ total
+pub long_refused : (g : Geometry) (sequence : ℕ) (front bytes rest total : List ℕ) (fault : Fault) → IsLongFront bytes front → bytes ++ rest ≡ total
     → ((others : List ℕ) → 0 < length others → payload_at g sequence (front ++ others) ≡ Err fault) → payload_at g sequence total ≡ Err fault
 long_refused g sequence front bytes rest total fault is so_far refuses =
     ap (payload_at g sequence) (sym so_far ∙ ap (λ (x : List ℕ). x ++ rest) is.is ∙ append_assoc front is.rest rest)

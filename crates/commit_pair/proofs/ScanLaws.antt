@@ -15,9 +15,9 @@ use Rattle.commit_pair.specs.declared.best.Found.{Found}
 use Rattle.commit_pair.specs.declared.best.Best.{Best}
 use Rattle.commit_pair.specs.declared.run.Run.{Run}
 use Rattle.commit_pair.specs.declared.run.Scan.{Scan}
-use Rattle.commit_pair.specs.Parts.{Part, part_of, head_at, is_part, are_parts, is_record, record_head, considered, considered_with, best_below, parts_on, newest_at, pages_of}
+use Rattle.commit_pair.specs.Parts.{Part, part_of, head_at, is_part, are_parts, is_valid_record, record_head, considered, considered_with, best_below, parts_on, newest_at, pages_of}
 use Rattle.commit_pair.specs.Anchored.{AreErased}
-use Rattle.commit_pair.specs.Scanning.{begun, followed, settled, next, GoesOn, IsRun, IsMet}
+use Rattle.commit_pair.specs.Scanning.{begun_run, followed, settled, scan_next, LacksPages, IsRun, IsMet}
 use Rattle.commit_pair.proofs.ReadParts.{no_part, parts_start, parts_go_on, parts_stop, parts_end}
 
 -- ---- tests
@@ -29,11 +29,11 @@ both false b e = absurd cc
 
 -- ---- whether a record begins at a page
 
-begins_not : (g : Geometry) (parts : ℕ → Option Part) (p : ℕ) (first : PageHead) → head_at parts p ≡ Some first → is_record g parts p first ≡ false → record_head g parts p ≡ None
-begins_not g parts p first at fails = ap (option_and_then (λ h. cond (is_record g parts p h) (Some h) None)) at ∙ ap (λ b. cond b (Some first) None) fails
+begins_not : (g : Geometry) (parts : ℕ → Option Part) (p : ℕ) (first : PageHead) → head_at parts p ≡ Some first → is_valid_record g parts p first ≡ false → record_head g parts p ≡ None
+begins_not g parts p first at fails = ap (option_and_then (λ h. cond (is_valid_record g parts p h) (Some h) None)) at ∙ ap (λ b. cond b (Some first) None) fails
 
-begins_as : (g : Geometry) (parts : ℕ → Option Part) (p : ℕ) (first : PageHead) → head_at parts p ≡ Some first → is_record g parts p first ≡ true → record_head g parts p ≡ Some first
-begins_as g parts p first at passes = ap (option_and_then (λ h. cond (is_record g parts p h) (Some h) None)) at ∙ ap (λ b. cond b (Some first) None) passes
+begins_as : (g : Geometry) (parts : ℕ → Option Part) (p : ℕ) (first : PageHead) → head_at parts p ≡ Some first → is_valid_record g parts p first ≡ true → record_head g parts p ≡ Some first
+begins_as g parts p first at passes = ap (option_and_then (λ h. cond (is_valid_record g parts p h) (Some h) None)) at ∙ ap (λ b. cond b (Some first) None) passes
 
 -- the tests of the first n pages
 tests_to : (g : Geometry) (parts : ℕ → Option Part) (p : ℕ) (first : PageHead) (n : ℕ) → n ≤ first.count → ((m : ℕ) → m < n → is_part g first m (head_at parts (p + m)) ≡ true)
@@ -46,13 +46,13 @@ tests_to g parts p first (suc n) le done =
     (parts_go_on g parts p first n (head_at parts (p + n)) (are_parts g parts p first 0 first.count) (omega arith) refl (done n (omega arith)) so_far)
 
 stops_at : (g : Geometry) (parts : ℕ → Option Part) (p : ℕ) (first : PageHead) (n : ℕ) (found : Option PageHead) → n < first.count → ((m : ℕ) → m < n → is_part g first m (head_at parts (p + m)) ≡ true)
-    → found ≡ head_at parts (p + n) → is_part g first n found ≡ false → is_record g parts p first ≡ false
+    → found ≡ head_at parts (p + n) → is_part g first n found ≡ false → is_valid_record g parts p first ≡ false
 stops_at g parts p first n found lt done is fails =
     let stop = parts_stop g parts p first n found (are_parts g parts p first 0 first.count) lt is fails (tests_to g parts p first n (omega arith) done) in
     and_right (ltb 0 first.count) _ (and_right (leb (p % g.pages + first.count) g.pages) (are_parts g parts p first 0 first.count) (sym stop))
 
 all_stand : (g : Geometry) (parts : ℕ → Option Part) (p : ℕ) (first : PageHead) → 0 < first.count → p % g.pages + first.count ≤ g.pages → ((m : ℕ) → m < first.count → is_part g first m (head_at parts (p + m)) ≡ true)
-    → is_record g parts p first ≡ true
+    → is_valid_record g parts p first ≡ true
 all_stand g parts p first some fits done =
     let all = parts_end g parts p first first.count (are_parts g parts p first 0 first.count) (omega arith) (tests_to g parts p first first.count (omega arith) done) in
     rw (lt-ltb 0 first.count some, le-leb _ _ fits) (sym all)
@@ -99,7 +99,7 @@ best_same g parts p (suc k) none =
 erased_none : (g : Geometry) (pages : ℕ → Page) (p : ℕ) → pages p ≡ erased → record_head g (parts_on g pages) p ≡ None
 erased_none g pages p is =
     let none : parts_on g pages p ≡ None = sym (no_part g pages p (ap part_of is)) in
-    ap (λ (o : Option Part). option_and_then (λ first. cond (is_record g (parts_on g pages) p first) (Some first) None) (option_map (λ part. part.head) o)) none
+    ap (λ (o : Option Part). option_and_then (λ first. cond (is_valid_record g (parts_on g pages) p first) (Some first) None) (option_map (λ part. part.head) o)) none
 
 pub best_past_erased : (d : Device) (g : Geometry) (bad : set.FinSet nat_cmp) (anchor : ℕ) (best : Best) → d.geometry ≡ g → 1 ≤ g.pages → anchor < ANCHORS → set.contains bad anchor ≡ false → AreErased d bad ANCHORS
     → best ≡ best_below g (parts_on g d.pages) (anchor * g.pages) → best ≡ best_below g (parts_on g d.pages) ((anchor + 1) * g.pages)
@@ -168,7 +168,7 @@ module _ (g : Geometry) (parts : ℕ → Option Part) (first n : ℕ) (best : Be
   none_there none = so_far ∙ sym (best_next g parts n None none)
 
   not_one : (head : PageHead) → head_at parts n ≡ Some head → (some fits fills : Bool) → ltb 0 head.count ≡ some → leb (n % g.pages + head.count) g.pages ≡ fits → is_part g head 0 (Some head) ≡ fills
-      → ((some && fits) && fills) ≡ false → is_record g parts n head ≡ false
+      → ((some && fits) && fills) ≡ false → is_valid_record g parts n head ≡ false
   not_one head at true true true a b c fails = absurd cc
   not_one head at true true false a b c fails =
       let here : n ≡ n + 0 = omega arith in
@@ -193,8 +193,8 @@ module _ (g : Geometry) (parts : ℕ → Option Part) (first n : ℕ) (best : Be
             subst (λ k. is_part g head k (head_at parts (n + k)) ≡ true) e (ap (is_part g head 0) (ap (head_at parts) here ∙ at) ∙ a.1);
       }
 
-  begun_is : (head : Option PageHead) → head ≡ head_at parts n → IsMet g parts first (n + 1) (settled best (begun g n head)).best (settled best (begun g n head)).run
-  begun_is None at = none_there (ap (option_and_then (λ h. cond (is_record g parts n h) (Some h) None)) (sym at))
+  begun_is : (head : Option PageHead) → head ≡ head_at parts n → IsMet g parts first (n + 1) (settled best (begun_run g n head)).best (settled best (begun_run g n head)).run
+  begun_is None at = none_there (ap (option_and_then (λ h. cond (is_valid_record g parts n h) (Some h) None)) (sym at))
   begun_is (Some head) at = on (may_begin head) refl
     where
       on : (b : Bool) → may_begin head ≡ b → IsMet g parts first (n + 1) (settled best (cond b (Some (run_of head)) None)).best (settled best (cond b (Some (run_of head)) None)).run
@@ -221,7 +221,7 @@ goes_on g parts first n run head at is passes = record {
 }
 
 pub met_next : (g : Geometry) (parts : ℕ → Option Part) (first n : ℕ) (scan : Scan) (head : Option PageHead) → first ≤ n → head ≡ head_at parts n → IsMet g parts first n scan.best scan.run
-    → IsMet g parts first (n + 1) (next g scan n head).best (next g scan n head).run
+    → IsMet g parts first (n + 1) (scan_next g scan n head).best (scan_next g scan n head).run
 met_next g parts first n scan head from at is = on scan.run is
   where
     on : (o : Option Run) → IsMet g parts first n scan.best o → IsMet g parts first (n + 1) (settled scan.best (followed g o n head)).best (settled scan.best (followed g o n head)).run
@@ -229,12 +229,12 @@ met_next g parts first n scan head from at is = on scan.run is
     on (Some run) (is, more, so_far) = by (is_part g run.found.head run.met head) refl
       where
         by : (b : Bool) → is_part g run.found.head run.met head ≡ b
-            → IsMet g parts first (n + 1) (settled scan.best (cond b (Some (record { found = run.found; met = run.met + 1 })) (begun g n head))).best (settled scan.best (cond b (Some (record { found = run.found; met = run.met + 1 })) (begun g n head))).run
+            → IsMet g parts first (n + 1) (settled scan.best (cond b (Some (record { found = run.found; met = run.met + 1 })) (begun_run g n head))).best (settled scan.best (cond b (Some (record { found = run.found; met = run.met + 1 })) (begun_run g n head))).run
         by true passes = settled_is g parts first (n + 1) scan.best (record { found = run.found; met = run.met + 1 }) (goes_on g parts first n run head at is passes) (omega arith) so_far
         by false fails = begun_is g parts first n scan.best from (so_far ∙ sym (broken g parts first n run is head more at fails)) head at
 
 -- pages are missing of the record that is being met
-pub met_goes_on : (g : Geometry) (parts : ℕ → Option Part) (first n : ℕ) (best : Best) (o : Option Run) → IsMet g parts first n best o → GoesOn o
+pub met_goes_on : (g : Geometry) (parts : ℕ → Option Part) (first n : ℕ) (best : Best) (o : Option Run) → IsMet g parts first n best o → LacksPages o
 met_goes_on g parts first n best None is = tt
 met_goes_on g parts first n best (Some run) is = is.1
 

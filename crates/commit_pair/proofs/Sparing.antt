@@ -11,17 +11,17 @@ use Rattle.flash_model.specs.declared.geometry.Geometry.{Geometry}
 use Rattle.flash_model.specs.Device.{Page}
 use Rattle.record_format.specs.declared.page_head.PageHead.{PageHead}
 use Rattle.commit_pair.specs.declared.best.Found.{Found}
-use Rattle.commit_pair.specs.Parts.{Part, Entry, part_of, parts_on, head_at, is_part, is_record, record_head, newest_at, newest_among, payload_of}
+use Rattle.commit_pair.specs.Parts.{Part, RecordBytes, part_of, parts_on, head_at, is_part, is_valid_record, record_head, newest_at, newest_among, payload_of}
 use Rattle.commit_pair.specs.Anchored.{Fades}
-use Rattle.commit_pair.specs.Keeping.{Keeps, Placed, Spares}
+use Rattle.commit_pair.specs.Keeping.{KeepsNewest, Placed, Spares}
 use Rattle.commit_pair.proofs.NewestLaws.{found_is_newest, newest_is_found}
 use Rattle.commit_pair.proofs.WritingLaws.{both_true, part_not_none, record_parts, head_none, bytes_same}
 use Rattle.commit_pair.proofs.WholeLaws.{are_parts_from}
 
-pub Keeps_itself : (g : Geometry) (pages : ℕ → Page) → Keeps g pages pages
+pub Keeps_itself : (g : Geometry) (pages : ℕ → Page) → KeepsNewest g pages pages
 Keeps_itself g pages = record { heads = λ q head valid. valid; place = refl; newest = refl }
 
-pub Keeps_on : (g : Geometry) (a b c : ℕ → Page) → Keeps g a b → Keeps g b c → Keeps g a c
+pub Keeps_on : (g : Geometry) (a b c : ℕ → Page) → KeepsNewest g a b → KeepsNewest g b c → KeepsNewest g a c
 Keeps_on g a b c first next = record {
   heads = λ q head valid. first.heads q head (next.heads q head valid);
   place = next.place ∙ first.place;
@@ -29,13 +29,13 @@ Keeps_on g a b c first next = record {
 }
 
 -- a valid record has its header, and its pages follow in one block
-valid_parts : (g : Geometry) (parts : ℕ → Option Part) (q : ℕ) (h : PageHead) → record_head g parts q ≡ Some h → (head_at parts q ≡ Some h) × (is_record g parts q h ≡ true)
+valid_parts : (g : Geometry) (parts : ℕ → Option Part) (q : ℕ) (h : PageHead) → record_head g parts q ≡ Some h → (head_at parts q ≡ Some h) × (is_valid_record g parts q h ≡ true)
 valid_parts g parts q h valid =
-    option_and_then_some (λ first. cond (is_record g parts q first) (Some first) None) (head_at parts q) h valid (λ first at chosen.
-    let is = cond_some (is_record g parts q first) first h chosen in
-    (at ∙ ap (λ (x : PageHead). Some x) is.1, subst (λ (x : PageHead). is_record g parts q x ≡ true) is.1 is.0))
+    option_and_then_some (λ first. cond (is_valid_record g parts q first) (Some first) None) (head_at parts q) h valid (λ first at chosen.
+    let is = cond_some (is_valid_record g parts q first) first h chosen in
+    (at ∙ ap (λ (x : PageHead). Some x) is.1, subst (λ (x : PageHead). is_valid_record g parts q x ≡ true) is.1 is.0))
 
-valid_fits : (g : Geometry) (parts : ℕ → Option Part) (q : ℕ) (h : PageHead) → is_record g parts q h ≡ true → q % g.pages + h.count ≤ g.pages
+valid_fits : (g : Geometry) (parts : ℕ → Option Part) (q : ℕ) (h : PageHead) → is_valid_record g parts q h ≡ true → q % g.pages + h.count ≤ g.pages
 valid_fits g parts q h is = leb-true _ _ (both_true (leb (q % g.pages + h.count) g.pages) _ (both_true (ltb 0 h.count) _ is).1).0
 
 -- a record whose pages are those of a valid one is valid
@@ -46,8 +46,8 @@ valid_too g was now q h valid at each =
     let some = both_true (ltb 0 h.count) _ v.1 in
     let fit = both_true (leb (q % g.pages + h.count) g.pages) _ some.1 in
     let all = are_parts_from g now q h 0 h.count (λ m below. each m (omega arith)) in
-    let is : is_record g now q h ≡ true = rw (some.0, fit.0, all) refl in
-    ap (option_and_then (λ first. cond (is_record g now q first) (Some first) None)) at ∙ ap (λ b. cond b (Some h) None) is
+    let is : is_valid_record g now q h ≡ true = rw (some.0, fit.0, all) refl in
+    ap (option_and_then (λ first. cond (is_valid_record g now q first) (Some first) None)) at ∙ ap (λ b. cond b (Some h) None) is
 
 -- where parts vanish, a record that is valid was valid
 pub fewer : (g : Geometry) (was now : ℕ → Option Part) → ((q : ℕ) → (now q ≡ was q) ⊎ (now q ≡ None)) → (q : ℕ) (h : PageHead) → record_head g now q ≡ Some h → record_head g was q ≡ Some h
@@ -95,7 +95,7 @@ module _ (g : Geometry) (was now : ℕ → Page) (anchor : ℕ) (others : (p : �
   ]
 
   -- the newest record is on another anchor
-  keeps_other : (found : Found) → newest_at g (parts_on g was) ≡ Some found → found.page / g.pages ≢ anchor → Keeps g was now
+  keeps_other : (found : Found) → newest_at g (parts_on g was) ≡ Some found → found.page / g.pages ≢ anchor → KeepsNewest g was now
   keeps_other found at apart =
       let newest = found_is_newest g (parts_on g was) found at in
       let v = valid_parts g (parts_on g was) found.page found.head newest.valid in
@@ -109,7 +109,7 @@ module _ (g : Geometry) (was now : ℕ → Page) (anchor : ℕ) (others : (p : �
         older = λ q head lt other valid. newest.older q head lt other (heads q head valid);
       }) in
       let bytes : payload_of g (parts_on g now) found ≡ payload_of g (parts_on g was) found = bytes_same g (parts_on g now) (parts_on g was) found.page 0 found.head.count (λ m from below. same m (omega arith)) in
-      let entry : (ℕ → Option Part) → Option Found → Option Entry = λ parts o. option_map (λ (f : Found). record { sequence = f.head.sequence; payload = payload_of g parts f }) o in
+      let entry : (ℕ → Option Part) → Option Found → Option RecordBytes = λ parts o. option_map (λ (f : Found). record { sequence = f.head.sequence; payload = payload_of g parts f }) o in
       record {
         heads = heads;
         place = place ∙ sym at;
@@ -117,7 +117,7 @@ module _ (g : Geometry) (was now : ℕ → Page) (anchor : ℕ) (others : (p : �
       }
 
   -- no page of the anchor held a part
-  keeps_blank : ((p : ℕ) → p / g.pages ≡ anchor → part_of (was p) ≡ None) → Keeps g was now
+  keeps_blank : ((p : ℕ) → p / g.pages ≡ anchor → part_of (was p) ≡ None) → KeepsNewest g was now
   keeps_blank blank =
       let same : (p : ℕ) → parts_on g now p ≡ parts_on g was p = λ p. elim (cases_eq (p / g.pages) anchor) [
         | inl own ↦ elim (part_fades p) [ inl stays ↦ stays | inr none ↦ none ∙ sym (none_if (ltb (p / g.pages) ANCHORS) (part_of (was p)) (blank p own)) ]
@@ -130,11 +130,11 @@ module _ (g : Geometry) (was now : ℕ → Page) (anchor : ℕ) (others : (p : �
         newest = ap (newest_among g) parts;
       }
 
-  pub erase_keeps : Spares g was anchor → Keeps g was now
+  pub erase_keeps : Spares g was anchor → KeepsNewest g was now
   erase_keeps spares = elim spares [ inl other ↦ keeps_other other.0 other.1 other.2 | inr blank ↦ keeps_blank blank ]
 
 -- what was kept before a record was placed
-pub Placed_on : (g : Geometry) (a b c : ℕ → Page) (found : Found) (entry : Entry) (result : Result Bool Fault) → Keeps g a b → Placed g b c found entry result → Placed g a c found entry result
+pub Placed_on : (g : Geometry) (a b c : ℕ → Page) (found : Found) (entry : RecordBytes) (result : Result Bool Fault) → KeepsNewest g a b → Placed g b c found entry result → Placed g a c found entry result
 Placed_on g a b c found entry (Ok true) keeps is = is
 Placed_on g a b c found entry (Ok false) keeps is = Keeps_on g a b c keeps is
 Placed_on g a b c found entry (Err PowerCut) keeps is = elim is [ inl kept ↦ inl (Keeps_on g a b c keeps kept) | inr placed ↦ inr placed ]

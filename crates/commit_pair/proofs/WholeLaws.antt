@@ -6,8 +6,8 @@ use Rattle.std.specs.Option.{option_map, option_and_then}
 use Rattle.std.specs.Prelude.{◌&&◌}
 use Rattle.flash_model.specs.declared.geometry.Geometry.{Geometry}
 use Rattle.record_format.specs.declared.page_head.PageHead.{PageHead}
-use Rattle.commit_pair.specs.Parts.{Part, head_at, is_part, are_parts, is_record, record_head}
-use Rattle.commit_pair.specs.Writing.{IsWritten, WholeIsNewest}
+use Rattle.commit_pair.specs.Parts.{Part, head_at, is_part, are_parts, is_valid_record, record_head}
+use Rattle.commit_pair.specs.Writing.{IsWhollyWritten, WholeIsNewest}
 use Rattle.commit_pair.proofs.NewestLaws.{newest_is_found}
 use Rattle.commit_pair.proofs.WritingLaws.{part_index, part_not_none, part_misplaced, are_parts_same, record_parts, no_record, head_none}
 
@@ -20,7 +20,7 @@ some_of : (g : Geometry) (first : PageHead) (m : ℕ) (o : Option PageHead) → 
 some_of g first m None e = absurd cc
 some_of g first m (Some head) e = (head, refl)
 
-module _ (g : Geometry) (was now : ℕ → Option Part) (p : ℕ) (own : PageHead) (whole : IsWritten g was now p own) where
+module _ (g : Geometry) (was now : ℕ → Option Part) (p : ℕ) (own : PageHead) (whole : IsWhollyWritten g was now p own) where
   abbrev IsAt : ℕ → Type 0
   IsAt q = (now q ≡ was q) ⊎ ((m : ℕ) × (q ≡ p + m) × (m < own.count))
 
@@ -48,7 +48,7 @@ module _ (g : Geometry) (was now : ℕ → Option Part) (p : ℕ) (own : PageHea
         ∙ sym (part_not_none g first k (head_at was (q + k)) (ap (head_at was) at ∙ head_none was (p + inside.0) (whole.blank inside.0 inside.2)))
   ]
 
-  same_record : (q : ℕ) → q ≢ p → (first : PageHead) → is_record g now q first ≡ is_record g was q first
+  same_record : (q : ℕ) → q ≢ p → (first : PageHead) → is_valid_record g now q first ≡ is_valid_record g was q first
   same_record q apart first = λ i. ltb 0 first.count && (leb (q % g.pages + first.count) g.pages && are_parts_same g now was q first 0 first.count (same_test q first apart) i)
 
   none_inside : (m : ℕ) → m < own.count → m ≢ 0 → record_head g now (p + m) ≡ None
@@ -73,7 +73,7 @@ module _ (g : Geometry) (was now : ℕ → Option Part) (p : ℕ) (own : PageHea
   own_valid : record_head g now p ≡ Some own
   own_valid =
       let parts = are_parts_from g now p own 0 own.count (λ m below. whole.done m (omega arith)) in
-      ap (option_and_then (λ first. cond (is_record g now p first) (Some first) None)) whole.begins
+      ap (option_and_then (λ first. cond (is_valid_record g now p first) (Some first) None)) whole.begins
       ∙ rw (lt-ltb _ _ whole.some, le-leb _ _ whole.one_block, parts) refl
 
 pub whole_is_newest : WholeIsNewest

@@ -9,7 +9,7 @@ use Rattle.flash_model.specs.declared.geometry.Geometry.{Geometry}
 use Rattle.record_format.specs.declared.page_head.PageHead.{PageHead}
 use Rattle.commit_pair.specs.declared.best.Found.{Found}
 use Rattle.commit_pair.specs.declared.best.Best.{Best}
-use Rattle.commit_pair.specs.Parts.{Part, head_at, is_part, are_parts, is_record, record_head, considered, best_below, newest_at, newest_among, payload_of, part_bytes, bytes_from, Entry}
+use Rattle.commit_pair.specs.Parts.{Part, head_at, is_part, are_parts, is_valid_record, record_head, considered, best_below, newest_at, newest_among, payload_of, part_bytes, bytes_from, RecordBytes}
 use Rattle.commit_pair.specs.Writing.{IsHalfWritten, HalfChangesNothing}
 use Rattle.commit_pair.proofs.NewestLaws.{found_is_newest}
 
@@ -50,17 +50,17 @@ are_parts_at g parts p first n (suc k) e m from below =
       | inr later ↦ are_parts_at g parts p first (n + 1) k both.1 m (omega arith) (omega arith)
     ]
 
-pub record_parts : (g : Geometry) (parts : ℕ → Option Part) (p : ℕ) (first : PageHead) → is_record g parts p first ≡ true → (0 < first.count) × ((m : ℕ) → m < first.count → is_part g first m (head_at parts (p + m)) ≡ true)
+pub record_parts : (g : Geometry) (parts : ℕ → Option Part) (p : ℕ) (first : PageHead) → is_valid_record g parts p first ≡ true → (0 < first.count) × ((m : ℕ) → m < first.count → is_part g first m (head_at parts (p + m)) ≡ true)
 record_parts g parts p first e =
     let some = both_true (ltb 0 first.count) _ e in
     let fit = both_true (leb (p % g.pages + first.count) g.pages) _ some.1 in
     (ltb-true _ _ some.0, λ m below. are_parts_at g parts p first 0 first.count fit.1 m (omega arith) (omega arith))
 
-pub no_record : (g : Geometry) (parts : ℕ → Option Part) (p : ℕ) (o : Option PageHead) → head_at parts p ≡ o → ((first : PageHead) → o ≡ Some first → is_record g parts p first ≡ true → ⊥) → record_head g parts p ≡ None
-no_record g parts p None is none = ap (option_and_then (λ first. cond (is_record g parts p first) (Some first) None)) is
+pub no_record : (g : Geometry) (parts : ℕ → Option Part) (p : ℕ) (o : Option PageHead) → head_at parts p ≡ o → ((first : PageHead) → o ≡ Some first → is_valid_record g parts p first ≡ true → ⊥) → record_head g parts p ≡ None
+no_record g parts p None is none = ap (option_and_then (λ first. cond (is_valid_record g parts p first) (Some first) None)) is
 no_record g parts p (Some first) is none =
-    ap (option_and_then (λ first. cond (is_record g parts p first) (Some first) None)) is
-    ∙ ap (λ b. cond b (Some first) None) (false_by (is_record g parts p first) (none first refl))
+    ap (option_and_then (λ first. cond (is_valid_record g parts p first) (Some first) None)) is
+    ∙ ap (λ b. cond b (Some first) None) (false_by (is_valid_record g parts p first) (none first refl))
 
 best_same : (g : Geometry) (now was : ℕ → Option Part) → ((q : ℕ) → record_head g now q ≡ record_head g was q) → (n : ℕ) → best_below g now n ≡ best_below g was n
 unfolding best_below
@@ -79,10 +79,10 @@ pub head_none : (parts : ℕ → Option Part) (p : ℕ) → parts p ≡ None →
 head_none parts p e = ap (option_map (λ (x : Part). x.head)) e
 
 -- the record at a place
-abbrev entry_with : Found → List ℕ → Entry
+abbrev entry_with : Found → List ℕ → RecordBytes
 entry_with found payload = record { sequence = found.head.sequence; payload = payload }
 
-abbrev entry_at : Geometry → (ℕ → Option Part) → Found → Entry
+abbrev entry_at : Geometry → (ℕ → Option Part) → Found → RecordBytes
 entry_at g parts found = entry_with found (payload_of g parts found)
 
 module _ (g : Geometry) (was now : ℕ → Option Part) (p count n : ℕ) (half : IsHalfWritten was now p count n) where
@@ -123,7 +123,7 @@ module _ (g : Geometry) (was now : ℕ → Option Part) (p count n : ℕ) (half 
         now_false ∙ sym (part_not_none g first k (head_at was (q + k)) was_none)
   ]
 
-  same_record : (q : ℕ) → q ≢ p → (first : PageHead) → is_record g now q first ≡ is_record g was q first
+  same_record : (q : ℕ) → q ≢ p → (first : PageHead) → is_valid_record g now q first ≡ is_valid_record g was q first
   same_record q apart first = λ i. ltb 0 first.count && (leb (q % g.pages + first.count) g.pages && are_parts_same g now was q first 0 first.count (same_test q first apart) i)
 
   -- no record begins at a page of the half-written one
@@ -164,8 +164,8 @@ module _ (g : Geometry) (was now : ℕ → Option Part) (p count n : ℕ) (half 
     | inl same ↦ same
     | inr inside ↦
         let none : head_at was (f.page + m) ≡ None = ap (head_at was) inside.1 ∙ head_none was (p + inside.0) (half.blank inside.0 inside.2) in
-        absurd (option_and_then_some (λ first. cond (is_record g was f.page first) (Some first) None) (head_at was f.page) f.head valid (λ first at chosen.
-        let is = cond_some (is_record g was f.page first) first f.head chosen in
+        absurd (option_and_then_some (λ first. cond (is_valid_record g was f.page first) (Some first) None) (head_at was f.page) f.head valid (λ first at chosen.
+        let is = cond_some (is_valid_record g was f.page first) first f.head chosen in
         let counted : first.count ≡ f.head.count = ap (λ (h : PageHead). h.count) is.1 in
         let no = sym ((record_parts g was f.page first is.0).1 m (omega arith)) ∙ part_not_none g first m (head_at was (f.page + m)) none in
         (cc)))

@@ -1,7 +1,8 @@
 -- What erases and programs of anchors lead to, with the list of bad blocks.
-use Rattle.std.specs.Prelude.{◌≡◌, ◌≢◌, ◌⊎◌, ℕ, ◌+◌, ◌*◌, ◌<◌, ◌≤◌, Bool, true, false, Result, Ok, Err}
+use Rattle.std.specs.Prelude.{◌≡◌, ◌≢◌, ◌⊎◌, ℕ, ◌+◌, ◌*◌, ◌<◌, ◌≤◌, Bool, true, false, Result, Ok, Err, IfOk, IfErr, if◌then◌else◌}
 use Rattle.std.specs.FinSet as set
 use Rattle.std.specs.Ordering.{nat_cmp}
+use Rattle.fs_types.specs.declared.fault.Fault.{Fault}
 use Rattle.fs_types.specs.declared.limits.TheConstants.{ANCHORS}
 use Rattle.flash_model.specs.declared.flash.DevFault.{DevFault}
 use Rattle.flash_model.specs.declared.flash.DevFault.TheVariants.{Failed, PowerCut}
@@ -41,9 +42,27 @@ pub record Touches (old : Device) (b : ℕ) (new : Device) (result : Result (Uni
   pub power : PowerLeft new result
 
 -- so many operations were asked for on a block, none after one that failed
-abbrev pub Tries : Device → Device → ℕ → Bool → Type 0
-Tries old new n true = (new.failures ≡ old.failures) × (new.operations ≡ old.operations + n)
-Tries old new n false = (new.failures ≡ old.failures + 1) × (old.operations < new.operations) × (new.operations ≤ old.operations + n)
+abbrev pub AsksInTurn : Device → Device → ℕ → Bool → Type 0
+AsksInTurn old new n true = (new.failures ≡ old.failures) × (new.operations ≡ old.operations + n)
+AsksInTurn old new n false = (new.failures ≡ old.failures + 1) × (old.operations < new.operations) × (new.operations ≤ old.operations + n)
+
+-- power went
+abbrev pub IsPowerCut : Device → Fault → Type 0
+IsPowerCut new fault = (fault ≡ Fault.PowerCut) × (new.powered ≡ false)
+
+-- an anchor enters the list exactly where an operation failed
+abbrev pub list_after : set.FinSet nat_cmp → ℕ → Result Bool Fault → set.FinSet nat_cmp
+list_after was anchor (Ok done) = if done then was else set.insert was anchor
+list_after was anchor (Err fault) = was
+
+-- what so many operations on one anchor leave, of which only the last may not have been done
+pub record ChangesAnchor (old : Device) (was : set.FinSet nat_cmp) (new : Device) (now : set.FinSet nat_cmp) (anchor n : ℕ) (result : Result Bool Fault) : Type 0 where
+  pub list : now ≡ list_after was anchor result
+  pub others : (p : ℕ) → block_of old p ≢ anchor → new.pages p ≡ old.pages p
+  pub only_anchors : OnlyAnchors old was new now
+  pub tries : IfOk result (AsksInTurn old new n)
+  pub operations : new.operations ≤ old.operations + n
+  pub why : IfErr result (IsPowerCut new)
 
 -- n operations were asked for, and more only on blocks that failed: on each of these one at least, an erase and all its pages at most
 pub record Asked (old new : Device) (n : ℕ) : Type 0 where

@@ -9,5 +9,6 @@ pub mod Programming
 pub mod Keeping
 pub mod Payloads
 pub mod Committing
+pub mod Drafts
 pub mod Remembering
 pub mod Following

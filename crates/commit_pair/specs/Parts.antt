@@ -45,12 +45,12 @@ are_parts g parts p first n zero = true
 are_parts g parts p first n (suc others) = is_part g first n (head_at parts (p + n)) && are_parts g parts p first (n + 1) others
 
 -- a valid record begins at page p with this header: all its pages follow in one block
-abbrev pub is_record : Geometry → (ℕ → Option Part) → ℕ → PageHead → Bool
-is_record g parts p first = nat_lt 0 first.count && (nat_le (p % g.pages + first.count) g.pages && are_parts g parts p first 0 first.count)
+abbrev pub is_valid_record : Geometry → (ℕ → Option Part) → ℕ → PageHead → Bool
+is_valid_record g parts p first = nat_lt 0 first.count && (nat_le (p % g.pages + first.count) g.pages && are_parts g parts p first 0 first.count)
 
 -- the header of the valid record that begins at page p
 abbrev pub record_head : Geometry → (ℕ → Option Part) → ℕ → Option PageHead
-record_head g parts p = option_and_then (λ first. if is_record g parts p first then Some first else None) (head_at parts p)
+record_head g parts p = option_and_then (λ first. if is_valid_record g parts p first then Some first else None) (head_at parts p)
 
 -- one more record
 abbrev pub considered_with : Best → Option Found → ℕ → PageHead → Best
@@ -104,12 +104,12 @@ abbrev pub payload_of : Geometry → (ℕ → Option Part) → Found → List �
 payload_of g parts found = bytes_from g parts found.page 0 found.head.count
 
 -- a record's sequence and payload
-pub record Entry : Type 0 where
+pub record RecordBytes : Type 0 where
   pub sequence : ℕ
   pub payload : List ℕ
 
 -- the newest record among the parts
-abbrev pub newest_among : Geometry → (ℕ → Option Part) → Option Entry
+abbrev pub newest_among : Geometry → (ℕ → Option Part) → Option RecordBytes
 newest_among g parts = option_map (λ found. record { sequence = found.head.sequence; payload = payload_of g parts found }) (newest_at g parts)
 
 -- the payload bytes of a part whose page holds these bytes
@@ -118,5 +118,5 @@ held_bytes None page = []
 held_bytes (Some head) page = used_bytes head page
 
 -- the newest record on a flash
-abbrev pub newest_on : Geometry → (ℕ → Page) → Option Entry
+abbrev pub newest_on : Geometry → (ℕ → Page) → Option RecordBytes
 newest_on g pages = newest_among g (parts_on g pages)

@@ -15,7 +15,7 @@ pub record Means (r : Record) (sequence : ℕ) (bad : set.FinSet nat_cmp) (bytes
   pub means : payload_at r.geometry sequence bytes ≡ Ok (record (written r list) { sequence = sequence })
 
 -- these are the first bytes of a payload that is longer than any
-pub record IsFront (payload front : List ℕ) : Type 0 where
+pub record IsLongFront (payload front : List ℕ) : Type 0 where
   pub rest : List ℕ
   pub some : 0 < length rest
   pub full : length front ≡ longest

@@ -6,7 +6,7 @@ use Rattle.flash_model.specs.declared.flash.DevFault.TheVariants.{Failed, PowerC
 use Rattle.flash_model.specs.Device.{Device, Page, bytes_of}
 use Rattle.record_format.specs.Pages.{page_bytes}
 use Rattle.record_format.specs.declared.page_head.PageHead.{PageHead}
-use Rattle.commit_pair.specs.Anchored.{Tries}
+use Rattle.commit_pair.specs.Anchored.{AsksInTurn}
 use Rattle.commit_pair.specs.Parts.{room, part_of}
 
 -- the piece of a payload that the n-th page holds, and the header of that page
@@ -26,7 +26,7 @@ pub record Fills (g : Geometry) (payload : List ℕ) (count : ℕ) : Type 0 wher
   pub high : length payload ≤ count * room g
 
 -- of the `count` pages of a record, from page p on, those before the n-th are programmed; the others hold no part
-pub record HasPages (g : Geometry) (old new : ℕ → Page) (p sequence : ℕ) (payload : List ℕ) (count n : ℕ) : Type 0 where
+pub record HasRecordPages (g : Geometry) (old new : ℕ → Page) (p sequence : ℕ) (payload : List ℕ) (count n : ℕ) : Type 0 where
   pub others : (q : ℕ) → (q < p) ⊎ (p + count ≤ q) → new q ≡ old q
   pub done : (m : ℕ) → m < n → new (p + m) ≡ bytes_of (bytes_for g sequence payload count m)
   pub rest : (m : ℕ) → n ≤ m → m < count → part_of (new (p + m)) ≡ None
@@ -39,6 +39,6 @@ EndsAt count n (Err PowerCut) = n ≤ count
 
 -- a program of each page was asked for, none after one that failed
 abbrev pub TriesPages : Device → Device → ℕ → Result (Unit {0}) DevFault → Type 0
-TriesPages old new count (Ok _) = Tries old new count true
-TriesPages old new count (Err Failed) = Tries old new count false
+TriesPages old new count (Ok _) = AsksInTurn old new count true
+TriesPages old new count (Err Failed) = AsksInTurn old new count false
 TriesPages old new count (Err PowerCut) = Unit {0}

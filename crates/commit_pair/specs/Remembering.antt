@@ -14,7 +14,7 @@ use Rattle.commit_pair.specs.declared.anchors.Anchors.{Anchors}
 use Rattle.commit_pair.specs.Parts.{parts_on, newest_at, greatest_on}
 use Rattle.commit_pair.specs.Reading.{IsEnd}
 use Rattle.commit_pair.specs.Anchored.{AreErased, Asked}
-use Rattle.commit_pair.specs.Newest.{remembered, IsCleared}
+use Rattle.commit_pair.specs.Newest.{remembered, IsCleared, IsUncleared}
 use Rattle.commit_pair.specs.Committing.{IsLowest, GoesTo}
 
 -- the place of the newest record is remembered, and, while its anchor is not bad, where that ends
@@ -35,16 +35,22 @@ abbrev pub MayCommit : Device → set.FinSet nat_cmp → Anchors → Type 0
 MayCommit d bad anchors = KnowsNewest d bad anchors ⊎ KnowsErased d bad anchors
 
 -- a commit begins at the end of the newest record's anchor, or, after the anchors were cleared, on the first page of the lowest that is not bad
-abbrev pub begins : Geometry → set.FinSet nat_cmp → ℕ → Option Found → ℕ → ℕ → Type 0
-begins g bad end None home place = IsLowest bad home × (place ≡ 0)
-begins g bad end (Some found) home place = (home ≡ found.page / g.pages) × (place ≡ end)
+abbrev pub begins_from : Geometry → set.FinSet nat_cmp → ℕ → Option Found → ℕ → ℕ → Type 0
+begins_from g bad end None home place = IsLowest bad home × (place ≡ 0)
+begins_from g bad end (Some found) home place = (home ≡ found.page / g.pages) × (place ≡ end)
 
 abbrev pub BeginsAt : Geometry → set.FinSet nat_cmp → Anchors → ℕ → ℕ → Type 0
-BeginsAt g bad anchors home place = begins g bad anchors.end anchors.newest home place
+BeginsAt g bad anchors home place = begins_from g bad anchors.end anchors.newest home place
 
 -- a commit reads no anchor: the place of the newest record is known, or no anchor is bad
 abbrev pub ReadsNone : set.FinSet nat_cmp → Anchors → Type 0
 ReadsNone bad anchors = (remembered anchors ≢ None) ⊎ ((b : ℕ) → b < ANCHORS → set.contains bad b ≡ false)
+
+-- after a commit the place of its record is remembered, the anchors count as cleared no more, and read-only mode is not on
+pub record Remembers (anchors : Anchors) (bad : set.FinSet nat_cmp) : Type 0 where
+  pub known : remembered anchors ≢ None
+  pub uncleared : IsUncleared anchors
+  pub writable : is_read_only bad ≡ false
 
 -- the newest record is where a commit from there puts it. After so many reads a program of each of its pages was asked for, and an erase only where it is not on the anchor on which the commit began
 pub record IsPlaced (old : Device) (was : set.FinSet nat_cmp) (anchors : Anchors) (r : Record) (reads : ℕ) (new : Device) (now : set.FinSet nat_cmp) : Type 0 where
@@ -59,7 +65,7 @@ pub record IsPlaced (old : Device) (was : set.FinSet nat_cmp) (anchors : Anchors
 
 -- whatever is answered, each page of the anchors was read once at most, and none where a commit reads none; and then each anchor
 -- was tried once at most, by an erase and its pages
-pub record TriesOnce (old : Device) (was : set.FinSet nat_cmp) (anchors : Anchors) (new : Device) : Type 0 where
+pub record TriesEach (old : Device) (was : set.FinSet nat_cmp) (anchors : Anchors) (new : Device) : Type 0 where
   pub reads : ℕ
   pub none : ReadsNone was anchors → reads ≡ 0
   pub once : reads ≤ ANCHORS * old.geometry.pages

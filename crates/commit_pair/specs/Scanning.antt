@@ -8,17 +8,17 @@ use Rattle.commit_pair.specs.declared.run.Scan.{Scan}
 use Rattle.commit_pair.specs.Parts.{Part, head_at, is_part, considered, best_below}
 
 -- the record of which a page is the first, if it may be one
-abbrev pub begun : Geometry → ℕ → Option PageHead → Option Run
-begun g p None = None
-begun g p (Some first) =
+abbrev pub begun_run : Geometry → ℕ → Option PageHead → Option Run
+begun_run g p None = None
+begun_run g p (Some first) =
     if (nat_lt 0 first.count && nat_le (p % g.pages + first.count) g.pages) && is_part g first 0 (Some first)
     then Some (record { found = record { page = p; head = first }; met = 1 })
     else None
 
 -- the record whose pages are being met, after one more page
 abbrev pub followed : Geometry → Option Run → ℕ → Option PageHead → Option Run
-followed g None p head = begun g p head
-followed g (Some run) p head = if is_part g run.found.head run.met head then Some (record { found = run.found; met = run.met + 1 }) else begun g p head
+followed g None p head = begun_run g p head
+followed g (Some run) p head = if is_part g run.found.head run.met head then Some (record { found = run.found; met = run.met + 1 }) else begun_run g p head
 
 -- it counts once all its pages were met
 abbrev pub settled : Best → Option Run → Scan
@@ -28,13 +28,13 @@ settled best (Some run) =
     then record { best = considered best run.found.page (Some run.found.head); run = None }
     else record { best = best; run = Some run }
 
-abbrev pub next : Geometry → Scan → ℕ → Option PageHead → Scan
-next g scan p head = settled scan.best (followed g scan.run p head)
+abbrev pub scan_next : Geometry → Scan → ℕ → Option PageHead → Scan
+scan_next g scan p head = settled scan.best (followed g scan.run p head)
 
 -- pages are missing still
-abbrev pub GoesOn : Option Run → Type 0
-GoesOn None = Unit {0}
-GoesOn (Some run) = run.met < run.found.head.count
+abbrev pub LacksPages : Option Run → Type 0
+LacksPages None = Unit {0}
+LacksPages (Some run) = run.met < run.found.head.count
 
 -- of a record that fits into its block, on the anchor whose first page is this one, the pages before page n were met
 pub record IsRun (g : Geometry) (parts : ℕ → Option Part) (first n : ℕ) (run : Run) : Type 0 where

@@ -18,7 +18,7 @@ abbrev pub HalfChangesNothing : Type 0
 HalfChangesNothing = (g : Geometry) (was now : ℕ → Option Part) (p count n : ℕ) → IsHalfWritten was now p count n → newest_among g now ≡ newest_among g was
 
 -- all pages of a record stand from page p on, in one block of the anchors, where no part was; this is its first header
-pub record IsWritten (g : Geometry) (was now : ℕ → Option Part) (p : ℕ) (first : PageHead) : Type 0 where
+pub record IsWhollyWritten (g : Geometry) (was now : ℕ → Option Part) (p : ℕ) (first : PageHead) : Type 0 where
   pub within : p < ANCHORS * g.pages
   pub begins : head_at now p ≡ Some first
   pub some : 0 < first.count
@@ -29,6 +29,6 @@ pub record IsWritten (g : Geometry) (was now : ℕ → Option Part) (p : ℕ) (f
 
 -- a record whose pages all stand is the newest, where all others were older
 abbrev pub WholeIsNewest : Type 0
-WholeIsNewest = (g : Geometry) (was now : ℕ → Option Part) (p : ℕ) (first : PageHead) → IsWritten g was now p first
+WholeIsNewest = (g : Geometry) (was now : ℕ → Option Part) (p : ℕ) (first : PageHead) → IsWhollyWritten g was now p first
     → ((q : ℕ) (head : PageHead) → q < ANCHORS * g.pages → record_head g was q ≡ Some head → head.sequence < first.sequence)
     → newest_at g now ≡ Some (record { page = p; head = first })

@@ -1,11 +1,11 @@
 //! The newest record on the anchors.
-ghost use Rattle.std.specs.Prelude.{◌≡◌, ◌≢◌, ℕ, ◌+◌, ◌*◌, ◌<◌, ◌≤◌, false, length, None, IfOk, OnOk, OnErr, IfErr};
+ghost use Rattle.std.specs.Prelude.{◌≡◌, ◌≢◌, ℕ, ◌+◌, ◌*◌, ◌<◌, ◌≤◌, false, length, None, IfOk, OnOk, OnErr, IfErr, MatchResult};
 ghost use Rattle.std.specs.FinSet as set;
 ghost use Rattle.std.specs.Ordering.{nat_cmp};
 ghost use Rattle.flash_model.specs.Geometry.{IsGeometry};
 ghost use Rattle.flash_model.specs.Reading.{OnlyReads};
 ghost use Rattle.commit_pair.specs.Parts as spec;
-ghost use Rattle.commit_pair.specs.Anchored.{OnlyAnchors, Fades, AreErased};
+ghost use Rattle.commit_pair.specs.Anchored.{OnlyAnchors, IsPowerCut, Fades, AreErased};
 ghost use Rattle.commit_pair.specs.Newest.{remembered, IsCleared, IsUncleared, KnowsEnd, IsNewestRecord, NewestCause};
 ghost use Rattle.commit_pair.specs.Remembering.{MayCommit};
 ghost use Rattle.fs_types.specs.declared.limits.TheConstants.{ANCHORS, MAX_BAD_BLOCKS};
@@ -53,12 +53,16 @@ impl Anchors {
         flash: &mut F,
     ) -> Result<Option<Record>, Fault>
         requires { IsGeometry (F.device flash.old).geometry }
+
+        // The newest record, and what is remembered of it.
         ensures newest { IfOk result (IsNewestRecord (F.device flash.old)) }
         ensures remembers { OnOk result (remembered self.new ≡ spec.newest_at (F.device flash.old).geometry (spec.parts_on (F.device flash.old).geometry (F.device flash.old).pages)) }
         ensures end { OnOk result (KnowsEnd (F.device flash.old) self.new) }
         ensures ready { IfOk result (λ newest. newest ≢ None → (bad : set.FinSet nat_cmp) → MayCommit (F.device flash.new) bad self.new) }
         ensures forgets { OnErr result (remembered self.new ≡ None) }
         ensures uncleared { IsUncleared self.new }
+
+        // By reads alone.
         ensures only_reads { OnlyReads (F.device flash.old) (F.device flash.new) }
         ensures operations { (F.device flash.new).operations ≤ (F.device flash.old).operations + (ANCHORS * (F.device flash.old).geometry.pages + spec.pages_of (spec.newest_at (F.device flash.old).geometry (spec.parts_on (F.device flash.old).geometry (F.device flash.old).pages))) }
         ensures why { IfErr result (NewestCause (F.device flash.old) (F.device flash.new)) }
@@ -66,39 +70,10 @@ impl Anchors {
         *self = Anchors::new();
         let geometry = flash.geometry();
         let mut page = vec![in alloc; 0u8; geometry.page as usize]?;
-        self.read_newest(alloc, flash, geometry, &mut page)
-    }
-
-    /// Reads the newest record, where no place is known, and remembers its place.
-    fn read_newest<F: Flash>(
-        &mut self,
-        alloc: Global,
-        flash: &mut F,
-        geometry: Geometry,
-        page: &mut [u8],
-    ) -> Result<Option<Record>, Fault>
-        requires same { (F.device flash.old).geometry ≡ geometry }
-        requires lawful { IsGeometry geometry }
-        requires whole { length page.old ≡ geometry.page }
-        requires none { remembered self.old ≡ None }
-        requires uncleared { IsUncleared self.old }
-        ensures newest { IfOk result (IsNewestRecord (F.device flash.old)) }
-        ensures remembers { OnOk result (remembered self.new ≡ spec.newest_at (F.device flash.old).geometry (spec.parts_on (F.device flash.old).geometry (F.device flash.old).pages)) }
-        ensures end { OnOk result (KnowsEnd (F.device flash.old) self.new) }
-        ensures ready { IfOk result (λ newest. newest ≢ None → (bad : set.FinSet nat_cmp) → MayCommit (F.device flash.new) bad self.new) }
-        ensures forgets { OnErr result (remembered self.new ≡ None) }
-        ensures uncleared { IsUncleared self.new }
-        ensures only_reads { OnlyReads (F.device flash.old) (F.device flash.new) }
-        ensures operations { (F.device flash.new).operations ≤ (F.device flash.old).operations + (ANCHORS * (F.device flash.old).geometry.pages + spec.pages_of (spec.newest_at (F.device flash.old).geometry (spec.parts_on (F.device flash.old).geometry (F.device flash.old).pages))) }
-        ensures why { IfErr result (NewestCause (F.device flash.old) (F.device flash.new)) }
-    {
-        let (best, end) = find_best(flash, geometry, page)?;
-        let newest = read_best(alloc, flash, geometry, best, page)?;
-        let Some(found) = best.found else {
-            return Ok(newest);
-        };
+        let (best, end) = find_best(flash, geometry, &mut page)?;
+        let newest = read_best(alloc, flash, geometry, best, &mut page)?;
+        self.newest = best.found;
         self.end = end;
-        self.newest = Some(found);
         Ok(newest)
     }
 
@@ -111,6 +86,8 @@ impl Anchors {
         requires lawful { IsGeometry (F.device flash.old).geometry }
         requires good { (b : ℕ) → b < ANCHORS → set.contains bad.old b ≡ false }
         requires room { set.len bad.old + ANCHORS ≤ MAX_BAD_BLOCKS }
+
+        // A commit may follow.
         ensures cleared { OnOk result (IsCleared self.new) }
         ensures ready { OnOk result (MayCommit (F.device flash.new) bad.new self.new) }
         ensures erased { OnOk result (AreErased (F.device flash.new) bad.new ANCHORS) }
@@ -122,9 +99,10 @@ impl Anchors {
         ensures forgets { remembered self.new ≡ None }
 
         // Each anchor is erased once, and nothing else is asked for.
-        ensures operations { (F.device flash.new).operations ≤ (F.device flash.old).operations + ANCHORS }
-        ensures each_once { OnOk result ((F.device flash.new).operations ≡ (F.device flash.old).operations + ANCHORS) }
-        ensures why { IfErr result (λ fault. (fault ≡ Fault.PowerCut) × ((F.device flash.new).powered ≡ false)) }
+        ensures operations { MatchResult result
+            (λ _. (F.device flash.new).operations ≡ (F.device flash.old).operations + ANCHORS)
+            (λ _. (F.device flash.new).operations ≤ (F.device flash.old).operations + ANCHORS) }
+        ensures why { IfErr result (IsPowerCut (F.device flash.new)) }
     {
         *self = Anchors::new();
         erase_anchors(flash, bad)?;
@@ -145,6 +123,8 @@ fn read_best<F: Flash>(
     requires lawful { IsGeometry geometry }
     requires whole { length page.old ≡ geometry.page }
     requires best { best ≡ spec.best_on geometry (spec.parts_on geometry (F.device flash.old).pages) }
+
+    // Its payload alone is read.
     ensures newest { IfOk result (IsNewestRecord (F.device flash.old)) }
     ensures found { OnOk result (best.found ≡ spec.newest_at geometry (spec.parts_on geometry (F.device flash.old).pages)) }
     ensures only_reads { OnlyReads (F.device flash.old) (F.device flash.new) }

@@ -1,17 +1,15 @@
 //! Commits of records on the anchors.
-ghost use Rattle.std.specs.Prelude.{◌≡◌, ◌≢◌, ◌⊎◌, ℕ, ◌+◌, ◌-◌, ◌*◌, ◌/◌, ◌^◌, ◌<◌, ◌≤◌, ◌==◌, [], true, false, not, length, None, IfOk, OnOk, OnErr, IfErr, Err, vec_capacity};
-ghost use Rattle.std.specs.FinSet as set;
+ghost use Rattle.std.specs.Prelude.{◌≡◌, ◌≢◌, ℕ, ◌+◌, ◌-◌, ◌*◌, ◌^◌, ◌≤◌, ◌==◌, true, false, not, length, None, IfOk, OnOk, IfErr, MatchResult, Err, vec_capacity};
 ghost use Rattle.flash_model.specs.Geometry.{IsGeometry};
 ghost use Rattle.flash_model.specs.Reading.{OnlyReads};
 ghost use Rattle.bad_blocks.specs.Mode.{is_read_only};
-ghost use Rattle.record_format.specs.Payloads.{is_record, written};
 ghost use Rattle.commit_pair.specs.Parts.{sequence_of, greatest_on};
 ghost use Rattle.commit_pair.specs.Anchored.{OnlyAnchors};
 ghost use Rattle.commit_pair.specs.Keeping.{AreOlder};
-ghost use Rattle.commit_pair.specs.Newest.{remembered, IsUncleared};
+ghost use Rattle.commit_pair.specs.Newest.{remembered};
 ghost use Rattle.commit_pair.specs.Reading.{ReadCause};
-ghost use Rattle.commit_pair.specs.Committing.{IsLowest, Commits, Untouched, TryCause};
-ghost use Rattle.commit_pair.specs.Remembering.{MayCommit, BeginsAt, ReadsNone, IsPlaced, TriesOnce, RefusesLast, CommitCause};
+ghost use Rattle.commit_pair.specs.Committing.{Suits, IsLowest, Commits, Untouched, IsInVain};
+ghost use Rattle.commit_pair.specs.Remembering.{MayCommit, BeginsAt, ReadsNone, IsPlaced, Remembers, TriesEach, RefusesLast, CommitCause};
 
 use crate::anchors::Anchors;
 use crate::left::find_greatest;
@@ -72,28 +70,22 @@ impl Anchors {
         bad: &mut BadBlocks,
         saved: &Record,
     ) -> Result<(), Fault>
-        requires same { (F.device flash.old).geometry ≡ saved.now.geometry }
-        requires lawful { IsGeometry saved.now.geometry }
-        requires is_lawful { is_record (written saved.now []) ≡ true }
-        requires on_flash { (b : ℕ) → set.contains bad.old b ≡ true → b < saved.now.geometry.blocks }
+        requires suits { Suits (F.device flash.old) bad.old saved.now }
         requires ready { MayCommit (F.device flash.old) bad.old self.old }
+
+        // Where the record is then, and what was asked for.
         ensures commits { Commits (F.device flash.old).pages (F.device flash.new).pages saved.now (greatest_on saved.now.geometry (F.device flash.old).pages + 1) bad.new result }
         ensures placed { OnOk result ((reads : ℕ) × (ReadsNone bad.old self.old → reads ≡ 0) × (reads ≤ ANCHORS * saved.now.geometry.pages) × IsPlaced (F.device flash.old) bad.old self.old saved.now reads (F.device flash.new) bad.new) }
-        ensures tries { TriesOnce (F.device flash.old) bad.old self.old (F.device flash.new) }
+        ensures tries { TriesEach (F.device flash.old) bad.old self.old (F.device flash.new) }
         ensures only_anchors { OnlyAnchors (F.device flash.old) bad.old (F.device flash.new) bad.new }
         ensures untouched { IfErr result (λ fault. fault ≢ Fault.PowerCut → Untouched (F.device flash.old) bad.new (F.device flash.new)) }
+
+        // A place that is remembered is forgotten by no answer; a commit may follow but where power went.
+        ensures remembers { MatchResult result (λ _. Remembers self.new bad.new) (λ _. self.new ≡ self.old) }
         ensures ready { result ≢ Err Fault.PowerCut → MayCommit (F.device flash.new) bad.new self.new }
 
-        // A place that is remembered is forgotten by no answer, and after Ok the anchors count as cleared no more.
-        ensures known { OnOk result (remembered self.new ≢ None) }
-        ensures uncleared { OnOk result (IsUncleared self.new) }
-        ensures same { OnErr result (self.new ≡ self.old) }
-
-        // Read-only mode is met at once, and never left by an answer of Ok.
+        // Read-only mode is met at once. Nothing is written where no sequence is left; where that is known before, nothing is asked.
         ensures at_once { is_read_only bad.old ≡ true → (result ≡ Err Fault.ReadOnly) × (F.device flash.new ≡ F.device flash.old) × (bad.new ≡ bad.old) }
-        ensures open { OnOk result (is_read_only bad.new ≡ false) }
-
-        // Nothing is written where no sequence is left; where that is known before, nothing is asked.
         ensures last { greatest_on saved.now.geometry (F.device flash.old).pages ≡ 2 ^ 64 - 1 → RefusesLast (F.device flash.old) bad.old self.old (F.device flash.new) bad.new result }
         ensures why { IfErr result (CommitCause (F.device flash.old) bad.old self.old (F.device flash.new) bad.new) }
     {
@@ -125,6 +117,8 @@ impl Anchors {
         requires lawful { IsGeometry geometry }
         requires whole { length page.old ≡ geometry.page }
         requires ready { MayCommit (F.device flash.old) bad.now self.now }
+
+        // Where the place of the newest record is known, or no anchor is bad, nothing is read.
         ensures greatest { IfOk result (λ greatest. greatest ≡ greatest_on geometry (F.device flash.old).pages) }
         ensures only_reads { OnlyReads (F.device flash.old) (F.device flash.new) }
         ensures none { IfErr result (λ fault. remembered self.now ≡ None) }
@@ -159,25 +153,22 @@ impl Anchors {
         saved: &Record,
         page: &mut Vec<u8>,
     ) -> Result<(), Fault>
-        requires same { (F.device flash.old).geometry ≡ saved.now.geometry }
-        requires lawful { IsGeometry saved.now.geometry }
-        requires is_lawful { is_record (written saved.now []) ≡ true }
-        requires on_flash { (b : ℕ) → set.contains bad.old b ≡ true → b < saved.now.geometry.blocks }
+        requires suits { Suits (F.device flash.old) bad.old saved.now }
         requires ready { MayCommit (F.device flash.old) bad.old self.old }
         requires older { AreOlder saved.now.geometry (F.device flash.old).pages sequence }
         requires open { is_read_only bad.old ≡ false }
         requires room { saved.now.geometry.page ≤ vec_capacity page.old }
+
+        // Where the record is then, and what was asked for.
         ensures commits { Commits (F.device flash.old).pages (F.device flash.new).pages saved.now sequence bad.new result }
         ensures placed { OnOk result (IsPlaced (F.device flash.old) bad.old self.old saved.now 0 (F.device flash.new) bad.new) }
         ensures operations { (F.device flash.new).operations ≤ (F.device flash.old).operations + ANCHORS * (saved.now.geometry.pages + 1) }
         ensures only_anchors { OnlyAnchors (F.device flash.old) bad.old (F.device flash.new) bad.new }
-        ensures untouched { IfErr result (λ fault. fault ≢ Fault.PowerCut → Untouched (F.device flash.old) bad.new (F.device flash.new)) }
+        ensures in_vain { IfErr result (IsInVain (F.device flash.old) (F.device flash.new) bad.new) }
+
+        // A place that is remembered is forgotten by no answer; a commit may follow but where power went.
+        ensures remembers { MatchResult result (λ _. Remembers self.new bad.new) (λ _. self.new ≡ self.old) }
         ensures ready { result ≢ Err Fault.PowerCut → MayCommit (F.device flash.new) bad.new self.new }
-        ensures known { OnOk result (remembered self.new ≢ None) }
-        ensures uncleared { OnOk result (IsUncleared self.new) }
-        ensures same { OnErr result (self.new ≡ self.old) }
-        ensures open { OnOk result (is_read_only bad.new ≡ false) }
-        ensures why { IfErr result (TryCause (F.device flash.new) bad.new) }
     {
         let geometry = saved.geometry;
         let (home, place) = self.start(geometry, bad);

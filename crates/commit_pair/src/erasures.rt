@@ -1,9 +1,9 @@
 //! Erases of anchors.
-ghost use Rattle.std.specs.Prelude.{◌≡◌, ◌≢◌, ℕ, ◌+◌, ◌<◌, ◌≤◌, true, false, IfErr, IfOk, OnOk, OnErr, if◌then◌else◌};
+ghost use Rattle.std.specs.Prelude.{◌≡◌, ℕ, ◌+◌, ◌<◌, ◌≤◌, true, false, IfErr, IfOk, OnOk, MatchResult};
 ghost use Rattle.std.specs.FinSet as set;
 ghost use Rattle.flash_model.specs.Geometry.{IsGeometry};
 ghost use Rattle.flash_model.specs.Device.{block_of, erased};
-ghost use Rattle.commit_pair.specs.Anchored.{OnlyAnchors, Tries, Fades, AreErased};
+ghost use Rattle.commit_pair.specs.Anchored.{OnlyAnchors, ChangesAnchor, IsPowerCut, Fades, AreErased};
 ghost use Rattle.fs_types.specs.declared.limits.TheConstants.{MAX_BAD_BLOCKS};
 
 use bad_blocks::BadBlocks;
@@ -21,16 +21,12 @@ pub(crate) fn erase_anchor<F: Flash>(
     requires anchor { anchor < ANCHORS }
     requires good { set.contains bad.old anchor ≡ false }
     requires room { set.len bad.old < MAX_BAD_BLOCKS }
+
+    // Its pages are erased where that was done; they are so, unreadable, or what they were where not.
     ensures erased { IfOk result (λ done. done ≡ true → (p : ℕ) → block_of (F.device flash.old) p ≡ anchor → (F.device flash.new).pages p ≡ erased) }
-    ensures list { IfOk result (λ done. bad.new ≡ (if done then bad.old else set.insert bad.old anchor)) }
-    ensures list_stays { OnErr result (bad.new ≡ bad.old) }
-    ensures others { (p : ℕ) → block_of (F.device flash.old) p ≢ anchor → (F.device flash.new).pages p ≡ (F.device flash.old).pages p }
     ensures fades { Fades (F.device flash.old).pages (F.device flash.new).pages }
-    ensures only_anchors { OnlyAnchors (F.device flash.old) bad.old (F.device flash.new) bad.new }
+    ensures changes { ChangesAnchor (F.device flash.old) bad.old (F.device flash.new) bad.new anchor 1 result }
     ensures reads { (F.device flash.new).failed_reads ≡ (F.device flash.old).failed_reads }
-    ensures tries { IfOk result (Tries (F.device flash.old) (F.device flash.new) 1) }
-    ensures operations { (F.device flash.new).operations ≤ (F.device flash.old).operations + 1 }
-    ensures why { IfErr result (λ fault. (fault ≡ Fault.PowerCut) × ((F.device flash.new).powered ≡ false)) }
 {
     match flash.erase(anchor) {
         Ok(()) => Ok(true),
@@ -47,13 +43,18 @@ pub(crate) fn erase_anchors<F: Flash>(flash: &mut F, bad: &mut BadBlocks) -> Res
     requires lawful { IsGeometry (F.device flash.old).geometry }
     requires good { (b : ℕ) → b < ANCHORS → set.contains bad.old b ≡ false }
     requires room { set.len bad.old + ANCHORS ≤ MAX_BAD_BLOCKS }
-    ensures erased { OnOk result (AreErased (F.device flash.new) bad.new ANCHORS) }
+
+    // Whatever is answered, no page has bytes that it had not, and no data block changes.
     ensures fades { Fades (F.device flash.old).pages (F.device flash.new).pages }
     ensures only_anchors { OnlyAnchors (F.device flash.old) bad.old (F.device flash.new) bad.new }
     ensures reads { (F.device flash.new).failed_reads ≡ (F.device flash.old).failed_reads }
-    ensures operations { (F.device flash.new).operations ≤ (F.device flash.old).operations + ANCHORS }
-    ensures each_once { OnOk result ((F.device flash.new).operations ≡ (F.device flash.old).operations + ANCHORS) }
-    ensures why { IfErr result (λ fault. (fault ≡ Fault.PowerCut) × ((F.device flash.new).powered ≡ false)) }
+
+    // Each anchor is erased once, and nothing else is asked for.
+    ensures erased { OnOk result (AreErased (F.device flash.new) bad.new ANCHORS) }
+    ensures operations { MatchResult result
+        (λ _. (F.device flash.new).operations ≡ (F.device flash.old).operations + ANCHORS)
+        (λ _. (F.device flash.new).operations ≤ (F.device flash.old).operations + ANCHORS) }
+    ensures why { IfErr result (IsPowerCut (F.device flash.new)) }
 {
     for anchor in 0..ANCHORS {
         erase_anchor(flash, bad, anchor)?;

@@ -29,7 +29,11 @@ fn scan_left<F: Flash>(
     requires whole { length buffer.old ≡ geometry.page }
     requires erased { AreErased (F.device flash.old) bad.now ANCHORS }
     requires best { best ≡ spec.best_below geometry (spec.parts_on geometry (F.device flash.old).pages) (anchor * geometry.pages) }
+
+    // The best record, this anchor's among them.
     ensures best { IfOk result (λ next. next ≡ spec.best_below geometry (spec.parts_on geometry (F.device flash.old).pages) ((anchor + 1) * geometry.pages)) }
+
+    // By reads alone, and how many.
     ensures only_reads { OnlyReads (F.device flash.old) (F.device flash.new) }
     ensures operations { (F.device flash.new).operations ≤ (F.device flash.old).operations + geometry.pages }
     ensures quiet { set.contains bad.now anchor ≡ false → (F.device flash.new).operations ≡ (F.device flash.old).operations }
@@ -54,7 +58,11 @@ pub(crate) fn find_greatest<F: Flash>(
     requires lawful { IsGeometry geometry }
     requires whole { length buffer.old ≡ geometry.page }
     requires erased { AreErased (F.device flash.old) bad.now ANCHORS }
+
+    // The greatest sequence.
     ensures greatest { IfOk result (λ greatest. greatest ≡ spec.greatest_on geometry (F.device flash.old).pages) }
+
+    // By reads alone, and how many.
     ensures only_reads { OnlyReads (F.device flash.old) (F.device flash.new) }
     ensures operations { (F.device flash.new).operations ≤ (F.device flash.old).operations + ANCHORS * geometry.pages }
     ensures quiet { ((b : ℕ) → b < ANCHORS → set.contains bad.now b ≡ false) → (F.device flash.new).operations ≡ (F.device flash.old).operations }

@@ -5,6 +5,7 @@ mod anchors;
 mod attempts;
 mod best;
 mod commits;
+mod draft;
 mod erasures;
 mod laws;
 mod left;

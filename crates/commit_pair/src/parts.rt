@@ -25,6 +25,8 @@ pub(crate) fn read_head<F: Flash>(
     requires in_range { page < ANCHORS * geometry.pages }
     requires whole { length buffer.old ≡ geometry.page }
     ensures part { IfOk result (λ found. option_map (λ head. record { head = head; bytes = used_bytes head buffer.new }) found ≡ spec.parts_on geometry (F.device flash.old).pages page) }
+
+    // By reads alone, and how many.
     ensures only_reads { OnlyReads (F.device flash.old) (F.device flash.new) }
     ensures operations { (F.device flash.new).operations ≤ (F.device flash.old).operations + 1 }
     ensures why { IfErr result (ReadCause (F.device flash.old) (F.device flash.new)) }

@@ -1,48 +1,19 @@
 //! The pages of a record, programmed on an anchor.
-ghost use Rattle.std.specs.Prelude.{◌≡◌, ◌≢◌, ℕ, ◌+◌, ◌*◌, ◌^◌, ◌<◌, ◌≤◌, true, false, length, vec_len, vec_capacity, IfOk, OnErr, IfErr, if◌then◌else◌};
-ghost use Rattle.std.specs.FinSet as set;
-ghost use Rattle.flash_model.specs.Device.{block_of, erased};
-ghost use Rattle.flash_model.specs.Geometry.{IsGeometry};
-ghost use Rattle.record_format.specs.Payloads.{longest};
-ghost use Rattle.commit_pair.specs.Parts.{room};
-ghost use Rattle.commit_pair.specs.Anchored.{OnlyAnchors, Tries, Touches};
-ghost use Rattle.commit_pair.specs.Keeping.{AreOlder, Placed, Spares};
+ghost use Rattle.std.specs.Prelude.{◌≡◌, ℕ, ◌+◌, ◌*◌, ◌<◌, ◌≤◌, true, vec_capacity, IfOk};
+ghost use Rattle.flash_model.specs.Device.{erased};
+ghost use Rattle.commit_pair.specs.Anchored.{Touches, ChangesAnchor};
+ghost use Rattle.commit_pair.specs.Drafts.{IsDraft, MayWrite};
+ghost use Rattle.commit_pair.specs.Keeping.{Placed, Spares};
 ghost use Rattle.commit_pair.specs.Reading.{IsEnd};
 ghost use Rattle.commit_pair.specs.Programming as spec;
-ghost use Rattle.fs_types.specs.declared.limits.TheConstants.{ANCHORS, MAX_BAD_BLOCKS};
+ghost use Rattle.fs_types.specs.declared.limits.TheConstants.{ANCHORS};
 
+use crate::draft::{Draft, piece_of};
 use crate::erasures::erase_anchor;
 use bad_blocks::BadBlocks;
 use flash_model::{DevFault, Flash, Geometry};
 use fs_types::Fault;
-use record_format::{HEAD_SIZE, PageHead, page_laws, write_page};
-
-/// How many pages a payload fills.
-pub(crate) fn pages_for(geometry: Geometry, payload: &[u8]) -> u16
-    requires lawful { IsGeometry geometry }
-    requires some { 0 < length payload.now }
-    requires short { length payload.now ≤ longest }
-    ensures fills { spec.Fills geometry payload.now result }
-    ensures fits { result ≤ geometry.pages }
-{
-    let room = geometry.page as usize - HEAD_SIZE;
-    payload.len().div_ceil(room) as u16
-}
-
-/// The piece of a payload that the n-th page of its record holds.
-pub(crate) fn piece_of(geometry: Geometry, payload: &[u8], n: u16) -> &[u8]
-    requires lawful { IsGeometry geometry }
-    requires inside { n * room geometry ≤ length payload.now }
-    ensures { result.now ≡ spec.piece geometry payload.now n }
-{
-    let room = geometry.page as usize - HEAD_SIZE;
-    let rest = &payload[n as usize * room..];
-    if room < rest.len() {
-        &rest[..room]
-    } else {
-        rest
-    }
-}
+use record_format::{PageHead, page_laws, write_page};
 
 /// Programs the pages of a record on erased pages of an anchor, from a place on. The room of `page`
 /// serves: no memory is taken.
@@ -51,30 +22,31 @@ pub(crate) fn program_record<F: Flash>(
     geometry: Geometry,
     anchor: u32,
     place: u32,
-    sequence: u64,
-    payload: &[u8],
-    count: u16,
+    draft: &Draft<'_>,
     page: &mut Vec<u8>,
 ) -> Result<(), DevFault>
     requires same { (F.device flash.old).geometry ≡ geometry }
-    requires lawful { IsGeometry geometry }
+    requires is { IsDraft geometry draft.now }
+
+    // Its place on the flash, and the room in memory for a page.
     requires anchor { anchor < ANCHORS }
-    requires in_block { place + count ≤ geometry.pages }
-    requires fills { spec.Fills geometry payload.now count }
-    requires blank { (m : ℕ) → m < count → (F.device flash.old).pages (anchor * geometry.pages + place + m) ≡ erased }
+    requires in_block { place + draft.now.count ≤ geometry.pages }
+    requires blank { (m : ℕ) → m < draft.now.count → (F.device flash.old).pages (anchor * geometry.pages + place + m) ≡ erased }
     requires room { geometry.page ≤ vec_capacity page.old }
-    ensures programmed { (n : ℕ) × spec.EndsAt count n result × spec.HasPages geometry (F.device flash.old).pages (F.device flash.new).pages (anchor * geometry.pages + place) sequence payload.now count n }
+
+    // Its pages are programmed in order, and no page of another block changes.
+    ensures programmed { (n : ℕ) × spec.EndsAt draft.now.count n result × spec.HasRecordPages geometry (F.device flash.old).pages (F.device flash.new).pages (anchor * geometry.pages + place) draft.now.sequence draft.now.payload.now draft.now.count n }
     ensures touches { Touches (F.device flash.old) anchor (F.device flash.new) result }
-    ensures tries { spec.TriesPages (F.device flash.old) (F.device flash.new) count result }
-    ensures operations { (F.device flash.new).operations ≤ (F.device flash.old).operations + count }
+    ensures tries { spec.TriesPages (F.device flash.old) (F.device flash.new) draft.now.count result }
+    ensures operations { (F.device flash.new).operations ≤ (F.device flash.old).operations + draft.now.count }
     ensures room { geometry.page ≤ vec_capacity page.new }
 {
-    for n in 0..count {
-        let piece = piece_of(geometry, payload, n);
+    for n in 0..draft.count {
+        let piece = piece_of(geometry, draft.payload, n);
         let head = PageHead {
-            sequence,
+            sequence: draft.sequence,
             index: n,
-            count,
+            count: draft.count,
             used: piece.len() as u16,
         };
         write_page(page, geometry.page as usize, head, piece);
@@ -91,36 +63,23 @@ pub(crate) fn place_record<F: Flash>(
     geometry: Geometry,
     anchor: u32,
     place: u32,
-    sequence: u64,
-    payload: &[u8],
-    count: u16,
+    draft: &Draft<'_>,
     page: &mut Vec<u8>,
 ) -> Result<bool, Fault>
     requires same { (F.device flash.old).geometry ≡ geometry }
-    requires lawful { IsGeometry geometry }
-    requires anchor { anchor < ANCHORS }
-    requires in_block { place + count ≤ geometry.pages }
-    requires fills { spec.Fills geometry payload.now count }
+    requires may { MayWrite geometry (F.device flash.old).pages bad.old anchor draft.now }
+    requires in_block { place + draft.now.count ≤ geometry.pages }
     requires blank { (m : ℕ) → place ≤ m → m < geometry.pages → (F.device flash.old).pages (anchor * geometry.pages + m) ≡ erased }
     requires room { geometry.page ≤ vec_capacity page.old }
-    requires older { AreOlder geometry (F.device flash.old).pages sequence }
-    requires good { set.contains bad.old anchor ≡ false }
-    requires room_in_list { set.len bad.old < MAX_BAD_BLOCKS }
-    ensures placed { Placed geometry (F.device flash.old).pages (F.device flash.new).pages (record { page = anchor * geometry.pages + place; head = spec.head_for geometry sequence payload.now count 0 }) (record { sequence = sequence; payload = payload.now }) result }
-    ensures end { IfOk result (λ done. done ≡ true → IsEnd geometry (F.device flash.new).pages anchor geometry.pages (place + count)) }
-    ensures list { IfOk result (λ done. bad.new ≡ (if done then bad.old else set.insert bad.old anchor)) }
-    ensures list_stays { OnErr result (bad.new ≡ bad.old) }
-    ensures others { (p : ℕ) → block_of (F.device flash.old) p ≢ anchor → (F.device flash.new).pages p ≡ (F.device flash.old).pages p }
-    ensures only_anchors { OnlyAnchors (F.device flash.old) bad.old (F.device flash.new) bad.new }
-    ensures tries { IfOk result (Tries (F.device flash.old) (F.device flash.new) count) }
-    ensures operations { (F.device flash.new).operations ≤ (F.device flash.old).operations + count }
-    ensures why { IfErr result (λ fault. (fault ≡ Fault.PowerCut) × ((F.device flash.new).powered ≡ false)) }
+
+    // The record stands at the end of the anchor, or the newest one is what it was.
+    ensures placed { Placed geometry (F.device flash.old).pages (F.device flash.new).pages (record { page = anchor * geometry.pages + place; head = spec.head_for geometry draft.now.sequence draft.now.payload.now draft.now.count 0 }) (record { sequence = draft.now.sequence; payload = draft.now.payload.now }) result }
+    ensures end { IfOk result (λ done. done ≡ true → IsEnd geometry (F.device flash.new).pages anchor geometry.pages (place + draft.now.count)) }
+    ensures changes { ChangesAnchor (F.device flash.old) bad.old (F.device flash.new) bad.new anchor draft.now.count result }
     ensures room { geometry.page ≤ vec_capacity page.new }
 {
     page_laws();
-    match program_record(
-        flash, geometry, anchor, place, sequence, payload, count, page,
-    ) {
+    match program_record(flash, geometry, anchor, place, draft, page) {
         Ok(()) => Ok(true),
         Err(DevFault::Failed) => {
             bad.add(anchor).unwrap();
@@ -137,36 +96,22 @@ pub(crate) fn write_anchor<F: Flash>(
     bad: &mut BadBlocks,
     geometry: Geometry,
     anchor: u32,
-    sequence: u64,
-    payload: &[u8],
-    count: u16,
+    draft: &Draft<'_>,
     page: &mut Vec<u8>,
 ) -> Result<bool, Fault>
     requires same { (F.device flash.old).geometry ≡ geometry }
-    requires lawful { IsGeometry geometry }
-    requires anchor { anchor < ANCHORS }
+    requires may { MayWrite geometry (F.device flash.old).pages bad.old anchor draft.now }
     requires spares { Spares geometry (F.device flash.old).pages anchor }
-    requires in_block { count ≤ geometry.pages }
-    requires fills { spec.Fills geometry payload.now count }
     requires room { geometry.page ≤ vec_capacity page.old }
-    requires older { AreOlder geometry (F.device flash.old).pages sequence }
-    requires good { set.contains bad.old anchor ≡ false }
-    requires room_in_list { set.len bad.old < MAX_BAD_BLOCKS }
-    ensures placed { Placed geometry (F.device flash.old).pages (F.device flash.new).pages (record { page = anchor * geometry.pages + 0; head = spec.head_for geometry sequence payload.now count 0 }) (record { sequence = sequence; payload = payload.now }) result }
-    ensures end { IfOk result (λ done. done ≡ true → IsEnd geometry (F.device flash.new).pages anchor geometry.pages (0 + count)) }
-    ensures list { IfOk result (λ done. bad.new ≡ (if done then bad.old else set.insert bad.old anchor)) }
-    ensures list_stays { OnErr result (bad.new ≡ bad.old) }
-    ensures others { (p : ℕ) → block_of (F.device flash.old) p ≢ anchor → (F.device flash.new).pages p ≡ (F.device flash.old).pages p }
-    ensures only_anchors { OnlyAnchors (F.device flash.old) bad.old (F.device flash.new) bad.new }
-    ensures tries { IfOk result (Tries (F.device flash.old) (F.device flash.new) (1 + count)) }
-    ensures operations { (F.device flash.new).operations ≤ (F.device flash.old).operations + (1 + count) }
-    ensures why { IfErr result (λ fault. (fault ≡ Fault.PowerCut) × ((F.device flash.new).powered ≡ false)) }
+
+    // The record stands alone on the anchor, or the newest one is what it was.
+    ensures placed { Placed geometry (F.device flash.old).pages (F.device flash.new).pages (record { page = anchor * geometry.pages + 0; head = spec.head_for geometry draft.now.sequence draft.now.payload.now draft.now.count 0 }) (record { sequence = draft.now.sequence; payload = draft.now.payload.now }) result }
+    ensures end { IfOk result (λ done. done ≡ true → IsEnd geometry (F.device flash.new).pages anchor geometry.pages (0 + draft.now.count)) }
+    ensures changes { ChangesAnchor (F.device flash.old) bad.old (F.device flash.new) bad.new anchor (1 + draft.now.count) result }
     ensures room { geometry.page ≤ vec_capacity page.new }
 {
     if !erase_anchor(flash, bad, anchor)? {
         return Ok(false);
     }
-    place_record(
-        flash, bad, geometry, anchor, 0, sequence, payload, count, page,
-    )
+    place_record(flash, bad, geometry, anchor, 0, draft, page)
 }

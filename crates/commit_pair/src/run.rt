@@ -27,7 +27,7 @@ pub(crate) struct Scan {
 fn begun(geometry: Geometry, page: u32, head: Option<PageHead>) -> Option<Run>
     requires room { 20 ≤ geometry.page }
     requires lawful { IsGeometry geometry }
-    ensures { result ≡ spec.begun geometry page head }
+    ensures { result ≡ spec.begun_run geometry page head }
 {
     let first = head?;
     let fits = first.count > 0 && page % geometry.pages + first.count as u32 <= geometry.pages;
@@ -43,7 +43,7 @@ fn begun(geometry: Geometry, page: u32, head: Option<PageHead>) -> Option<Run>
 fn followed(geometry: Geometry, run: Option<Run>, page: u32, head: Option<PageHead>) -> Option<Run>
     requires room { 20 ≤ geometry.page }
     requires lawful { IsGeometry geometry }
-    requires goes_on { spec.GoesOn run }
+    requires goes_on { spec.LacksPages run }
     ensures { result ≡ spec.followed geometry run page head }
 {
     let Some(run) = run else {
@@ -79,8 +79,8 @@ impl Scan {
     pub(crate) fn next(self, geometry: Geometry, page: u32, head: Option<PageHead>) -> Scan
         requires room { 20 ≤ geometry.page }
         requires lawful { IsGeometry geometry }
-        requires goes_on { spec.GoesOn self.run }
-        ensures { result ≡ spec.next geometry self page head }
+        requires goes_on { spec.LacksPages self.run }
+        ensures { result ≡ spec.scan_next geometry self page head }
     {
         let run = followed(geometry, self.run, page, head);
         settled(self.best, run)

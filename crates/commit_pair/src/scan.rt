@@ -7,7 +7,7 @@ ghost use Rattle.flash_model.specs.Reading.{OnlyReads};
 ghost use Rattle.record_format.specs.Payloads.{payload_at};
 ghost use Rattle.commit_pair.specs.declared.best.Found.{Found};
 ghost use Rattle.commit_pair.specs.Parts as spec;
-ghost use Rattle.commit_pair.specs.Payloads.{IsFront};
+ghost use Rattle.commit_pair.specs.Payloads.{IsLongFront};
 ghost use Rattle.commit_pair.specs.Reading.{IsEnd, ReadCause};
 
 use crate::best::{Best, Found};
@@ -30,9 +30,13 @@ fn read_page<F: Flash>(
     requires lawful { IsGeometry geometry }
     requires in_range { page < ANCHORS * geometry.pages }
     requires whole { length buffer.old ≡ geometry.page }
+
+    // What the page holds.
     ensures head { IfOk result (λ read. read.0 ≡ spec.head_at (spec.parts_on geometry (F.device flash.old).pages) page) }
     ensures blank { IfOk result (λ read. OnTrue read.1 ((F.device flash.old).pages page ≡ erased)) }
     ensures other { IfOk result (λ read. OnFalse read.1 ((F.device flash.old).pages page ≢ erased)) }
+
+    // By reads alone, and how many.
     ensures only_reads { OnlyReads (F.device flash.old) (F.device flash.new) }
     ensures operations { (F.device flash.new).operations ≤ (F.device flash.old).operations + 1 }
     ensures why { IfErr result (ReadCause (F.device flash.old) (F.device flash.new)) }
@@ -60,8 +64,12 @@ pub(crate) fn scan_anchor<F: Flash>(
     requires anchor { anchor < ANCHORS }
     requires whole { length buffer.old ≡ geometry.page }
     requires best { best ≡ spec.best_below geometry (spec.parts_on geometry (F.device flash.old).pages) (anchor * geometry.pages) }
+
+    // The best record, and the anchor's end.
     ensures best { IfOk result (λ read. read.0 ≡ spec.best_below geometry (spec.parts_on geometry (F.device flash.old).pages) ((anchor + 1) * geometry.pages)) }
     ensures end { IfOk result (λ read. IsEnd geometry (F.device flash.old).pages anchor geometry.pages read.1) }
+
+    // By reads alone, and how many.
     ensures only_reads { OnlyReads (F.device flash.old) (F.device flash.new) }
     ensures operations { (F.device flash.new).operations ≤ (F.device flash.old).operations + geometry.pages }
     ensures why { IfErr result (ReadCause (F.device flash.old) (F.device flash.new)) }
@@ -101,8 +109,12 @@ pub(crate) fn find_best<F: Flash>(
     requires same { (F.device flash.old).geometry ≡ geometry }
     requires lawful { IsGeometry geometry }
     requires whole { length buffer.old ≡ geometry.page }
+
+    // The best record, and the end of its anchor.
     ensures best { IfOk result (λ read. read.0 ≡ spec.best_on geometry (spec.parts_on geometry (F.device flash.old).pages)) }
     ensures end { IfOk result (λ read. (found : Found) → read.0.found ≡ Some found → IsEnd geometry (F.device flash.old).pages (found.page / geometry.pages) geometry.pages read.1) }
+
+    // By reads alone, and how many.
     ensures only_reads { OnlyReads (F.device flash.old) (F.device flash.new) }
     ensures operations { (F.device flash.new).operations ≤ (F.device flash.old).operations + ANCHORS * geometry.pages }
     ensures why { IfErr result (ReadCause (F.device flash.old) (F.device flash.new)) }
@@ -142,7 +154,7 @@ fn bytes_of(head: Option<PageHead>, page: &[u8]) -> &[u8]
 /// for all.
 fn push_bytes(payload: &mut Payload, bytes: &[u8]) -> bool
     ensures all { OnTrue result (payload.new.items ≡ payload.old.items ++ bytes.now) }
-    ensures front { OnFalse result (IsFront (payload.old.items ++ bytes.now) payload.new.items) }
+    ensures front { OnFalse result (IsLongFront (payload.old.items ++ bytes.now) payload.new.items) }
 {
     let room = LONGEST_PAYLOAD - payload.len();
     if room < bytes.len() {
@@ -165,7 +177,11 @@ pub(crate) fn find_payload<F: Flash>(
     requires lawful { IsGeometry geometry }
     requires in_range { found.page + found.head.count ≤ ANCHORS * geometry.pages }
     requires whole { length buffer.old ≡ geometry.page }
+
+    // The payload.
     ensures payload { IfOk result (λ payload. payload.items ≡ spec.payload_of geometry (spec.parts_on geometry (F.device flash.old).pages) found) }
+
+    // By reads alone, and how many.
     ensures only_reads { OnlyReads (F.device flash.old) (F.device flash.new) }
     ensures operations { (F.device flash.new).operations ≤ (F.device flash.old).operations + found.head.count }
     ensures why { IfErr result (λ fault. ReadCause (F.device flash.old) (F.device flash.new) fault ⊎ (payload_at geometry found.head.sequence (spec.payload_of geometry (spec.parts_on geometry (F.device flash.old).pages) found) ≡ Err fault)) }

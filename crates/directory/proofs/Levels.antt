@@ -174,6 +174,16 @@ last_shallow f roots most blocks level is none root rooted path led = by_test (n
         let found = is.covers root rooted (take (suc most) path) (front_leads f (suc most) path (Dir root) led) exact in
         ends found.0 found.1 found.2 found.3 found.4
 
+-- where no path of so many names leads to a directory, none has more names
+pub empty_shallow : (f : Blocks) (roots : List ℕ) (most k blocks : ℕ) (level : FinSet nat_cmp) → IsLevel f roots most k blocks level → level ≡ empty → (root : ℕ) → Contains roots root → IsShallow f (Dir root) most
+empty_shallow f roots most k blocks level is none root rooted path led = by_test (nat_le (length path) most) (λ short. leb-true (length path) most short) (λ long. absurd (never (leb-false (length path) most long)))
+  where
+    never : most < length path → ⊥
+    never long =
+        let exact : length (take (suc most) path) ≡ suc most = length-take-le (suc most) path (omega arith) in
+        let found = is.covers root rooted (take (suc most) path) (front_leads f (suc most) path (Dir root) led) exact in
+        true≢false (sym found.2 ∙ ap (λ (s : FinSet nat_cmp). contains s found.0) none ∙ contains-empty nat_cmp found.0)
+
 first_named : (items : List Item) → 0 < length items → (n : Name) × IsSome (named items n)
 first_named [] some = absurd (omega arith)
 first_named (item ∷ items) some = (item.name, ap (λ (t : Bool). is_some (cond t (Some item.place) (named items item.name))) (same_name-own item.name))

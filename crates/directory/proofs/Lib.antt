@@ -23,3 +23,4 @@ pub mod Shallow
 pub mod WrittenNodes
 pub mod ReadLists
 pub mod ListEdits
+pub mod BesidePaths

@@ -52,15 +52,15 @@ no_directory f block name [] none = ap (λ (r : Result (Option Place) Fault). r 
 no_directory f block name (next ∷ path) none = ap (λ (r : Result (Option Place) Fault). (r >>= directory_at) >>= (λ below. look_up f below (next ∷ path))) none
 
 -- a read at the block was refused
-pub read_refuses : (f : Blocks) (root block i : ℕ) (path : Path) (fault : Fault) → i < length path → look_up f block (drop i path) ≡ look_up f root path → IsReadFault fault → (fault ≡ Damaged → place_in f (get_or path i []) block ≡ Err Damaged)
-    → is_path_fault fault ≡ true → look_up f root path ≡ Err fault
-read_refuses f root block i path fault less looked is none path_fault =
+pub read_refuses : (f : Blocks) (whole : Result Found Fault) (block i : ℕ) (path : Path) (fault : Fault) → i < length path → look_up f block (drop i path) ≡ whole → IsReadFault fault → (fault ≡ Damaged → place_in f (get_or path i []) block ≡ Err Damaged)
+    → is_path_fault fault ≡ true → whole ≡ Err fault
+read_refuses f whole block i path fault less looked is none path_fault =
     let damaged = damaged_is fault is path_fault in
     sym looked ∙ ap (look_up f block) (drop-cons path i [] less) ∙ no_directory f block (get_or path i []) (drop (suc i) path) (none damaged) ∙ ap (λ (e : Fault). Err e) (sym damaged)
 
 -- a name but the last leads to no directory
-pub way_refuses : (f : Blocks) (root block i : ℕ) (path : Path) (fault : Fault) → i + 1 < length path → look_up f block (drop i path) ≡ look_up f root path → below_in f (get_or path i []) block ≡ Err fault → look_up f root path ≡ Err fault
-way_refuses f root block i path fault less looked is =
+pub way_refuses : (f : Blocks) (whole : Result Found Fault) (block i : ℕ) (path : Path) (fault : Fault) → i + 1 < length path → look_up f block (drop i path) ≡ whole → below_in f (get_or path i []) block ≡ Err fault → whole ≡ Err fault
+way_refuses f whole block i path fault less looked is =
     let first = drop-cons path i [] (omega arith) in
     let second = drop-cons path (suc i) [] (omega arith) in
     sym looked ∙ ap (look_up f block) (first ∙ ap (λ (q : Path). get_or path i [] ∷ q) second)
@@ -92,15 +92,15 @@ pub below_is : (f : Blocks) (block : ℕ) (name : Name) (place : Option Place) (
 below_is f block name place r is at = ap (λ (p : Result (Option Place) Fault). p >>= directory_at) is ∙ sym at
 
 -- the last name leads to what was found
-pub last_found : (f : Blocks) (root block i : ℕ) (path : Path) (what : Found) → i + 1 ≡ length path → look_up f block (drop i path) ≡ look_up f root path → found_in f (get_or path i []) block ≡ Ok what → look_up f root path ≡ Ok what
-last_found f root block i path what last looked is =
+pub last_found : (f : Blocks) (whole : Result Found Fault) (block i : ℕ) (path : Path) (what : Found) → i + 1 ≡ length path → look_up f block (drop i path) ≡ whole → found_in f (get_or path i []) block ≡ Ok what → whole ≡ Ok what
+last_found f whole block i path what last looked is =
     let first = drop-cons path i [] (omega arith) in
     let none = none_left (suc i) path (omega arith) in
     sym looked ∙ ap (look_up f block) (first ∙ ap (λ (q : Path). get_or path i [] ∷ q) none) ∙ is
 
 -- no name is left
-pub whole_found : (f : Blocks) (root block i : ℕ) (path : Path) → i ≡ length path → look_up f block (drop i path) ≡ look_up f root path → look_up f root path ≡ Ok (found.Dir block)
-whole_found f root block i path last looked = sym looked ∙ ap (look_up f block) (none_left i path (sym last))
+pub whole_found : (f : Blocks) (whole : Result Found Fault) (block i : ℕ) (path : Path) → i ≡ length path → look_up f block (drop i path) ≡ whole → whole ≡ Ok (found.Dir block)
+whole_found f whole block i path last looked = sym looked ∙ ap (look_up f block) (none_left i path (sym last))
 
 -- ---- the nodes of the directories on the way
 

@@ -12,7 +12,7 @@ use Rattle.block_trees.specs.Bodies.{Blocks}
 use Rattle.block_trees.specs.Trees.{child, leads}
 use Rattle.block_trees.proofs.RootMaps.{leads-append}
 use Rattle.directory.specs.Lookups.{below_in, look_up, LeadsToDirectories, ◌>>=◌}
-use Rattle.directory.specs.Trails.{IsTrail}
+use Rattle.directory.specs.Trails.{IsTrail, IsWay}
 
 -- ---- names of a path
 
@@ -36,6 +36,13 @@ pub record Goes (f : Blocks) (root : ℕ) (path : Path) (i : ℕ) (trail : List 
   pub counted : length trail ≡ i
   pub through : (k : ℕ) → k < i → leads f (Dir root) (take k path) ≡ Some (Dir (slice_index trail k))
   pub here : leads f (Dir root) (take i path) ≡ Some (Dir block)
+
+pub begins_way : (f : Blocks) (root : ℕ) (path : Path) (i : ℕ) (trail : List ℕ) (block : ℕ) → length trail ≡ i → IsWay f root path trail block → Goes f root path i trail block
+begins_way f root path i trail block counted way = record {
+  counted = counted;
+  through = λ k less. way.through k (omega (arith, counted));
+  here = ap (λ (n : ℕ). leads f (Dir root) (take n path)) (sym counted) ∙ way.here;
+}
 
 pub begins : (f : Blocks) (root : ℕ) (path : Path) (trail : List ℕ) → trail ≡ [] → Goes f root path 0 trail root
 begins f root path trail none = record { counted = ap length none; through = λ k less. absurd (omega arith); here = refl }

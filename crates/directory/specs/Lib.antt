@@ -8,3 +8,4 @@ pub mod Moves
 pub mod Depths
 pub mod Reads
 pub mod Written
+pub mod Beside

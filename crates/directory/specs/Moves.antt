@@ -1,13 +1,16 @@
 -- What stands at a path of directories moved to another.
-use Rattle.std.specs.Prelude.{◌≡◌, ℕ, suc, ◌+◌, ◌-◌, ◌<◌, Bool, true, false, Option, Some, None, IsSome, List, [], ◌∷◌, length, slice_index, slice_index_or, if◌then◌else◌}
-use Rattle.fs_types.specs.Names.{Name, Path, same_name}
-use Rattle.node_format.specs.Items.{Item, are_entries, named}
+use Rattle.std.specs.Prelude.{◌≡◌, ℕ, suc, ◌+◌, ◌-◌, ◌<◌, Bool, true, false, Option, Some, None, IsSome, IfSome, List, [], ◌∷◌, length, slice_index, slice_index_or, if◌then◌else◌}
+use Rattle.fs_types.specs.Names.{Name, Path, same_name, same_path}
+use Rattle.plain_trees.specs.Contents.{Apart, parent_of}
+use Rattle.node_format.specs.Items.{Item, are_entries, named, is_place}
 use Rattle.node_format.specs.Edits.{edited_count}
 use Rattle.node_format.specs.declared.place.Place.{Place}
 use Rattle.node_format.specs.declared.place.Place.TheVariants.{Dir}
 use Rattle.block_trees.specs.Bodies.{Blocks}
-use Rattle.block_trees.specs.Trees.{child}
-use Rattle.directory.specs.Trails.{IsHeldTrail, IsTaken}
+use Rattle.block_trees.specs.Reached.{IsHeld}
+use Rattle.block_trees.specs.Trees.{child, leads, entries_in}
+use Rattle.directory.specs.Lookups.{look_up}
+use Rattle.directory.specs.Trails.{IsTrail, IsHeldTrail, IsTaken, has_room, takes}
 
 -- how many names two paths begin with in common
 abbrev pub common : Path → Path → ℕ
@@ -41,3 +44,23 @@ pub record IsFork (f : Blocks) (kept : ℕ → Bool) (old : Path) (old_trail : L
   pub stands : IsSome (child f (Dir (slice_index old_trail fork)) (slice_index_or old fork []))
   pub gone : fork + 1 < length old → IsTaken f old_trail old None
   pub here : 0 < (length old - (fork + 1)) + (length new - (fork + 1)) → IsTaken f new_trail new (Some place)
+
+-- the directory that begins in a block takes two edits: one of its names leads to one place, or to nothing, and another
+-- name to another place, for which there is room
+pub record TakesTwo (f : Blocks) (block : ℕ) (name : Name) (gone : Option Place) (other : Name) (here : Option Place) : Type 0 where
+  pub gone_place : IfSome gone (λ p. is_place p ≡ true)
+  pub here_place : IfSome here (λ p. is_place p ≡ true)
+  pub apart : same_name name other ≡ false
+  pub named : IsSome (child f (Dir block) name)
+  pub room : IsSome gone → takes (entries_in f block) other here ≡ true
+
+-- what look ups told of a path that is moved below a root to another: neither begins the other, the trails are theirs, the
+-- place is what the first leads to, and the second stands, or its parent has room, which a move within one directory does
+-- not ask
+pub record MayMove (f : Blocks) (kept : ℕ → Bool) (root : ℕ) (old : Path) (old_trail : List ℕ) (new : Path) (new_trail : List ℕ) (place : Place) : Type 0 where
+  pub apart : Apart old new
+  pub held : IsHeld f kept (Dir root)
+  pub old_way : IsTrail f root old old_trail
+  pub new_way : IsTrail f root new new_trail
+  pub stands : leads f (Dir root) old ≡ Some place
+  pub room : same_path (parent_of old) (parent_of new) ≡ false → has_room (look_up f root new) ≡ true

@@ -22,6 +22,12 @@ pub record IsTrail (f : Blocks) (root : ℕ) (path : Path) (trail : List ℕ) : 
   pub through : (i : ℕ) → i < length path → leads f (Dir root) (take i path) ≡ Some (Dir (slice_index trail i))
   pub begins : (i : ℕ) → i < length path → (items : List Item) × (entries_in f (slice_index trail i) ≡ Some items)
 
+-- a look up on its way: the blocks of the directories that it went through, one for each of the first names of the path,
+-- and the block of the one that these names lead to
+pub record IsWay (f : Blocks) (root : ℕ) (path : Path) (trail : List ℕ) (block : ℕ) : Type 0 where
+  pub through : (i : ℕ) → i < length trail → leads f (Dir root) (take i path) ≡ Some (Dir (slice_index trail i))
+  pub here : leads f (Dir root) (take (length trail) path) ≡ Some (Dir block)
+
 -- a name can be put where a look up found this: it stands there, or is missing from a directory that is not full
 abbrev pub has_room : Result Found Fault → Bool
 has_room (Ok (found.Missing is_full)) = not is_full
@@ -53,3 +59,10 @@ is_change_fault fault = is_read_fault fault || is_write_fault fault
 
 abbrev pub IsChangeFault : Fault → Type 0
 IsChangeFault fault = IsTrue (is_change_fault fault)
+
+-- what a look up told of a path that is edited below a root: the path has a name, the trail is its own, and all that the
+-- root reaches is kept
+pub record IsSought (f : Blocks) (kept : ℕ → Bool) (root : ℕ) (path : Path) (trail : List ℕ) : Type 0 where
+  pub below : 0 < length path
+  pub held : IsHeld f kept (Dir root)
+  pub way : IsTrail f root path trail

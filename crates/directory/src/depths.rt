@@ -205,6 +205,9 @@ pub fn any_is_deeper<N: Nodes>(
     let blocks = nodes.block_count();
     let mut level = first_level(alloc, blocks, roots)?;
     for done in 0..most {
+        if level.is_empty() {
+            return Ok(false);
+        }
         level = next_level(alloc, nodes, &level)?;
     }
     any_has_entries(nodes, &level)

@@ -70,7 +70,11 @@ pub(crate) fn rewrite_from<N: Nodes>(
     requires place { IfSome place (λ p. is_place p ≡ true) }
     requires way { spec.IsHeldTrail (N.node nodes.old) (N.kept nodes.old) names.now trail.now }
     requires taken { spec.IsTaken (N.node nodes.old) trail.now names.now place }
+
+    // The new directories.
     ensures rewritten { IfOk result (λ to. IsRewritten (N.node nodes.old) (N.node nodes.new) (N.kept nodes.old) (N.kept nodes.new) (slice_index trail.now level) to (drop level names.now) place) }
+
+    // What it is refused with, and what it asks for.
     ensures why { IfErr result (λ fault. N.causes nodes.old nodes.new fault) }
     ensures faults { IfErr result spec.IsChangeFault }
     ensures writes { N.writes nodes.new ≤ N.writes nodes.old + path_nodes (N.node nodes.old) trail.now names.now (is_some place) level }
@@ -102,14 +106,16 @@ pub fn put_entry<N: Nodes>(
     place: Place,
 ) -> Result<u32, Fault>
     requires sound { N.is_sound nodes.old }
-    requires below { 0 < length path.now }
     requires place { is_place place ≡ true }
-    requires held { IsHeld (N.node nodes.old) (N.kept nodes.old) (Dir root) }
-    requires way { spec.IsTrail (N.node nodes.old) root path.now trail.now }
+    requires sought { spec.IsSought (N.node nodes.old) (N.kept nodes.old) root path.now trail.now }
     requires room { spec.has_room (look_up (N.node nodes.old) root path.now) ≡ true }
+
+    // The new tree, and that the old one stays.
     ensures rewritten { IfOk result (λ to. IsRewritten (N.node nodes.old) (N.node nodes.new) (N.kept nodes.old) (N.kept nodes.new) root to path.now (Some place)) }
     ensures reaches { IfOk result (λ to. OnlyReaches (N.node nodes.old) (N.node nodes.new) (N.kept nodes.old) root to (Some place)) }
     ensures keeps { Keeps (N.kept nodes.old) (N.node nodes.old) (N.kept nodes.new) (N.node nodes.new) }
+
+    // What it is refused with, and what it asks for.
     ensures why { IfErr result (λ fault. N.causes nodes.old nodes.new fault) }
     ensures faults { IfErr result spec.IsChangeFault }
     ensures writes { N.writes nodes.new ≤ N.writes nodes.old + path_nodes (N.node nodes.old) trail.now path.now true 0 }
@@ -133,13 +139,15 @@ pub fn remove_entry<N: Nodes>(
     path: &Path,
 ) -> Result<u32, Fault>
     requires sound { N.is_sound nodes.old }
-    requires below { 0 < length path.now }
-    requires held { IsHeld (N.node nodes.old) (N.kept nodes.old) (Dir root) }
-    requires way { spec.IsTrail (N.node nodes.old) root path.now trail.now }
+    requires sought { spec.IsSought (N.node nodes.old) (N.kept nodes.old) root path.now trail.now }
     requires stands { IsSome (leads (N.node nodes.old) (Dir root) path.now) }
+
+    // The new tree, and that the old one stays.
     ensures rewritten { IfOk result (λ to. IsRewritten (N.node nodes.old) (N.node nodes.new) (N.kept nodes.old) (N.kept nodes.new) root to path.now None) }
     ensures reaches { IfOk result (λ to. OnlyReaches (N.node nodes.old) (N.node nodes.new) (N.kept nodes.old) root to None) }
     ensures keeps { Keeps (N.kept nodes.old) (N.node nodes.old) (N.kept nodes.new) (N.node nodes.new) }
+
+    // What it is refused with, and what it asks for.
     ensures why { IfErr result (λ fault. N.causes nodes.old nodes.new fault) }
     ensures faults { IfErr result spec.IsChangeFault }
     ensures writes { N.writes nodes.new ≤ N.writes nodes.old + path_nodes (N.node nodes.old) trail.now path.now false 0 }
@@ -169,9 +177,13 @@ pub fn put_directory<N: Nodes>(
     requires held { IsHeld (N.node nodes.old) (N.kept nodes.old) (Dir root) }
     requires way { spec.IsTrail (N.node nodes.old) root path.now trail.now }
     requires missing { look_up (N.node nodes.old) root path.now ≡ Ok (Missing false) }
+
+    // The new tree, and that the old one stays.
     ensures made { IfOk result (λ to. IsMade (N.node nodes.old) (N.node nodes.new) (N.kept nodes.old) (N.kept nodes.new) root to path.now) }
     ensures reaches { IfOk result (λ to. OnlyReaches (N.node nodes.old) (N.node nodes.new) (N.kept nodes.old) root to None) }
     ensures keeps { Keeps (N.kept nodes.old) (N.node nodes.old) (N.kept nodes.new) (N.node nodes.new) }
+
+    // What it is refused with, and what it asks for.
     ensures why { IfErr result (λ fault. N.causes nodes.old nodes.new fault) }
     ensures faults { IfErr result spec.IsChangeFault }
     ensures writes { N.writes nodes.new ≤ N.writes nodes.old + (path_nodes (N.node nodes.old) trail.now path.now true 0 + 1) }

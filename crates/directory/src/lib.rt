@@ -15,4 +15,4 @@ pub use edits::{put_directory, put_entry, remove_entry};
 pub use listings::{entry_count, is_empty, names};
 pub use lookups::{Found, lookup, lookup_laws};
 pub use moves::move_entry;
-pub use trail::{Trail, find};
+pub use trail::{Trail, find, find_beside};

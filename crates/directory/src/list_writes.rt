@@ -23,7 +23,11 @@ fn write_one<N: Nodes>(
     requires sound { N.is_sound nodes.old }
     requires few { length list.now ≤ NODE_ENTRIES }
     requires full { (next ≡ 0) ⊎ (length list.now ≡ NODE_ENTRIES) }
+
+    // What was written.
     ensures one { IfOk result (λ to. spec.IsOneMore (N.kept nodes.old) (N.node nodes.new) (N.kept nodes.new) next to list.now) }
+
+    // What it is refused with, and what it asks for.
     ensures why { IfErr result (λ fault. N.causes nodes.old nodes.new fault) }
     ensures faults { IfErr result IsWriteFault }
     ensures written { IfOk result (λ _. N.writes nodes.new ≡ N.writes nodes.old + 1) }
@@ -65,7 +69,11 @@ fn write_group<N: Nodes>(
     requires few { length list.now ≤ MAX_ENTRIES }
     requires within { NODE_ENTRIES * group < length list.now }
     requires full { (next ≡ 0) ⊎ (NODE_ENTRIES * group + NODE_ENTRIES ≤ length list.now) }
+
+    // What was written.
     ensures one { IfOk result (λ to. spec.IsOneMore (N.kept nodes.old) (N.node nodes.new) (N.kept nodes.new) next to (take NODE_ENTRIES (drop (NODE_ENTRIES * group) list.now))) }
+
+    // What it is refused with, and what it asks for.
     ensures why { IfErr result (λ fault. N.causes nodes.old nodes.new fault) }
     ensures faults { IfErr result IsWriteFault }
     ensures written { IfOk result (λ _. N.writes nodes.new ≡ N.writes nodes.old + 1) }
@@ -91,7 +99,11 @@ fn write_after<N: Nodes>(
     requires few { length list.now ≤ MAX_ENTRIES }
     requires some { 0 < length list.now }
     requires full { (tail ≡ 0) ⊎ (length list.now % NODE_ENTRIES ≡ 0) }
+
+    // What was written.
     ensures put { IfOk result (λ to. spec.Puts (N.node nodes.old) (N.kept nodes.old) (N.node nodes.new) (N.kept nodes.new) (div_ceil (length list.now) NODE_ENTRIES) tail to list.now) }
+
+    // What it is refused with, and what it asks for.
     ensures why { IfErr result (λ fault. N.causes nodes.old nodes.new fault) }
     ensures faults { IfErr result IsWriteFault }
     ensures written { IfOk result (λ _. N.writes nodes.new ≡ N.writes nodes.old + div_ceil (length list.now) NODE_ENTRIES) }
@@ -119,7 +131,11 @@ pub(crate) fn write_list<N: Nodes>(
     requires sound { N.is_sound nodes.old }
     requires few { length list.now ≤ MAX_ENTRIES }
     requires full { (tail ≡ 0) ⊎ ((0 < length list.now) × (length list.now % NODE_ENTRIES ≡ 0)) }
+
+    // What was written.
     ensures put { IfOk result (λ to. spec.PutsDirectory (N.node nodes.old) (N.kept nodes.old) (N.node nodes.new) (N.kept nodes.new) tail to list.now) }
+
+    // What it is refused with, and what it asks for.
     ensures why { IfErr result (λ fault. N.causes nodes.old nodes.new fault) }
     ensures faults { IfErr result IsWriteFault }
     ensures written { IfOk result (λ _. N.writes nodes.new ≡ N.writes nodes.old + nodes_for (length list.now)) }

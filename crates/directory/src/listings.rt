@@ -40,8 +40,12 @@ fn add_names<N: Nodes>(
     names: &mut Sequence<(Name, bool)>,
 ) -> Result<u32, Fault>
     requires { N.is_sound nodes.old }
+
+    // What was added.
     ensures names { OnOk result (names.new ≡ names.old ++ names_of (link_items (N.node nodes.old block))) }
     ensures next { IfOk result (λ next. next_of (N.node nodes.old block) ≡ next) }
+
+    // Why not, and what is read.
     ensures damaged { IsErrOf result Damaged → link_of (N.node nodes.old block) ≡ None }
     ensures why { IfErr result (λ fault. is_path_fault fault ≡ false → N.causes nodes.old nodes.new fault) }
     ensures faults { IfErr result IsReadFault }
@@ -68,7 +72,11 @@ pub fn names<N: Nodes>(
     block: u32,
 ) -> Result<Sequence<(Name, bool)>, Fault>
     requires { N.is_sound nodes.old }
+
+    // What was found.
     ensures names { IfOk result (λ names. (items : List Item) → entries_in (N.node nodes.old) block ≡ Some items → names ≡ names_of items) }
+
+    // Why not, and what is read.
     ensures damaged { IsErrOf result Damaged → entries_in (N.node nodes.old) block ≡ None }
     ensures why { IfErr result (λ fault. is_path_fault fault ≡ false → N.causes nodes.old nodes.new fault) }
     ensures faults { IfErr result IsReadFault }
@@ -90,9 +98,13 @@ pub fn names<N: Nodes>(
 /// none comes.
 fn count_at<N: Nodes>(nodes: &mut N, block: u32) -> Result<(usize, u32), Fault>
     requires { N.is_sound nodes.old }
+
+    // What was found.
     ensures count { IfOk result (λ c. length (link_items (N.node nodes.old block)) ≡ c.0) }
     ensures few { IfOk result (λ c. c.0 ≤ NODE_ENTRIES) }
     ensures next { IfOk result (λ c. next_of (N.node nodes.old block) ≡ c.1) }
+
+    // Why not, and what is read.
     ensures damaged { IsErrOf result Damaged → link_of (N.node nodes.old block) ≡ None }
     ensures why { IfErr result (λ fault. is_path_fault fault ≡ false → N.causes nodes.old nodes.new fault) }
     ensures faults { IfErr result IsReadFault }
@@ -113,7 +125,11 @@ fn count_at<N: Nodes>(nodes: &mut N, block: u32) -> Result<(usize, u32), Fault>
 /// with.
 pub fn entry_count<N: Nodes>(nodes: &mut N, block: u32) -> Result<usize, Fault>
     requires { N.is_sound nodes.old }
+
+    // What was found.
     ensures count { IfOk result (λ count. (items : List Item) → entries_in (N.node nodes.old) block ≡ Some items → count ≡ length items) }
+
+    // Why not, and what is read.
     ensures damaged { IsErrOf result Damaged → entries_in (N.node nodes.old) block ≡ None }
     ensures why { IfErr result (λ fault. is_path_fault fault ≡ false → N.causes nodes.old nodes.new fault) }
     ensures faults { IfErr result IsReadFault }
@@ -139,7 +155,11 @@ pub fn entry_count<N: Nodes>(nodes: &mut N, block: u32) -> Result<usize, Fault>
 /// with.
 pub fn is_empty<N: Nodes>(nodes: &mut N, block: u32) -> Result<bool, Fault>
     requires { N.is_sound nodes.old }
+
+    // What was found.
     ensures value { IfOk result (λ empty. (items : List Item) → entries_in (N.node nodes.old) block ≡ Some items → empty ≡ (length items == 0)) }
+
+    // Why not, and what is read.
     ensures damaged { IsErrOf result Damaged → entries_in (N.node nodes.old) block ≡ None }
     ensures why { IfErr result (λ fault. is_path_fault fault ≡ false → N.causes nodes.old nodes.new fault) }
     ensures faults { IfErr result IsReadFault }

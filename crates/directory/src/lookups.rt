@@ -52,8 +52,12 @@ struct Sight {
 /// What the node in a block says of a name.
 fn look_at<N: Nodes>(nodes: &mut N, block: u32, name: &Name) -> Result<Sight, Fault>
     requires { N.is_sound nodes.old }
+
+    // What the node says.
     ensures seen { IfOk result (λ s. seeking.Sees (link_of (N.node nodes.old block)) name.now s.is_later s.place s.count s.next) }
     ensures few { IfOk result (λ s. s.count ≤ NODE_ENTRIES) }
+
+    // Why not, and what is read.
     ensures damaged { IsErrOf result Damaged → link_of (N.node nodes.old block) ≡ None }
     ensures why { IfErr result (λ fault. spec.is_path_fault fault ≡ false → N.causes nodes.old nodes.new fault) }
     ensures faults { IfErr result IsReadFault }
@@ -93,8 +97,12 @@ pub(crate) struct Sought {
 /// name is read; where none has it, each one is.
 fn seek<N: Nodes>(nodes: &mut N, block: u32, name: &Name) -> Result<Sought, Fault>
     requires { N.is_sound nodes.old }
+
+    // What the nodes say.
     ensures found { IfOk result (λ s. spec.place_in (N.node nodes.old) name.now block ≡ Ok s.place) }
     ensures counted { IfOk result (λ s. s.place ≡ None → s.count ≡ length (seeking.chain_items (N.node nodes.old) block)) }
+
+    // Why not, and what is read.
     ensures damaged { IsErrOf result Damaged → spec.place_in (N.node nodes.old) name.now block ≡ Err Damaged }
     ensures why { IfErr result (λ fault. spec.is_path_fault fault ≡ false → N.causes nodes.old nodes.new fault) }
     ensures faults { IfErr result IsReadFault }
@@ -128,7 +136,11 @@ pub(crate) fn place_in<N: Nodes>(
     name: &Name,
 ) -> Result<Option<Place>, Fault>
     requires { N.is_sound nodes.old }
+
+    // What was found.
     ensures found { IfOk result (λ place. spec.place_in (N.node nodes.old) name.now block ≡ Ok place) }
+
+    // Why not, and what is read.
     ensures damaged { IsErrOf result Damaged → spec.place_in (N.node nodes.old) name.now block ≡ Err Damaged }
     ensures why { IfErr result (λ fault. spec.is_path_fault fault ≡ false → N.causes nodes.old nodes.new fault) }
     ensures faults { IfErr result IsReadFault }
@@ -153,7 +165,11 @@ pub(crate) fn directory_at(place: Option<Place>) -> Result<u32, Fault>
 /// What a name leads to in the directory that begins in a block, as the last component of a path.
 pub(crate) fn found_in<N: Nodes>(nodes: &mut N, block: u32, name: &Name) -> Result<Found, Fault>
     requires { N.is_sound nodes.old }
+
+    // What was found.
     ensures found { IfOk result (λ found. spec.found_in (N.node nodes.old) name.now block ≡ Ok found) }
+
+    // Why not, and what is read.
     ensures damaged { IsErrOf result Damaged → spec.place_in (N.node nodes.old) name.now block ≡ Err Damaged }
     ensures why { IfErr result (λ fault. spec.is_path_fault fault ≡ false → N.causes nodes.old nodes.new fault) }
     ensures faults { IfErr result IsReadFault }
@@ -174,7 +190,11 @@ pub(crate) fn found_in<N: Nodes>(nodes: &mut N, block: u32, name: &Name) -> Resu
 /// and with what a read is refused with.
 pub fn lookup<N: Nodes>(nodes: &mut N, root: u32, path: &Path) -> Result<Found, Fault>
     requires { N.is_sound nodes.old }
+
+    // What was found.
     ensures found { IfOk result (λ found. spec.look_up (N.node nodes.old) root path.now ≡ Ok found) }
+
+    // Why not, and what is read.
     ensures refused { IfErr result (λ fault. spec.is_path_fault fault ≡ true → spec.look_up (N.node nodes.old) root path.now ≡ Err fault) }
     ensures why { IfErr result (λ fault. spec.is_path_fault fault ≡ false → N.causes nodes.old nodes.new fault) }
     ensures faults { IfErr result spec.IsLookupFault }

@@ -26,7 +26,7 @@ use node_store::Nodes;
 use std::alloc::Global;
 
 /// How many names two paths begin with in common.
-fn common_names(old: &[Name], new: &[Name]) -> usize
+pub(crate) fn common_names(old: &[Name], new: &[Name]) -> usize
     ensures { result ≡ spec.common old.now new.now }
 {
     for (i, name) in old.iter().enumerate() {
@@ -52,13 +52,13 @@ fn edit_directory_twice<N: Nodes>(
     here: Option<Place>,
 ) -> Result<u32, Fault>
     requires sound { N.is_sound nodes.old }
-    requires gone { IfSome gone (λ p. is_place p ≡ true) }
-    requires here { IfSome here (λ p. is_place p ≡ true) }
-    requires apart { same_name name.now other.now ≡ false }
-    requires named { IsSome (child (N.node nodes.old) (Dir block) name.now) }
-    requires room { IsSome gone → takes (entries_in (N.node nodes.old) block) other.now here ≡ true }
+    requires takes { spec.TakesTwo (N.node nodes.old) block name.now gone other.now here }
+
+    // The new directory.
     ensures edited { IfOk result (λ to. IsSecondEdit (N.node nodes.old) (N.node nodes.new) block to name.now gone other.now here) }
     ensures chain { IfOk result (λ to. IsFreshChain (N.node nodes.old) (N.node nodes.new) (N.kept nodes.old) (N.kept nodes.new) block to) }
+
+    // What it is refused with, and what it asks for.
     ensures why { IfErr result (λ fault. N.causes nodes.old nodes.new fault) }
     ensures faults { IfErr result IsChangeFault }
     ensures written { IfOk result (λ _. N.writes nodes.new ≡ N.writes nodes.old + nodes_for (spec.edited_twice_count (items_in (N.node nodes.old) block) name.now gone other.now here)) }
@@ -86,8 +86,12 @@ fn rewrite_branch<N: Nodes>(
     requires place { IfSome place (λ p. is_place p ≡ true) }
     requires way { IsHeldTrail (N.node nodes.old) (N.kept nodes.old) names.now trail.now }
     requires taken { fork + 1 < length names.now → IsTaken (N.node nodes.old) trail.now names.now place }
+
+    // What the name leads to then.
     ensures branch { IfOk result (λ now. IsBranch (N.node nodes.old) (N.node nodes.new) (N.kept nodes.old) (N.kept nodes.new) (slice_index trail.now fork) (slice_index_or names.now fork []) (drop (fork + 1) names.now) place now) }
     ensures lawful { IfOk result (λ now. IfSome now (λ p. is_place p ≡ true)) }
+
+    // What it is refused with, and what it asks for.
     ensures why { IfErr result (λ fault. N.causes nodes.old nodes.new fault) }
     ensures faults { IfErr result IsChangeFault }
     ensures writes { N.writes nodes.new ≤ N.writes nodes.old + path_nodes (N.node nodes.old) trail.now names.now (is_some place) (fork + 1) }
@@ -117,7 +121,11 @@ fn rewrite_fork<N: Nodes>(
     requires sound { N.is_sound nodes.old }
     requires place { is_place place ≡ true }
     requires fork { spec.IsFork (N.node nodes.old) (N.kept nodes.old) old.now old_trail.now new.now new_trail.now place fork }
+
+    // The new directory where the trails part.
     ensures moved { IfOk result (λ to. IsMoved (N.node nodes.old) (N.node nodes.new) (N.kept nodes.old) (N.kept nodes.new) (slice_index old_trail.now fork) to (drop fork old.now) (drop fork new.now) place) }
+
+    // What it is refused with, and what it asks for.
     ensures why { IfErr result (λ fault. N.causes nodes.old nodes.new fault) }
     ensures faults { IfErr result IsChangeFault }
     ensures writes { N.writes nodes.new ≤ N.writes nodes.old + fork_nodes (N.node nodes.old) old_trail.now old.now new_trail.now new.now fork }
@@ -157,16 +165,15 @@ pub fn move_entry<N: Nodes>(
     place: Place,
 ) -> Result<u32, Fault>
     requires sound { N.is_sound nodes.old }
-    requires apart { Apart old.now new.now }
     requires place { is_place place ≡ true }
-    requires held { IsHeld (N.node nodes.old) (N.kept nodes.old) (Dir root) }
-    requires old_way { IsTrail (N.node nodes.old) root old.now old_trail.now }
-    requires new_way { IsTrail (N.node nodes.old) root new.now new_trail.now }
-    requires stands { leads (N.node nodes.old) (Dir root) old.now ≡ Some place }
-    requires room { same_path (parent_of old.now) (parent_of new.now) ≡ false → has_room (look_up (N.node nodes.old) root new.now) ≡ true }
+    requires sought { spec.MayMove (N.node nodes.old) (N.kept nodes.old) root old.now old_trail.now new.now new_trail.now place }
+
+    // The new tree, and that the old one stays.
     ensures moved { IfOk result (λ to. IsMoved (N.node nodes.old) (N.node nodes.new) (N.kept nodes.old) (N.kept nodes.new) root to old.now new.now place) }
     ensures reaches { IfOk result (λ to. OnlyReaches (N.node nodes.old) (N.node nodes.new) (N.kept nodes.old) root to None) }
     ensures keeps { Keeps (N.kept nodes.old) (N.node nodes.old) (N.kept nodes.new) (N.node nodes.new) }
+
+    // What it is refused with, and what it asks for.
     ensures why { IfErr result (λ fault. N.causes nodes.old nodes.new fault) }
     ensures faults { IfErr result IsChangeFault }
     ensures writes { N.writes nodes.new ≤ N.writes nodes.old + move_nodes (N.node nodes.old) old_trail.now old.now new_trail.now new.now }

@@ -25,7 +25,8 @@ struct Seen {
     next: u32,
 }
 
-/// Reads the node in a block, one of a directory, and appends its entries to a list.
+/// Reads the node in a block, one of a directory, and appends its entries to a list. The node is
+/// taken out of memory: the one that is written in its place comes in.
 fn append_node<N: Nodes>(
     nodes: &mut N,
     block: u32,
@@ -47,10 +48,9 @@ fn append_node<N: Nodes>(
     let more = entries.list();
     let has_name = more.find(name.as_bytes()).is_some();
     list.extend(&more)?;
-    Ok(Seen {
-        has_name,
-        next: entries.next(),
-    })
+    let next = entries.next();
+    nodes.supersede(block);
+    Ok(Seen { has_name, next })
 }
 
 /// Whether an edit of a name wants no more nodes than were read: none is left, or the name has
@@ -73,8 +73,12 @@ pub(crate) fn read_list<N: Nodes>(
 ) -> Result<(Spelled, u32), Fault>
     requires sound { N.is_sound nodes.old }
     requires there { IsSome (entries_in (N.node nodes.old) block) }
+
+    // What was read.
     ensures read { IfOk result (λ r. (left : ℕ) × spec.IsReadTo (N.node nodes.old) block left r.0 r.1) }
     ensures enough { IfOk result (λ r. spec.IsEnough r.0 r.1 name.now (is_some place)) }
+
+    // What it is refused with, and what it asks for.
     ensures why { IfErr result (λ fault. N.causes nodes.old nodes.new fault) }
     ensures faults { IfErr result IsChangeFault }
     ensures looks { OnlyLooks N.node N.kept N.writes N.follows N.is_sound N.limit N.blocks nodes.old nodes.new }

@@ -1,11 +1,13 @@
 //! What a path leads to, with the directories that it goes through.
-ghost use Rattle.std.specs.Prelude.{◌≡◌, ℕ, ◌+◌, ◌≤◌, ◌<◌, true, false, length, [], ◌∷◌, ◌++◌, Ok, Err, IfOk, IfErr};
+ghost use Rattle.std.specs.Prelude.{◌≡◌, ℕ, ◌+◌, ◌≤◌, ◌<◌, true, false, length, take, drop, slice_index_or, [], ◌∷◌, ◌++◌, Ok, Err, IfOk, IfErr};
 ghost use Rattle.directory.specs.Lookups as spec;
-ghost use Rattle.directory.specs.Trails.{IsTrail};
+ghost use Rattle.directory.specs.Trails.{IsTrail, IsWay};
+ghost use Rattle.directory.specs.Beside.{beside_nodes};
 ghost use Rattle.node_store.specs.Frames.{OnlyLooks};
 ghost use Rattle.fs_types.specs.declared.limits.TheConstants.{MAX_NAMES};
 
 use crate::lookups::{Found, directory_at, found_in, place_in};
+use crate::moves::common_names;
 use arrayvec::ArrayVec;
 use fs_types::{Fault, MAX_NAMES, Path};
 use node_store::Nodes;
@@ -42,12 +44,77 @@ impl Trail {
         self.blocks.push(block);
     }
 
+    /// The first blocks, so many.
+    fn front(&self, count: usize) -> Self
+        requires { count ≤ length self.now }
+        ensures { result ≡ take count self.now }
+    {
+        let mut front = Trail::new();
+        for block in &self.blocks.as_slice()[..count] {
+            front.push(*block);
+        }
+        front
+    }
+
+    /// The block at a place; `root` where the trail has none there, as that of the root's own path.
+    fn block_or(&self, place: usize, root: u32) -> u32
+        ensures { result ≡ slice_index_or self.now place root }
+    {
+        let blocks = self.blocks.as_slice();
+        if place < blocks.len() {
+            blocks[place]
+        } else {
+            root
+        }
+    }
+
     /// The blocks, the root first.
     pub fn blocks(&self) -> &[u32]
         ensures { result.now ≡ self.now }
     {
         self.blocks.as_slice()
     }
+}
+
+/// A look-up of a path that goes on at the directory in a block, where the trail has those that were
+/// gone through before: one for each of the first names.
+fn find_from<N: Nodes>(
+    nodes: &mut N,
+    trail: Trail,
+    block: u32,
+    path: &Path,
+) -> Result<(Found, Trail), Fault>
+    requires sound { N.is_sound nodes.old }
+    requires within { length trail ≤ length path.now }
+
+    // What the names that are left lead to.
+    ensures found { IfOk result (λ r. spec.look_up (N.node nodes.old) block (drop (length trail) path.now) ≡ Ok r.0) }
+    ensures trail { (root : ℕ) → spec.LeadsToDirectories (N.node nodes.old) root → IsWay (N.node nodes.old) root path.now trail block → IfOk result (λ r. IsTrail (N.node nodes.old) root path.now r.1) }
+
+    // Why not.
+    ensures refused { IfErr result (λ fault. spec.is_path_fault fault ≡ true → spec.look_up (N.node nodes.old) block (drop (length trail) path.now) ≡ Err fault) }
+    ensures why { IfErr result (λ fault. spec.is_path_fault fault ≡ false → N.causes nodes.old nodes.new fault) }
+    ensures faults { IfErr result spec.IsLookupFault }
+
+    // Nodes were read alone.
+    ensures looks { OnlyLooks N.node N.kept N.writes N.follows N.is_sound N.limit N.blocks nodes.old nodes.new }
+    ensures reads { N.reads nodes.new ≤ N.reads nodes.old + spec.way_nodes (N.node nodes.old) block (drop (length trail) path.now) }
+{
+    let names = path.names();
+    let mut trail = trail;
+    let mut block = block;
+    let known = trail.blocks().len();
+    for i in known..names.len() {
+        let name = &names[i];
+        trail.push(block);
+        if i + 1 == names.len() {
+            let found = found_in(nodes, block, name)?;
+            return Ok((found, trail));
+        }
+        let place = place_in(nodes, block, name)?;
+        block = directory_at(place)?;
+    }
+    Ok((Found::Dir { block }, trail))
 }
 
 /// What a path below a root leads to, and the directories that it goes through. Any content of the
@@ -59,25 +126,52 @@ impl Trail {
 /// and with what a read is refused with.
 pub fn find<N: Nodes>(nodes: &mut N, root: u32, path: &Path) -> Result<(Found, Trail), Fault>
     requires { N.is_sound nodes.old }
+
+    // What was found.
     ensures found { IfOk result (λ r. spec.look_up (N.node nodes.old) root path.now ≡ Ok r.0) }
     ensures trail { spec.LeadsToDirectories (N.node nodes.old) root → IfOk result (λ r. IsTrail (N.node nodes.old) root path.now r.1) }
+
+    // Why not, and what is read.
     ensures refused { IfErr result (λ fault. spec.is_path_fault fault ≡ true → spec.look_up (N.node nodes.old) root path.now ≡ Err fault) }
     ensures why { IfErr result (λ fault. spec.is_path_fault fault ≡ false → N.causes nodes.old nodes.new fault) }
     ensures faults { IfErr result spec.IsLookupFault }
     ensures looks { OnlyLooks N.node N.kept N.writes N.follows N.is_sound N.limit N.blocks nodes.old nodes.new }
     ensures reads { N.reads nodes.new ≤ N.reads nodes.old + spec.way_nodes (N.node nodes.old) root path.now }
 {
-    let names = path.names();
-    let mut trail = Trail::new();
-    let mut block = root;
-    for (i, name) in names.iter().enumerate() {
-        trail.push(block);
-        if i + 1 == names.len() {
-            let found = found_in(nodes, block, name)?;
-            return Ok((found, trail));
-        }
-        let place = place_in(nodes, block, name)?;
-        block = directory_at(place)?;
-    }
-    Ok((Found::Dir { block }, trail))
+    find_from(nodes, Trail::new(), root, path)
+}
+
+/// What a path below a root leads to, and the directories that it goes through, as `find`, where
+/// another path was looked up before: its trail tells the directories that both go through, and no
+/// node of them is read again but of the one where the paths part.
+///
+/// Refused as `find`.
+pub fn find_beside<N: Nodes>(
+    nodes: &mut N,
+    root: u32,
+    other: &Path,
+    other_trail: &Trail,
+    path: &Path,
+) -> Result<(Found, Trail), Fault>
+    requires sound { N.is_sound nodes.old }
+    requires way { IsTrail (N.node nodes.old) root other.now other_trail.now }
+
+    // What the path leads to.
+    ensures found { IfOk result (λ r. spec.look_up (N.node nodes.old) root path.now ≡ Ok r.0) }
+    ensures trail { spec.LeadsToDirectories (N.node nodes.old) root → IfOk result (λ r. IsTrail (N.node nodes.old) root path.now r.1) }
+
+    // Why not.
+    ensures refused { IfErr result (λ fault. spec.is_path_fault fault ≡ true → spec.look_up (N.node nodes.old) root path.now ≡ Err fault) }
+    ensures why { IfErr result (λ fault. spec.is_path_fault fault ≡ false → N.causes nodes.old nodes.new fault) }
+    ensures faults { IfErr result spec.IsLookupFault }
+
+    // Nodes were read alone, those from where the paths part.
+    ensures looks { OnlyLooks N.node N.kept N.writes N.follows N.is_sound N.limit N.blocks nodes.old nodes.new }
+    ensures reads { N.reads nodes.new ≤ N.reads nodes.old + beside_nodes (N.node nodes.old) root other.now other_trail.now path.now }
+{
+    let blocks = other_trail.blocks();
+    let common = common_names(other.names(), path.names());
+    let known = common.min(blocks.len().saturating_sub(1));
+    let block = other_trail.block_or(known, root);
+    find_from(nodes, other_trail.front(known), block, path)
 }

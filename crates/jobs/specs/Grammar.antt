@@ -8,6 +8,10 @@ use Rattle.clap.specs.declared.builder.value_parser.ValueParser.{ValueParser}
 abbrev pub word_rule : Text → Rule
 word_rule name = record (new_rule name) { required = true; action = Some ArgAction.Set }
 
+-- a word that may be left out
+abbrev pub optional_rule : Text → Rule
+optional_rule name = record (new_rule name) { action = Some ArgAction.Set }
+
 -- an option `--NAME NUMBER`, of a number of 32 bits
 abbrev pub number_rule : Text → Rule
 number_rule name = record (new_rule name) { long = Some name; value_names = 1; action = Some ArgAction.Set; parser = Some (ValueParser.Signed (pos 0) (pos 4294967295)) }
@@ -33,6 +37,12 @@ run_app = with_rule (image_app (codes "run")) (flag_rule (codes "stop"))
 abbrev pub put_app : App
 put_app = with_rule (with_rule (with_rule (image_app (codes "put")) (word_rule (codes "FILE"))) (word_rule (codes "PATH"))) (flag_rule (codes "progress"))
 
+abbrev pub get_app : App
+get_app = with_rule (with_rule (with_rule (image_app (codes "get")) (word_rule (codes "PATH"))) (word_rule (codes "FILE"))) (optional_rule (codes "VIEW"))
+
+abbrev pub tree_app : App
+tree_app = with_rule (image_app (codes "tree")) (optional_rule (codes "VIEW"))
+
 abbrev pub explain_app : App
 explain_app = with_rule (new_app (codes "explain")) refusal_rule
 
@@ -47,6 +57,10 @@ bare_app = record (new_app (codes "uffs")) { top = bare_top }
 abbrev pub changing_app : App
 changing_app = with_subcommand (with_subcommand (with_subcommand bare_app format_app.top) run_app.top) put_app.top
 
+-- a program with the subcommands more that read what stands in an image
+abbrev pub with_reading_apps : App → App
+with_reading_apps app = with_subcommand (with_subcommand app get_app.top) tree_app.top
+
 -- a program with the subcommands more that take an image alone
 abbrev pub with_image_apps : App → App
 with_image_apps app = with_subcommand (with_subcommand (with_subcommand app
@@ -54,4 +68,4 @@ with_image_apps app = with_subcommand (with_subcommand (with_subcommand app
 
 -- the program
 abbrev pub uffs : App
-uffs = with_subcommand (with_subcommand (with_image_apps changing_app) (new_app (codes "memory")).top) explain_app.top
+uffs = with_subcommand (with_subcommand (with_image_apps (with_reading_apps changing_app)) (new_app (codes "memory")).top) explain_app.top

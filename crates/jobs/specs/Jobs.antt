@@ -18,6 +18,8 @@ abbrev pub task_named : Text → Option Task
 task_named name = if bytes_eq name (codes "format") then Some Task.Format
     else if bytes_eq name (codes "run") then Some Task.Run
     else if bytes_eq name (codes "put") then Some Task.Put
+    else if bytes_eq name (codes "get") then Some Task.Get
+    else if bytes_eq name (codes "tree") then Some Task.Tree
     else if bytes_eq name (codes "check") then Some Task.Check
     else if bytes_eq name (codes "log") then Some Task.Log
     else if bytes_eq name (codes "df") then Some Task.Df
@@ -75,6 +77,7 @@ pub record IsJobOf (name : Text) (rows : List Row) (job : Job) : Type 0 where
   pub stop : job.stop ≡ flag_of (first_of (codes "stop") rows)
   pub path : text_of job.path ≡ first_of (codes "PATH") rows
   pub file : text_of job.file ≡ first_of (codes "FILE") rows
+  pub view : text_of job.view ≡ first_of (codes "VIEW") rows
   pub progress : job.progress ≡ flag_of (first_of (codes "progress") rows)
 
 -- the job is what a subcommand says, where one was named

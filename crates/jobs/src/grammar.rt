@@ -2,8 +2,8 @@
 ghost use Rattle.std.specs.Prelude.{◌≡◌, IfOk, codes, false};
 ghost use Rattle.clap.specs.Words.{app_of, rule_of, new_app, with_rule, with_subcommand};
 ghost use Rattle.clap.specs.declared.builder.command.Command.TheViews.{out-Command};
-ghost use Rattle.jobs.specs.Grammar.{uffs, bare_app, changing_app, format_app, run_app, put_app, explain_app, image_app};
-ghost use Rattle.jobs.specs.Grammar.{with_image_apps, flag_rule, number_rule, refusal_rule, word_rule};
+ghost use Rattle.jobs.specs.Grammar.{uffs, bare_app, changing_app, format_app, run_app, put_app, get_app, tree_app, explain_app, image_app};
+ghost use Rattle.jobs.specs.Grammar.{with_reading_apps, with_image_apps, flag_rule, number_rule, refusal_rule, word_rule, optional_rule};
 
 use clap::{Arg, ArgAction, Command, value_parser};
 use std::alloc::{AllocError, Global};
@@ -16,6 +16,9 @@ pub(crate) const PATH: &str = "PATH";
 
 /// The name of the argument that names a file of the host.
 pub(crate) const FILE: &str = "FILE";
+
+/// The name of the argument that is a view.
+pub(crate) const VIEW: &str = "VIEW";
 
 /// The name of the argument that is the number of a refusal.
 pub(crate) const REFUSAL: &str = "NO";
@@ -64,6 +67,28 @@ words; 3 IMAGE holds no image, or its mount was refused; 4 it was refused, told 
 
 Example: uffs put disk.image ./site /site --progress";
 
+const GET_HELP: &str =
+    "The file at PATH of the image is written to FILE, whole or not at all: it is written as FILE.new,
+which is renamed. A file that is there is replaced. Without VIEW it is the file of the present
+version; @5 is the version of serial 5, and =name a checkpoint. PATH and VIEW are spelled as in a
+script. Nothing is written to IMAGE.
+
+Status: 0 it is there; 1 IMAGE cannot be read, FILE cannot be written, or memory; 2 the words; 3
+IMAGE holds no image, or its mount was refused; 4 it was refused, told as uffs: ENOENT 1.
+
+Example: uffs get disk.image /site/index.html ./index.html @5";
+
+const TREE_HELP: &str =
+    "Prints a line for each directory and each file of a tree, a directory before what stands in it and
+names in byte order: a directory's path with / after it, a file's with its length in bytes. Without
+VIEW it is the present version; @5 is the version of serial 5, and =name a checkpoint. Nothing is
+written to IMAGE.
+
+Status: 0 it is printed; 1 IMAGE cannot be read, the output failed, or memory; 2 the words; 3 IMAGE
+holds no image, or its mount was refused; 4 it was refused, told as uffs: NOSUCHVERSION 20.
+
+Example: uffs tree disk.image =before";
+
 const CHECK_HELP: &str =
     "The newest record is read, and every tree that it names. Nothing is written to IMAGE.
 
@@ -108,7 +133,8 @@ Example: uffs explain 15";
 pub(crate) fn program<'a>(alloc: Global) -> Result<Command<'a>, AllocError>
     ensures { IfOk result (λ command. app_of command ≡ uffs) }
 {
-    let program = with_image_commands(alloc, changing_program(alloc)?)?;
+    let program = with_reading_commands(alloc, changing_program(alloc)?)?;
+    let program = with_image_commands(alloc, program)?;
     let program = program.subcommand(memory_command(alloc))?;
     program.subcommand(explain_command(alloc)?)
 }
@@ -120,6 +146,14 @@ fn changing_program<'a>(alloc: Global) -> Result<Command<'a>, AllocError>
     let program = bare_program(alloc)?.subcommand(format_command(alloc)?)?;
     let program = program.subcommand(run_command(alloc)?)?;
     program.subcommand(put_command(alloc)?)
+}
+
+/// The program with the subcommands more that read what stands in an image.
+fn with_reading_commands<'a>(alloc: Global, program: Command<'a>) -> Result<Command<'a>, AllocError>
+    ensures { IfOk result (λ command. app_of command ≡ with_reading_apps (app_of program.entry)) }
+{
+    let program = program.subcommand(get_command(alloc)?)?;
+    program.subcommand(tree_command(alloc)?)
 }
 
 /// The program with the subcommands more that take an image alone.
@@ -256,6 +290,44 @@ fn put_command<'a>(alloc: Global) -> Result<Command<'a>, AllocError>
     )
 }
 
+fn get_command<'a>(alloc: Global) -> Result<Command<'a>, AllocError>
+    ensures app { IfOk result (λ command. app_of command ≡ get_app) }
+    ensures local { IfOk result (λ command. (out-Command command).has_globals ≡ false) }
+{
+    let command = image_command(
+        alloc,
+        "get",
+        "Puts a file of an image into a file of the host",
+        GET_HELP,
+    )?;
+    let command = with_word(alloc, command, PATH, "The path of the file in the image")?;
+    let command = with_word(alloc, command, FILE, "The file of the host")?;
+    with_optional_word(
+        alloc,
+        command,
+        VIEW,
+        "The version, as @5, or the checkpoint, as =name",
+    )
+}
+
+fn tree_command<'a>(alloc: Global) -> Result<Command<'a>, AllocError>
+    ensures app { IfOk result (λ command. app_of command ≡ tree_app) }
+    ensures local { IfOk result (λ command. (out-Command command).has_globals ≡ false) }
+{
+    let command = image_command(
+        alloc,
+        "tree",
+        "Prints all that stands in an image",
+        TREE_HELP,
+    )?;
+    with_optional_word(
+        alloc,
+        command,
+        VIEW,
+        "The version, as @5, or the checkpoint, as =name",
+    )
+}
+
 fn explain_command<'a>(alloc: Global) -> Result<Command<'a>, AllocError>
     ensures app { IfOk result (λ command. app_of command ≡ explain_app) }
     ensures local { IfOk result (λ command. (out-Command command).has_globals ≡ false) }
@@ -277,6 +349,19 @@ fn with_word<'a>(
     ensures local { IfOk result (λ more. (out-Command more).has_globals ≡ (out-Command command.entry).has_globals) }
 {
     command.arg(word_arg(alloc, name, help))
+}
+
+/// The subcommand with a word more that may be left out.
+fn with_optional_word<'a>(
+    alloc: Global,
+    command: Command<'a>,
+    name: &'a str,
+    help: &'a str,
+) -> Result<Command<'a>, AllocError>
+    ensures app { IfOk result (λ more. app_of more ≡ with_rule (app_of command.entry) (optional_rule name.entry.now)) }
+    ensures local { IfOk result (λ more. (out-Command more).has_globals ≡ (out-Command command.entry).has_globals) }
+{
+    command.arg(optional_arg(alloc, name, help))
 }
 
 /// The subcommand with a flag more.
@@ -338,6 +423,14 @@ fn word_arg<'a>(alloc: Global, name: &'a str, help: &'a str) -> Arg<'a>
         .required(true)
         .action(ArgAction::Set)
         .help(help)
+}
+
+/// A word that may be left out.
+fn optional_arg<'a>(alloc: Global, name: &'a str, help: &'a str) -> Arg<'a>
+    ensures rule { rule_of result ≡ optional_rule name.entry.now }
+    ensures local { result.global ≡ false }
+{
+    Arg::new(alloc, name).action(ArgAction::Set).help(help)
 }
 
 /// A flag.

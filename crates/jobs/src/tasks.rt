@@ -9,6 +9,10 @@ pub enum Task {
     Run,
     /// Files of the host are put into an image.
     Put,
+    /// A file of an image is put into a file of the host.
+    Get,
+    /// All that stands in an image is told.
+    Tree,
     /// An image is mounted.
     Check,
     /// The line `log` is run on an image.
@@ -44,6 +48,8 @@ pub struct Job<'a> {
     pub path: Option<&'a str>,
     /// The file of the host; none where none is named.
     pub file: Option<&'a str>,
+    /// The view of the image; none where none is named.
+    pub view: Option<&'a str>,
     /// Whether progress is told.
     pub progress: bool,
 }

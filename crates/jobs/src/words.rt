@@ -7,7 +7,7 @@ ghost use Rattle.jobs.specs.Jobs.{AreNumbersOf, AsksFor, SaysJob, IsNumberOf, Is
 ghost use Rattle.jobs.specs.declared.tasks.Job.{Job};
 ghost use Rattle.jobs.specs.declared.words.Numbers.{Numbers};
 
-use crate::grammar::{FILE, IMAGE, PATH, REFUSAL, program};
+use crate::grammar::{FILE, IMAGE, PATH, REFUSAL, VIEW, program};
 use crate::tasks::{Job, Task};
 use clap::error::ErrorKind;
 use clap::{ArgMatches, Command, Error};
@@ -91,6 +91,7 @@ fn said<'a>(matches: &ArgMatches<'a>) -> Option<Job<'a>>
         stop: has_flag(given, "stop"),
         path: word(given, PATH),
         file: word(given, FILE),
+        view: word(given, VIEW),
         progress: has_flag(given, "progress"),
     })
 }
@@ -116,6 +117,8 @@ fn task_named(name: &str) -> Option<Task>
         "format" => Some(Task::Format),
         "run" => Some(Task::Run),
         "put" => Some(Task::Put),
+        "get" => Some(Task::Get),
+        "tree" => Some(Task::Tree),
         "check" => Some(Task::Check),
         "log" => Some(Task::Log),
         "df" => Some(Task::Df),

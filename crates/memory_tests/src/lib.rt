@@ -5,3 +5,5 @@
 mod budget;
 #[cfg(test)]
 mod growths;
+#[cfg(test)]
+mod large_blocks;

@@ -36,9 +36,17 @@ impl<N: Nodes> Nodes for Counted<N> {
 
     ghost lends = { λ s. N.lends s.nodes };
 
+    ghost beginning = { λ s. N.beginning s.nodes };
+
+    ghost lends_front = { λ s. N.lends_front s.nodes };
+
     ghost reads = { λ s. N.reads s.nodes };
 
     ghost writes = { λ s. N.writes s.nodes };
+
+    ghost asked = { λ s. N.asked s.nodes };
+
+    ghost page = { λ s. N.page s.nodes };
 
     ghost limit = { λ s. N.limit s.nodes };
 
@@ -67,8 +75,25 @@ impl<N: Nodes> Nodes for Counted<N> {
         self.nodes.lent()
     }
 
+    fn front(&mut self, block: u32) -> Result<(), Fault> {
+        self.asked = self.asked.saturating_add(1);
+        self.nodes.front(block)
+    }
+
+    fn fronted(&self) -> &[u8] {
+        self.nodes.fronted()
+    }
+
+    fn supersede(&mut self, block: u32) {
+        self.nodes.supersede(block);
+    }
+
     fn write(&mut self, bytes: &[u8]) -> Result<u32, Fault> {
         self.nodes.write(bytes)
+    }
+
+    fn write_owned(&mut self, bytes: Vec<u8>) -> Result<u32, Fault> {
+        self.nodes.write_owned(bytes)
     }
 
     ghost follows_itself = { λ s. N.follows_itself s.nodes };
@@ -86,6 +111,10 @@ impl<N: Nodes> Nodes for Counted<N> {
     ghost memory_may_want = { λ s t. N.memory_may_want s.nodes t.nodes };
 
     ghost stays_sound = { λ s t. N.stays_sound s.nodes t.nodes };
+
+    ghost same_page = { λ s t. N.same_page s.nodes t.nodes };
+
+    ghost least_page = { λ s. N.least_page s.nodes };
 
     ghost same_limit = { λ s t. N.same_limit s.nodes t.nodes };
 

@@ -34,12 +34,18 @@ use working_state::State;
 /// `PowerCut` by the device, `NoMemory` where memory could not be had. Once anything was erased a
 /// refusal may leave no file system: format again.
 pub fn format<F: Flash>(alloc: Global, flash: &mut F, limit: u32) -> Result<(), Fault>
+
+    // What stands on the flash then.
     ensures ok { OnOk result (IsFormatted limit (F.device flash.new)) }
     ensures stay { OnOk result ((F.device flash.new).geometry ≡ (F.device flash.old).geometry) }
     ensures listed { OnOk result (ListsFailed (F.device flash.old) (F.device flash.new)) }
     ensures numbered { OnOk result (IsNumbered (F.device flash.old) (F.device flash.new)) }
+
+    // What was asked for.
     ensures asks { OnOk result (AsksToFormat (F.device flash.old) (F.device flash.new)) }
     ensures asks_at_most { AsksToFormatAtMost (F.device flash.old) (F.device flash.new) }
+
+    // Why not.
     ensures why { IfErr result (λ fault. FormatCause (F.device flash.old) limit fault (F.device flash.new)) }
     ensures sizes { (result ≡ Err Fault.BadGeometry) ↔ ¬ IsGeometry (F.device flash.old).geometry }
     ensures limits { (result ≡ Err Fault.Invalid) ↔ (IsGeometry (F.device flash.old).geometry × ((limit < MIN_VERSIONS) ⊎ (MAX_VERSIONS < limit))) }
@@ -58,10 +64,14 @@ fn format_lawful<F: Flash>(alloc: Global, flash: &mut F, limit: u32) -> Result<(
     requires lawful { IsGeometry (F.device flash.old).geometry }
     requires at_least { MIN_VERSIONS ≤ limit }
     requires at_most { limit ≤ MAX_VERSIONS }
+
+    // What stands on the flash then.
     ensures ok { OnOk result (IsFormatted limit (F.device flash.new)) }
     ensures stay { OnOk result ((F.device flash.new).geometry ≡ (F.device flash.old).geometry) }
     ensures listed { OnOk result (ListsFailed (F.device flash.old) (F.device flash.new)) }
     ensures numbered { OnOk result (IsNumbered (F.device flash.old) (F.device flash.new)) }
+
+    // What was asked for.
     ensures asks { OnOk result (AsksToFormat (F.device flash.old) (F.device flash.new)) }
     ensures asks_at_most { AsksToFormatAtMost (F.device flash.old) (F.device flash.new) }
     ensures why { IfErr result (λ fault. FormatCause (F.device flash.old) limit fault (F.device flash.new)) }
@@ -146,11 +156,15 @@ fn commit_first<F: Flash>(
     requires ring_blocks { state.old.storage.ring.blocks ≡ (F.device flash.old).geometry.blocks }
     requires listed { (b : ℕ) → set.contains state.old.storage.bad b ≡ true → (b < ANCHORS) ⊎ (set.contains state.old.storage.ring.used b ≡ true) }
     requires ready { MayCommit (F.device flash.old) state.old.storage.bad anchors.old }
+
+    // The record.
     ensures committed { OnOk result (IsCommitted (F.device flash.new).pages
         (contents.record_of (F.device flash.old).geometry state.old.history state.old.storage.ring.last)
         (greatest_on (F.device flash.old).geometry (F.device flash.old).pages + 1) state.new.storage.bad) }
     ensures only_anchors { OnlyAnchors (F.device flash.old) state.old.storage.bad (F.device flash.new) state.new.storage.bad }
     ensures writable { OnOk result (modes.is_read_only state.new.storage.bad ≡ false) }
+
+    // What was asked for.
     ensures asks { OnOk result (AsksForRecord (F.device flash.old) state.old.storage.bad (F.device flash.new)) }
     ensures operations { (F.device flash.new).operations ≤ (F.device flash.old).operations + ANCHORS * (F.device flash.old).geometry.pages + ANCHORS * ((F.device flash.old).geometry.pages + 1) }
     ensures why { IfErr result (λ fault. FirstRecordCause (F.device flash.old) fault (F.device flash.new) state.new.storage.bad) }

@@ -31,9 +31,13 @@ pub fn load<F: Flash>(
     requires same { saved.now.geometry ≡ (F.device flash.old).geometry }
     requires is_lawful { is_record saved.now ≡ true }
     requires empty { cache.entries ≡ [] }
+
+    // The working state.
     ensures loaded { IfOk result (λ r. IsLoaded (F.device flash.new) saved.now r.0) }
     ensures roots { IfOk result (λ r. r.1.items ≡ roots_of r.0.history) }
     ensures room { IfOk result (λ r. r.0.storage.cache.room ≡ cache.room) }
+
+    // By reads alone, and how many.
     ensures only_reads { OnlyReads (F.device flash.old) (F.device flash.new) }
     ensures asks { AsksToVerify (F.device flash.old) (roots_of (history_of saved.now)) (F.device flash.new) }
     ensures why { IfErr result (RootsCause (is_plain saved.now) (F.device flash.old) (roots_of (history_of saved.now)) (F.device flash.new)) }

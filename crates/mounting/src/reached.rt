@@ -19,7 +19,7 @@ use allocator::Marks;
 use flash_model::Flash;
 use fs_types::Fault;
 use node_store::{Nodes, Storage, Store};
-use reclaim::{Pass, verify};
+use reclaim::{Pass, Reading, verify};
 use std::alloc::Global;
 
 /// The blocks that roots reach, each of which has a tree; where they are to be plain, one whose
@@ -32,9 +32,13 @@ fn reached_in<F: Flash>(
 ) -> Result<Marks, Fault>
     requires { IsSound F.device store.old }
     ensures follows { Follows F.device store.old store.new }
+
+    // The blocks.
     ensures trees { IfOk result (λ _. HaveTrees plain (F.device store.old.flash.now) roots.now) }
     ensures reached { IfOk result (λ marks. (b : ℕ) → (set.contains marks.members b ≡ true) ↔ Reached (node_of (F.device store.old.flash.now)) roots.now b) }
     ensures blocks { IfOk result (λ marks. marks.blocks ≡ (F.device store.old.flash.now).geometry.blocks) }
+
+    // By reads alone, and how many.
     ensures looked { HasLooked (F.device store.old.flash.now) store.old.storage.now (F.device store.new.flash.now) store.new.storage.now }
     ensures reads { HasCost (node_of (F.device store.old.flash.now)) roots.now store.old.reads.n store.new.reads.n }
     ensures asks { AsksToVerify (F.device store.old.flash.now) roots.now (F.device store.new.flash.now) }
@@ -56,9 +60,13 @@ fn reached_on<F: Flash>(
     requires lawful { IsGeometry (F.device flash.old).geometry }
     requires ring_blocks { storage.old.ring.blocks ≡ (F.device flash.old).geometry.blocks }
     requires fits { Fits (F.device flash.old) storage.old }
+
+    // The blocks.
     ensures trees { IfOk result (λ _. HaveTrees plain (F.device flash.old) roots.now) }
     ensures reached { IfOk result (λ marks. (b : ℕ) → (set.contains marks.members b ≡ true) ↔ Reached (node_of (F.device flash.old)) roots.now b) }
     ensures blocks { IfOk result (λ marks. marks.blocks ≡ (F.device flash.old).geometry.blocks) }
+
+    // By reads alone, and how many.
     ensures looked { HasLooked (F.device flash.old) storage.old (F.device flash.new) storage.new }
     ensures asks { AsksToVerify (F.device flash.old) roots.now (F.device flash.new) }
     ensures why { IfErr result (RootsCause plain (F.device flash.old) roots.now (F.device flash.new)) }
@@ -67,7 +75,8 @@ fn reached_on<F: Flash>(
     reached_in(alloc, &mut store, roots, plain)
 }
 
-/// The blocks that roots reach, each of which is known to have a tree: they are read once.
+/// The blocks that roots reach, each of which is known to have a tree: they are read once, and of the
+/// nodes of bodies the first page alone.
 fn marked_in<F: Flash>(
     alloc: Global,
     store: &mut Store<'_, F>,
@@ -76,15 +85,19 @@ fn marked_in<F: Flash>(
     requires sound { IsSound F.device store.old }
     requires trees { AreRoots (block_bytes (F.device store.old.flash.now).geometry) (node_of (F.device store.old.flash.now)) roots.now }
     ensures follows { Follows F.device store.old store.new }
+
+    // The blocks.
     ensures reached { IfOk result (λ marks. (b : ℕ) → (set.contains marks.members b ≡ true) ↔ Reached (node_of (F.device store.old.flash.now)) roots.now b) }
     ensures blocks { IfOk result (λ marks. marks.blocks ≡ (F.device store.old.flash.now).geometry.blocks) }
+
+    // By reads alone, and how many.
     ensures looked { HasLooked (F.device store.old.flash.now) store.old.storage.now (F.device store.new.flash.now) store.new.storage.now }
     ensures reads { ReadsEach (node_of (F.device store.old.flash.now)) roots.now store.old.reads.n store.new.reads.n }
     ensures asks { AsksEach (F.device store.old.flash.now) roots.now (F.device store.new.flash.now) }
     ensures why { IfErr result (λ fault. ReadCause (seen_of (F.device store.old.flash.now) store.old.storage.now) fault (seen_of (F.device store.new.flash.now) store.new.storage.now)) }
 {
     let mut pass = Pass::start(alloc, store.block_count(), roots)?;
-    pass.read_all(store)?;
+    pass.read_all(store, Reading::Fronts)?;
     Ok(pass.finish())
 }
 
@@ -99,8 +112,12 @@ pub fn marked_on<F: Flash>(
     requires ring_blocks { storage.old.ring.blocks ≡ (F.device flash.old).geometry.blocks }
     requires fits { Fits (F.device flash.old) storage.old }
     requires trees { AreRoots (block_bytes (F.device flash.old).geometry) (node_of (F.device flash.old)) roots.now }
+
+    // The blocks.
     ensures reached { IfOk result (λ marks. (b : ℕ) → (set.contains marks.members b ≡ true) ↔ Reached (node_of (F.device flash.old)) roots.now b) }
     ensures blocks { IfOk result (λ marks. marks.blocks ≡ (F.device flash.old).geometry.blocks) }
+
+    // By reads alone, and how many.
     ensures looked { HasLooked (F.device flash.old) storage.old (F.device flash.new) storage.new }
     ensures asks { AsksEach (F.device flash.old) roots.now (F.device flash.new) }
     ensures why { IfErr result (λ fault. ReadCause (seen_of (F.device flash.old) storage.old) fault (seen_of (F.device flash.new) storage.new)) }
@@ -122,10 +139,14 @@ pub(crate) fn use_reached<F: Flash>(
     requires ring_blocks { storage.old.ring.blocks ≡ (F.device flash.old).geometry.blocks }
     requires fits { Fits (F.device flash.old) storage.old }
     requires unnoted { storage.old.ring.note ≡ set.empty }
+
+    // What is used, and nothing else of it.
     ensures trees { OnOk result (HaveTrees plain (F.device flash.old) roots.now) }
     ensures used { OnOk result ((b : ℕ) → (set.contains storage.new.ring.used b ≡ true) ↔ Reached (node_of (F.device flash.old)) roots.now b) }
     ensures ring { storage.new.ring ≡ record storage.old.ring { used = storage.new.ring.used } }
     ensures bad { storage.new.bad ≡ storage.old.bad }
+
+    // By reads alone, and how many.
     ensures fits { StillFits (F.device flash.old) storage.old (F.device flash.new) storage.new }
     ensures only_reads { OnlyReads (F.device flash.old) (F.device flash.new) }
     ensures asks { AsksToVerify (F.device flash.old) roots.now (F.device flash.new) }

@@ -28,6 +28,10 @@ node_in c b = lookup (nat_eq b) c.entries
 abbrev pub with_first : NodeCache → ℕ → List ℕ → NodeCache
 with_first c b bytes = record c { entries = take c.room ((b, bytes) ∷ remove_entry (nat_eq b) c.entries) }
 
+-- a block is taken out
+abbrev pub without : NodeCache → ℕ → NodeCache
+without c b = record c { entries = remove_entry (nat_eq b) c.entries }
+
 -- the entries of these blocks alone
 abbrev pub with_blocks : (ℕ → Bool) → List (ℕ × List ℕ) → List (ℕ × List ℕ)
 with_blocks these es = filter (λ e. these e.0) es

@@ -6,7 +6,7 @@ use Rattle.std.specs.Map.{keys_of, lookup, remove_entry}
 use Rattle.std.proofs.Common.{sym, ◌∙◌, ap, inl, inr, arith}
 use Rattle.std.proofs.lemmas.Bool.{cases_Bool, cond-true, cond-false, ne_eqb, eq-eqb, eqb-true, true≢false}
 use Rattle.std.proofs.lemmas.Map.{lookup-remove_entry}
-use Rattle.node_cache.specs.Cache.{NodeCache, node_in, with_first, with_blocks, first_bytes, IsBounded}
+use Rattle.node_cache.specs.Cache.{NodeCache, node_in, with_first, without, with_blocks, first_bytes, IsBounded}
 
 module _ {X : Type 0} where
   -- what is among the first entries is among all
@@ -28,6 +28,10 @@ others_stay b c es x once h =
       | inl same ↦ let none : lookup (nat_eq c) (remove_entry (nat_eq b) es) ≡ None = is ∙ cond-true _ _ _ same in absurd (true≢false (ap is_some (sym h ∙ none)))
       | inr apart ↦ (λ same. true≢false (sym (eq-eqb b c (sym same)) ∙ apart), sym (cond-false _ _ _ apart) ∙ sym is ∙ h)
     ]
+
+-- what is found once a block is taken out was found before
+pub found_without : (cache : NodeCache) (b c : ℕ) (x : List ℕ) → IsBounded cache → node_in (without cache b) c ≡ Some x → node_in cache c ≡ Some x
+found_without cache b c x bounded is = (others_stay b c cache.entries x bounded.once is).1
 
 module _ (cache : NodeCache) (bounded : IsBounded cache) (b : ℕ) (bytes : List ℕ) where
   abbrev rest : List (ℕ × List ℕ)

@@ -1,8 +1,8 @@
 //! A bounded list of blocks with their nodes, the one that was used last first.
-ghost use Rattle.std.specs.Prelude.{◌≡◌, ◌≢◌, ◌↔◌, ◌⊎◌, ◌<◌, ℕ, List, [], true, false, is_some, nat_eq, length, drop, find, not, Some, Err, IfOk, IfErr, OnOk, OnErr};
+ghost use Rattle.std.specs.Prelude.{◌≡◌, ◌≢◌, ◌↔◌, ◌⊎◌, ◌<◌, ℕ, List, [], true, false, is_some, length, drop, find, not, Some, Err, IfOk, IfErr, OnOk, OnErr};
 ghost use Rattle.std.specs.FinSet as set;
-ghost use Rattle.std.specs.Map.{keys_of, remove_entry};
-ghost use Rattle.node_cache.specs.Cache.{node_in, with_first, with_blocks, first_bytes, IsBounded};
+ghost use Rattle.std.specs.Map.{keys_of};
+ghost use Rattle.node_cache.specs.Cache.{node_in, with_first, without, with_blocks, first_bytes, IsBounded};
 
 use allocator::Ring;
 use fs_types::Fault;
@@ -76,31 +76,37 @@ impl NodeCache {
         self.nodes.promote(&block)
     }
 
-    /// Lists a block first with a copy of its node.
-    pub fn list_copy(&mut self, block: u32, bytes: &[u8]) -> Result<(), Fault>
-        ensures listed { OnOk result (self.new ≡ with_first self.old block bytes.now) }
+    /// Lists a block first with its node, which moves in.
+    pub fn list(&mut self, block: u32, node: Vec<u8>) -> Result<(), Fault>
+        ensures listed { OnOk result (self.new ≡ with_first self.old block node.items) }
         ensures same { OnErr result (self.new ≡ self.old) }
         ensures err { IfErr result (λ fault. fault ≡ Fault.NoMemory) }
         ensures bounded { IsBounded self.old }
     {
         // No block is listed twice, nor more than there is room for, as its contract tells.
         let _ = self.nodes.len();
-        let node = bytes.to_vec(*self.nodes.allocator())?;
         self.nodes.put(block, node)?;
         Ok(())
     }
 
-    /// Takes the block out that is listed first.
-    pub fn forget_first(&mut self)
-        ensures { self.new ≡ record self.old { entries = drop 1 self.old.entries } }
+    /// Takes the block out that is listed first, and hands its node out; none where no block is listed.
+    pub fn take_first(&mut self) -> Vec<u8>
+        ensures node { result.items ≡ first_bytes self.old.entries }
+        ensures rest { self.new ≡ record self.old { entries = drop 1 self.old.entries } }
     {
-        self.nodes.pop_mru();
+        let Some((_, node)) = self.nodes.pop_mru() else {
+            return Vec::new(*self.nodes.allocator());
+        };
+        node
     }
 
     /// Takes a block out.
     pub fn forget(&mut self, block: u32)
-        ensures { self.new ≡ record self.old { entries = remove_entry (nat_eq block) self.old.entries } }
+        ensures taken { self.new ≡ without self.old block }
+        ensures bounded { IsBounded self.old }
     {
+        // No block is listed twice, nor more than there is room for, as its contract tells.
+        let _ = self.nodes.len();
         self.nodes.pop(&block);
     }
 

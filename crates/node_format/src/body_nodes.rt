@@ -1,5 +1,5 @@
 //! A part of a file's body, read from the bytes of its node, and the bytes of a new one.
-ghost use Rattle.std.specs.Prelude.{◌≡◌, ℕ, ◌+◌, ◌*◌, ◌^◌, ◌<◌, ◌≤◌, ◌++◌, ◌↔◌, IsTrue, length, drop, codes, Some, IfSome, OnOk, IfOk};
+ghost use Rattle.std.specs.Prelude.{◌≡◌, ℕ, List, ◌+◌, ◌*◌, ◌^◌, ◌<◌, ◌≤◌, ◌++◌, ◌↔◌, IsTrue, length, take, drop, replicate, codes, Some, IfSome, OnOk, IfOk};
 ghost use Rattle.byteorder.specs.Endian.{little_bytes};
 ghost use Rattle.node_format.specs.Headers.{field, body_header, IsNode};
 ghost use Rattle.node_format.specs.BodyNodes.{IsBodyNode, HasSlot, IsSlot, IsBodySpelling};
@@ -156,5 +156,27 @@ pub fn body_node(
     let mut out = header(alloc, index, bytes.len() as u32)?;
     push_slots(&mut out, index, pointers)?;
     out.extend_from_slice(bytes)?;
+    Ok(out)
+}
+
+/// The bytes of the body node of an index with room for so many data bytes, at least one, which are
+/// zeros: with any data in that room they are the bytes of the node that holds it. Its slots are as in
+/// `body_node`.
+pub fn body_room(
+    alloc: Global,
+    index: u32,
+    pointers: &[u32],
+    used: u32,
+) -> Result<Vec<u8>, AllocError>
+    requires slots { length pointers.now ≤ SLOTS }
+    requires some { 1 ≤ used }
+    requires capacity { body_header + used < 2 ^ 32 }
+    ensures size { IfOk result (λ room. length room.items ≡ body_header + used) }
+    ensures zeros { IfOk result (λ room. drop body_header room.items ≡ replicate used 0) }
+    ensures spelled { IfOk result (λ room. (data_bytes : List ℕ) → length data_bytes ≡ used → IsBodySpelling (take body_header room.items ++ data_bytes) index pointers.now data_bytes) }
+{
+    let mut out = header(alloc, index, used)?;
+    push_slots(&mut out, index, pointers)?;
+    out.resize(HEADER + used as usize, 0)?;
     Ok(out)
 }

@@ -9,7 +9,7 @@ mod headers;
 mod place;
 mod spelled;
 
-pub use body_nodes::{BodyNode, body_node};
+pub use body_nodes::{BodyNode, body_node, body_room};
 pub use entries::{Entries, chain_node, empty_directory};
 pub use entry::Entry;
 pub use entry_list::EntryList;

@@ -8,12 +8,12 @@ use Rattle.fs_types.specs.declared.fault.Fault.TheVariants.{NoMemory}
 use Rattle.flash_model.specs.Geometry.{IsGeometry}
 use Rattle.flash_model.specs.Device.{Device, block_of}
 use Rattle.flash_model.specs.Reading.{OnlyReads}
-use Rattle.node_cache.specs.Cache.{NodeCache, node_in, with_first, with_blocks, first_bytes, IsBounded}
-use Rattle.node_cache.specs.CacheLaws.{first_here, first_shown, first_apart, taken_out, found_with}
+use Rattle.node_cache.specs.Cache.{NodeCache, node_in, with_first, without, with_blocks, first_bytes, IsBounded}
+use Rattle.node_cache.specs.CacheLaws.{first_here, first_shown, first_apart, taken_out, found_with, found_without}
 use Rattle.node_store.specs.NodePages.{node_of}
 use Rattle.node_store.specs.NodeLaws.{node_of-same}
 use Rattle.node_store.specs.ReadingLaws.{OnlyReads_nodes}
-use Rattle.node_store.specs.Caching.{IsTruthful, Fetches}
+use Rattle.node_store.specs.Caching.{IsTruthful, BringsOrWants, Fetches}
 
 -- reads leave what is listed true
 pub read_truthful : (old new : Device) (cache : NodeCache) → IsGeometry old.geometry → OnlyReads old new → IsTruthful old cache → IsTruthful new cache
@@ -62,10 +62,24 @@ tried_truthful old new cache b bytes lawful geometry others bounded before = rec
 pub some_truthful : (d : Device) (cache : NodeCache) (these : ℕ → Bool) → IsTruthful d cache → IsTruthful d (record cache { entries = with_blocks these cache.entries })
 some_truthful d cache these before = record { each = λ b x is. before.each b x (found_with these b cache.entries x is).1 }
 
+-- the other entries, without those of a block
+pub without_truthful : (d : Device) (cache : NodeCache) (b : ℕ) → IsBounded cache → IsTruthful d cache → IsTruthful d (without cache b)
+without_truthful d cache b bounded before = record { each = λ c x is. before.each c x (found_without cache b c x bounded is) }
+
 -- an empty cache
 pub empty_truthful : (d : Device) (cache : NodeCache) → cache.entries ≡ [] → IsTruthful d cache
 empty_truthful d cache empty = record {
   each = λ b x is. let none : None ≡ Some x = sym (ap (lookup (nat_eq b)) empty) ∙ is in cc;
+}
+
+-- the node of an unlisted block was not read
+pub unfetched : (old new : Device) (cache : NodeCache) (b : ℕ) (fault : Fault) → node_in cache b ≡ None
+    → ((shown : List ℕ) → BringsOrWants old new (node_of old b) shown (Err fault)) → Fetches old cache b new cache (Err fault)
+unfetched old new cache b fault unlisted refuses = record {
+  brings = refuses (first_bytes cache.entries);
+  listed = λ x is. let none : None ≡ Some x = sym unlisted ∙ is in cc;
+  first = tt;
+  refused = refl;
 }
 
 -- what listing a node first, or the want of memory for it, leaves of a cache

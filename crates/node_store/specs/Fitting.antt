@@ -1,17 +1,15 @@
 -- When what nodes are kept with fits a flash.
-use Rattle.std.specs.Prelude.{◌≡◌, ◌≤◌, ℕ, true, false, List, Option, Some, None, Result, Ok, Err, slice_get, vec_len, vec_capacity}
+use Rattle.std.specs.Prelude.{◌≡◌, ℕ, true, false, List, Option, Some, None, Result, Ok, Err, slice_get, vec_len}
 use Rattle.std.specs.FinSet as set
 use Rattle.fs_types.specs.declared.fault.Fault.{Fault}
 use Rattle.flash_model.specs.Device.{Device}
-use Rattle.flash_model.specs.Geometry.{block_bytes}
 use Rattle.node_cache.specs.Cache.{node_in}
 use Rattle.node_store.specs.Caching.{IsTruthful}
 use Rattle.node_store.specs.declared.storage.Storage.{Storage}
 
--- there is room for a page and for a node, and what the cache lists the flash holds
+-- there is room for a page, and what the cache lists the flash holds
 pub record Fits (device : Device) (storage : Storage) : Type 0 where
   pub page_len : vec_len storage.page ≡ device.geometry.page
-  pub node_room : block_bytes device.geometry ≤ vec_capacity storage.node
   pub truthful : IsTruthful device storage.cache
 
 -- it fits the flash as it did before, and there is room for as many nodes

@@ -8,6 +8,8 @@ pub mod Writing
 pub mod WritingLaws
 pub mod Caching
 pub mod CachingLaws
+pub mod Fronts
+pub mod FrontLaws
 pub mod Fitting
 pub mod FittingLaws
 pub mod Storage

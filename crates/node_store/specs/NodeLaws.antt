@@ -21,7 +21,7 @@ pub record IsWithin (block size : ℕ) : Type 0 where
   pub least : 16 ≤ size
   pub most : size ≤ block
 
-if_some : {A : Type 0} (b : Bool) (o : Option A) (x : A) → (if b then o else None) ≡ Some x → (b ≡ true) × (o ≡ Some x)
+pub if_some : {A : Type 0} (b : Bool) (o : Option A) (x : A) → (if b then o else None) ≡ Some x → (b ≡ true) × (o ≡ Some x)
 if_some true o x h = (refl, h)
 if_some false o x h = cc
 
@@ -62,7 +62,7 @@ size_by block magic count used =
     else if magic == chain_magic then directory_size block count used
     else None
 
-node_size-take : (block m : ℕ) (xs : List ℕ) → 12 ≤ m → node_size block (take m xs) ≡ node_size block xs
+pub node_size-take : (block m : ℕ) (xs : List ℕ) → 12 ≤ m → node_size block (take m xs) ≡ node_size block xs
 node_size-take block m xs h =
     ap (λ magic. size_by block magic (field (take m xs) 4) (field (take m xs) 8)) (field-take m 0 xs (omega arith))
     ∙ ap (λ count. size_by block (field xs 0) count (field (take m xs) 8)) (field-take m 4 xs (omega arith))
@@ -127,7 +127,7 @@ sized-same g p q first (Some size) some fits same =
     let most = pages_for-most g.page g.pages size some (fits size refl) in
     ap (option_map (take size)) (joined-same p q first (pages_for g.page size) (λ j h. same j (omega arith)))
 
-size_in-within : (limit : ℕ) (page : Page) (size : ℕ) → size_in limit page ≡ Some size → IsWithin limit size
+pub size_in-within : (limit : ℕ) (page : Page) (size : ℕ) → size_in limit page ≡ Some size → IsWithin limit size
 size_in-within limit erased size h = cc
 size_in-within limit (bytes_of bytes) size h = size_within limit size bytes h
 size_in-within limit unreadable size h = cc
@@ -180,11 +180,11 @@ joined-length pages page first (suc n) all whole h =
     omega arith
 
 -- joined bytes begin with those of the first page
-record BeginsWith (head all : List ℕ) : Type 0 where
-  rest : List ℕ
-  is : head ++ rest ≡ all
+pub record BeginsWith (head all : List ℕ) : Type 0 where
+  pub rest : List ℕ
+  pub is : head ++ rest ≡ all
 
-joined-front : (pages : ℕ → Page) (first n : ℕ) (head all : List ℕ) → pages first ≡ bytes_of head → 0 < n → joined pages first n ≡ Some all → BeginsWith head all
+pub joined-front : (pages : ℕ → Page) (first n : ℕ) (head all : List ℕ) → pages first ≡ bytes_of head → 0 < n → joined pages first n ≡ Some all → BeginsWith head all
 joined-front pages first zero head all begins some h = absurd (omega arith)
 joined-front pages first (suc zero) head all begins some h =
     let parts = and_page-some (joined pages first zero) (pages (first + zero)) all h in
@@ -216,7 +216,7 @@ record IsCut (o : Option ℕ) (joins : ℕ → Option (List ℕ)) (bytes : List 
   is_joined : joins size ≡ Some all
   is : take size all ≡ bytes
 
-map_some : {A B : Type 0} (f : A → B) (o : Option A) (y : B) → option_map f o ≡ Some y → (x : A) × (o ≡ Some x) × (f x ≡ y)
+pub map_some : {A B : Type 0} (f : A → B) (o : Option A) (y : B) → option_map f o ≡ Some y → (x : A) × (o ≡ Some x) × (f x ≡ y)
 map_some f None y h = cc
 map_some f (Some x) y h = (x, refl, cc)
 
@@ -243,12 +243,12 @@ has_node d b bytes h =
     }
 
 -- the bytes of a page that tells a size
-record Tells (limit : ℕ) (page : Page) (size : ℕ) : Type 0 where
-  head : List ℕ
-  has : page ≡ bytes_of head
-  size_is : node_size limit head ≡ Some size
+pub record Tells (limit : ℕ) (page : Page) (size : ℕ) : Type 0 where
+  pub head : List ℕ
+  pub has : page ≡ bytes_of head
+  pub size_is : node_size limit head ≡ Some size
 
-size_in-tells : (limit : ℕ) (page : Page) (size : ℕ) → size_in limit page ≡ Some size → Tells limit page size
+pub size_in-tells : (limit : ℕ) (page : Page) (size : ℕ) → size_in limit page ≡ Some size → Tells limit page size
 size_in-tells limit erased size h = cc
 size_in-tells limit (bytes_of bytes) size h = record { head = bytes; has = refl; size_is = h }
 size_in-tells limit unreadable size h = cc
@@ -387,7 +387,7 @@ HoldsNode_same d e b geometry same holds =
       };
     }
 
-first_joined : (page : Page) (xs : List ℕ) → and_page (Some []) page ≡ Some xs → page ≡ bytes_of xs
+pub first_joined : (page : Page) (xs : List ℕ) → and_page (Some []) page ≡ Some xs → page ≡ bytes_of xs
 first_joined erased xs h = cc
 first_joined (bytes_of bytes) xs h = ap bytes_of cc
 first_joined unreadable xs h = cc

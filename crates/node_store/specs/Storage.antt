@@ -140,3 +140,11 @@ abbrev pub unpaid_try : Result (Option ℕ) Fault → ℕ
 unpaid_try (Ok (Some b)) = 1
 unpaid_try (Ok None) = 0
 unpaid_try (Err fault) = unpaid (Err fault)
+
+-- an attempt to write a node, and what it leaves
+pub record IsAttempt (s : Storage) (bytes : List ℕ) (t : Storage) (result : Result (Option ℕ) Fault) : Type 0 where
+  pub tries : Tries s bytes t result
+  pub evolved : Evolved s t
+  pub pays : Pays s t (unpaid_try result)
+  pub next : TriesNext s t result
+  pub operations : Spends s t bytes

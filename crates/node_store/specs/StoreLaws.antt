@@ -1,9 +1,9 @@
 -- The laws of a store's states.
-use Rattle.std.specs.Prelude.{◌≡◌, ℕ, ◌+◌, ◌*◌, ◌≤◌, true, refl}
+use Rattle.std.specs.Prelude.{◌≡◌, ◌≢◌, ℕ, ◌+◌, ◌*◌, ◌≤◌, true, List, Option, Err, refl}
 use Rattle.std.specs.FinSet as set
 use Rattle.std.proofs.Common.{sym, ◌∙◌, ap, subst, arith}
 use Rattle.fs_types.specs.declared.fault.Fault.{Fault}
-use Rattle.fs_types.specs.declared.fault.Fault.TheVariants.{FlashFull, ReadOnly, ReadFailed, PowerCut, NoMemory}
+use Rattle.fs_types.specs.declared.fault.Fault.TheVariants.{FlashFull, ReadOnly, ReadFailed, PowerCut, NoMemory, Damaged}
 use Rattle.flash_model.specs.declared.geometry.Geometry.{Geometry}
 use Rattle.flash_model.specs.Geometry.{IsGeometry}
 use Rattle.flash_model.specs.Device.{Device}
@@ -13,6 +13,8 @@ use Rattle.node_store.specs.NodePages.{node_of}
 use Rattle.node_store.specs.NodeLaws.{node_of-same}
 use Rattle.node_store.specs.Storage.{Storage, is_kept, Evolved}
 use Rattle.node_store.specs.StorageLaws.{Untouched_itself, Untouched_on, Evolved_itself, Evolved_on}
+use Rattle.node_store.specs.Faults.{IsReadFault}
+use Rattle.node_store.specs.Reading.{Brings}
 use Rattle.node_store.specs.Stores.{parts, IsSound, Follows, Causes}
 
 -- a kept block keeps its node
@@ -24,6 +26,13 @@ Evolved_node s t b lawful e kept =
 -- one read more asks for the pages of one block more
 pub one_more : (before after reads pages : ℕ) → after ≤ before + pages → after + reads * pages ≤ before + (reads + 1) * pages
 one_more before after reads pages most = omega arith
+
+-- which refusals a read of pages has
+pub brings_fault : (old new : Device) (there : Option (List ℕ)) (shown : List ℕ) (fault : Fault) → Brings old new there shown (Err fault) → IsReadFault fault
+brings_fault old new there shown ReadFailed b = refl
+brings_fault old new there shown PowerCut b = refl
+brings_fault old new there shown Damaged b = refl
+brings_fault old new there shown _ b = absurd b
 
 module _ {F : Type 0} (device : F → Device) where
   pub Follows_itself : (s : Store F) → Follows device s s
@@ -72,6 +81,14 @@ module _ {F : Type 0} (device : F → Device) where
   Causes_on s t u PowerCut f c = record { reason = c.reason }
   Causes_on s t u NoMemory f c = record { reason = tt }
   Causes_on s t u _ f c = absurd c.reason
+
+  -- why a read of pages is refused
+  pub brings_causes : (s t : Store F) (there : Option (List ℕ)) (shown : List ℕ) (fault : Fault) → Brings (device s.flash.now) (device t.flash.now) there shown (Err fault)
+      → fault ≢ Damaged → Causes device s t fault
+  brings_causes s t there shown ReadFailed b apart = record { reason = b }
+  brings_causes s t there shown PowerCut b apart = record { reason = b }
+  brings_causes s t there shown Damaged b apart = absurd (apart refl)
+  brings_causes s t there shown _ b apart = absurd b
 
   pub Sound_on : (s t : Store F) → Follows device s t → IsSound device s → IsSound device t
   Sound_on s t f sound =

@@ -1,7 +1,8 @@
 //! Nodes on raw flash: what each data block holds, how a node is read, and how one is added.
 #![tactic(auto)]
 
-mod first_pages;
+mod cached_reads;
+mod fronts;
 mod new_nodes;
 mod node_reads;
 mod node_writes;

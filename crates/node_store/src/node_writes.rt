@@ -27,6 +27,8 @@ fn write_pages<F: Flash>(
     requires in_range { block < (F.device flash.old).geometry.blocks }
     requires whole { vec_len page.old ≡ (F.device flash.old).geometry.page }
     requires fits { length bytes.now ≤ block_bytes (F.device flash.old).geometry }
+
+    // The pages are erased, and are programmed.
     requires blank { (j : ℕ) → j < (F.device flash.old).geometry.pages → (F.device flash.old).pages (block * (F.device flash.old).geometry.pages + j) ≡ erased }
     ensures writes { WritesBlock (F.device flash.old) block bytes.now (F.device flash.new) result }
     ensures page { vec_len page.new ≡ vec_len page.old }

@@ -1,11 +1,13 @@
 //! The trait of what keeps nodes in blocks.
-ghost use Rattle.std.specs.Prelude.{◌≡◌, ◌≢◌, ℕ, ◌+◌, ◌≤◌, ◌<◌, Bool, true, false, List, Option, Some, None, OnOk, IfOk, IfErr, IsErrOf};
+ghost use Rattle.std.specs.Prelude.{◌≡◌, ◌≢◌, ℕ, ◌+◌, ◌≤◌, ◌<◌, Bool, true, false, List, length, Option, Some, None, OnOk, IfOk, IfErr, IsErrOf};
 ghost use Rattle.fs_types.specs.declared.fault.Fault.{Fault};
 ghost use Rattle.fs_types.specs.declared.fault.Fault.TheVariants.{NoMemory, Damaged};
 ghost use Rattle.fs_types.specs.declared.limits.TheConstants.{ANCHORS};
 ghost use Rattle.node_format.specs.Headers.{IsNode};
 ghost use Rattle.node_store.specs.Faults.{IsLookFault, IsReadFault, IsWriteFault};
 ghost use Rattle.node_store.specs.Frames.{OnlyLooks, Works};
+ghost use Rattle.node_store.specs.Fronts.{IsFront};
+ghost use Rattle.node_store.specs.NodePages.{pages_for};
 
 use fs_types::Fault;
 
@@ -26,12 +28,22 @@ pub trait Nodes {
 
     ghost lends: { Self → Type 0 };
 
-    // how many reads and writes were asked, refused ones too
+    // the bytes that `fronted` gives, and whether it may be called
+    ghost beginning: { Self → List ℕ };
+
+    ghost lends_front: { Self → Type 0 };
+
+    // how many reads and writes were asked, refused ones too; a front is a read
     ghost reads: { Self → ℕ };
 
     ghost writes: { Self → ℕ };
 
-    // the bytes of a block, and the number of blocks
+    // how many pages were asked of the flash
+    ghost asked: { Self → ℕ };
+
+    // the bytes of a page and of a block, and the number of blocks
+    ghost page: { Self → ℕ };
+
     ghost limit: { Self → ℕ };
 
     ghost blocks: { Self → ℕ };
@@ -70,13 +82,48 @@ pub trait Nodes {
 
         // Whatever is answered, no block changes.
         ensures looks { OnlyLooks node kept writes follows is_sound limit blocks self.old self.new }
-        ensures reads { reads self.new ≡ reads self.old + 1 };
+        ensures reads { reads self.new ≡ reads self.old + 1 }
+
+        // Each page of the node is asked once, and no more than a block has, whatever is answered.
+        ensures asks { OnOk result (asked self.new ≤ asked self.old + pages_for (page self.old) (length (shown self.new))) }
+        ensures asks_most { asked self.new ≤ asked self.old + pages_for (page self.old) (limit self.old) };
 
     /// The bytes of the node that the last read brought. A read answered Ok before, and no read or
     /// write came since.
     fn lent(&self) -> &[u8]
         requires { lends self.now }
         ensures { result.now ≡ shown self.now };
+
+    /// Brings the beginning of the node in a block, for `fronted` to lend: its first page, or more of
+    /// it. Any number may be asked; where the block holds no node, what is brought may be anything.
+    fn front(&mut self, block: u32) -> Result<(), Fault>
+        requires { is_sound self.old }
+        ensures begins { OnOk result ((bytes : List ℕ) → node self.old block ≡ Some bytes → IsFront (page self.old) (beginning self.new) bytes) }
+        ensures lends { OnOk result (lends_front self.new) }
+
+        // Damaged only where there is no node.
+        ensures damaged { IsErrOf result Fault.Damaged → node self.old block ≡ None }
+        ensures why { IfErr result (λ fault. fault ≢ Fault.Damaged → causes self.old self.new fault) }
+        ensures faults { IfErr result IsReadFault }
+
+        // Whatever is answered, no block changes, and one page is asked at most.
+        ensures looks { OnlyLooks node kept writes follows is_sound limit blocks self.old self.new }
+        ensures reads { reads self.new ≡ reads self.old + 1 }
+        ensures asks { asked self.new ≤ asked self.old + 1 };
+
+    /// The bytes that the last front brought. A front answered Ok before, and no read, front or write
+    /// came since.
+    fn fronted(&self) -> &[u8]
+        requires { lends_front self.now }
+        ensures { result.now ≡ beginning self.now };
+
+    /// Takes a node out of memory whose successor is written next. Nothing may be lent then, and no
+    /// block changes.
+    fn supersede(&mut self, block: u32)
+        requires { is_sound self.old }
+        ensures looks { OnlyLooks node kept writes follows is_sound limit blocks self.old self.new }
+        ensures reads { reads self.new ≡ reads self.old }
+        ensures asks { asked self.new ≡ asked self.old };
 
     /// Writes a node to a block that was not kept, and answers the block.
     fn write(&mut self, bytes: &[u8]) -> Result<u32, Fault>
@@ -89,6 +136,23 @@ pub trait Nodes {
         ensures faults { IfErr result IsWriteFault }
 
         // Whatever is answered, each block that was kept stays so, with its node: the laws of `follows` say so.
+        ensures works { Works follows is_sound limit blocks self.old self.new }
+        ensures reads { reads self.new ≡ reads self.old }
+        ensures writes { writes self.new ≡ writes self.old + 1 };
+
+    /// The same with bytes that move into memory.
+    fn write_owned(&mut self, bytes: Vec<u8>) -> Result<u32, Fault>
+        requires sound { is_sound self.old }
+        requires whole { IsNode (limit self.old) bytes.items }
+
+        // The block, or why there is none.
+        ensures fresh { IfOk result (λ block. kept self.old block ≡ false) }
+        ensures kept { IfOk result (λ block. kept self.new block ≡ true) }
+        ensures written { IfOk result (λ block. node self.new block ≡ Some bytes.items) }
+        ensures why { IfErr result (λ fault. causes self.old self.new fault) }
+        ensures faults { IfErr result IsWriteFault }
+
+        // Whatever is answered, each block that was kept stays so, with its node.
         ensures works { Works follows is_sound limit blocks self.old self.new }
         ensures reads { reads self.new ≡ reads self.old }
         ensures writes { writes self.new ≡ writes self.old + 1 };
@@ -110,6 +174,11 @@ pub trait Nodes {
     ghost memory_may_want: { (s t : Self) → causes s t NoMemory };
 
     ghost stays_sound: { (s t : Self) → follows s t → is_sound s → is_sound t };
+
+    ghost same_page: { (s t : Self) → follows s t → page t ≡ page s };
+
+    // a page has room for the header of each node
+    ghost least_page: { (s : Self) → is_sound s → 256 ≤ page s };
 
     ghost same_limit: { (s t : Self) → follows s t → limit t ≡ limit s };
 
@@ -141,6 +210,9 @@ pub fn brings<N: Nodes>(nodes: &mut N, block: u32) -> Result<bool, Fault>
     ensures faults { IfErr result IsLookFault }
     ensures looks { OnlyLooks N.node N.kept N.writes N.follows N.is_sound N.limit N.blocks nodes.old nodes.new }
     ensures reads { N.reads nodes.new ≡ N.reads nodes.old + 1 }
+    // Each page of the node is asked once, and no more than a block has, whatever is answered.
+    ensures asks { IfOk result (λ brought. brought ≡ true → N.asked nodes.new ≤ N.asked nodes.old + pages_for (N.page nodes.old) (length (N.shown nodes.new))) }
+    ensures asks_most { N.asked nodes.new ≤ N.asked nodes.old + pages_for (N.page nodes.old) (N.limit nodes.old) }
 {
     match nodes.read(block) {
         Ok(()) => Ok(true),

@@ -15,7 +15,7 @@ use node_cache::NodeCache;
 use std::alloc::Global;
 
 /// What nodes are kept with, apart from the flash: which blocks are bad and which are used, room for a
-/// page and for a node, and the nodes that were used last.
+/// page, and the nodes that were used last.
 #[derive(Drop)]
 pub struct Storage {
     /// The bad blocks.
@@ -24,8 +24,6 @@ pub struct Storage {
     pub ring: Ring,
     /// Room for the bytes of a page: as long as a page.
     pub page: Vec<u8>,
-    /// Room for the bytes of a node: it has the capacity of a block.
-    pub node: Vec<u8>,
     /// The nodes that were read or written last, as the flash holds them.
     pub cache: NodeCache,
 }
@@ -60,7 +58,6 @@ impl Storage {
             bad,
             ring: Ring::new(alloc, geometry.blocks, last)?,
             page: vec![in alloc; 0; geometry.page as usize]?,
-            node: Vec::with_capacity(alloc, geometry.block_bytes())?,
             cache,
         })
     }

@@ -1,6 +1,7 @@
 //! Nodes in the data blocks of a flash.
-use crate::first_pages::read_first;
-use crate::new_nodes::write_node;
+use crate::cached_reads::read_first;
+use crate::fronts::bring_front;
+use crate::new_nodes::{write_node, write_owned_node};
 use crate::nodes::Nodes;
 use crate::storage::Storage;
 use counts::Count;
@@ -25,6 +26,8 @@ pub struct Store<'a, F: Flash> {
     pub reads: Count,
     /// How many writes were asked.
     pub writes: Count,
+    /// Whether the front that was brought last stands in the page.
+    pub in_page: bool,
 }
 
 impl<'a, F: Flash> Store<'a, F> {
@@ -42,21 +45,23 @@ impl<'a, F: Flash> Store<'a, F> {
             storage,
             reads: Count::zero(),
             writes: Count::zero(),
+            in_page: false,
         }
     }
 }
 
 impl<F: Flash> Nodes for Store<'_, F> {
-    ghost use Rattle.std.specs.Prelude.{◌≡◌, ◌≢◌, ◌+◌, Some, None, OnOk, IfErr, IsErrOf};
+    ghost use Rattle.std.specs.Prelude.{◌≡◌, ◌≢◌, ℕ, ◌+◌, ◌≤◌, List, length, Some, None, OnOk, IfErr, IsErrOf};
     ghost use Rattle.node_store.specs.Caching.{Fetches};
     ghost use Rattle.node_store.specs.Faults.{IsReadFault};
     ghost use Rattle.node_store.specs.Frames.{OnlyLooks};
+    ghost use Rattle.node_store.specs.Fronts.{IsFront, Fronts, front_in};
     ghost use Rattle.std.proofs.Common.{ap};
     ghost use Rattle.std.specs.FinSet as set;
     ghost use Rattle.flash_model.specs.Geometry.{block_bytes as bytes_of_block};
-    ghost use Rattle.node_cache.specs.Cache.{first_bytes};
-    ghost use Rattle.node_store.specs.NodePages.{node_of};
-    ghost use Rattle.node_store.specs.NodeLaws.{node_of-whole, node_of-anchor, node_of-beyond};
+    ghost use Rattle.node_cache.specs.Cache.{first_bytes, without};
+    ghost use Rattle.node_store.specs.NodePages.{node_of, pages_for};
+    ghost use Rattle.node_store.specs.NodeLaws.{has_room, node_of-whole, node_of-anchor, node_of-beyond};
     ghost use Rattle.node_store.specs.StorageLaws.{Evolved_fresh};
     ghost use Rattle.node_store.specs.Stores.{parts, IsSound, Follows, Causes};
     ghost use Rattle.node_store.specs.FrameLaws.{Looks_on, Works_on, Looks_works};
@@ -70,9 +75,17 @@ impl<F: Flash> Nodes for Store<'_, F> {
 
     ghost lends = { λ _. Unit {0} };
 
+    ghost beginning = { λ s. front_in s.in_page s.storage.now };
+
+    ghost lends_front = { λ _. Unit {0} };
+
     ghost reads = { λ s. s.reads.n };
 
     ghost writes = { λ s. s.writes.n };
+
+    ghost asked = { λ s. (F.device s.flash.now).operations };
+
+    ghost page = { λ s. (F.device s.flash.now).geometry.page };
 
     ghost limit = { λ s. bytes_of_block (F.device s.flash.now).geometry };
 
@@ -101,6 +114,8 @@ impl<F: Flash> Nodes for Store<'_, F> {
         ensures faults { IfErr result IsReadFault }
         ensures looks { OnlyLooks (λ s. node_of (F.device s.flash.now)) (λ s. set.contains s.storage.now.ring.used) (λ s. s.writes.n) (Follows F.device) (IsSound F.device) (λ s. bytes_of_block (F.device s.flash.now).geometry) (λ s. (F.device s.flash.now).geometry.blocks) self.old self.new }
         ensures reads { self.new.reads.n ≡ self.old.reads.n + 1 }
+        ensures asks { OnOk result ((F.device self.new.flash.now).operations ≤ (F.device self.old.flash.now).operations + pages_for (F.device self.old.flash.now).geometry.page (length (first_bytes self.new.storage.now.cache.entries))) }
+        ensures asks_most { (F.device self.new.flash.now).operations ≤ (F.device self.old.flash.now).operations + pages_for (F.device self.old.flash.now).geometry.page (bytes_of_block (F.device self.old.flash.now).geometry) }
 
         // A listed block is answered without the device, and after Ok the block is listed first.
         ensures fetches { Fetches (F.device self.old.flash.now) self.old.storage.now.cache block (F.device self.new.flash.now) self.new.storage.now.cache result }
@@ -113,9 +128,53 @@ impl<F: Flash> Nodes for Store<'_, F> {
         self.storage.cache.first()
     }
 
+    fn front(&mut self, block: u32) -> Result<(), Fault>
+        requires { IsSound F.device self.old }
+        ensures begins { OnOk result ((bytes : List ℕ) → node_of (F.device self.old.flash.now) block ≡ Some bytes → IsFront (F.device self.old.flash.now).geometry.page (front_in self.new.in_page self.new.storage.now) bytes) }
+        ensures lends { OnOk result (Unit {0}) }
+        ensures damaged { IsErrOf result Fault.Damaged → node_of (F.device self.old.flash.now) block ≡ None }
+        ensures why { IfErr result (λ fault. fault ≢ Fault.Damaged → Causes F.device self.old self.new fault) }
+        ensures faults { IfErr result IsReadFault }
+        ensures looks { OnlyLooks (λ s. node_of (F.device s.flash.now)) (λ s. set.contains s.storage.now.ring.used) (λ s. s.writes.n) (Follows F.device) (IsSound F.device) (λ s. bytes_of_block (F.device s.flash.now).geometry) (λ s. (F.device s.flash.now).geometry.blocks) self.old self.new }
+        ensures reads { self.new.reads.n ≡ self.old.reads.n + 1 }
+        ensures asks { (F.device self.new.flash.now).operations ≤ (F.device self.old.flash.now).operations + 1 }
+
+        // A listed node is lent whole without the device and goes first, and of another block the first page is.
+        ensures fronts { Fronts (F.device self.old.flash.now) self.old.storage.now.cache block (F.device self.new.flash.now) self.new.storage.now.cache (front_in self.new.in_page self.new.storage.now) result }
+    {
+        self.reads = self.reads.more();
+        self.in_page = bring_front(self.flash, self.storage, block)?;
+        Ok(())
+    }
+
+    fn fronted(&self) -> &[u8] {
+        if self.in_page {
+            return &self.storage.page;
+        }
+        self.storage.cache.first()
+    }
+
+    fn supersede(&mut self, block: u32)
+        requires { IsSound F.device self.old }
+        ensures looks { OnlyLooks (λ s. node_of (F.device s.flash.now)) (λ s. set.contains s.storage.now.ring.used) (λ s. s.writes.n) (Follows F.device) (IsSound F.device) (λ s. bytes_of_block (F.device s.flash.now).geometry) (λ s. (F.device s.flash.now).geometry.blocks) self.old self.new }
+        ensures reads { self.new.reads.n ≡ self.old.reads.n }
+        ensures asks { (F.device self.new.flash.now).operations ≡ (F.device self.old.flash.now).operations }
+
+        // The block is taken out of the cache, and the device is not asked.
+        ensures device { F.device self.new.flash.now ≡ F.device self.old.flash.now }
+        ensures forgets { self.new.storage.now.cache ≡ without self.old.storage.now.cache block }
+    {
+        self.storage.cache.forget(block);
+    }
+
     fn write(&mut self, bytes: &[u8]) -> Result<u32, Fault> {
         self.writes = self.writes.more();
         write_node(self.flash, self.storage, bytes)
+    }
+
+    fn write_owned(&mut self, bytes: Vec<u8>) -> Result<u32, Fault> {
+        self.writes = self.writes.more();
+        write_owned_node(self.flash, self.storage, bytes)
     }
 
     ghost follows_itself = { Follows_itself F.device };
@@ -133,6 +192,10 @@ impl<F: Flash> Nodes for Store<'_, F> {
     ghost memory_may_want = { λ s t. record { reason = tt } };
 
     ghost stays_sound = { Sound_on F.device };
+
+    ghost same_page = { λ s t f. ap (λ g. g.page) f.evolved.geometry };
+
+    ghost least_page = { λ s sound. (has_room (F.device s.flash.now).geometry sound.lawful).page };
 
     ghost same_limit = { λ s t f. ap bytes_of_block f.evolved.geometry };
 

@@ -1,16 +1,19 @@
 //! Tells how many reads, programs and erases calls ask of a flash, and a format and mounts, beside
 //! the nodes that they may write: pages of 256 bytes, 16 a block, so that each node is erased once
 //! and programmed page by page. Reads are told cold, with no node in memory, and warm, with the eight
-//! that the calls before used last.
+//! that the calls before used last. Then what calls one after the other ask on the average, on such a
+//! flash and on one of large pages and blocks.
 #![tactic(auto)]
 
 mod error;
 mod measures;
+mod series;
 mod texts;
 
 use anyhow::{Context, Result};
 use flash_model::Counters;
 use measures::{Asked, MEASURES, SYNCED_DIRECTORIES, asked_by, asked_by_format, asked_by_mount};
+use series::{SERIES, Series, asked_by_each};
 
 fn main(rt: HostRuntime) -> Result<()> {
     println!(rt;
@@ -23,7 +26,8 @@ fn main(rt: HostRuntime) -> Result<()> {
         &rt,
         "mount of five versions, 15 directories",
         SYNCED_DIRECTORIES,
-    )
+    )?;
+    tell_series(&rt)
 }
 
 /// Tells what each call asks.
@@ -32,6 +36,30 @@ fn tell_calls<R: AllocGlobal + Print>(rt: &R) -> Result<()> {
         let asked = asked_by(rt.alloc(), row).context(row.name)?;
         tell(rt, row.name, row.nodes, asked)?;
     }
+    Ok(())
+}
+
+/// Tells what calls ask one after the other, each on the average, with the nodes in memory that the
+/// calls before it used last.
+fn tell_series<R: AllocGlobal + Print>(rt: &R) -> Result<()> {
+    println!(rt;
+        "\ncalls one after the other          page   block  calls   reads  programs  erases"
+    )?;
+    for row in SERIES {
+        let asked = asked_by_each(rt.alloc(), row).context(row.name)?;
+        tell_each(rt, row, asked)?;
+    }
+    Ok(())
+}
+
+/// Tells what was asked of a flash by each call.
+fn tell_each<R: Print>(rt: &R, row: &Series, asked: Counters) -> Result<()> {
+    let page = row.sizes.page;
+    let block = row.sizes.block_bytes();
+    println!(rt;
+        "{:<32}{:>7}{:>8}{:>7}{:>8}{:>10}{:>8}",
+        row.name, page, block, row.calls, asked.reads, asked.programs, asked.erases
+    )?;
     Ok(())
 }
 

@@ -1,7 +1,7 @@
 //! The calls that are measured.
 use crate::error::MeasureError;
-use crate::texts::{counts_after, formatted};
-use flash_model::{Counters, SimFlash};
+use crate::texts::{SMALL_BLOCKS, counts_after, formatted};
+use flash_model::{Counters, Geometry, SimFlash};
 use std::alloc::{AllocError, Global};
 
 /// A call that is measured: what is called before, the call, and the nodes that it may write.
@@ -22,7 +22,7 @@ pub struct Asked {
 
 /// What a call asks of the flash.
 pub fn asked_by(alloc: Global, row: &Measure) -> Result<Asked, MeasureError> {
-    let before = counts_of(alloc, row.before)?;
+    let before = counts_of(alloc, SMALL_BLOCKS, row.before)?;
     Ok(Asked {
         cold: asked_after(alloc, row, &["cold"], before)?,
         warm: asked_after(alloc, row, &[], before)?,
@@ -38,7 +38,7 @@ fn asked_after(
     before: Counters,
 ) -> Result<Counters, MeasureError> {
     let lines = lines_of(alloc, row, still)?;
-    let after = counts_of(alloc, &lines)?;
+    let after = counts_of(alloc, SMALL_BLOCKS, &lines)?;
     Ok(beyond(after, before))
 }
 
@@ -55,15 +55,15 @@ fn lines_of(
     Ok(lines)
 }
 
-/// What a format, a mount and these lines ask.
-fn counts_of(alloc: Global, lines: &[&str]) -> Result<Counters, MeasureError> {
-    let mut flash = formatted(alloc)?;
+/// What a format, a mount and these lines ask of a flash of these sizes.
+pub fn counts_of(alloc: Global, sizes: Geometry, lines: &[&str]) -> Result<Counters, MeasureError> {
+    let mut flash = formatted(alloc, sizes)?;
     counts_after(alloc, &mut flash, lines)
 }
 
 /// What a mount asks of a flash on which these lines were carried out.
 pub fn asked_by_mount(alloc: Global, lines: &[&str]) -> Result<Counters, MeasureError> {
-    let mut flash = formatted(alloc)?;
+    let mut flash = formatted(alloc, SMALL_BLOCKS)?;
     asked_by_second_mount(alloc, &mut flash, lines)
 }
 
@@ -80,11 +80,11 @@ fn asked_by_second_mount(
 
 /// What format asks of an erased flash.
 pub fn asked_by_format(alloc: Global) -> Result<Counters, MeasureError> {
-    Ok(formatted(alloc)?.counts())
+    Ok(formatted(alloc, SMALL_BLOCKS)?.counts())
 }
 
 /// What was asked beyond what was asked before.
-fn beyond(after: Counters, before: Counters) -> Counters {
+pub fn beyond(after: Counters, before: Counters) -> Counters {
     Counters {
         reads: after.reads.saturating_sub(before.reads),
         programs: after.programs.saturating_sub(before.programs),

@@ -6,19 +6,29 @@ use script::{Line, read_line};
 use std::alloc::{AllocError, Global};
 use undofs::{Fs, format};
 
-/// Room for a file of 1 MiB many times over.
-const SIZES: Geometry = Geometry {
+/// Small pages and blocks, with room for a file of 1 MiB many times over.
+pub const SMALL_BLOCKS: Geometry = Geometry {
     page: 256,
     pages: 16,
     blocks: 2048,
 };
 
+/// Large pages and blocks.
+pub const LARGE_BLOCKS: Geometry = Geometry {
+    page: 2048,
+    pages: 64,
+    blocks: 512,
+};
+
+/// How many bytes the files have that are read in pieces.
+const MIB: usize = 1_048_576;
+
 /// How many versions are kept.
 const HISTORY: u32 = 8;
 
-/// A flash on which an empty file system was made.
-pub fn formatted(alloc: Global) -> Result<SimFlash, MeasureError> {
-    let mut flash = SimFlash::new(alloc, SIZES, &[])?;
+/// A flash of these sizes on which an empty file system was made.
+pub fn formatted(alloc: Global, sizes: Geometry) -> Result<SimFlash, MeasureError> {
+    let mut flash = SimFlash::new(alloc, sizes, &[])?;
     format(alloc, &mut flash, HISTORY)?;
     Ok(flash)
 }
@@ -28,7 +38,9 @@ pub fn formatted(alloc: Global) -> Result<SimFlash, MeasureError> {
 ///
 /// A line is one of a script, or `fill N`, which writes N bytes at the start of descriptor 0, `deep N`,
 /// which makes N directories `a`, each in the one before, `wide N`, which makes N directories in the
-/// root, named by numbers from 1000 on, or `cold`, which forgets the nodes in memory.
+/// root, named by numbers from 1000 on, `scatter N`, which writes a byte at each of the places 8,192 and
+/// 16,384 further on N times of descriptor 0, `scan N`, which reads 1 MiB of descriptor 0 in pieces of N
+/// bytes, or `cold`, which forgets the nodes in memory.
 pub fn counts_after(
     alloc: Global,
     flash: &mut SimFlash,
@@ -65,6 +77,12 @@ fn carry_out(
     }
     if let Some(count) = number_after(line, "wide ") {
         return make_siblings(alloc, system, count);
+    }
+    if let Some(count) = number_after(line, "scatter ") {
+        return write_places(alloc, system, count);
+    }
+    if let Some(size) = number_after(line, "scan ") {
+        return read_pieces(alloc, system, size);
     }
     let call = call_of(alloc, line, number)?;
     ask(alloc, system, &call)
@@ -139,5 +157,35 @@ fn make_directory(
 ) -> Result<(), MeasureError> {
     let path = Path::parse(alloc, path.as_bytes())?;
     system.mkdir(alloc, &path)?;
+    Ok(())
+}
+
+/// Writes a byte at each of so many places of descriptor 0: at 8,192, and each 16,384 bytes further on.
+fn write_places(
+    alloc: Global,
+    system: &mut Fs<'_, SimFlash>,
+    count: usize,
+) -> Result<(), MeasureError> {
+    for number in 0..count {
+        let offset = number.saturating_mul(16_384).saturating_add(8_192);
+        let line = format!(in alloc; "pwrite 0 {offset} 42")?;
+        let call = call_of_script(alloc, line.as_str(), number)?;
+        ask(alloc, system, &call)?;
+    }
+    Ok(())
+}
+
+/// Reads 1 MiB of descriptor 0, in pieces of so many bytes.
+fn read_pieces(
+    alloc: Global,
+    system: &mut Fs<'_, SimFlash>,
+    size: usize,
+) -> Result<(), MeasureError> {
+    for number in 0..MIB.div_ceil(size.max(1)) {
+        let offset = number.saturating_mul(size);
+        let line = format!(in alloc; "pread 0 {offset} {size}")?;
+        let call = call_of_script(alloc, line.as_str(), number)?;
+        ask(alloc, system, &call)?;
+    }
     Ok(())
 }

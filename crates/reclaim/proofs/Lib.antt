@@ -7,3 +7,5 @@ pub mod Looking
 pub mod Soundness
 pub mod Verifying
 pub mod Costs
+pub mod FrontNames
+pub mod KnownPasses

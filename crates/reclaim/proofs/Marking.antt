@@ -1,5 +1,5 @@
 -- What marking names does to the list of marked blocks.
-use Rattle.std.proofs.Common.{◌≡◌, ◌↔◌, ◌⊎◌, inl, inr, ℕ, suc, ◌+◌, ◌<◌, ◌≤◌, Result, Ok, Bool, true, false, ◌||◌, Option, Some, None, List, [], ◌∷◌, ◌++◌, length, get_or, refl, sym, ap, subst, ◌∙◌, arith}
+use Rattle.std.proofs.Common.{◌≡◌, ◌↔◌, ◌⊎◌, inl, inr, ℕ, suc, ◌+◌, ◌<◌, ◌≤◌, Result, Ok, Bool, true, false, ◌||◌, Option, None, List, [], ◌∷◌, ◌++◌, length, get_or, refl, sym, ap, subst, ◌∙◌, arith}
 use Rattle.std.specs.Prelude.{slice_index, Contains, nat_eq}
 use Rattle.std.specs.FinMap.{nat_cmp-IsAntisymmetric}
 use Rattle.std.specs.FinSet as set
@@ -210,7 +210,7 @@ pass_begun f p marked none = record {
 
 -- a pass with this list
 abbrev pub with_order : Pass → List ℕ → Pass
-with_order p order = record { blocks = p.blocks; roots = p.roots; order = order; next = p.next }
+with_order p order = record { blocks = p.blocks; roots = p.roots; order = order; next = p.next; bodies = p.bodies }
 
 -- the roots were marked
 pub begun : (f : Blocks) (p : Pass) (order names : List ℕ) → order ≡ [] → p.roots ≡ names → IsMarked order names p.order → p.next ≡ 0 → IsPass f p
@@ -231,18 +231,40 @@ pub at_next : (held p : Pass) (block : ℕ) → held ≡ p → block ≡ get_or 
 at_next held p block is at below =
     at ∙ ap (λ (q : Pass). get_or q.order q.next block) is ∙ get_or_default_zero p.order p.next block below
 
--- the pass after its names are marked, with one block more as read
-pub read_and_marked : (f g : Blocks) (p held m : Pass) (block : ℕ) (bytes names : List ℕ) → IsPass f p → p.next < length p.order
-    → g ≡ f → f block ≡ Some bytes → block ≡ slice_index p.order p.next → ((b : ℕ) → Contains names b ↔ Names (Some bytes) b)
-    → IsMarked p.order names m.order → m ≡ with_order p m.order → held ≡ m
-    → IsPass g (record { blocks = held.blocks; roots = held.roots; order = held.order; next = held.next + 1 })
-read_and_marked f g p held m block bytes names pass below same is at named marked others seen =
-    let all = seen ∙ others in
-    subst (λ (f : Blocks). IsPass f (record { blocks = held.blocks; roots = held.roots; order = held.order; next = held.next + 1 })) (sym same)
-    (read_one f p (record { blocks = held.blocks; roots = held.roots; order = held.order; next = held.next + 1 }) (Some bytes) names pass below
-    (ap f (sym at) ∙ is) named
-    (subst (λ (l : List ℕ). IsMarked p.order names l) (ap (λ (q : Pass). q.order) (sym seen)) marked)
-    (ap (λ (q : Pass). q.roots) all) (ap (λ (q : Pass). q.next + 1) all))
+-- a pass that noted these bodies, and one with a block more as read
+abbrev pub with_bodies : Pass → set.FinSet nat_cmp → Pass
+with_bodies p bodies = record { blocks = p.blocks; roots = p.roots; order = p.order; next = p.next; bodies = bodies }
+
+abbrev pub stepped : Pass → Pass
+stepped p = record { blocks = p.blocks; roots = p.roots; order = p.order; next = p.next + 1; bodies = p.bodies }
+
+-- the pass after its names are marked and its bodies noted, with one block more as read
+pub record IsStepped (p m n held : Pass) : Type 0 where
+  pub blocks : (stepped held).blocks ≡ p.blocks
+  pub roots : (stepped held).roots ≡ p.roots
+  pub order : (stepped held).order ≡ m.order
+  pub next : (stepped held).next ≡ p.next + 1
+  pub bodies : (stepped held).bodies ≡ n.bodies
+
+pub is_stepped : (p m n held : Pass) → m ≡ with_order p m.order → n ≡ with_bodies m n.bodies → held ≡ n → IsStepped p m n held
+is_stepped p m n held others noted seen =
+    let all = seen ∙ noted in
+    record {
+      blocks = ap (λ (q : Pass). q.blocks) all ∙ ap (λ (q : Pass). q.blocks) others;
+      roots = ap (λ (q : Pass). q.roots) all ∙ ap (λ (q : Pass). q.roots) others;
+      order = ap (λ (q : Pass). q.order) all;
+      next = ap (λ (q : Pass). q.next + 1) all ∙ ap (λ (q : Pass). q.next + 1) others;
+      bodies = ap (λ (q : Pass). q.bodies) seen;
+    }
+
+pub read_and_marked : (f g : Blocks) (p m n held : Pass) (block : ℕ) (names : List ℕ) → IsPass f p → p.next < length p.order
+    → g ≡ f → block ≡ slice_index p.order p.next → ((b : ℕ) → Contains names b ↔ Names (f block) b)
+    → IsMarked p.order names m.order → IsStepped p m n held
+    → IsPass g (stepped held)
+read_and_marked f g p m n held block names pass below same at named marked is =
+    subst (λ (f : Blocks). IsPass f (stepped held)) (sym same)
+    (read_one f p (stepped held) (f block) names pass below (ap f (sym at)) named
+    (subst (λ (l : List ℕ). IsMarked p.order names l) (sym is.order) marked) is.roots is.next)
 
 -- ---- the laws
 

@@ -11,7 +11,8 @@ use Rattle.node_format.specs.declared.place.Place.TheVariants.{Dir, File}
 use Rattle.block_trees.specs.Bodies.{index_of, pointer_of}
 use Rattle.block_trees.specs.Chains.{link_items, next_of}
 use Rattle.block_trees.specs.Reached.{PlaceNames, BodyNames, Names}
-use Rattle.reclaim.specs.Naming.{place_names, item_names, next_names, has_slot, slots_named, body_named}
+use Rattle.reclaim.specs.Kinds.{FileNames, NamesBody}
+use Rattle.reclaim.specs.Naming.{place_names, item_names, place_heads, item_heads, next_names, has_slot, slots_named, body_named}
 use Rattle.node_format.specs.BodyNodes.{Divides}
 use Rattle.node_format.specs.declared.headers.TheConstants.{SLOTS}
 
@@ -197,3 +198,54 @@ named_all bytes list is b = (
         Contains-append_left (entries ++ after) slots b (Contains-append_left entries after b (items_from (link_items (Some bytes)) item b within names))
     from (inr (inl h)) = Contains-append_right (entries ++ after) slots b (body_from (index_of (Some bytes)) (pointer_of (Some bytes)) b h)
     from (inr (inr h)) = Contains-append_left (entries ++ after) slots b (Contains-append_right entries after b (next_from (next_of (Some bytes)) b h.0 h.1))
+
+-- ---- bodies alone
+
+heads_to_place : (place : Place) (b : ℕ) → Contains (place_heads place) b → FileNames place b
+heads_to_place (Dir block) b h = absurd (in_none b h)
+heads_to_place (File head zero) b h = absurd (in_none b h)
+heads_to_place (File head (suc n)) b h = (omega arith, in_one head b h)
+
+heads_from_place : (place : Place) (b : ℕ) → FileNames place b → Contains (place_heads place) b
+heads_from_place (Dir block) b h = absurd h
+heads_from_place (File head zero) b h = absurd (omega (arith, h.0))
+heads_from_place (File head (suc n)) b h = own_in head b h.1
+
+abbrev SomeHeads : List Item → ℕ → Type 0
+SomeHeads items b = (item : Item) × Contains items item × FileNames item.place b
+
+heads_to : (items : List Item) (b : ℕ) → Contains (flat_map item_heads items) b → SomeHeads items b
+heads_to [] b h = absurd (in_none b h)
+heads_to (item ∷ items) b h = either (Contains-append_cases (item_heads item) (flat_map item_heads items) b h) (heads_to items b)
+  where
+    either : Contains (item_heads item) b ⊎ Contains (flat_map item_heads items) b → (Contains (flat_map item_heads items) b → SomeHeads items b) → SomeHeads (item ∷ items) b
+    either (inl first) again = (item, head_in item items, heads_to_place item.place b first)
+    either (inr rest) again = let found = again rest in (found.0, tail_in item found.0 items found.1, found.2)
+
+heads_from : (items : List Item) (item : Item) (b : ℕ) → Contains items item → FileNames item.place b → Contains (flat_map item_heads items) b
+heads_from [] item b (k, lt, is) names = absurd (omega arith)
+heads_from (first ∷ items) item b (zero, lt, is) names =
+    Contains-append_left (item_heads first) (flat_map item_heads items) b (heads_from_place first.place b (subst (λ (i : Item). FileNames i.place b) (sym is) names))
+heads_from (first ∷ items) item b (suc k, lt, is) names =
+    Contains-append_right (item_heads first) (flat_map item_heads items) b (heads_from items item b (k, omega arith, is) names)
+
+pub bodies_all : (bytes list : List ℕ) → list ≡ flat_map item_heads (link_items (Some bytes)) ++ body_named (index_of (Some bytes)) (pointer_of (Some bytes))
+    → (b : ℕ) → Contains list b ↔ NamesBody (Some bytes) b
+bodies_all bytes list is b = (
+  λ h. to (Contains-append_cases heads slots b (subst (λ (xs : List ℕ). Contains xs b) is h)),
+  λ h. subst (λ (xs : List ℕ). Contains xs b) (sym is) (from h),
+)
+  where
+    heads : List ℕ
+    heads = flat_map item_heads (link_items (Some bytes))
+
+    slots : List ℕ
+    slots = body_named (index_of (Some bytes)) (pointer_of (Some bytes))
+
+    to : Contains heads b ⊎ Contains slots b → NamesBody (Some bytes) b
+    to (inl h) = inl (heads_to (link_items (Some bytes)) b h)
+    to (inr h) = inr (body_to (index_of (Some bytes)) (pointer_of (Some bytes)) b h)
+
+    from : NamesBody (Some bytes) b → Contains (heads ++ slots) b
+    from (inl (item, within, names)) = Contains-append_left heads slots b (heads_from (link_items (Some bytes)) item b within names)
+    from (inr h) = Contains-append_right heads slots b (body_from (index_of (Some bytes)) (pointer_of (Some bytes)) b h)

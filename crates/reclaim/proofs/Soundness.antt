@@ -22,6 +22,7 @@ use Rattle.block_trees.proofs.Reaching.{before_named, reached_via}
 use Rattle.block_trees.proofs.Bodies.{chain_back, chain_node, linked_back}
 use Rattle.directory.specs.Lookups.{LeadsToDirectories}
 use Rattle.reclaim.specs.Sound.{HoldsLink, IsDirectoryAt, IsHead, IsSoundPlace, HoldsSlot, AreStepped, IsSoundBody, IsSoundNode, SoundHasTrees, TreesAreSound, TreesHoldNodes}
+use Rattle.reclaim.specs.Kinds.{HoldsBody, FileNames, NamesBody}
 use Rattle.reclaim.proofs.Lengths.{entry_short, head_short, shorter}
 use Rattle.reclaim.proofs.Chains.{data_length, half_slot, divides_least, fewer_slots, some_before, back_twice}
 use Rattle.node_format.specs.BodyNodes.{HasSlot}
@@ -224,12 +225,12 @@ no_link node i is = on (link_of node) refl
     on (Some l) e = absurd (no_number i (sym is ∙ directory_no_index node l e))
 
 -- so it has no entries, and no node comes after it
-no_entry : (node : Option (List ℕ)) (i : ℕ) (item : Item) → index_of node ≡ Some i → Contains (link_items node) item → ⊥
+pub no_entry : (node : Option (List ℕ)) (i : ℕ) (item : Item) → index_of node ≡ Some i → Contains (link_items node) item → ⊥
 no_entry node i item is within =
     let h : Contains [] item = subst (λ (o : Option Link). Contains (option_map_or (λ l. l.items) o []) item) (no_link node i is) within in
     omega (arith, h.1)
 
-no_next : (node : Option (List ℕ)) (i : ℕ) → index_of node ≡ Some i → 0 < next_of node → ⊥
+pub no_next : (node : Option (List ℕ)) (i : ℕ) → index_of node ≡ Some i → 0 < next_of node → ⊥
 no_next node i is some =
     let none : next_of node ≡ 0 = ap (λ (o : Option Link). option_map_or (λ l. l.next) o 0) (no_link node i is) in
     omega (arith, none, some)
@@ -354,3 +355,68 @@ shape_holds capacity f block (inr (i, c)) none = no_number i (sym (chain_node ca
 
 pub trees_hold_nodes : TreesHoldNodes
 trees_hold_nodes capacity f roots trees b reached = shape_holds capacity f b (reached_shape capacity f roots trees reached)
+
+-- ---- what it names as a body holds one, and what it names otherwise does not
+
+-- a directory's node has no index
+in_tree_no_index : (capacity : ℕ) (f : Blocks) (block : ℕ) → IsInTree capacity f block → index_of (f block) ≡ None
+in_tree_no_index capacity f block t = let a = own_node capacity f block t in directory_no_index (f block) a.l a.is
+
+place_body : (capacity : ℕ) (f : Blocks) (place : Place) (depth next : ℕ) → HasTree capacity f place depth → FileNames place next → HoldsBody f next
+place_body capacity f (Dir block) depth next tree names = absurd names
+place_body capacity f (File head zero) depth next tree names = absurd (omega (arith, names.0))
+place_body capacity f (File head (suc n)) depth next tree names =
+    let body = tree_body capacity f head (suc n) depth tree in
+    (head_index capacity (suc n), ap (λ (b : ℕ). index_of (f b)) (sym names.1) ∙ chain_node capacity (head_index capacity (suc n)) head f body.0)
+
+pointed_body : (capacity : ℕ) (f : Blocks) (i block x next : ℕ) → IsLinkedChain capacity f i block → HasSlot i x → pointer_of (f block) x ≡ next → HoldsBody f next
+pointed_body capacity f zero block x next c has is = absurd (omega (arith, has.1))
+pointed_body capacity f (suc i) block x next c has is =
+    let le : 2 ^ x ≤ suc i = divides_least x (suc i) has.1 has.2 in
+    let chain = chain_back capacity f (2 ^ x) (suc i) block le c.chain in
+    let at : back f block (2 ^ x) ≡ next = sym (c.linked.0 x has) ∙ is in
+    (suc i - 2 ^ x, ap (λ (b : ℕ). index_of (f b)) (sym at) ∙ chain_node capacity (suc i - 2 ^ x) (back f block (2 ^ x)) f chain)
+
+shape_body : (capacity : ℕ) (f : Blocks) (block next : ℕ) → IsShaped capacity f block → NamesBody (f block) next → HoldsBody f next
+shape_body capacity f block next (inl t) (inl (item, within, names)) =
+    let own = holds_item (f block) item within in
+    place_body capacity f item.place t.depth next (own_tree capacity f block t own.0 item own.1 own.2) names
+shape_body capacity f block next (inl t) (inr names) =
+    absurd (subst (λ (o : Option ℕ). BodyNames o (pointer_of (f block)) next) (in_tree_no_index capacity f block t) names)
+shape_body capacity f block next (inr (i, c)) (inl (item, within, names)) = absurd (no_entry (f block) i item (chain_node capacity i block f c.chain) within)
+shape_body capacity f block next (inr (i, c)) (inr names) =
+    let own = subst (λ (o : Option ℕ). BodyNames o (pointer_of (f block)) next) (chain_node capacity i block f c.chain) names in
+    pointed_body capacity f i block own.0 next c own.1 own.2
+
+pub named_body : (capacity : ℕ) (f : Blocks) (roots : List ℕ) → ((root : ℕ) → Contains roots root → IsRoot capacity f root) → {b : ℕ} → Reached f roots b → (next : ℕ) → NamesBody (f b) next → HoldsBody f next
+named_body capacity f roots trees {b} reached next names = shape_body capacity f b next (reached_shape capacity f roots trees reached) names
+
+-- a named block is named as a body, or holds no body
+place_kind : (capacity : ℕ) (f : Blocks) (place : Place) (depth next : ℕ) → HasTree capacity f place depth → PlaceNames place next → FileNames place next ⊎ (index_of (f next) ≡ None)
+place_kind capacity f (Dir block) depth next tree same =
+    inr (ap (λ (b : ℕ). index_of (f b)) (sym same) ∙ in_tree_no_index capacity f block (begins_tree capacity f block depth tree))
+place_kind capacity f (File head size) depth next tree names = inl names
+
+with_item : (held : Option (List ℕ)) (item : Item) (next : ℕ) (none : Type 0) → Contains (link_items held) item → FileNames item.place next ⊎ none → NamesBody held next ⊎ none
+with_item held item next none within (inl names) = inl (inl (item, within, names))
+with_item held item next none within (inr is) = inr is
+
+shape_kind : (capacity : ℕ) (f : Blocks) (block next : ℕ) → IsShaped capacity f block → Names (f block) next → NamesBody (f block) next ⊎ (index_of (f next) ≡ None)
+shape_kind capacity f block next (inl t) (inl (item, within, names)) =
+    let own = holds_item (f block) item within in
+    with_item (f block) item next (index_of (f next) ≡ None) within (place_kind capacity f item.place t.depth next (own_tree capacity f block t own.0 item own.1 own.2) names)
+shape_kind capacity f block next (inl t) (inr (inl names)) = inl (inr names)
+shape_kind capacity f block next (inl t) (inr (inr (some, same))) =
+    let a = own_node capacity f block t in
+    let is : next_of (f block) ≡ a.l.next = ap (λ (o : Option Link). option_map_or (λ l. l.next) o 0) a.is in
+    let after : IsInTree capacity f next = record { first = t.first; depth = t.depth; tree = t.tree; listed = subst (Contains (chain f t.first)) (sym is ∙ same) (a.on (omega (arith, is, some))) } in
+    inr (in_tree_no_index capacity f next after)
+shape_kind capacity f block next (inr (i, c)) (inl (item, within, names)) = absurd (no_entry (f block) i item (chain_node capacity i block f c.chain) within)
+shape_kind capacity f block next (inr (i, c)) (inr (inl names)) = inl (inr names)
+shape_kind capacity f block next (inr (i, c)) (inr (inr (some, same))) = absurd (no_next (f block) i (chain_node capacity i block f c.chain) some)
+
+pub named_kind : (capacity : ℕ) (f : Blocks) (roots : List ℕ) → ((root : ℕ) → Contains roots root → IsRoot capacity f root) → {b : ℕ} → Reached f roots b → (next : ℕ) → Names (f b) next → NamesBody (f b) next ⊎ (index_of (f next) ≡ None)
+named_kind capacity f roots trees {b} reached next names = shape_kind capacity f b next (reached_shape capacity f roots trees reached) names
+
+pub root_kind : (capacity : ℕ) (f : Blocks) (root : ℕ) → IsRoot capacity f root → index_of (f root) ≡ None
+root_kind capacity f root tree = in_tree_no_index capacity f root (begins_tree capacity f root MAX_NAMES tree)

@@ -3,3 +3,4 @@ pub mod Naming
 pub mod Passes
 pub mod Sound
 pub mod Verified
+pub mod Kinds

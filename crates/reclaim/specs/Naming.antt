@@ -14,6 +14,15 @@ place_names (File head (suc n)) = head ∷ []
 abbrev pub item_names : Item → List ℕ
 item_names item = place_names item.place
 
+-- the head of a file that is not empty alone
+abbrev pub place_heads : Place → List ℕ
+place_heads (Dir block) = []
+place_heads (File head zero) = []
+place_heads (File head (suc n)) = head ∷ []
+
+abbrev pub item_heads : Item → List ℕ
+item_heads item = place_heads item.place
+
 -- the block of the node after a node of a directory; 0 names none
 abbrev pub next_names : ℕ → List ℕ
 next_names next = if next == 0 then [] else next ∷ []

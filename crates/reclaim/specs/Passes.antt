@@ -1,7 +1,8 @@
 -- A marking of the blocks that roots reach, in steps.
-use Rattle.std.specs.Prelude.{◌≡◌, ◌≢◌, ◌⊎◌, ◌↔◌, ℕ, ◌+◌, ◌<◌, ◌≤◌, ◌++◌, List, length, slice_index, Contains, refl}
+use Rattle.std.specs.Prelude.{◌≡◌, ◌≢◌, ◌⊎◌, ◌↔◌, ℕ, ◌+◌, ◌<◌, ◌≤◌, ◌++◌, ◌-◌, ◌^◌, Bool, true, false, Result, Ok, List, length, slice_index, Contains, refl}
 use Rattle.std.specs.Coded.{Coded, code_by, coded×, coded_ℕ, coded_list}
 use Rattle.std.specs.FinSet as set
+use Rattle.std.specs.Ordering.{nat_cmp}
 use Rattle.fs_types.specs.declared.fault.Fault.{Fault}
 use Rattle.fs_types.specs.declared.fault.Fault.TheVariants.{NoMemory, Damaged}
 use Rattle.allocator.specs.BlockSet.{BlockSet}
@@ -9,19 +10,20 @@ use Rattle.allocator.specs.Ring.{IsDataBlock}
 use Rattle.block_trees.specs.Bodies.{Blocks}
 use Rattle.block_trees.specs.Reached.{Reached, Names, Agrees}
 
--- how many blocks the flash has, the roots, the marked blocks in order of marking, and how many of these were read:
--- the first ones
+-- how many blocks the flash has, the roots, the marked blocks in order of marking, how many of these were read: the first
+-- ones, and the blocks that were noted as those of bodies
 pub record Pass : Type 0 where
   pub blocks : ℕ
   pub roots : List ℕ
   pub order : List ℕ
   pub next : ℕ
+  pub bodies : set.FinSet nat_cmp
 
 -- it is stored as the tuple of its fields
 abbrev pub pass_code : Coded Pass
 pass_code =
-    code_by ((ℕ × List ℕ) × (List ℕ × ℕ)) (coded× (coded× coded_ℕ (coded_list coded_ℕ)) (coded× (coded_list coded_ℕ) coded_ℕ))
-    (λ p. ((p.blocks, p.roots), (p.order, p.next))) (λ p. record { blocks = p.0.0; roots = p.0.1; order = p.1.0; next = p.1.1 }) (λ _. refl)
+    code_by ((ℕ × List ℕ) × (List ℕ × (ℕ × set.FinSet nat_cmp))) (coded× (coded× coded_ℕ (coded_list coded_ℕ)) (coded× (coded_list coded_ℕ) (coded× coded_ℕ (set.code coded_ℕ))))
+    (λ p. ((p.blocks, p.roots), (p.order, (p.next, p.bodies)))) (λ p. record { blocks = p.0.0; roots = p.0.1; order = p.1.0; next = p.1.1.0; bodies = p.1.1.1 }) (λ _. refl)
 
 -- the set of marks has the blocks of the list, of which so many were read
 pub record IsOrder (marks : BlockSet) (order : List ℕ) (next : ℕ) : Type 0 where
@@ -35,6 +37,12 @@ AreDistinct order = (i j : ℕ) → i < j → j < length order → slice_index o
 -- the second list begins with the first
 abbrev pub Begins : List ℕ → List ℕ → Type 0
 Begins old new = (rest : List ℕ) × (old ++ rest ≡ new)
+
+-- a marking went on from another: it is of the same flash and roots, and what was marked before is marked, in the same order
+pub record Advances (from to : Pass) : Type 0 where
+  pub blocks : to.blocks ≡ from.blocks
+  pub roots : to.roots ≡ from.roots
+  pub begins : Begins from.order to.order
 
 -- names were added to a list of blocks, each where it was not there
 pub record IsMarked (old names new : List ℕ) : Type 0 where
@@ -79,3 +87,15 @@ PassStays = (old new : Blocks) (p : Pass) → Agrees p.roots old new → IsPass 
 -- a finished pass has marked exactly what the roots reach
 abbrev pub PassMarks : Type 0
 PassMarks = (f : Blocks) (p : Pass) → IsPass f p → IsFinished p → (b : ℕ) → Contains p.order b ↔ Reached f p.roots b
+
+-- how a step of so many reads ends: with that many, or with none left. The greatest budget is for all
+pub record HasStepped (budget : ℕ) (old new : Pass) (result : Result Bool Fault) : Type 0 where
+  pub more : result ≡ Ok false → (new.next ≡ old.next + budget) × (new.next < length new.order)
+  pub done : result ≡ Ok true → (new.next ≤ old.next + budget) × IsFinished new
+  pub all : result ≡ Ok false → budget < 2 ^ 64 - 1
+
+-- names were noted as blocks of bodies, those that the flash has
+pub record AreNoted (old : set.FinSet nat_cmp) (names : List ℕ) (blocks : ℕ) (new : set.FinSet nat_cmp) : Type 0 where
+  pub stay : (b : ℕ) → set.contains old b ≡ true → set.contains new b ≡ true
+  pub only : (b : ℕ) → set.contains new b ≡ true → (set.contains old b ≡ true) ⊎ Contains names b
+  pub all : (b : ℕ) → Contains names b → b < blocks → set.contains new b ≡ true

@@ -6,9 +6,11 @@ mod laws;
 mod looks;
 mod named;
 mod pass;
+mod reading;
 mod slots;
 mod verification;
 
 pub use laws::{frame_law, pass_laws, sound_laws};
 pub use pass::Pass;
+pub use reading::Reading;
 pub use verification::verify;

@@ -1,22 +1,25 @@
 //! A marking of the blocks that roots reach, in steps of so many reads.
-ghost use Rattle.std.specs.Prelude.{◌≡◌, ◌≢◌, ◌↔◌, ℕ, ◌+◌, ◌-◌, ◌^◌, ◌<◌, ◌≤◌, [], ◌∷◌, true, false, length, Contains, OnOk, IfOk, IfErr, IsErrOf, None, Ok, Err};
+ghost use Rattle.std.specs.Prelude.{◌≡◌, ◌≢◌, ◌↔◌, ℕ, ◌+◌, ◌-◌, ◌^◌, ◌<◌, ◌≤◌, [], ◌∷◌, true, false, ◌&&◌, length, slice_index, Contains, OnOk, IfOk, IfErr, IsErrOf, None, Ok, Err};
 ghost use Rattle.std.specs.FinSet as set;
 ghost use Rattle.allocator.specs.Ring.{IsDataBlock};
 ghost use Rattle.block_trees.specs.Bodies.{Blocks};
 ghost use Rattle.block_trees.specs.Reached.{Reached};
 ghost use Rattle.node_store.specs.Faults.{IsReadFault};
 ghost use Rattle.node_store.specs.Frames.{OnlyLooks};
-ghost use Rattle.reclaim.specs.Passes.{IsMarked, IsPass, IsFinished, HasRead, IsMarkFault, Begins};
+ghost use Rattle.reclaim.specs.Kinds.{Knows, is_by_fronts, mark_pages, HasAsked};
+ghost use Rattle.reclaim.specs.Passes.{IsMarked, IsPass, IsFinished, HasRead, IsMarkFault, Begins, Advances, HasStepped, AreNoted};
 
-use crate::named::list_names;
-use allocator::Marks;
+use crate::named::read_named;
+use crate::reading::Reading;
+use allocator::{BlockSet, Marks};
 use fs_types::{ANCHORS, Fault};
 use node_store::Nodes;
 use std::alloc::Global;
 use std::marker::Model;
 
 /// A marking of the blocks that roots reach. The marked blocks are kept in the order of marking, and
-/// are read in that order: what a block names is marked when it is read.
+/// are read in that order: what a block names is marked when it is read. Those that are named as nodes
+/// of bodies are noted.
 ///
 /// Between steps nodes may be written, as long as those that the roots reach stay as they are.
 #[derive(Drop)]
@@ -26,9 +29,11 @@ pub struct Pass {
     roots: Vec<u32>,
     order: Vec<u32>,
     next: usize,
+    bodies: BlockSet,
 }
 
 impl Model for Pass {
+    ghost use Rattle.std.specs.Prelude.{◌≡◌};
     ghost use Rattle.reclaim.specs.Passes.{Pass as Marking, pass_code, IsOrder};
 
     ghost Value = { Marking };
@@ -40,9 +45,10 @@ impl Model for Pass {
       roots = p.roots.items;
       order = p.order.items;
       next = p.next;
+      bodies = p.bodies.members;
     } };
 
-    ghost invariant = { λ p. IsOrder p.marks p.order.items p.next };
+    ghost invariant = { λ p. IsOrder p.marks p.order.items p.next × (p.bodies.blocks ≡ p.marks.blocks) };
 }
 
 impl Pass {
@@ -51,10 +57,12 @@ impl Pass {
         requires { (b : ℕ) → Contains roots.now b → IsDataBlock blocks b }
         ensures pass { IfOk result (λ p. (f : Blocks) → IsPass f p) }
         ensures begun { IfOk result (λ p. (p.blocks ≡ blocks) × (p.roots ≡ roots.now) × (p.next ≡ 0)) }
+        ensures none { IfOk result (λ p. p.bodies ≡ set.empty) }
         ensures first { IfOk result (λ p. (b : ℕ) → Contains p.order b ↔ Contains roots.now b) }
         ensures memory { IfErr result (λ fault. fault ≡ Fault.NoMemory) }
     {
         let marks = Marks::new(alloc, blocks)?;
+        let bodies = BlockSet::new(alloc, blocks)?;
         let own = roots.to_vec(alloc)?;
         let mut pass = Pass {
             alloc,
@@ -62,69 +70,74 @@ impl Pass {
             roots: own,
             order: Vec::new(alloc),
             next: 0,
+            bodies,
         };
         pass.mark_all(roots)?;
         Ok(pass)
     }
 
     /// Reads `budget` blocks that this pass had not read, or all that remain; whether none remains.
+    /// By fronts one page is asked at most for each node of a body.
     ///
     /// What is said of a pass holds where this is one over these nodes ([`Pass::start`], and a step that
     /// was not refused). After a refusal it is of no use: no step may follow.
-    pub fn step<N: Nodes>(&mut self, nodes: &mut N, budget: u64) -> Result<bool, Fault>
+    pub fn step<N: Nodes>(
+        &mut self,
+        nodes: &mut N,
+        reading: Reading,
+        budget: u64,
+    ) -> Result<bool, Fault>
         requires sound { N.is_sound nodes.old }
         requires blocks { self.old.blocks ≡ N.blocks nodes.old }
+        requires known { Knows reading (N.limit nodes.old) (N.node nodes.old) self.old }
+
+        // The pass goes on: so many blocks are read, each for the first time.
         ensures pass { IsPass (N.node nodes.old) self.old → OnOk result (IsPass (N.node nodes.new) self.new) }
-        ensures same { (self.new.blocks ≡ self.old.blocks) × (self.new.roots ≡ self.old.roots) }
-        ensures begins { Begins self.old.order self.new.order }
-
-        // So many blocks are read, each for the first time.
-        ensures read { OnOk result (N.reads nodes.new + self.old.next ≡ N.reads nodes.old + self.new.next) }
-        ensures more { result ≡ Ok false → (self.new.next ≡ self.old.next + budget) × (self.new.next < length self.new.order) }
-        ensures done { result ≡ Ok true → (self.new.next ≤ self.old.next + budget) × IsFinished self.new }
-
-        // The greatest budget is for all.
-        ensures all { result ≡ Ok false → budget < 2 ^ 64 - 1 }
+        ensures on { Advances self.old self.new }
+        ensures ends { HasStepped budget self.old self.new result }
+        ensures read { OnOk result ((N.reads nodes.new + self.old.next ≡ N.reads nodes.old + self.new.next) × HasAsked reading (N.page nodes.old) (N.node nodes.old) self.old self.new (N.asked nodes.old) (N.asked nodes.new)) }
         ensures reads { N.reads nodes.new ≤ N.reads nodes.old + budget }
 
         // Whatever is answered, each read was of another block that the roots reach.
         ensures seen { IsPass (N.node nodes.old) self.old → HasRead (N.node nodes.old) self.old (N.reads nodes.old) (N.reads nodes.new) }
+        ensures looks { OnlyLooks N.node N.kept N.writes N.follows N.is_sound N.limit N.blocks nodes.old nodes.new }
 
         // Damaged where a block that the roots reach has no node, and only there.
         ensures damaged { IsPass (N.node nodes.old) self.old → IsErrOf result Fault.Damaged → (b : ℕ) × Reached (N.node nodes.old) self.old.roots b × (N.node nodes.old b ≡ None) }
-        ensures why { IfErr result (λ fault. fault ≢ Fault.Damaged → N.causes nodes.old nodes.new fault) }
-        ensures faults { IfErr result IsReadFault }
-        ensures looks { OnlyLooks N.node N.kept N.writes N.follows N.is_sound N.limit N.blocks nodes.old nodes.new }
+        ensures refused { IfErr result (λ fault. IsReadFault fault × (fault ≢ Fault.Damaged → N.causes nodes.old nodes.new fault)) }
     {
         for done in 0..budget {
             if self.is_finished() {
                 return Ok(true);
             }
-            self.read_next(nodes)?;
+            self.read_next(nodes, reading)?;
         }
         // The list fits in memory, so it has fewer blocks than the greatest budget.
         let _ = &self.order;
         Ok(self.is_finished())
     }
 
-    /// Reads all blocks that remain.
-    pub fn read_all<N: Nodes>(&mut self, nodes: &mut N) -> Result<(), Fault>
+    /// Reads all blocks that remain. By fronts one page is asked at most for each node of a body.
+    pub fn read_all<N: Nodes>(&mut self, nodes: &mut N, reading: Reading) -> Result<(), Fault>
         requires sound { N.is_sound nodes.old }
         requires blocks { self.old.blocks ≡ N.blocks nodes.old }
         requires pass { IsPass (N.node nodes.old) self.old }
-        ensures pass { OnOk result (IsPass (N.node nodes.new) self.new) }
-        ensures finished { OnOk result (IsFinished self.new) }
-        ensures read { OnOk result (N.reads nodes.new + self.old.next ≡ N.reads nodes.old + self.new.next) }
-        ensures same { (self.new.blocks ≡ self.old.blocks) × (self.new.roots ≡ self.old.roots) }
-        ensures begins { Begins self.old.order self.new.order }
+        requires known { Knows reading (N.limit nodes.old) (N.node nodes.old) self.old }
+
+        // The pass ends, and what it reads.
+        ensures pass { OnOk result (IsPass (N.node nodes.new) self.new × IsFinished self.new) }
+        ensures on { Advances self.old self.new }
+        ensures read { OnOk result ((N.reads nodes.new + self.old.next ≡ N.reads nodes.old + self.new.next) × HasAsked reading (N.page nodes.old) (N.node nodes.old) self.old self.new (N.asked nodes.old) (N.asked nodes.new)) }
         ensures seen { HasRead (N.node nodes.old) self.old (N.reads nodes.old) (N.reads nodes.new) }
+        ensures looks { OnlyLooks N.node N.kept N.writes N.follows N.is_sound N.limit N.blocks nodes.old nodes.new }
+
+        // Why not.
         ensures damaged { IsErrOf result Fault.Damaged → (b : ℕ) × Reached (N.node nodes.old) self.old.roots b × (N.node nodes.old b ≡ None) }
         ensures why { IfErr result (λ fault. fault ≢ Fault.Damaged → N.causes nodes.old nodes.new fault) }
         ensures faults { IfErr result IsReadFault }
-        ensures looks { OnlyLooks N.node N.kept N.writes N.follows N.is_sound N.limit N.blocks nodes.old nodes.new }
     {
         // A step of so many reads leaves no block to be read.
-        let _is_finished = self.step(nodes, u64::MAX)?;
+        let _is_finished = self.step(nodes, reading, u64::MAX)?;
         Ok(())
     }
 
@@ -153,27 +166,47 @@ impl Pass {
         self.next == self.order.len()
     }
 
-    // Reads the next marked block, and marks what it names.
-    fn read_next<N: Nodes>(&mut self, nodes: &mut N) -> Result<(), Fault>
+    // Reads the next marked block, marks what it names, and notes the bodies.
+    fn read_next<N: Nodes>(&mut self, nodes: &mut N, reading: Reading) -> Result<(), Fault>
         requires sound { N.is_sound nodes.old }
         requires blocks { self.old.blocks ≡ N.blocks nodes.old }
         requires left { self.old.next < length self.old.order }
+        requires known { Knows reading (N.limit nodes.old) (N.node nodes.old) self.old }
+
+        // The pass goes on, and what it reads.
         ensures pass { IsPass (N.node nodes.old) self.old → OnOk result (IsPass (N.node nodes.new) self.new) }
-        ensures next { OnOk result (self.new.next ≡ self.old.next + 1) }
-        ensures same { (self.new.blocks ≡ self.old.blocks) × (self.new.roots ≡ self.old.roots) }
-        ensures begins { Begins self.old.order self.new.order }
-        ensures damaged { IsPass (N.node nodes.old) self.old → IsErrOf result Fault.Damaged → (b : ℕ) × Reached (N.node nodes.old) self.old.roots b × (N.node nodes.old b ≡ None) }
-        ensures why { IfErr result (λ fault. fault ≢ Fault.Damaged → N.causes nodes.old nodes.new fault) }
-        ensures faults { IfErr result IsReadFault }
-        ensures looks { OnlyLooks N.node N.kept N.writes N.follows N.is_sound N.limit N.blocks nodes.old nodes.new }
+        ensures known { OnOk result (Knows reading (N.limit nodes.new) (N.node nodes.new) self.new) }
+        ensures on { Advances self.old self.new }
+        ensures next { OnOk result ((self.new.next ≡ self.old.next + 1) × (N.asked nodes.new ≤ N.asked nodes.old + mark_pages reading (N.page nodes.old) (N.node nodes.old (slice_index self.old.order self.old.next)))) }
         ensures reads { N.reads nodes.new ≡ N.reads nodes.old + 1 }
+        ensures looks { OnlyLooks N.node N.kept N.writes N.follows N.is_sound N.limit N.blocks nodes.old nodes.new }
+
+        // Why not.
+        ensures damaged { IsPass (N.node nodes.old) self.old → IsErrOf result Fault.Damaged → (b : ℕ) × Reached (N.node nodes.old) self.old.roots b × (N.node nodes.old b ≡ None) }
+        ensures refused { IfErr result (λ fault. IsReadFault fault × (fault ≢ Fault.Damaged → N.causes nodes.old nodes.new fault)) }
     {
         let block = self.order[self.next];
-        nodes.read(block)?;
-        let names = list_names(self.alloc, nodes.lent())?;
-        self.mark_all(&names)?;
+        let is_body = self.has_front(reading, block);
+        let named = read_named(self.alloc, nodes, block, is_body)?;
+        self.mark_all(&named.blocks)?;
+        self.note_bodies(&named.bodies);
         self.next += 1;
         Ok(())
+    }
+
+    // Whether the first page alone is read of a block.
+    fn has_front(&self, reading: Reading, block: u32) -> bool
+        ensures { result ≡ (is_by_fronts reading && set.contains self.now.bodies block) }
+    {
+        reading.is_by_fronts() && self.bodies.contains(block)
+    }
+
+    // Notes blocks as those of bodies.
+    fn note_bodies(&mut self, names: &[u32])
+        ensures noted { AreNoted self.old.bodies names.now self.old.blocks self.new.bodies }
+        ensures same { self.new ≡ record self.old { bodies = self.new.bodies } }
+    {
+        add_blocks(&mut self.bodies, names);
     }
 
     // Marks blocks, each where it was not marked.
@@ -204,5 +237,17 @@ impl Pass {
             self.marks.insert(block);
         }
         Ok(())
+    }
+}
+
+// Puts blocks of a list into a set, but those past its last block.
+fn add_blocks(found: &mut BlockSet, list: &[u32])
+    ensures noted { AreNoted found.old.members list.now found.old.blocks found.new.members }
+    ensures size { found.new.blocks ≡ found.old.blocks }
+{
+    for block in list {
+        if *block < found.blocks() {
+            found.insert(*block);
+        }
     }
 }

@@ -19,6 +19,7 @@ ghost use Rattle.fs_types.specs.declared.limits.TheConstants.{MAX_NAMES};
 
 use crate::looks::{holds_link, look};
 use crate::pass::Pass;
+use crate::reading::Reading;
 use directory::any_is_deeper;
 use fs_types::{ANCHORS, Fault, MAX_NAMES};
 use node_format::BODY_HEADER;
@@ -185,7 +186,7 @@ pub fn verify<N: Nodes>(
     ensures reads { HasCost (N.node nodes.old) roots.now (N.reads nodes.old) (N.reads nodes.new) }
 {
     let mut pass = start_pass(alloc, blocks, nodes, roots)?;
-    pass.read_all(nodes)?;
+    pass.read_all(nodes, Reading::Whole)?;
     let have_trees = have_trees(alloc, nodes, roots, plain, pass.marked())?;
     if !have_trees {
         return Err(Fault::Damaged);

@@ -1,3 +1,4 @@
+pub mod AskLemmas
 pub mod Fronts
 pub mod ImageLemmas
 pub mod MemoryWords

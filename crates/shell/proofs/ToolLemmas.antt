@@ -66,6 +66,7 @@ memory_job = record {
   stop = false;
   path = None;
   file = None;
+  view = None;
   progress = false;
 }
 
@@ -82,6 +83,7 @@ memory_says = record {
   stop = refl;
   path = refl;
   file = refl;
+  view = refl;
   progress = refl;
 }
 

@@ -1,3 +1,4 @@
+pub mod Asking
 pub mod Failures
 pub mod Files
 pub mod Memory

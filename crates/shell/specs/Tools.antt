@@ -22,6 +22,8 @@ use Rattle.jobs.specs.declared.tasks.Task.{Task}
 use Rattle.mounting.specs.Formats.{FormatCause}
 use Rattle.system.specs.Mounts.{IsMountOf}
 use Rattle.system.specs.declared.systems.System.{System}
+use Rattle.inquiries.specs.declared.inquiry.Inquiry.{Inquiry}
+use Rattle.shell.specs.Asking.{file_spelled, tree_spelled, IsMisspelled, IsToldBy, UntoldBy}
 use Rattle.shell.specs.Failures.{of_script, of_system, job_status}
 use Rattle.shell.specs.Files.{Held, KeepsOthers, IsFront}
 use Rattle.shell.specs.Memory.{memory_sizes, status_of, IsNewFlash, IsFormatOf, EndsInMemory}
@@ -176,6 +178,35 @@ abbrev pub PutEnds : List ℕ → List ℕ → Held → Held → Option (List Fo
 PutEnds name word held saved gathered result = ((base : Path) × (all : List Found) × IsAsked gathered word base all × SourcesEnd name base all held saved result)
     ⊎ ((failure : Failure) × (result ≡ Err failure) × AskCause held gathered word failure × (saved ≡ held))
 
+-- these bytes are told of an image, or why nothing is
+abbrev pub IsTold : Option (List ℕ) → Inquiry → List ℕ → Type 0
+IsTold held = IsToldBy (IsLoaded held)
+
+abbrev pub UntoldCause : Option (List ℕ) → Inquiry → Failure → Type 0
+UntoldCause held = UntoldBy (IsLoaded held) (LoadCause held)
+
+-- words spell an inquiry, and these bytes are told of an image
+pub record IsAnswer (spelled : Result Inquiry Failure) (held : Option (List ℕ)) (bytes : List ℕ) : Type 0 where
+  pub inquiry : Inquiry
+  pub is : spelled ≡ Ok inquiry
+  pub told : IsTold held inquiry bytes
+
+-- why nothing is: the words spell none, or nothing is told
+abbrev pub IsUnanswered : Result Inquiry Failure → Option (List ℕ) → Failure → Type 0
+IsUnanswered spelled held failure = IsMisspelled spelled failure ⊎ ((inquiry : Inquiry) × (spelled ≡ Ok inquiry) × UntoldCause held inquiry failure)
+
+-- what is told of an image is written; or nothing is told, and nothing is written; or the output fails
+abbrev pub TellEnds : Result Inquiry Failure → Option (List ℕ) → Result (Unit {0}) Failure → Option (List ℕ) → Option (List ℕ) → Type 0
+TellEnds spelled held (Ok done) old new = (bytes : List ℕ) × IsAnswer spelled held bytes × Appends old new bytes
+TellEnds spelled held (Err failure) old new = (IsUnanswered spelled held failure × (new ≡ old))
+    ⊎ ((bytes : List ℕ) × (n : ℕ) × IsAnswer spelled held bytes × (failure ≡ Failure.Output) × Appends old new (take n bytes))
+
+-- what is told of an image is a file of the host then. Else no file changes; or it is told, and not written, or not for good
+abbrev pub GetEnds : Result Inquiry Failure → List ℕ → List ℕ → Held → Held → Result (Unit {0}) Failure → Type 0
+GetEnds spelled name file held saved (Ok done) = (bytes : List ℕ) × IsAnswer spelled (held name) bytes × IfSome (saved file) (λ all. all ≡ bytes)
+GetEnds spelled name file held saved (Err failure) = ((IsUnanswered spelled (held name) failure ⊎ IsUnclaimed failure) × (saved ≡ held))
+    ⊎ ((bytes : List ℕ) × IsAnswer spelled (held name) bytes × Unsaved (held file) (saved file) bytes failure)
+
 -- a script is run on a flash in memory
 abbrev pub MemoryEnds : Option (List ℕ) → Option (List ℕ) → Result (Unit {0}) Failure → Option (List ℕ) → Option (List ℕ) → Type 0
 MemoryEnds input left (Ok done) old new = EndsInMemory memory_sizes input left (Ok tt) old new
@@ -214,6 +245,9 @@ EndsOn Task.Format job name held saved gathered input left result old new = Form
 EndsOn Task.Run job name held saved gathered input left result old new = RunEnds job.stop name held saved input left result old new × KeepsOthers name held saved
 EndsOn Task.Put job name held saved gathered input left result old new = PutEnds name (word_given job.path) held saved (gathered (word_given job.file)) result × KeepsOthers name held saved
     × (left ≡ input) × (new ≡ old)
+EndsOn Task.Get job name held saved gathered input left result old new = GetEnds (file_spelled (word_given job.path) job.view) name (word_given job.file) held saved result
+    × KeepsOthers (word_given job.file) held saved × (left ≡ input) × (new ≡ old)
+EndsOn Task.Tree job name held saved gathered input left result old new = TellEnds (tree_spelled job.view) (held name) result old new × OnlyLooks held saved input left
 EndsOn Task.Check job name held saved gathered input left result old new = CheckEnds (held name) result old new × OnlyLooks held saved input left
 EndsOn Task.Log job name held saved gathered input left result old new = LookEnds (codes "log\n") (held name) result old new × OnlyLooks held saved input left
 EndsOn Task.Df job name held saved gathered input left result old new = LookEnds (codes "df\n") (held name) result old new × OnlyLooks held saved input left

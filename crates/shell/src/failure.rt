@@ -106,12 +106,12 @@ impl Failure {
         }
     }
 
-    /// Writes the line that says why, with the name of the file.
-    pub(crate) fn explain<E: Write>(self, name: &str, err: &mut E) {
+    /// Writes the line that says why, with the name of the image, or of the file that was to be written.
+    pub(crate) fn explain<E: Write>(self, image: &str, written: &str, err: &mut E) {
         let _ = match self {
-            Failure::CannotRead => writeln!(err, "uffs: cannot read {name}"),
+            Failure::CannotRead => writeln!(err, "uffs: cannot read {image}"),
             Failure::Unavailable | Failure::CannotWrite | Failure::Unsynced => {
-                writeln!(err, "uffs: cannot write {name}")
+                writeln!(err, "uffs: cannot write {written}")
             }
             Failure::Input => writeln!(err, "uffs: input"),
             Failure::Output => writeln!(err, "uffs: output"),

@@ -159,7 +159,7 @@ pub(crate) fn claim<F: ImageFiles>(files: &mut F, alloc: Global, name: &str) -> 
 }
 
 /// The flash of an image.
-fn load<F: ImageFiles>(files: &F, alloc: Global, name: &str) -> Result<SimFlash, Failure>
+pub(crate) fn load<F: ImageFiles>(files: &F, alloc: Global, name: &str) -> Result<SimFlash, Failure>
     ensures ok { IfOk result (IsLoaded (F.held files.now name.now)) }
     ensures err { IfErr result (LoadCause (F.held files.now name.now)) }
 {
@@ -238,8 +238,8 @@ pub(crate) fn save_changed<F: ImageFiles>(
     write_image(files, alloc, name, &image)
 }
 
-/// Puts an image in the place of what has a claimed name.
-fn write_image<F: ImageFiles>(
+/// Puts a file of these bytes in the place of what has a claimed name.
+pub(crate) fn write_image<F: ImageFiles>(
     files: &mut F,
     alloc: Global,
     name: &str,

@@ -1,6 +1,7 @@
 //! Scripts run on a flash, and the whole program: its words, its image files and its statuses.
 #![tactic(auto)]
 
+mod asking;
 mod explanations;
 mod failure;
 mod following;
@@ -17,6 +18,7 @@ mod put;
 mod scripts;
 mod source;
 mod thing;
+mod view_word;
 
 pub use failure::Failure;
 pub use host_files::HostFiles;

@@ -3,6 +3,7 @@ ghost use Rattle.std.specs.Prelude.{◌≡◌, IsTrue, map, string_bytes};
 ghost use Rattle.clap.specs.Words.{kind_of};
 ghost use Rattle.shell.specs.Tools.{EndsOn, JobEnds, MemoryEnds, ToolEnds, MemoryBy, sizes_of, word_given, refused_status, is_memory};
 
+use crate::asking::{get_file, tell_tree};
 use crate::explanations::explain;
 use crate::failure::Failure;
 use crate::image_files::ImageFiles;
@@ -43,9 +44,17 @@ pub fn tool<F: ImageFiles + Sources, R: Read, W: Write, E: Write>(
     match carry_out(files, alloc, job, reader, out, err) {
         Ok(()) => 0,
         Err(failure) => {
-            failure.explain(job.image.unwrap_or(""), err);
+            failure.explain(job.image.unwrap_or(""), written_by(job), err);
             failure.status()
         }
+    }
+}
+
+/// The name of the file that a job writes.
+fn written_by(job: Job<'_>) -> &str {
+    match job.command {
+        Task::Get => word_given(job.file),
+        _ => word_given(job.image),
     }
 }
 
@@ -55,7 +64,7 @@ fn refuse<E: Write>(error: &Error, err: &mut E) -> u8
 {
     match error.kind() {
         ErrorKind::OutOfMemory => {
-            Failure::Memory.explain("", err);
+            Failure::Memory.explain("", "", err);
             1
         }
         _ => {
@@ -101,6 +110,12 @@ fn do_task<F: ImageFiles + Sources, R: Read, W: Write, E: Write>(
         Task::Format => format_image(files, alloc, name, sizes_of(job), job.history),
         Task::Run => run_image(files, alloc, name, job.stop, reader, out),
         Task::Put => put_into_image(files, alloc, name, order_of(job), err),
+        Task::Get => {
+            let path = word_given(job.path);
+            let file = word_given(job.file);
+            get_file(files, alloc, name, path, job.view, file)
+        }
+        Task::Tree => tell_tree(files, alloc, name, job.view, out),
         Task::Check => check_image(files, alloc, name, out),
         Task::Log => look_at_image(files, alloc, name, b"log\n", out),
         Task::Df => look_at_image(files, alloc, name, b"df\n", out),

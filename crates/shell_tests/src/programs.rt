@@ -492,6 +492,59 @@ fn a_refused_put_leaves_the_image(rt: HostRuntime) -> Result<(), Fail> {
     Ok(())
 }
 
+#[test]
+fn what_an_image_holds_is_told(rt: HostRuntime) -> Result<(), Fail> {
+    let alloc = rt.alloc();
+    let mut files = OneFile::new(alloc);
+    files.bytes = fresh_image(alloc)?;
+    let lines = "mkdir /d\nopen /d/f 6\npwrite 0 0 616263\nclose 0\nsync\n";
+    let replies = "ok\nfd 0\nwrote 3\nok\nok\n";
+    let calls: [Wanted<'_>; 7] = [
+        (&["run", "x"], lines, (0, replies, "")),
+        (&["tree", "x"], "", (0, "/d/\n/d/f 3\n", "")),
+        (&["tree", "x", "@2"], "", (0, "/d/\n", "")),
+        (
+            &["tree", "x", "@5"],
+            "",
+            (4, "", "uffs: NOSUCHVERSION 20\n"),
+        ),
+        (
+            &["get", "x", "/d/f", "y"],
+            "",
+            (1, "", "uffs: cannot write y\n"),
+        ),
+        (&["get", "x", "/d", "y"], "", (4, "", "uffs: EISDIR 3\n")),
+        (&["get", "x", "/d/f", "x"], "", (0, "", "")),
+    ];
+    assert_calls(&rt, &mut files, alloc, &calls)?;
+    assert_eq!(rt; files.bytes.as_slice(), b"abc".as_slice());
+    Ok(())
+}
+
+#[test]
+fn a_tree_that_cannot_be_written_is_told(rt: HostRuntime) -> Result<(), Fail> {
+    let alloc = rt.alloc();
+    let mut files = OneFile::new(alloc);
+    files.bytes = fresh_image(alloc)?;
+    assert_calls(
+        &rt,
+        &mut files,
+        alloc,
+        &[(&["run", "x"], "mkdir /d\nsync\n", (0, "ok\nok\n", ""))],
+    )?;
+    let words = words_of(alloc, &["tree", "x"])?;
+    let mut out = Full {
+        bytes: Vec::new(alloc),
+        room: 2,
+    };
+    let mut err: Vec<u8> = Vec::new(alloc);
+    let mut reader = "".as_bytes();
+    let status = tool(&mut files, alloc, &words, &mut reader, &mut out, &mut err);
+    assert_eq!(rt; (status, err.as_slice()), (1, &b"uffs: output\n"[..]));
+    assert_eq!(rt; out.bytes.as_slice(), b"/d".as_slice());
+    Ok(())
+}
+
 /// Asserts that the words that ask something of an image have it told as one that cannot be read, or
 /// cannot be written.
 pub(crate) fn assert_cannot<R: Abort, F: ImageFiles + Sources>(

@@ -20,7 +20,7 @@ fn begun(rt: &HostRuntime, word: &str) -> Result<(String, String, String), Fail>
 }
 
 /// Asserts that an image of 128 blocks is made.
-fn assert_formatted<R: Abort + Files<File = File> + AllocGlobal>(
+pub(crate) fn assert_formatted<R: Abort + Files<File = File> + AllocGlobal>(
     rt: &R,
     image: &str,
 ) -> Result<(), Fail> {
@@ -28,7 +28,7 @@ fn assert_formatted<R: Abort + Files<File = File> + AllocGlobal>(
 }
 
 /// Asserts what a call of the program on the host's files gives.
-fn assert_given<R: Abort + Files<File = File> + AllocGlobal>(
+pub(crate) fn assert_given<R: Abort + Files<File = File> + AllocGlobal>(
     rt: &R,
     words: &[&str],
     script: &str,
@@ -40,6 +40,32 @@ fn assert_given<R: Abort + Files<File = File> + AllocGlobal>(
         rt.alloc(),
         &[(words, script, wanted)],
     )
+}
+
+/// Asserts that a folder is put, and what is told of it meanwhile.
+fn assert_put<R: Abort + Files<File = File> + AllocGlobal>(
+    rt: &R,
+    image: &str,
+    source: &str,
+    told: &str,
+) -> Result<(), Fail> {
+    assert_given(
+        rt,
+        &["put", image, source, "/", "--progress"],
+        "",
+        (0, "", told),
+    )
+}
+
+/// Asserts that a folder or file is not put, since what stands at a name cannot be read.
+fn assert_unread<R: Abort + Files<File = File> + AllocGlobal>(
+    rt: &R,
+    image: &str,
+    source: &str,
+    name: &str,
+) -> Result<(), Fail> {
+    let told = format!(in rt.alloc(); "uffs: cannot read {name}\n")?;
+    assert_given(rt, &["put", image, source, "/"], "", (1, "", told.as_str()))
 }
 
 /// Asserts that a folder is not put, that one name in it is told with a reason, and that the image
@@ -81,12 +107,7 @@ fn a_folder_is_put_as_one_version(rt: HostRuntime) -> Result<(), Fail> {
     let replies = "ok\nfd 0\nok\nfd 0\nwrote 5\nok\nok\n";
     assert_given(&rt, &["run", image], lines, (0, replies, ""))?;
     let told = "uffs: 42 of 42\n";
-    assert_given(
-        &rt,
-        &["put", image, source.as_str(), "/", "--progress"],
-        "",
-        (0, "", told),
-    )?;
+    assert_put(&rt, image, source.as_str(), told)?;
     let looked =
         "stat /below\nread /below/file0007 0 9\nread /below/file0039 0 9\nlog\nundo\nstat /below\nread /below/file0007 0 9\n";
     let seen =
@@ -167,22 +188,10 @@ fn a_file_that_may_not_be_read_is_told(rt: HostRuntime) -> Result<(), Fail> {
     fs::set_permissions(&rt, secret, Permissions::from_mode(0))?;
     // Who may read all files reads this one too.
     if fs::read(&rt, secret).is_err() {
-        let told = format!(in alloc; "uffs: cannot read {secret}\n")?;
-        assert_given(
-            &rt,
-            &["put", image, source, "/"],
-            "",
-            (1, "", told.as_str()),
-        )?;
+        assert_unread(&rt, image, source, secret)?;
     }
     let missing = name_in(alloc, source, "missing")?;
-    let told = format!(in alloc; "uffs: cannot read {missing}\n")?;
-    assert_given(
-        &rt,
-        &["put", image, missing.as_str(), "/"],
-        "",
-        (1, "", told.as_str()),
-    )?;
+    assert_unread(&rt, image, missing.as_str(), missing.as_str())?;
     fs::remove_dir_all(&rt, folder.as_str())?;
     Ok(())
 }

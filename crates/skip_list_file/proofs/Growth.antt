@@ -17,8 +17,10 @@ use Rattle.block_trees.proofs.Frames.{frame_law}
 use Rattle.block_trees.proofs.Reaching.{reached_own, reached_below, before_named}
 use Rattle.block_trees.proofs.Bodies.{chain_node}
 use Rattle.skip_list_file.specs.declared.body.Body.{Body}
-use Rattle.skip_list_file.specs.Reading.{AreBlocks}
-use Rattle.skip_list_file.specs.Writing.{edited, slot_before, AreLinked, IsFront, IsGrown, IsWritten, HoldsNode, HoldsPart, OnlyReaches}
+use Rattle.skip_list_file.specs.declared.change.Change.{Change}
+use Rattle.skip_list_file.specs.declared.start.Start.{Start}
+use Rattle.skip_list_file.specs.Reading.{AreBlocks, HoldsBody}
+use Rattle.skip_list_file.specs.Writing.{edited, slot_before, AreLinked, IsFront, IsGrown, IsWritten, HoldsNode, HoldsPart, OnlyReaches, IsStart, IsStored}
 use Rattle.skip_list_file.proofs.Fronts.{has_head, body_length}
 use Rattle.skip_list_file.proofs.Parts.{data_length}
 use Rattle.skip_list_file.proofs.EditedBytes.{resized_cut, edited_length}
@@ -52,6 +54,21 @@ body_stays capacity old new kept kept' head size keeps is held =
       held = law.held (File head size) held;
       reached = λ some b r. law.reached head b (λ root is block below. held root (some, is) block below) r;
     }
+
+-- and after reads alone, which change no node
+pub holds_later : (limit limit' capacity : ℕ) (f f' : Blocks) (of : Body) → limit' ≡ limit → f' ≡ f → HoldsBody limit f capacity of → HoldsBody limit' f' capacity of
+holds_later limit limit' capacity f f' of same_limit same_nodes holds = record {
+  capacity_is = holds.capacity_is ∙ ap (λ (n : ℕ). n - body_header) (sym same_limit);
+  least = holds.least;
+  whole = subst (λ (h : Blocks). IsBody capacity h of.head of.length) (sym same_nodes) holds.whole;
+}
+
+pub stored_later : (capacity head size : ℕ) (f f' : Blocks) (kept kept' : ℕ → Bool) → f' ≡ f → kept' ≡ kept → IsStored capacity f kept head size → IsStored capacity f' kept' head size
+stored_later capacity head size f f' kept kept' same_nodes same_kept is =
+    subst (λ (h : Blocks). IsStored capacity h kept' head size) (sym same_nodes) (subst (λ (k : ℕ → Bool). IsStored capacity f k head size) (sym same_kept) is)
+
+pub start_later : (f f' : Blocks) {change : Change} {end : ℕ} {start : Start} → f' ≡ f → IsStart f change end start → IsStart f' change end start
+start_later f f' {change} {end} {start} same is = subst (λ (h : Blocks). IsStart h change end start) (sym same) is
 
 -- so do the nodes before a held one
 pub back_stays : (capacity : ℕ) (old new : Blocks) (kept kept' : ℕ → Bool) → Keeps kept old kept' new → (i n block : ℕ) → n ≤ i → IsChain capacity old i block → ((b : ℕ) → Reached old (block ∷ []) b → kept b ≡ true) → back new block n ≡ back old block n

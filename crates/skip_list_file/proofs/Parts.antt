@@ -4,7 +4,7 @@ use Rattle.std.specs.Prelude.{min, max}
 use Rattle.std.proofs.Math.Nat.{div-mul-le_self, lt-div-mul-add}
 use Rattle.std.proofs.Math.Seq.{take-add, drop-append-add}
 use Rattle.std.proofs.lemmas.Bool.{cases_lt, lt-ltb, le-ltb}
-use Rattle.std.proofs.lemmas.Nat.{le-div, div-mul-add}
+use Rattle.std.proofs.lemmas.Nat.{le-div, div-mul-add, mul-le}
 use Rattle.std.proofs.lemmas.List.{length-append, length-drop, length-take-le, take-append-le, drop-append-le, drop_at, drop-drop, take-append-drop, take_min, append-nil}
 use borrow.Rule.Slice.PartMut.{put_mid}
 use Rattle.block_trees.specs.Bodies.{Blocks, pointer_of, data_of, back, data_to, head_index, body, IsChain, IsLinked, IsBody}
@@ -213,6 +213,13 @@ one_fewer capacity start end from some lt is = elim (cases_lt start from) [ inl 
         let begins : from ≡ suc j * capacity = omega (arith, is, ap (λ (i : ℕ). i * capacity) e) in
         let k : (from - 1) / capacity ≡ j = ap (λ (n : ℕ). (n - 1) / capacity) begins ∙ before_start capacity j some in
         rw (count_some capacity start from more, count_some capacity start end lt) (omega (arith, k, e, div_mono capacity start (from - 1) some (omega arith)))
+
+-- so its pages are asked no more
+pub pages_fewer : (pages left before asked now most : ℕ) → left + 1 ≤ before → now ≤ asked + pages → asked + before * pages ≤ most → now + left * pages ≤ most
+pages_fewer pages left before asked now most fewer step so_far =
+    let rows : (left + 1) * pages ≤ before * pages = mul-le (left + 1) pages before pages fewer (omega arith) in
+    let parts : (left + 1) * pages ≡ left * pages + pages = grind arith in
+    omega arith
 
 -- ---- a range of a body
 

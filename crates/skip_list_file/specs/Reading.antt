@@ -3,9 +3,11 @@ use Rattle.std.specs.Prelude.{◌≡◌, ◌<◌, List, length, slice_index, ℕ
 use Rattle.fs_types.specs.declared.fault.Fault.{Fault}
 use Rattle.fs_types.specs.declared.fault.Fault.TheVariants.{Damaged}
 use Rattle.node_store.specs.Faults.{is_read_fault}
-use Rattle.block_trees.specs.Bodies.{Blocks, back}
+use Rattle.block_trees.specs.Bodies.{Blocks, back, IsBody}
+use Rattle.node_format.specs.Headers.{body_header}
 use Rattle.node_format.specs.BodyNodes.{HasSlot}
 use Rattle.node_format.specs.declared.headers.TheConstants.{SLOTS}
+use Rattle.skip_list_file.specs.declared.body.Body.{Body}
 
 -- slot x, which the node of index i has, leads towards index j, and not past it
 abbrev pub IsUseful : ℕ → ℕ → ℕ → Type 0
@@ -38,3 +40,13 @@ is_body_fault fault = is_read_fault fault
 
 abbrev pub IsBodyFault : Fault → Type 0
 IsBodyFault fault = IsTrue (is_body_fault fault)
+
+-- a body is whole in blocks of this limit, whose nodes have so many data bytes
+pub record HoldsBody (limit : ℕ) (f : Blocks) (capacity : ℕ) (body : Body) : Type 0 where
+  pub capacity_is : capacity ≡ limit - body_header
+  pub least : 0 < capacity
+  pub whole : IsBody capacity f body.head body.length
+
+-- a call asks the flash for at most one page for each read
+abbrev pub AsksPageEach : {S : Type 0} → (S → ℕ) → (S → ℕ) → S → S → Type 0
+AsksPageEach asked reads old new = asked new + reads old ≤ asked old + reads new

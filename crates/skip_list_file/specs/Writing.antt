@@ -1,14 +1,22 @@
 -- Bodies written anew from a node on, where the nodes before it are shared.
-use Rattle.std.specs.Prelude.{◌≡◌, ◌⊎◌, ℕ, zero, suc, ◌+◌, ◌-◌, ◌*◌, ◌%◌, ◌^◌, ◌<◌, ◌≤◌, min, Bool, false, ◌&&◌, nat_le, nat_lt, if◌then◌else◌, slice_index, Option, Some, List, [], ◌∷◌, ◌++◌, length, take}
+use Rattle.std.specs.Prelude.{◌≡◌, ◌⊎◌, ℕ, zero, suc, ◌+◌, ◌-◌, ◌*◌, ◌/◌, ◌%◌, ◌^◌, ◌<◌, ◌≤◌, min, Bool, false, ◌&&◌, nat_le, nat_lt, if◌then◌else◌, slice_index, Option, Some, Result, OnOk, List, [], ◌∷◌, ◌++◌, length, take}
 use Rattle.fs_types.specs.declared.fault.Fault.{Fault}
 use Rattle.fs_types.specs.declared.fault.Fault.TheVariants.{FlashFull, ReadOnly, ReadFailed, PowerCut, NoMemory}
 use Rattle.plain_trees.specs.Contents.{resized, overwritten, read_from}
 use Rattle.node_format.specs.declared.place.Place.TheVariants.{File}
 use Rattle.block_trees.specs.Bodies as bodies
-use Rattle.block_trees.specs.Bodies.{Blocks, back, IsChain, IsLinked, IsBody}
+use Rattle.block_trees.specs.Bodies.{Blocks, back, head_index, IsChain, IsLinked, IsBody}
 use Rattle.block_trees.specs.Reached.{Reached, IsHeld, PlaceNames}
 use Rattle.skip_list_file.specs.declared.body.Body.{Body}
+use Rattle.skip_list_file.specs.declared.change.Change.{Change}
+use Rattle.skip_list_file.specs.declared.start.Start.{Start}
+use Rattle.skip_list_file.specs.Reading.{AreBlocks, HasDigits, nodes_between}
 use Rattle.node_format.specs.BodyNodes.{HasSlot, IsBodySpelling}
+
+-- a body of so many bytes is whole, and all that it reaches is kept
+pub record IsStored (capacity : ℕ) (f : Blocks) (kept : ℕ → Bool) (head size : ℕ) : Type 0 where
+  pub whole : IsBody capacity f head size
+  pub held : IsHeld f kept (File head size)
 
 -- a body has these bytes, and all that it reaches is kept
 pub record IsWritten (capacity : ℕ) (f : Blocks) (kept : ℕ → Bool) (body : Body) (bytes : List ℕ) : Type 0 where
@@ -50,9 +58,32 @@ IsWritingFault _ = ⊥
 abbrev pub edited : List ℕ → ℕ → List ℕ → ℕ → List ℕ
 edited old offset bytes size = resized (overwritten old offset bytes) size
 
+-- the bytes that a change makes of a body
+abbrev pub bytes_after : Blocks → Change → List ℕ → List ℕ
+bytes_after f change bytes = edited (bodies.body change.capacity f change.body.head change.body.length) change.offset bytes change.size
+
+-- how many of them the node of an index has, and which
+abbrev pub part_length : Change → ℕ → ℕ
+part_length change index = min change.capacity (change.size - index * change.capacity)
+
+abbrev pub part_after : Blocks → Change → List ℕ → ℕ → List ℕ
+part_after f change bytes index = read_from (bytes_after f change bytes) (index * change.capacity) (part_length change index)
+
 -- no byte of an old body of this length, from one place to another, stays in an edit from `offset` to `end`
 abbrev pub KeepsNone : ℕ → ℕ → ℕ → ℕ → ℕ → Type 0
 KeepsNone size offset end from to = (size ≤ from) ⊎ ((offset ≤ from) × (min to size ≤ end))
+
+-- the reads of the old node of an index, of which a change whose bytes end at `end` keeps some of the first bytes: none where it
+-- keeps none, one where the block is listed, and else those of the way to it too
+pub record ReadsKept (change : Change) (end index count listed before now : ℕ) : Type 0 where
+  pub unread : KeepsNone change.body.length change.offset end (index * change.capacity) (index * change.capacity + count) → now ≡ before
+  pub one : head_index change.capacity change.body.length - index < listed → now ≤ before + 1
+  pub few : (digits : ℕ) → HasDigits (head_index change.capacity change.body.length) digits → now ≤ before + (1 + 2 * digits)
+
+-- at most so many nodes are written, and just so many after Ok
+pub record WritesNodes {T : Type 0} (result : Result T Fault) (before now count : ℕ) : Type 0 where
+  pub most : now ≤ before + count
+  pub done : OnOk result (now ≡ before + count)
 
 -- the byte at a place after an edit, where the old bytes are given from `start` on
 abbrev pub byte_after : List ℕ → ℕ → ℕ → List ℕ → ℕ → ℕ
@@ -88,3 +119,16 @@ pub record IsGrown (capacity : ℕ) (old new : Blocks) (kept kept' : ℕ → Boo
   pub fresh : kept next ≡ false
   pub node : HoldsNode (new next) i bytes
   pub reached : (b : ℕ) → Reached new (next ∷ []) b → (next ≡ b) ⊎ ((0 < i) × Reached old (head ∷ []) b)
+
+-- the nodes before an index are a held body, and the table is that for the nodes from there to the last
+pub record IsWrittenTo (capacity : ℕ) (f : Blocks) (kept : ℕ → Bool) (head index last : ℕ) (blocks : List ℕ) : Type 0 where
+  pub stored : IsStored capacity f kept head (index * capacity)
+  pub table : IsTable f head index last blocks
+
+-- what the nodes of a change whose bytes end at `end` are written after
+pub record IsStart (f : Blocks) (change : Change) (end : ℕ) (start : Start) : Type 0 where
+  pub first : start.first ≡ min change.offset change.body.length / change.capacity
+  pub front : IsFront change.capacity f change.body.head change.body.length start.head (start.first * change.capacity)
+  pub table : IsTable f start.head start.first (head_index change.capacity change.size) start.table.blocks
+  pub listed : AreBlocks f change.body.head start.old.items
+  pub count : length start.old.items ≡ nodes_between change.capacity end change.body.length

@@ -3,9 +3,12 @@
 #![tactic(auto)]
 
 mod body;
+mod change;
 mod changes;
+mod new_nodes;
 mod old_nodes;
 mod range_reads;
+mod start;
 mod table;
 
 pub use body::Body;

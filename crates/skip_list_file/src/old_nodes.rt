@@ -4,11 +4,12 @@ ghost use Rattle.node_format.specs.Headers.{body_header};
 ghost use Rattle.block_trees.specs.Bodies as trees;
 ghost use Rattle.block_trees.specs.Bodies.{back, head_index, IsChain, IsLinked, IsBody};
 ghost use Rattle.skip_list_file.specs.Reading as spec;
-ghost use Rattle.skip_list_file.specs.Reading.{nodes_between};
-ghost use Rattle.skip_list_file.specs.Writing.{KeepsNone, IsWritingFault};
+ghost use Rattle.skip_list_file.specs.Reading.{nodes_between, HoldsBody, IsBodyFault};
+ghost use Rattle.skip_list_file.specs.Writing.{ReadsKept};
 ghost use Rattle.node_store.specs.Frames.{OnlyLooks};
 
 use crate::body::Body;
+use crate::change::Change;
 use crate::range_reads::{copy_data, find, pointer_at};
 use fs_types::Fault;
 use node_store::Nodes;
@@ -24,14 +25,14 @@ pub(crate) fn list_blocks<N: Nodes>(
     from: u32,
 ) -> Result<Vec<u32>, Fault>
     requires sound { N.is_sound nodes.old }
-    requires capacity { capacity ≡ N.limit nodes.old - body_header }
-    requires least { 0 < capacity }
-    requires whole { IsBody capacity (N.node nodes.old) body.head body.length }
+    requires holds { HoldsBody (N.limit nodes.old) (N.node nodes.old) capacity body }
     ensures listed { IfOk result (λ blocks. spec.AreBlocks (N.node nodes.old) body.head blocks.items) }
     ensures count { IfOk result (λ blocks. length blocks.items ≡ nodes_between capacity from body.length) }
+
+    // One read for each, of a page, and nothing is written.
     ensures reads { N.reads nodes.new ≤ N.reads nodes.old + nodes_between capacity from body.length }
-    ensures why { IfErr result (λ fault. N.causes nodes.old nodes.new fault) }
-    ensures faults { IfErr result IsWritingFault }
+    ensures asks { spec.AsksPageEach N.asked N.reads nodes.old nodes.new }
+    ensures refused { IfErr result (λ fault. IsBodyFault fault × N.causes nodes.old nodes.new fault) }
     ensures looks { OnlyLooks N.node N.kept N.writes N.follows N.is_sound N.limit N.blocks nodes.old nodes.new }
 {
     if from >= body.length {
@@ -56,16 +57,20 @@ fn find_listed<N: Nodes>(
     blocks: &[u32],
     index: u32,
 ) -> Result<u32, Fault>
+    // The chain from its head, with the blocks of its last nodes.
     requires sound { N.is_sound nodes.old }
     requires chain { IsChain (N.limit nodes.old - body_header) (N.node nodes.old) head_index head }
     requires linked { IsLinked (N.node nodes.old) head_index head }
     requires before { index ≤ head_index }
     requires blocks { spec.AreBlocks (N.node nodes.old) head blocks.now }
+
     ensures found { IfOk result (λ block. block ≡ back (N.node nodes.old) head (head_index - index)) }
+
+    // No read of a listed one, and no write.
     ensures listed { head_index - index < length blocks.now → N.reads nodes.new ≡ N.reads nodes.old }
     ensures reads { (digits : ℕ) → spec.HasDigits head_index digits → N.reads nodes.new ≤ N.reads nodes.old + 2 * digits }
-    ensures why { IfErr result (λ fault. N.causes nodes.old nodes.new fault) }
-    ensures faults { IfErr result spec.IsBodyFault }
+    ensures asks { spec.AsksPageEach N.asked N.reads nodes.old nodes.new }
+    ensures refused { IfErr result (λ fault. IsBodyFault fault × N.causes nodes.old nodes.new fault) }
     ensures looks { OnlyLooks N.node N.kept N.writes N.follows N.is_sound N.limit N.blocks nodes.old nodes.new }
 {
     match blocks.get((head_index - index) as usize) {
@@ -74,49 +79,55 @@ fn find_listed<N: Nodes>(
     }
 }
 
-/// Fills a slice of zeros with those bytes of a body that an edit from `offset` to `end` keeps, from
-/// the first byte of the node of an index on. The node is read where there is one, and then once.
+/// Fills a slice of zeros with those bytes of a body that a change whose bytes end at `end` keeps, from
+/// the first byte of the node of an index on. The node is read where there is one, and then once; it is
+/// not kept in memory, since its successor is written next.
+/// `old` are the listed blocks of the body.
 pub(crate) fn read_kept<N: Nodes>(
     nodes: &mut N,
-    capacity: u32,
-    body: Body,
-    blocks: &[u32],
-    offset: u32,
+    change: Change,
     end: u32,
+    old: &[u32],
     index: u32,
     out: &mut [u8],
 ) -> Result<(), Fault>
+    // The body, with the blocks of its last nodes.
     requires sound { N.is_sound nodes.old }
-    requires capacity { capacity ≡ N.limit nodes.old - body_header }
-    requires least { 0 < capacity }
-    requires whole { IsBody capacity (N.node nodes.old) body.head body.length }
-    requires blocks { spec.AreBlocks (N.node nodes.old) body.head blocks.now }
+    requires holds { HoldsBody (N.limit nodes.old) (N.node nodes.old) change.capacity change.body }
+    requires listed { spec.AreBlocks (N.node nodes.old) change.body.head old.now }
+
+    // Room for no more than the node has.
     requires zeros { out.old ≡ replicate (length out.old) 0 }
-    requires size { length out.old ≤ capacity }
-    requires fits { index * capacity + length out.old < 2 ^ 32 }
-    ensures kept { OnOk result ((i : ℕ) → i < length out.old → (index * capacity + i < offset) ⊎ (end ≤ index * capacity + i) → slice_index out.new i ≡ slice_index (trees.body capacity (N.node nodes.old) body.head body.length) (index * capacity + i)) }
-    ensures unread { KeepsNone body.length offset end (index * capacity) (index * capacity + length out.old) → N.reads nodes.new ≡ N.reads nodes.old }
-    ensures listed { head_index capacity body.length - index < length blocks.now → N.reads nodes.new ≤ N.reads nodes.old + 1 }
-    ensures reads { (digits : ℕ) → spec.HasDigits (head_index capacity body.length) digits → N.reads nodes.new ≤ N.reads nodes.old + (1 + 2 * digits) }
-    ensures why { IfErr result (λ fault. N.causes nodes.old nodes.new fault) }
-    ensures faults { IfErr result spec.IsBodyFault }
+    requires size { length out.old ≤ change.capacity }
+    requires fits { index * change.capacity + length out.old ≤ change.size }
+
+    ensures kept { OnOk result ((i : ℕ) → i < length out.old → (index * change.capacity + i < change.offset) ⊎ (end ≤ index * change.capacity + i) → slice_index out.new i ≡ slice_index (trees.body change.capacity (N.node nodes.old) change.body.head change.body.length) (index * change.capacity + i)) }
+
+    // One read at most beside the way to the node, and no write.
+    ensures reads { ReadsKept change end index (length out.old) (length old.now) (N.reads nodes.old) (N.reads nodes.new) }
+    ensures refused { IfErr result (λ fault. IsBodyFault fault × N.causes nodes.old nodes.new fault) }
     ensures looks { OnlyLooks N.node N.kept N.writes N.follows N.is_sound N.limit N.blocks nodes.old nodes.new }
 {
-    let start = index * capacity;
-    let kept = body.length.saturating_sub(start).min(out.len() as u32);
+    let start = index * change.capacity;
+    let kept = change
+        .body
+        .length
+        .saturating_sub(start)
+        .min(out.len() as u32);
     if kept == 0 {
         return Ok(());
     }
-    if offset <= start && start + kept <= end {
+    if change.offset <= start && start + kept <= end {
         return Ok(());
     }
     let block = find_listed(
         nodes,
-        body.head,
-        (body.length - 1) / capacity,
-        blocks,
+        change.body.head,
+        (change.body.length - 1) / change.capacity,
+        old,
         index,
     )?;
     copy_data(nodes, block, 0, &mut out[..kept as usize])?;
+    nodes.supersede(block);
     Ok(())
 }

@@ -7,8 +7,10 @@ ghost use Rattle.block_trees.specs.Bodies.{index_of, pointer_of, data_of, back, 
 ghost use Rattle.block_trees.specs.Bodies as trees;
 ghost use Rattle.skip_list_file.specs.Reading as spec;
 ghost use Rattle.node_store.specs.Frames.{OnlyLooks};
+ghost use Rattle.node_store.specs.NodePages.{pages_for};
 
 use crate::body::Body;
+use fields::u32_at;
 use fs_types::{Bytes, Fault};
 use node_format::{BODY_HEADER, BodyNode, SLOTS};
 use node_store::Nodes;
@@ -23,28 +25,22 @@ fn farthest_slot(index: u32, before: u32) -> u32
     slot.min(SLOTS as u32 - 1)
 }
 
-/// The block that a slot of a body node names, of a slot that it has.
+/// The block that a slot of a body node names, of a slot that it has: its first page tells it.
 pub(crate) fn pointer_at<N: Nodes>(nodes: &mut N, block: u32, slot: u32) -> Result<u32, Fault>
     requires sound { N.is_sound nodes.old }
     requires slot { (index : ℕ) × (index_of (N.node nodes.old block) ≡ Some index) × HasSlot index slot }
     ensures found { IfOk result (λ next. next ≡ pointer_of (N.node nodes.old block) slot) }
-    ensures why { IfErr result (λ fault. N.causes nodes.old nodes.new fault) }
-    ensures faults { IfErr result spec.IsBodyFault }
+    ensures refused { IfErr result (λ fault. spec.IsBodyFault fault × N.causes nodes.old nodes.new fault) }
     ensures looks { OnlyLooks N.node N.kept N.writes N.follows N.is_sound N.limit N.blocks nodes.old nodes.new }
     ensures reads { N.reads nodes.new ≡ N.reads nodes.old + 1 }
+    ensures asks { N.asked nodes.new ≤ N.asked nodes.old + 1 }
 {
-    nodes.read(block)?;
-    let Some(node) = BodyNode::of(nodes.lent()) else {
-        unreachable!()
-    };
-    let Some(next) = node.pointer(slot as usize) else {
-        unreachable!()
-    };
-    Ok(next)
+    nodes.front(block)?;
+    Ok(u32_at(nodes.fronted(), 16 + 4 * slot as usize))
 }
 
-/// The block of the node of an index, from the head of a linked chain: one read for each hop, at most
-/// two hops for each binary digit of the head's index, of at most 16 digits.
+/// The block of the node of an index, from the head of a linked chain: one read of a page for each hop,
+/// at most two hops for each binary digit of the head's index, of at most 16 digits.
 ///
 /// Refused only with what reads are refused with: the chain is whole.
 pub(crate) fn find<N: Nodes>(
@@ -53,14 +49,18 @@ pub(crate) fn find<N: Nodes>(
     head_index: u32,
     index: u32,
 ) -> Result<u32, Fault>
+    // The chain from its head.
     requires sound { N.is_sound nodes.old }
     requires chain { IsChain (N.limit nodes.old - body_header) (N.node nodes.old) head_index head }
     requires linked { IsLinked (N.node nodes.old) head_index head }
     requires before { index ≤ head_index }
+
     ensures found { IfOk result (λ block. block ≡ back (N.node nodes.old) head (head_index - index)) }
+
+    // Two reads for each digit of the head's index, of a page each, and nothing is written.
     ensures reads { (digits : ℕ) → spec.HasDigits head_index digits → N.reads nodes.new ≤ N.reads nodes.old + 2 * digits }
-    ensures why { IfErr result (λ fault. N.causes nodes.old nodes.new fault) }
-    ensures faults { IfErr result spec.IsBodyFault }
+    ensures asks { spec.AsksPageEach N.asked N.reads nodes.old nodes.new }
+    ensures refused { IfErr result (λ fault. spec.IsBodyFault fault × N.causes nodes.old nodes.new fault) }
     ensures looks { OnlyLooks N.node N.kept N.writes N.follows N.is_sound N.limit N.blocks nodes.old nodes.new }
 {
     let mut block = head;
@@ -81,16 +81,21 @@ pub(crate) fn copy_data<N: Nodes>(
     from: u32,
     out: &mut [u8],
 ) -> Result<u32, Fault>
+    // The block holds a body node with so many bytes.
     requires sound { N.is_sound nodes.old }
     requires node { (index : ℕ) × (index_of (N.node nodes.old block) ≡ Some index) }
     requires within { from + length out.old ≤ length (data_of (N.node nodes.old block)) }
+
+    // Its bytes, and the block before it.
     ensures copied { OnOk result (out.new ≡ take (length out.old) (drop from (data_of (N.node nodes.old block)))) }
     ensures before { IfOk result (λ before. (index : ℕ) → index_of (N.node nodes.old block) ≡ Some index → 0 < index → before ≡ pointer_of (N.node nodes.old block) 0) }
     ensures first { IfOk result (λ before. index_of (N.node nodes.old block) ≡ Some 0 → before ≡ 0) }
-    ensures why { IfErr result (λ fault. N.causes nodes.old nodes.new fault) }
-    ensures faults { IfErr result spec.IsBodyFault }
+
+    // One read, of a block's pages at most, and nothing is written.
+    ensures refused { IfErr result (λ fault. spec.IsBodyFault fault × N.causes nodes.old nodes.new fault) }
     ensures looks { OnlyLooks N.node N.kept N.writes N.follows N.is_sound N.limit N.blocks nodes.old nodes.new }
     ensures reads { N.reads nodes.new ≡ N.reads nodes.old + 1 }
+    ensures asks { N.asked nodes.new ≤ N.asked nodes.old + pages_for (N.page nodes.old) (N.limit nodes.old) }
 {
     nodes.read(block)?;
     let Some(node) = BodyNode::of(nodes.lent()) else {
@@ -111,16 +116,20 @@ fn fill<N: Nodes>(
     end: u32,
     out: &mut [u8],
 ) -> Result<(), Fault>
+    // The chain from the block has the bytes.
     requires sound { N.is_sound nodes.old }
     requires capacity { 0 < capacity }
     requires order { start < end }
     requires chain { IsChain capacity (N.node nodes.old) ((end - 1) / capacity) block }
     requires within { end ≤ length (data_to (N.node nodes.old) ((end - 1) / capacity) block) }
     requires size { length out.old ≡ end - start }
+
     ensures filled { OnOk result (out.new ≡ take (end - start) (drop start (data_to (N.node nodes.old) ((end - 1) / capacity) block))) }
+
+    // One read for each node that holds them, of a block's pages at most, and nothing is written.
     ensures reads { N.reads nodes.new ≤ N.reads nodes.old + spec.nodes_between capacity start end }
-    ensures why { IfErr result (λ fault. N.causes nodes.old nodes.new fault) }
-    ensures faults { IfErr result spec.IsBodyFault }
+    ensures asks { N.asked nodes.new ≤ N.asked nodes.old + spec.nodes_between capacity start end * pages_for (N.page nodes.old) (N.limit nodes.old) }
+    ensures refused { IfErr result (λ fault. spec.IsBodyFault fault × N.causes nodes.old nodes.new fault) }
     ensures looks { OnlyLooks N.node N.kept N.writes N.follows N.is_sound N.limit N.blocks nodes.old nodes.new }
 {
     let mut block = block;
@@ -146,8 +155,9 @@ pub(crate) fn capacity_in<N: Nodes>(nodes: &N) -> u32
 
 /// The bytes of a file from an offset on, at most `count`: fewer near its end, none at or past it.
 ///
-/// The node of the last of them is found by few hops from the head, and the nodes that hold them are
-/// read once each. Nothing is read where there is no such byte. Refused only with what reads are
+/// The node of the last of them is found by few hops from the head, of a page each, and the nodes that
+/// hold them are read once each: no more pages are asked than a block has. Nothing is read where there is
+/// no such byte. Refused only with what reads are
 /// refused with, and with `NoMemory`: the body is whole.
 pub fn read_range<N: Nodes>(
     alloc: Global,
@@ -158,8 +168,12 @@ pub fn read_range<N: Nodes>(
 ) -> Result<Bytes, Fault>
     requires sound { N.is_sound nodes.old }
     requires body { IsBody (N.limit nodes.old - body_header) (N.node nodes.old) body.head body.length }
+
     ensures read { IfOk result (λ bytes. bytes ≡ read_from (trees.body (N.limit nodes.old - body_header) (N.node nodes.old) body.head body.length) offset count) }
+
+    // What it costs, and why it is refused; nothing is written.
     ensures reads { (digits : ℕ) → spec.HasDigits (head_index (N.limit nodes.old - body_header) body.length) digits → N.reads nodes.new ≤ N.reads nodes.old + (spec.nodes_of_range (N.limit nodes.old - body_header) body.length offset count + 2 * digits) }
+    ensures asks { (digits : ℕ) → spec.HasDigits (head_index (N.limit nodes.old - body_header) body.length) digits → N.asked nodes.new ≤ N.asked nodes.old + (spec.nodes_of_range (N.limit nodes.old - body_header) body.length offset count * pages_for (N.page nodes.old) (N.limit nodes.old) + 2 * digits) }
     ensures unread { spec.nodes_of_range (N.limit nodes.old - body_header) body.length offset count ≡ 0 → N.reads nodes.new ≡ N.reads nodes.old }
     ensures why { IfErr result (λ fault. N.causes nodes.old nodes.new fault) }
     ensures faults { IfErr result spec.IsBodyFault }

@@ -2,7 +2,7 @@
 ghost use Rattle.std.specs.Prelude.{◌≡◌, ℕ, ◌+◌, ◌-◌, ◌*◌, ◌/◌, ◌%◌, ◌^◌, ◌<◌, ◌≤◌, ◌==◌, if◌then◌else◌, length, slice_index, IfOk, IfErr};
 ghost use Rattle.block_trees.specs.Bodies.{back, IsChain, IsLinked};
 ghost use Rattle.node_format.specs.declared.headers.TheConstants.{SLOTS};
-ghost use Rattle.skip_list_file.specs.Reading.{IsBodyFault};
+ghost use Rattle.skip_list_file.specs.Reading.{AsksPageEach, IsBodyFault};
 ghost use Rattle.skip_list_file.specs.Writing as spec;
 ghost use Rattle.node_store.specs.Frames.{OnlyLooks};
 
@@ -21,15 +21,19 @@ pub(crate) struct Table {
 /// The block of the greatest index, not above one, that twice a power of 2 divides, from that which
 /// the power divides: the node itself, or that which its slot for the power names.
 fn step_back<N: Nodes>(nodes: &mut N, block: u32, most: u32, slot: u32) -> Result<u32, Fault>
+    // The block holds the node of the greatest index that the power divides.
     requires sound { N.is_sound nodes.old }
     requires chain { (capacity : ℕ) × IsChain capacity (N.node nodes.old) (most / 2 ^ slot * 2 ^ slot) block }
     requires linked { IsLinked (N.node nodes.old) (most / 2 ^ slot * 2 ^ slot) block }
     requires few { slot < SLOTS }
+
     ensures next { IfOk result (λ next. next ≡ back (N.node nodes.old) block (most / 2 ^ slot % 2 * 2 ^ slot)) }
+
+    // One read at most, of a page, and nothing is written.
     ensures reads { N.reads nodes.new ≤ N.reads nodes.old + 1 }
     ensures unread { most < 2 ^ slot → N.reads nodes.new ≡ N.reads nodes.old }
-    ensures why { IfErr result (λ fault. N.causes nodes.old nodes.new fault) }
-    ensures faults { IfErr result IsBodyFault }
+    ensures asks { AsksPageEach N.asked N.reads nodes.old nodes.new }
+    ensures refused { IfErr result (λ fault. IsBodyFault fault × N.causes nodes.old nodes.new fault) }
     ensures looks { OnlyLooks N.node N.kept N.writes N.follows N.is_sound N.limit N.blocks nodes.old nodes.new }
 {
     let power = 2u32.pow(slot);
@@ -40,20 +44,24 @@ fn step_back<N: Nodes>(nodes: &mut N, block: u32, most: u32, slot: u32) -> Resul
 }
 
 /// The table for the nodes from an index to the last one, after the head of a linked chain: at most one
-/// read for each binary digit of the index.
+/// read, of a page, for each binary digit of the index.
 pub(crate) fn start_table<N: Nodes>(
     nodes: &mut N,
     head: u32,
     index: u32,
     last: u32,
 ) -> Result<Table, Fault>
+    // The nodes before the index.
     requires sound { N.is_sound nodes.old }
     requires linked { (capacity : ℕ) × spec.AreLinked capacity (N.node nodes.old) head index }
     requires order { index ≤ last }
+
     ensures table { IfOk result (λ table. spec.IsTable (N.node nodes.old) head index last table.blocks) }
+
+    // A page is asked for each read, and nothing is written.
     ensures reads { (digits : ℕ) → index ≤ 2 ^ digits → N.reads nodes.new ≤ N.reads nodes.old + digits }
-    ensures why { IfErr result (λ fault. N.causes nodes.old nodes.new fault) }
-    ensures faults { IfErr result IsBodyFault }
+    ensures asks { AsksPageEach N.asked N.reads nodes.old nodes.new }
+    ensures refused { IfErr result (λ fault. IsBodyFault fault × N.causes nodes.old nodes.new fault) }
     ensures looks { OnlyLooks N.node N.kept N.writes N.follows N.is_sound N.limit N.blocks nodes.old nodes.new }
 {
     let mut blocks = [head; SLOTS];

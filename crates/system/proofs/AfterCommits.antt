@@ -1,7 +1,7 @@
 -- A system after a commit: it is mounted as before, and the newest record is the working history, or what it was.
 use Rattle.std.proofs.Common.{◌≡◌, ◌≢◌, ◌⊎◌, inl, inr, ℕ, ◌+◌, ◌<◌, Bool, true, false, ◌||◌, Option, Some, None, Result, Ok, Err, map, refl, sym, ap, subst, ◌∙◌, arith}
 use Rattle.std.proofs.lemmas.Bool.{true≢false}
-use Rattle.std.specs.Prelude.{is_some, IfSome, Contains, ◌/◌, vec_len, vec_capacity}
+use Rattle.std.specs.Prelude.{is_some, IfSome, Contains, ◌/◌, vec_len}
 use Rattle.std.specs.FinSet as set
 use Rattle.std.specs.Ordering.{nat_cmp}
 use Rattle.std.specs.Option.{option_map}
@@ -103,9 +103,8 @@ module _ {T : Type 0} (d e : Device) (m n : System) (result : Result T Fault) (s
     lawful = subst IsGeometry (sym same.geometry) s.mounted.lawful;
     ring_blocks = ap (λ (t : State). t.storage.ring.blocks) saves.state ∙ s.mounted.ring_blocks ∙ sym (ap (λ (g : Geometry). g.blocks) same.geometry);
     fits =
-        let capacity : vec_capacity n.state.storage.node ≡ vec_capacity m.state.storage.node = ap (λ (t : State). vec_capacity t.storage.node) saves.state in
         let cache : n.state.storage.cache ≡ m.state.storage.cache = ap (λ (t : State). t.storage.cache) saves.state in
-        (still_fits d m.state.storage e n.state.storage same.geometry (ap (λ (t : State). vec_len t.storage.page) saves.state) (omega arith) (ap (λ (k : NodeCache). k.room) cache)
+        (still_fits d m.state.storage e n.state.storage same.geometry (ap (λ (t : State). vec_len t.storage.page) saves.state) (ap (λ (k : NodeCache). k.room) cache)
         (λ fits. subst (IsTruthful e) (sym cache) (record { each = λ b bytes is. node_is d e same b ∙ fits.truthful.each b bytes is }))).fits s.mounted.fits;
     roots = λ root has. standing root (s.mounted.roots root (subst (λ (t : State). HasRoot t root) saves.state has));
     machine = subst IsMachine (sym same_machine) s.mounted.machine;

@@ -11,7 +11,7 @@ use Rattle.record_format.specs.declared.formats.TheConstants.{FORMAT}
 use Rattle.record_format.specs.declared.record.Checkpoint.{Checkpoint}
 use Rattle.record_format.specs.declared.record.Record.{Record}
 use Rattle.record_format.specs.Payloads.{payload_at}
-use Rattle.commit_pair.specs.Parts.{Entry, newest_on}
+use Rattle.commit_pair.specs.Parts.{RecordBytes, newest_on}
 use Rattle.commit_pair.specs.Committing.{IsCommitted}
 use Rattle.commit_pair.proofs.Beginning.{committed_is_newest}
 use Rattle.working_state.specs.declared.state.State.{State}
@@ -34,8 +34,8 @@ history_again g h last sequence bad = ap (λ (es : List (Name × ℕ)). record h
 -- it is as it was, where its place and its payload are
 pub same_saved : (d e : Device) → e.geometry ≡ d.geometry → newest_on d.geometry e.pages ≡ newest_on d.geometry d.pages → saved_on e ≡ saved_on d
 same_saved d e same newest =
-    ap (λ (g : Geometry). record_in (option_map (λ (entry : Entry). payload_at g entry.sequence entry.payload) (newest_on g e.pages))) same
-    ∙ ap (λ (o : Option Entry). record_in (option_map (λ (entry : Entry). payload_at d.geometry entry.sequence entry.payload) o)) newest
+    ap (λ (g : Geometry). record_in (option_map (λ (entry : RecordBytes). payload_at g entry.sequence entry.payload) (newest_on g e.pages))) same
+    ∙ ap (λ (o : Option RecordBytes). record_in (option_map (λ (entry : RecordBytes). payload_at d.geometry entry.sequence entry.payload) o)) newest
 
 -- it is a record that has this history
 pub record IsNewly (e : Device) (h : Past ℕ) : Type 0 where

@@ -1,8 +1,8 @@
 -- What `df` tells: the roots of a history, the blocks that they reach, and its step.
-use Rattle.std.proofs.Common.{◌≡◌, ◌≢◌, inl, inr, ℕ, zero, suc, ◌-◌, ◌<◌, ◌≤◌, Bool, true, false, ◌||◌, not, Option, Some, None, Result, Ok, Err, List, [], ◌∷◌, count_by, map, refl, sym, ap, subst, ◌∙◌, arith}
+use Rattle.std.proofs.Common.{◌≡◌, inl, inr, ℕ, zero, suc, ◌-◌, Bool, true, false, ◌||◌, not, Option, Some, None, Result, Ok, Err, List, [], ◌∷◌, count_by, map, refl, sym, ap, subst, ◌∙◌, arith}
 use Rattle.std.proofs.lemmas.Bool.{both_ways, true≢false}
 use Rattle.std.proofs.lemmas.List.Elements.{Contains-append_left, Contains-append_right, Contains-append_cases}
-use Rattle.std.specs.Prelude.{◌↔◌, ◌⊎◌, Contains, IfOk, IfErr}
+use Rattle.std.specs.Prelude.{◌↔◌, Contains, IfOk, IfErr}
 use Rattle.std.specs.FinSet as set
 use Rattle.std.specs.Option.{option_map}
 use Rattle.std.specs.Ordering.{nat_cmp}

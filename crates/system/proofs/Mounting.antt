@@ -17,7 +17,7 @@ use Rattle.record_format.specs.Payloads.{is_record, payload_at}
 use Rattle.record_format.proofs.ItsFlash.{means_its_flash}
 use Rattle.commit_pair.specs.declared.anchors.Anchors.{Anchors}
 use Rattle.commit_pair.specs.declared.best.Found.{Found}
-use Rattle.commit_pair.specs.Parts.{Entry, parts_on, newest_at, newest_on, payload_of}
+use Rattle.commit_pair.specs.Parts.{RecordBytes, parts_on, newest_at, newest_on, payload_of}
 use Rattle.commit_pair.specs.Laws.{HasNone}
 use Rattle.commit_pair.specs.Newest.{IsUncleared, committed_on, NewestCause}
 use Rattle.commit_pair.specs.Reading.{IsEnd}
@@ -40,12 +40,12 @@ meaning_is x y e = cc
 pub newest_fits : (d : Device) (r : Record) → committed_on d ≡ Some (Ok r) → (r.geometry ≡ d.geometry) × (is_record r ≡ true)
 newest_fits d r is = on (newest_on d.geometry d.pages) is
   where
-    on : (o : Option Entry) → option_map (λ (entry : Entry). payload_at d.geometry entry.sequence entry.payload) o ≡ Some (Ok r) → (r.geometry ≡ d.geometry) × (is_record r ≡ true)
+    on : (o : Option RecordBytes) → option_map (λ (entry : RecordBytes). payload_at d.geometry entry.sequence entry.payload) o ≡ Some (Ok r) → (r.geometry ≡ d.geometry) × (is_record r ≡ true)
     on None e = absurd cc
     on (Some entry) e = means_its_flash d.geometry entry.sequence entry.payload r (meaning_is (payload_at d.geometry entry.sequence entry.payload) (Ok r) e)
 
 meaning_at : Device → Option Found → Option (Result Record Fault)
-meaning_at d o = option_map (λ (entry : Entry). payload_at d.geometry entry.sequence entry.payload) (option_map (λ (found : Found). record { sequence = found.head.sequence; payload = payload_of d.geometry (parts_on d.geometry d.pages) found }) o)
+meaning_at d o = option_map (λ (entry : RecordBytes). payload_at d.geometry entry.sequence entry.payload) (option_map (λ (found : Found). record { sequence = found.head.sequence; payload = payload_of d.geometry (parts_on d.geometry d.pages) found }) o)
 
 -- where no record is valid none is the newest
 pub none_committed : (d : Device) → HasNone d.geometry (parts_on d.geometry d.pages) → committed_on d ≡ None

@@ -1,5 +1,5 @@
 -- A step of reclaiming leaves a system.
-use Rattle.std.proofs.Common.{◌≡◌, ◌≢◌, inl, inr, ℕ, ◌+◌, ◌*◌, ◌-◌, ◌<◌, ◌≤◌, ◌++◌, Bool, true, false, ◌||◌, Option, Some, None, Result, Ok, Err, List, [], ◌∷◌, refl, sym, ap, subst, ◌∙◌, arith}
+use Rattle.std.proofs.Common.{◌≡◌, ◌≢◌, inl, inr, ℕ, ◌+◌, ◌*◌, ◌-◌, ◌^◌, ◌<◌, ◌≤◌, ◌++◌, length, Bool, true, false, ◌||◌, Option, Some, None, Result, Ok, Err, List, [], ◌∷◌, refl, sym, ap, subst, ◌∙◌, arith}
 use Rattle.std.proofs.lemmas.Bool.{true≢false, both_ways}
 use Rattle.std.proofs.lemmas.Cmp.{nat_cmp_total}
 use Rattle.std.proofs.lemmas.List.Elements.{Contains-append_left, Contains-append_right, Contains-append_cases}
@@ -21,12 +21,18 @@ use Rattle.allocator.specs.Ring.{Ring, IsDataBlock, AreDataBlocks}
 use Rattle.node_format.specs.Headers.{body_header}
 use Rattle.node_store.specs.Fitting.{StillFits}
 use Rattle.node_store.specs.FittingLaws.{still_on}
+use Rattle.node_store.specs.Faults.{IsReadFault}
 use Rattle.node_store.specs.NodePages.{node_of}
+use Rattle.node_store.specs.Stores.{Causes}
+use Rattle.node_store.specs.declared.store.Store.{Store}
 use Rattle.node_store.specs.declared.storage.Storage.{Storage}
 use Rattle.block_trees.specs.Bodies.{Blocks}
 use Rattle.block_trees.specs.Reached.{Reached}
 use Rattle.block_trees.specs.Trees.{IsRoot}
+use Rattle.reclaim.specs.Kinds.{Knows}
 use Rattle.reclaim.specs.Passes.{Pass, IsPass, IsFinished}
+use Rattle.reclaim.specs.declared.reading.Reading.{Reading}
+use Rattle.reclaim.proofs.KnownPasses.{begins_known}
 use Rattle.reclaim.specs.Verified.{AreRoots}
 use Rattle.reclaim.proofs.Soundness.{trees_hold_nodes}
 use Rattle.record_format.specs.declared.record.Record.{Record}
@@ -41,7 +47,7 @@ use Rattle.working_state.specs.Seen.{capacity_of, seen_of, machine_on}
 use Rattle.working_state.specs.Steps.{is_cut_answer}
 use Rattle.working_state.specs.Worked.{ReadCause}
 use Rattle.working_state.specs.declared.state.State.{State}
-use Rattle.system.specs.Reclaiming.{AsksForRest, AsksToStep, GoesOnFrom, Advances, EndsPass, StepEnds, Stays, Reclaims, marking_of}
+use Rattle.system.specs.Reclaiming.{AsksForRest, AsksToStep, GoesOnFrom, Advances, ReadsOn, EndsPass, StepEnds, Stays, Reclaims, marking_of, reading_of}
 use Rattle.mounting.specs.Records.{history_of, roots_of, group_roots, working_roots}
 use Rattle.mounting.specs.Saved.{saved_on}
 use Rattle.system.specs.Systems.{IsSystem, IsRunning, MustStay}
@@ -55,6 +61,13 @@ use Rattle.system.proofs.Running.{running_on}
 use Rattle.mounting.proofs.SameNodes.{HasSameData, node_is, same_nodes, same_tree, stands_too}
 use Rattle.system.proofs.SameRecords.{still_saved}
 use Rattle.system.proofs.Syncs.{reached_from}
+
+-- what a step read, by its answer
+pub reads_on : (budget : ℕ) (from : Pass) (result : Result Bool Fault) (to : Pass) → (result ≡ Ok false → (to.next ≡ from.next + budget) × (to.next < length to.order)) → (result ≡ Ok true → (to.next ≤ from.next + budget) × IsFinished to)
+    → (result ≡ Ok false → budget < 2 ^ 64 - 1) → ReadsOn budget from result to
+reads_on budget from (Ok false) to more done all = ((more refl).0, (more refl).1, all refl)
+reads_on budget from (Ok true) to more done all = done refl
+reads_on budget from (Err fault) to more done all = tt
 
 -- ---- systems that differ in what is used alone
 
@@ -217,6 +230,25 @@ module _ (d : Device) (m : System) (s : IsSystem d m) (on : m.state.is_off ≡ f
       by : (o : Option Record) → saved_on d ≡ o → is_some o ≡ true → (root : ℕ) → Contains m.record_roots.items root → Reached (node_of d) (root ∷ []) b → MustStay d m b
       by None is some root newest there = absurd (true≢false (sym some))
       by (Some r) is some root newest there = inr (r, is, reached_to (node_of d) (roots_of (history_of r)) root b (subst (λ (l : List ℕ). Contains l root) (s.roots on r is) newest) there)
+
+  -- the next step may read as it does
+  new_roots : (p : Pass) (note : set.FinSet nat_cmp) → m.pass ≡ None → GoesOnFrom m p note → p.roots ≡ working_roots m.state ++ m.record_roots.items
+  new_roots p note none (inl (was, at)) = absurd (no_pass p (sym was ∙ none))
+    where
+      no_pass : (p : Pass) → (let o : Option Pass = Some p in o ≡ None) → ⊥
+      no_pass p e = cc
+  new_roots p note none (inr (absent, roots, next, at)) = roots
+
+  pub known_of_new : (p : Pass) (note : set.FinSet nat_cmp) (reading : Reading) → reading ≡ reading_of m.pass → GoesOnFrom m p note
+      → (m.pass ≡ None → (p.blocks ≡ m.state.storage.ring.blocks) × ((f : Blocks) → IsPass f p)) → (m.pass ≡ None → ((b : ℕ) → Contains p.order b → Contains p.roots b) × (p.bodies ≡ set.empty))
+      → Knows reading (block_bytes d.geometry) (node_of d) p
+  known_of_new p note reading is from begun first = subst (λ (r : Reading). Knows r (block_bytes d.geometry) (node_of d) p) (sym is) (by m.pass refl)
+    where
+      by : (o : Option Pass) → m.pass ≡ o → Knows (reading_of o) (block_bytes d.geometry) (node_of d) p
+      by (Some q) e = tt
+      by None e =
+          begins_known (block_bytes d.geometry) (node_of d) p (subst (AreRoots (block_bytes d.geometry) (node_of d)) (sym (new_roots p note e from)) must_have_trees)
+          ((begun e).1 (node_of d)) (first e).0 (first e).1
 
   module _ (n : System) (is : n ≡ with_note m n.state.storage.ring.note) where
     pub noted_keeps : Keeps d d m n
@@ -472,6 +504,19 @@ module _ (d e : Device) (m n : System) (p q : Pass) (st : Storage) (t : IsSteppe
   )
 
   -- it goes on
+  pub goes_ends : (budget : ℕ) → (q.next ≡ p.next + budget) × (q.next < length q.order) × (budget < 2 ^ 64 - 1) → StepEnds d m budget (Ok false) e (with_storage n st (Some q))
+  goes_ends budget read = record {
+    from = p;
+    to = q;
+    was = subst (λ (x : set.FinSet nat_cmp). GoesOnFrom m p x) (sym (ap (λ (r : Ring). r.note) t.looked.untouched.ring)) t.from;
+    is = refl;
+    on = t.goes;
+    next = read.0;
+    left = read.1;
+    few = read.2;
+    used = ap (λ (r : Ring). r.used) t.looked.untouched.ring ∙ ap (λ (x : System). x.state.storage.ring.used) t.noted;
+  }
+
   pub goes_system : (IsPass (node_of d) p → IsPass (node_of d) q) → IsSystem e (with_storage n st (Some q))
   goes_system on_with = going_system d e n st first step_is_on t.looked p q t.goes on_with running
 
@@ -548,3 +593,12 @@ module _ (d e : Device) (m n : System) (budget : ℕ) (answer : Result Bool Faul
   reclaimed t result is same =
       subst (λ (r : Result Bool Fault). IsSystem e (record n { state = t }) × Reclaims d m budget r e (record n { state = t })) (sym same)
       (subst (λ (u : State). IsSystem e (record n { state = u }) × Reclaims d m budget answer e (record n { state = u })) (sym is) (is_left, is_reclaimed))
+
+-- why a read of nodes is refused, where there are nodes
+pub store_cause : {F : Type 0} (device : F → Device) (s t : Store F) (fault : Fault) → IsReadFault fault → (fault ≢ Damaged → Causes device s t fault) → fault ≢ Damaged
+    → ReadCause (seen_of (device s.flash.now) s.storage.now) fault (seen_of (device t.flash.now) t.storage.now)
+store_cause device s t ReadFailed is why apart = (why apart).reason
+store_cause device s t PowerCut is why apart = (why apart).reason
+store_cause device s t NoMemory is why apart = tt
+store_cause device s t Damaged is why apart = absurd (apart refl)
+store_cause device s t _ is why apart = absurd (true≢false (sym is))

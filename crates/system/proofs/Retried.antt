@@ -40,7 +40,7 @@ use Rattle.mounting.specs.Saved.{saved_trees, IsWhole}
 use Rattle.system.specs.Commits.{Saves, SaveCause, KeepsRecord, RecordAfter, TriesOnce}
 use Rattle.system.specs.Reclaiming.{GoesOnFrom, Stays, EndsPass}
 use Rattle.system.specs.Rooms.{unmarked, no_limit, MarksAnew, LacksCommit}
-use Rattle.system.specs.Steps.{TriesAgain, LacksRoom, TriesTwice, IsOfSecond, SystemAnswers, IsAfter, bad_data, Takes, SystemStep}
+use Rattle.system.specs.Steps.{TriesAgain, MakesNoRoom, TriesTwice, IsOfSecond, SystemAnswers, IsAfter, bad_data, Takes, SystemStep}
 use Rattle.system.specs.Systems.{IsSystem}
 use Rattle.system.specs.declared.systems.System.{System}
 use Rattle.system.proofs.AfterCommits.{same, same_machine, same_history, saved_after, whole_after, trees_after, newly_trees}
@@ -354,7 +354,7 @@ module _ (d b c : Device) (m k q : System) (call : Call) (s : IsSystem d m) (fir
         subst (λ (r : Result Reply Fault). SystemAnswers twice (seen_on d m.state) (machine_on d m.state) m.state.is_off call r (seen_on c q.state) (machine_on c q.state) q.state.is_off) (sym is)
         (subst (λ (off : Bool). SystemAnswers twice (seen_on d m.state) (machine_on d m.state) off call (Err fault) (seen_on c q.state) (machine_on c q.state) q.state.is_off) (sym facts.on) (why, same, flag))
 
-    lacks_answers : (result : Result Reply Fault) (lacks : LacksRoom b k result c q) → SystemAnswers twice (seen_on d m.state) (machine_on d m.state) m.state.is_off call result (seen_on c q.state) (machine_on c q.state) q.state.is_off
+    lacks_answers : (result : Result Reply Fault) (lacks : MakesNoRoom b k result c q) → SystemAnswers twice (seen_on d m.state) (machine_on d m.state) m.state.is_off call result (seen_on c q.state) (machine_on c q.state) q.state.is_off
     lacks_answers result lacks = elim lacks.why [
       | inl commit ↦
           by_power result lacks.fault lacks.answers (commit_cause lacks.fault commit.why) (lacks_between lacks.fault commit).machine (lacks_off lacks.fault commit)
@@ -364,7 +364,7 @@ module _ (d b c : Device) (m k q : System) (call : Call) (s : IsSystem d m) (fir
           (made_between (Err lacks.fault) made).machine (made_off (Err lacks.fault) made)
     ]
 
-    lacks_after : (result : Result Reply Fault) (lacks : LacksRoom b k result c q) → RecordAfter ((is_sync call ≡ true) ⊎ twice) call result d (machine_on d m.state).history c
+    lacks_after : (result : Result Reply Fault) (lacks : MakesNoRoom b k result c q) → RecordAfter ((is_sync call ≡ true) ⊎ twice) call result d (machine_on d m.state).history c
     lacks_after result lacks = elim lacks.why [
       | inl commit ↦ record {
         either = elim (trees_after b c (unmarked k) q (Err lacks.fault) (unmarked_system b k full) commit.saves (saved_after b c (unmarked k) q (Err lacks.fault) (unmarked_system b k full) commit.saves) facts.still_on) [
@@ -388,7 +388,7 @@ module _ (d b c : Device) (m k q : System) (call : Call) (s : IsSystem d m) (fir
       }
     ]
 
-    between_of : (result : Result Reply Fault) (lacks : LacksRoom b k result c q) → IsBetween d m c q
+    between_of : (result : Result Reply Fault) (lacks : MakesNoRoom b k result c q) → IsBetween d m c q
     between_of result lacks = elim lacks.why [
       | inl commit ↦ lacks_between lacks.fault commit
       | inr made ↦ made_between (Err lacks.fault) made
@@ -488,7 +488,7 @@ module _ (d e : Device) (m n : System) (call : Call) (result : Result Reply Faul
         bad = ap (λ (x : set.FinSet nat_cmp). count_by (set.contains x) (data_blocks d.geometry.blocks)) made.marks.stays.bad ∙ idle.bad;
       }
 
-  lacks_idle : LacksRoom b k result e n → IsIdle n.state
+  lacks_idle : MakesNoRoom b k result e n → IsIdle n.state
   lacks_idle lacks = elim lacks.why [
     | inl commit ↦ committed_idle (Err lacks.fault) e n commit.saves
     | inr made ↦ made_idle (Err lacks.fault) e n made
@@ -500,7 +500,7 @@ module _ (d e : Device) (m n : System) (call : Call) (result : Result Reply Faul
       few : free_count m.state.storage.ring m.state.storage.bad + bad_data d m.state < bad_data d k.state + nodes
       few = full_once d b m k call s both.first full_first.no_commit
 
-      by : LacksRoom b k result e n ⊎ TriesAgain b k call result e n → free_count m.state.storage.ring m.state.storage.bad + bad_data d m.state < bad_data d n.state + nodes
+      by : MakesNoRoom b k result e n ⊎ TriesAgain b k call result e n → free_count m.state.storage.ring m.state.storage.bad + bad_data d m.state < bad_data d n.state + nodes
       by (inl lacks) = let bad = (lacks_idle lacks).bad in omega (arith, few, bad)
       by (inr again) =
           let bad = (made_idle (Ok true) again.device again.system again.room).bad in
@@ -602,7 +602,7 @@ module _ (d e : Device) (m n : System) (call : Call) (result : Result Reply Faul
       once : Takes d m.state nodes k.state
       once = once_takes d b m k call (Err FlashFull) s both.first
 
-      by : LacksRoom b k result e n ⊎ TriesAgain b k call result e n
+      by : MakesNoRoom b k result e n ⊎ TriesAgain b k call result e n
           → Takes d m.state nodes n.state ⊎ (TriesTwice d m call result e n × (saved_trees e ≡ Some (machine_on d m.state).history) × Takes d m.state (2 * nodes) n.state)
       by (inl lacks) = let idle = lacks_idle lacks in let takes = idle.takes in let bad = idle.bad in inl (omega (arith, once, takes, bad))
       by (inr again) =
@@ -632,7 +632,7 @@ module _ (d e : Device) (m n : System) (call : Call) (result : Result Reply Faul
       no_save x u y v FlashFull is why = why
       no_save x u y v _ is why = absurd cc
 
-      by : LacksRoom b k result e n ⊎ TriesAgain b k call result e n → (space : Space) → IsSpace d m.state space → space.free + space.bad < bad_data d n.state + nodes
+      by : MakesNoRoom b k result e n ⊎ TriesAgain b k call result e n → (space : Space) → IsSpace d m.state space → space.free + space.bad < bad_data d n.state + nodes
       by (inl lacks) = absurd (elim lacks.why [
         | inl commit ↦ no_save b (unmarked k) e n lacks.fault same_fault commit.why
         | inr made ↦ no_cause (seen_on made.device made.system.state) lacks.fault same_fault (seen_on e n.state)
@@ -674,7 +674,7 @@ twice_step d e m n call result s both = by both.rest
     is : IsFull d m call both.device both.system
     is = is_full d both.device m both.system call both.first
 
-    by : LacksRoom both.device both.system result e n ⊎ TriesAgain both.device both.system call result e n → SystemStep d m call result e n
+    by : MakesNoRoom both.device both.system result e n ⊎ TriesAgain both.device both.system call result e n → SystemStep d m call result e n
     by (inl lacks) = record {
       tries = inr both;
       later = (between_of d both.device e m both.system n call s both.first both.full (TriesTwice d m call result e n) both result lacks).is_later;
@@ -726,7 +726,7 @@ few_free d e m n call result both =
         let then_on = (marked_later made.device c made.system q made.committed made.marks.stays).listed in
         omega (arith, first, then_on)
 
-    grown : LacksRoom b k result e n ⊎ TriesAgain b k call result e n → (seen_on b k.state).listed ≤ (seen_on e n.state).listed
+    grown : MakesNoRoom b k result e n ⊎ TriesAgain b k call result e n → (seen_on b k.state).listed ≤ (seen_on e n.state).listed
     grown (inl lacks) = elim lacks.why [
       | inl commit ↦ committed_listed (Err lacks.fault) e n commit.saves
       | inr made ↦ marked_listed (Err lacks.fault) e n made

@@ -1,7 +1,7 @@
 -- What a commit on the anchors makes of a system.
 use Rattle.std.proofs.Common.{◌≡◌, ◌≢◌, ℕ, ◌+◌, ◌*◌, ◌≤◌, ◌-◌, ◌^◌, Bool, true, false, ◌||◌, Some, None, Result, Ok, Err, inl, refl, sym, ap, subst, ◌∙◌}
 use Rattle.std.proofs.lemmas.Bool.{true≢false}
-use Rattle.std.specs.Prelude.{OnOk, OnErr, IfErr, Vec}
+use Rattle.std.specs.Prelude.{OnOk, OnErr, IfErr, MatchResult, Vec}
 use Rattle.std.specs.declared.alloc.Global.{Global}
 use Rattle.std.specs.FinSet as set
 use Rattle.std.specs.Ordering.{nat_cmp}
@@ -17,7 +17,7 @@ use Rattle.commit_pair.specs.Parts.{greatest_on}
 use Rattle.commit_pair.specs.Anchored.{OnlyAnchors}
 use Rattle.commit_pair.specs.Committing.{Commits}
 use Rattle.commit_pair.specs.Newest.{remembered}
-use Rattle.commit_pair.specs.Remembering.{KnowsNewest, MayCommit, ReadsNone, IsPlaced, CommitCause}
+use Rattle.commit_pair.specs.Remembering.{KnowsNewest, MayCommit, ReadsNone, IsPlaced, Remembers, CommitCause}
 use Rattle.working_state.specs.Steps.{is_cut_answer}
 use Rattle.working_state.specs.declared.state.State.{State}
 use Rattle.system.specs.Commits.{record_on, Saves, SaveCause}
@@ -45,11 +45,9 @@ pub record IsTried {T : Type 0} (d e : Device) (m : System) (anchors : Anchors) 
   pub placed : OnOk answer ((reads : ℕ) × (ReadsNone m.state.storage.bad m.anchors → reads ≡ 0) × (reads ≤ ANCHORS * saved.geometry.pages) × IsPlaced d m.state.storage.bad m.anchors saved reads e bad)
   pub only_anchors : OnlyAnchors d m.state.storage.bad e bad
   pub ready : answer ≢ Err PowerCut → MayCommit e bad anchors
-  pub known : OnOk answer (remembered anchors ≢ None)
-  pub same : OnErr answer (anchors ≡ m.anchors)
+  pub remembers : MatchResult answer (λ _. Remembers anchors bad) (λ _. anchors ≡ m.anchors)
   pub listed : OnOk answer (roots.items ≡ roots_of m.state.history)
   pub unlisted : OnErr answer (roots ≡ m.record_roots)
-  pub opens : OnOk answer (is_read_only bad ≡ false)
   pub why : IfErr answer (CommitCause d m.state.storage.bad m.anchors e bad)
 
 module _ {T : Type 0} (d e : Device) (m : System) (anchors : Anchors) (roots : Vec ℕ Global) (bad : set.FinSet nat_cmp) (answer : Result T Fault) (saved : Record) (s : IsSystem d m) (on : m.state.is_off ≡ false) (tried : IsTried d e m anchors roots bad answer saved) where
@@ -80,23 +78,27 @@ module _ {T : Type 0} (d e : Device) (m : System) (anchors : Anchors) (roots : V
       (subst (λ (n : ℕ). IsPlaced d m.state.storage.bad m.anchors saved n e bad) (none (inl was_known)) placed)
   is_placed (Err fault) placed = tt
 
+  opens : (r : Result T Fault) → MatchResult r (λ _. Remembers anchors bad) (λ _. anchors ≡ m.anchors) → OnOk r (is_read_only bad ≡ false)
+  opens (Ok x) remembers = remembers.writable
+  opens (Err fault) remembers = tt
+
   saves : Saves d m answer e after
   saves = record {
     commits = subst (λ (r : Record). Commits d.pages e.pages r (greatest_on r.geometry d.pages + 1) bad answer) tried.says tried.commits;
     only_anchors = tried.only_anchors;
     used_pages = λ p used. tried.only_anchors.data_pages p (tried.blocks (block_of d p) used).0;
     state = refl;
-    writable = tried.opens;
+    writable = opens answer tried.remembers;
     placed = is_placed answer tried.placed;
     overflow = λ is. over answer is tried.why;
   }
 
   knows_newest : is_cut_answer answer ≡ false → KnowsNewest e bad anchors
-  knows_newest no_cut = is_newest e bad anchors (by answer tried.known tried.same) (tried.ready (λ is. true≢false (sym (ap is_cut_answer is) ∙ no_cut)))
+  knows_newest no_cut = is_newest e bad anchors (by answer tried.remembers) (tried.ready (λ is. true≢false (sym (ap is_cut_answer is) ∙ no_cut)))
     where
-      by : (r : Result T Fault) → OnOk r (remembered anchors ≢ None) → OnErr r (anchors ≡ m.anchors) → remembered anchors ≢ None
-      by (Ok x) known same = known
-      by (Err fault) known same = λ none. was_known (ap remembered (sym same) ∙ none)
+      by : (r : Result T Fault) → MatchResult r (λ _. Remembers anchors bad) (λ _. anchors ≡ m.anchors) → remembered anchors ≢ None
+      by (Ok x) remembers = remembers.known
+      by (Err fault) same = λ none. was_known (ap remembered (sym same) ∙ none)
 
   is_off : (with_cut (with_bad m.state bad) (is_cut_answer answer)).is_off ≡ true → e.powered ≡ false
   is_off off = by answer (sym (ap (λ (b : Bool). b || is_cut_answer answer) on) ∙ off) tried.why

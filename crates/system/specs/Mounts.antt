@@ -1,5 +1,5 @@
 -- What a mount makes of the newest record of a flash, what it asks of the device, and why it makes nothing of it.
-use Rattle.std.specs.Prelude.{◌≡◌, ◌⊎◌, ℕ, ◌+◌, ◌*◌, ◌<◌, ◌≤◌, false, Some, Ok, List, ◌==◌, ◌↔◌, None, Err, ◌∷◌, ◌++◌}
+use Rattle.std.specs.Prelude.{◌≡◌, ◌⊎◌, ℕ, ◌+◌, ◌*◌, ◌<◌, ◌≤◌, false, Some, Ok, List, None, Err}
 use Rattle.fs_types.specs.declared.limits.TheConstants.{ANCHORS}
 use Rattle.flash_model.specs.Device.{Device}
 use Rattle.node_store.specs.NodePages.{node_of}
@@ -9,7 +9,6 @@ use Rattle.record_format.specs.declared.record.Record.{Record}
 use Rattle.commit_pair.specs.Parts.{parts_on}
 use Rattle.commit_pair.specs.Newest.{committed_on}
 use Rattle.mounting.specs.Records.{history_of, roots_of, HasTrees, IsLoaded}
-use Rattle.history_machine.specs.Machine.{mounted}
 use Rattle.fs_types.specs.declared.fault.Fault.{Fault}
 use Rattle.fs_types.specs.declared.fault.Fault.TheVariants.{BadGeometry, NoRecord, Damaged, ReadFailed, PowerCut, NoMemory}
 use Rattle.flash_model.specs.Geometry.{IsGeometry}

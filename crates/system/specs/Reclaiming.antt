@@ -1,10 +1,13 @@
 -- What a marking of used blocks asks of the device, a mount, and a format.
-use Rattle.std.specs.Prelude.{◌≡◌, ◌⊎◌, ℕ, ◌+◌, ◌*◌, ◌<◌, ◌≤◌, false, Some, Ok, List, length, ◌-◌, ◌^◌, Bool, true, ◌||◌, None, unwrap_or, Result, Err, [], ◌++◌}
+use Rattle.std.specs.Prelude.{◌≡◌, ◌⊎◌, ℕ, ◌+◌, ◌*◌, ◌<◌, ◌≤◌, false, Some, Ok, List, length, ◌-◌, ◌^◌, Bool, true, ◌||◌, Option, None, unwrap_or, Result, Err, [], ◌++◌}
 use Rattle.std.specs.FinSet as set
 use Rattle.std.specs.Ordering.{nat_cmp}
 use Rattle.flash_model.specs.Device.{Device}
 use Rattle.node_store.specs.NodePages.{node_of}
-use Rattle.reclaim.specs.Passes.{Pass, Begins, AreReached, IsPass}
+use Rattle.reclaim.specs.declared.reading.Reading.{Reading}
+use Rattle.reclaim.specs.declared.reading.Reading.TheVariants.{Whole, Fronts}
+pub use Rattle.reclaim.specs.Passes.{Advances}
+use Rattle.reclaim.specs.Passes.{Pass, Begins, AreReached, IsPass, IsFinished}
 use Rattle.fs_types.specs.declared.fault.Fault.{Fault}
 use Rattle.fs_types.specs.declared.fault.Fault.TheVariants.{PowerCut}
 use Rattle.flash_model.specs.Reading.{OnlyReads}
@@ -38,16 +41,22 @@ GoesOnFrom m p note =
 
 -- the same, as one that has listed nothing where it is new
 abbrev pub marking_of : System → Pass
-marking_of m = unwrap_or m.pass (record { blocks = m.state.storage.ring.blocks; roots = working_roots m.state ++ m.record_roots.items; order = []; next = 0 })
+marking_of m = unwrap_or m.pass (record { blocks = m.state.storage.ring.blocks; roots = working_roots m.state ++ m.record_roots.items; order = []; next = 0; bodies = set.empty })
 
--- a marking went on from another: it is of the same flash and roots, and what was marked before is marked, in the same order
-pub record Advances (from to : Pass) : Type 0 where
-  pub blocks : to.blocks ≡ from.blocks
-  pub roots : to.roots ≡ from.roots
-  pub begins : Begins from.order to.order
+-- a step that begins a marking reads by fronts, and one that goes on with a marking whole
+abbrev pub reading_of : Option Pass → Reading
+reading_of None = Fronts
+reading_of (Some pass) = Whole
+
+-- what a step of a marking read, by its answer: so many blocks more, where some are left, which the greatest budget does not leave;
+-- so many at most, where none is
+abbrev pub ReadsOn : ℕ → Pass → Result Bool Fault → Pass → Type 0
+ReadsOn budget from (Ok false) to = (to.next ≡ from.next + budget) × (to.next < length to.order) × (budget < 2 ^ 64 - 1)
+ReadsOn budget from (Ok true) to = (to.next ≤ from.next + budget) × IsFinished to
+ReadsOn budget from (Err fault) to = Unit {0}
 
 -- so many blocks more were read, and some are left: the greatest budget is for all
-pub record GoesOn (m : System) (budget : ℕ) (n : System) : Type 0 where
+pub record MarksOn (m : System) (budget : ℕ) (n : System) : Type 0 where
   pub from : Pass
   pub to : Pass
   pub was : GoesOnFrom m from n.state.storage.ring.note
@@ -76,7 +85,7 @@ pub record EndsPass (d : Device) (m : System) (budget : ℕ) (n : System) : Type
 
 -- what a step answers: whether no block is left to be read. A refused step leaves no marking, and all used blocks as they were
 abbrev pub StepEnds : Device → System → ℕ → Result Bool Fault → Device → System → Type 0
-StepEnds old m budget (Ok false) new n = GoesOn m budget n
+StepEnds old m budget (Ok false) new n = MarksOn m budget n
 StepEnds old m budget (Ok true) new n = EndsPass old m budget n
 StepEnds old m budget (Err fault) new n =
     (n.pass ≡ None) × (n.state.storage.ring.used ≡ m.state.storage.ring.used) × ReadCause (seen_on old m.state) fault (seen_on new n.state)

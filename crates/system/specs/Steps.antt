@@ -28,7 +28,7 @@ pub record TriesAgain (old : Device) (m : System) (call : Call) (result : Result
   pub ready : IsSystem device system
   pub second : TriesOnce device system call result new n
 
-pub record LacksRoom (old : Device) (m : System) (result : Result Reply Fault) (new : Device) (n : System) : Type 0 where
+pub record MakesNoRoom (old : Device) (m : System) (result : Result Reply Fault) (new : Device) (n : System) : Type 0 where
   pub fault : Fault
   pub answers : result ≡ Err fault
   pub why : LacksCommit old m fault new n ⊎ MarksAnew old m (Err fault) new n
@@ -39,7 +39,7 @@ pub record TriesTwice (old : Device) (m : System) (call : Call) (result : Result
   pub system : System
   pub first : TriesOnce old m call (Err FlashFull) device system
   pub full : IsSystem device system
-  pub rest : LacksRoom device system result new n ⊎ TriesAgain device system call result new n
+  pub rest : MakesNoRoom device system result new n ⊎ TriesAgain device system call result new n
 
 -- the refusals that a call may have of a second try alone: that found the flash full, too, or no sequence was left for the commit
 -- before it

@@ -21,9 +21,13 @@ pub const MOUNTED_NODES: usize = 8;
 /// Mounts what the newest record of a flash holds, with a cache in which no block is listed.
 fn mount_cached<F: Flash>(alloc: Global, flash: &mut F, cache: NodeCache) -> Result<System, Fault>
     requires { cache.entries ≡ [] }
+
+    // The system.
     ensures ok { IfOk result (IsMountOf (F.device flash.old) (F.device flash.new)) }
     ensures system { IfOk result (IsSystem (F.device flash.new)) }
     ensures room { IfOk result (λ system. system.state.storage.cache.room ≡ cache.room) }
+
+    // By reads alone, and how many.
     ensures only_reads { OnlyReads (F.device flash.old) (F.device flash.new) }
     ensures asks { IfOk result (λ _. AsksToMount (F.device flash.old) (F.device flash.new)) }
     ensures asks_at_most { OnErr result (AsksUntilRefused (F.device flash.old) (F.device flash.new)) }
@@ -56,12 +60,18 @@ fn mount_cached<F: Flash>(alloc: Global, flash: &mut F, cache: NodeCache) -> Res
 /// newest record tells others; `ReadFailed` and `PowerCut` by the device; `NoMemory` where memory
 /// could not be had.
 pub fn mount_with<F: Flash>(alloc: Global, flash: &mut F, nodes: usize) -> Result<System, Fault>
+
+    // The system.
     ensures ok { IfOk result (IsMountOf (F.device flash.old) (F.device flash.new)) }
     ensures system { IfOk result (IsSystem (F.device flash.new)) }
     ensures room { IfOk result (λ system. system.state.storage.cache.room ≡ nodes) }
+
+    // By reads alone, and how many.
     ensures only_reads { OnlyReads (F.device flash.old) (F.device flash.new) }
     ensures asks { IfOk result (λ _. AsksToMount (F.device flash.old) (F.device flash.new)) }
     ensures asks_at_most { OnErr result (AsksUntilRefused (F.device flash.old) (F.device flash.new)) }
+
+    // Why not.
     ensures invalid { (result ≡ Err Fault.Invalid) ↔ ((nodes < 1) ⊎ (MAX_CACHED_NODES < nodes)) }
     ensures unread { result ≡ Err Fault.Invalid → F.device flash.new ≡ F.device flash.old }
     ensures why { IfErr result (λ fault. fault ≢ Fault.Invalid → MountCause (F.device flash.old) (F.device flash.new) fault) }

@@ -1,19 +1,21 @@
 //! Reclaiming in steps: blocks that nothing keeps are used again.
-ghost use Rattle.std.specs.Prelude.{◌≡◌, ◌≢◌, ◌<◌, ◌≤◌, ◌+◌, ◌-◌, ◌*◌, ◌^◌, ◌++◌, ℕ, true, false, None, Ok, length, Contains, OnOk, IfOk, IfErr, IsErrOf};
-ghost use Rattle.flash_model.specs.Geometry.{IsGeometry};
+ghost use Rattle.std.specs.Prelude.{◌≡◌, ◌≢◌, ◌≤◌, ◌+◌, ◌*◌, ◌++◌, ℕ, false, None, Contains, OnOk, IfOk, IfErr, IsErrOf};
+ghost use Rattle.std.specs.FinSet as set;
+ghost use Rattle.flash_model.specs.Geometry.{IsGeometry, block_bytes};
 ghost use Rattle.allocator.specs.Ring.{IsDataBlock};
 ghost use Rattle.block_trees.specs.Bodies.{Blocks};
 ghost use Rattle.block_trees.specs.Reached.{Reached};
 ghost use Rattle.node_store.specs.Fitting.{Fits};
 ghost use Rattle.node_store.specs.NodePages.{node_of};
 ghost use Rattle.node_store.specs.Stores.{IsSound, Follows};
-ghost use Rattle.reclaim.specs.Passes.{IsPass, IsFinished};
+ghost use Rattle.reclaim.specs.Kinds.{Knows};
+ghost use Rattle.reclaim.specs.Passes.{IsPass};
 ghost use Rattle.working_state.specs.Leaves.{HasLooked};
 ghost use Rattle.working_state.specs.Seen.{seen_of};
 ghost use Rattle.working_state.specs.Worked.{ReadCause};
 ghost use Rattle.system.specs.Reclaiming.{AsksForRest, AsksToStep};
 ghost use Rattle.mounting.specs.Records.{working_roots};
-ghost use Rattle.system.specs.Reclaiming.{GoesOnFrom, Advances, StepEnds, Stays, Reclaims, marking_of};
+ghost use Rattle.system.specs.Reclaiming.{GoesOnFrom, Advances, ReadsOn, StepEnds, Stays, Reclaims, marking_of, reading_of};
 ghost use Rattle.system.specs.Systems.{IsSystem};
 
 use crate::systems::System;
@@ -21,7 +23,7 @@ use flash_model::Flash;
 use fs_types::Fault;
 use mounting::list_working;
 use node_store::{Nodes, Storage, Store};
-use reclaim::Pass;
+use reclaim::{Pass, Reading};
 use std::alloc::Global;
 
 impl System {
@@ -62,8 +64,9 @@ impl System {
         ensures ends { StepEnds (F.device flash.old) self.old budget result (F.device flash.new) self.new }
         ensures asks { AsksToStep (F.device flash.old) (marking_of self.old) budget (F.device flash.new) }
     {
+        let reading = self.way_to_read();
         let mut pass = self.take_pass(alloc)?;
-        if !step_on(flash, &mut self.state.storage, &mut pass, budget)? {
+        if !step_on(flash, &mut self.state.storage, &mut pass, reading, budget)? {
             self.pass = Some(pass);
             return Ok(false);
         }
@@ -73,11 +76,23 @@ impl System {
         Ok(true)
     }
 
+    /// How the next step reads: one that begins a marking has roots that have trees now, and reads by
+    /// fronts; one that goes on with a marking reads whole.
+    fn way_to_read(&self) -> Reading
+        ensures { result ≡ reading_of self.now.pass }
+    {
+        match self.pass {
+            None => Reading::Fronts,
+            Some(_) => Reading::Whole,
+        }
+    }
+
     /// The marking that goes on, which is none of the system's any more; else a new one.
     fn take_pass(&mut self, alloc: Global) -> Result<Pass, Fault>
         requires { (b : ℕ) → Contains (working_roots self.old.state ++ self.old.record_roots.items) b → IsDataBlock self.old.state.storage.ring.blocks b }
         ensures from { IfOk result (λ pass. GoesOnFrom self.old pass self.new.state.storage.ring.note) }
         ensures begun { IfOk result (λ pass. self.old.pass ≡ None → (pass.blocks ≡ self.old.state.storage.ring.blocks) × ((f : Blocks) → IsPass f pass)) }
+        ensures first { IfOk result (λ pass. self.old.pass ≡ None → ((b : ℕ) → Contains pass.order b → Contains pass.roots b) × (pass.bodies ≡ set.empty)) }
         ensures same { self.new ≡ record self.old {
           state = record self.old.state {
             storage = record self.old.state.storage {
@@ -104,43 +119,53 @@ fn step_on<F: Flash>(
     flash: &mut F,
     storage: &mut Storage,
     pass: &mut Pass,
+    reading: Reading,
     budget: u64,
 ) -> Result<bool, Fault>
     requires lawful { IsGeometry (F.device flash.old).geometry }
     requires ring_blocks { storage.old.ring.blocks ≡ (F.device flash.old).geometry.blocks }
     requires fits { Fits (F.device flash.old) storage.old }
     requires blocks { pass.old.blocks ≡ (F.device flash.old).geometry.blocks }
+    requires known { Knows reading (block_bytes (F.device flash.old).geometry) (node_of (F.device flash.old)) pass.old }
+
+    // The marking went on, and is none where its reads found damage.
     ensures pass { IsPass (node_of (F.device flash.old)) pass.old → OnOk result (IsPass (node_of (F.device flash.old)) pass.new) }
     ensures on { Advances pass.old pass.new }
-    ensures more { result ≡ Ok false → (pass.new.next ≡ pass.old.next + budget) × (pass.new.next < length pass.new.order) }
-    ensures done { result ≡ Ok true → (pass.new.next ≤ pass.old.next + budget) × IsFinished pass.new }
-    ensures all { result ≡ Ok false → budget < 2 ^ 64 - 1 }
+    ensures reads_on { ReadsOn budget pass.old result pass.new }
     ensures damaged { IsPass (node_of (F.device flash.old)) pass.old → IsErrOf result Fault.Damaged → (b : ℕ) × Reached (node_of (F.device flash.old)) pass.old.roots b × (node_of (F.device flash.old) b ≡ None) }
+
+    // Nodes were read alone, and how many.
     ensures looked { HasLooked (F.device flash.old) storage.old (F.device flash.new) storage.new }
-    ensures few { (F.device flash.new).operations ≤ (F.device flash.old).operations + budget * (F.device flash.old).geometry.pages }
-    ensures rest { IsPass (node_of (F.device flash.old)) pass.old → AsksForRest (F.device flash.old) pass.old (F.device flash.new) }
+    ensures asks { ((F.device flash.new).operations ≤ (F.device flash.old).operations + budget * (F.device flash.old).geometry.pages) × (IsPass (node_of (F.device flash.old)) pass.old → AsksForRest (F.device flash.old) pass.old (F.device flash.new)) }
     ensures why { IfErr result (λ fault. fault ≢ Fault.Damaged → ReadCause (seen_of (F.device flash.old) storage.old) fault (seen_of (F.device flash.new) storage.new)) }
 {
     let mut store = Store::new(flash, storage);
-    step_in(&mut store, pass, budget)
+    step_in(&mut store, pass, reading, budget)
 }
 
 /// The same, over a store.
-fn step_in<F: Flash>(store: &mut Store<'_, F>, pass: &mut Pass, budget: u64) -> Result<bool, Fault>
+fn step_in<F: Flash>(
+    store: &mut Store<'_, F>,
+    pass: &mut Pass,
+    reading: Reading,
+    budget: u64,
+) -> Result<bool, Fault>
     requires sound { IsSound F.device store.old }
     requires blocks { pass.old.blocks ≡ (F.device store.old.flash.now).geometry.blocks }
-    ensures follows { Follows F.device store.old store.new }
+    requires known { Knows reading (block_bytes (F.device store.old.flash.now).geometry) (node_of (F.device store.old.flash.now)) pass.old }
+
+    // The marking went on, and is none where its reads found damage.
     ensures pass { IsPass (node_of (F.device store.old.flash.now)) pass.old → OnOk result (IsPass (node_of (F.device store.old.flash.now)) pass.new) }
     ensures on { Advances pass.old pass.new }
-    ensures more { result ≡ Ok false → (pass.new.next ≡ pass.old.next + budget) × (pass.new.next < length pass.new.order) }
-    ensures done { result ≡ Ok true → (pass.new.next ≤ pass.old.next + budget) × IsFinished pass.new }
-    ensures all { result ≡ Ok false → budget < 2 ^ 64 - 1 }
+    ensures reads_on { ReadsOn budget pass.old result pass.new }
     ensures damaged { IsPass (node_of (F.device store.old.flash.now)) pass.old → IsErrOf result Fault.Damaged → (b : ℕ) × Reached (node_of (F.device store.old.flash.now)) pass.old.roots b × (node_of (F.device store.old.flash.now) b ≡ None) }
+
+    // Nodes were read alone, and how many.
+    ensures follows { Follows F.device store.old store.new }
     ensures looked { HasLooked (F.device store.old.flash.now) store.old.storage.now (F.device store.new.flash.now) store.new.storage.now }
     ensures reads { store.new.reads.n ≤ store.old.reads.n + budget }
-    ensures few { (F.device store.new.flash.now).operations ≤ (F.device store.old.flash.now).operations + budget * (F.device store.old.flash.now).geometry.pages }
-    ensures rest { IsPass (node_of (F.device store.old.flash.now)) pass.old → AsksForRest (F.device store.old.flash.now) pass.old (F.device store.new.flash.now) }
+    ensures asks { ((F.device store.new.flash.now).operations ≤ (F.device store.old.flash.now).operations + budget * (F.device store.old.flash.now).geometry.pages) × (IsPass (node_of (F.device store.old.flash.now)) pass.old → AsksForRest (F.device store.old.flash.now) pass.old (F.device store.new.flash.now)) }
     ensures why { IfErr result (λ fault. fault ≢ Fault.Damaged → ReadCause (seen_of (F.device store.old.flash.now) store.old.storage.now) fault (seen_of (F.device store.new.flash.now) store.new.storage.now)) }
 {
-    pass.step(store, budget)
+    pass.step(store, reading, budget)
 }

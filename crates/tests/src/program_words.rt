@@ -19,6 +19,7 @@ fn words_are_read_as_a_job(rt: HostRuntime) -> Result<(), Fail> {
         stop: false,
         path: None,
         file: None,
+        view: None,
         progress: false,
     };
     assert_eq!(rt; job(rt.alloc(), words.as_slice()).ok(), Some(wanted));
@@ -36,5 +37,19 @@ fn words_more_are_as_given(rt: HostRuntime) -> Result<(), Fail> {
     assert_eq!(rt; asked.and_then(|job| job.path), Some("/notes"));
     assert_eq!(rt; asked.and_then(|job| job.file), Some("notes.txt"));
     assert_eq!(rt; asked.map(|job| job.progress), Some(true));
+    Ok(())
+}
+
+#[test]
+fn a_view_is_as_given(rt: HostRuntime) -> Result<(), Fail> {
+    let mut words: Vec<String> = Vec::new(rt.alloc());
+    for word in ["get", "disk.image", "/notes", "notes.txt", "@5"] {
+        words.push(String::from_str(rt.alloc(), word)?)?;
+    }
+    let asked = job(rt.alloc(), words.as_slice()).ok();
+    assert_eq!(rt; asked.map(|job| job.command), Some(Task::Get));
+    assert_eq!(rt; asked.and_then(|job| job.path), Some("/notes"));
+    assert_eq!(rt; asked.and_then(|job| job.file), Some("notes.txt"));
+    assert_eq!(rt; asked.and_then(|job| job.view), Some("@5"));
     Ok(())
 }

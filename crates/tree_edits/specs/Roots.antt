@@ -1,10 +1,13 @@
 -- New roots.
-use Rattle.std.specs.Prelude.{◌≡◌, ◌⊎◌, ℕ, Bool, false, [], ◌∷◌}
+use Rattle.std.specs.Prelude.{◌≡◌, ◌⊎◌, ℕ, ◌-◌, Bool, false, [], ◌∷◌, Result, IfOk, IfErr}
+use Rattle.fs_types.specs.declared.fault.Fault.{Fault}
 use Rattle.plain_trees.specs.Trees.{Tree}
+use Rattle.node_format.specs.Headers.{body_header}
 use Rattle.node_format.specs.declared.place.Place.TheVariants.{Dir}
 use Rattle.block_trees.specs.Bodies.{Blocks}
 use Rattle.block_trees.specs.Reached.{Reached, IsHeld}
 use Rattle.block_trees.specs.Trees.{IsRoot, root_tree}
+use Rattle.directory.specs.Trails.{IsChangeFault}
 
 -- a root has this tree; all that it reaches is kept, and another root reached it before, or it is in a block that was
 -- not kept
@@ -13,3 +16,11 @@ pub record IsNewRoot (capacity : ℕ) (old : Blocks) (kept : ℕ → Bool) (new 
   pub held : IsHeld new kept' (Dir to)
   pub shows : root_tree capacity new to ≡ tree
   pub reached : (block : ℕ) → Reached new (to ∷ []) block → Reached old (from ∷ []) block ⊎ (kept block ≡ false)
+
+-- an edit of the tree of a root was applied, in the words of the trait `Nodes`: there is a new root with the edited tree; or it was
+-- refused with its cause
+pub record IsApplied {S : Type 0} (limit : S → ℕ) (node : S → Blocks) (kept : S → ℕ → Bool) (follows : S → S → Type 0) (causes : S → S → Fault → Type 0) (old new : S) (root : ℕ) (edited : Tree → Tree) (result : Result ℕ Fault) : Type 0 where
+  pub new_root : IfOk result (λ to. IsNewRoot (limit old - body_header) (node old) (kept old) (node new) (kept new) root to (edited (root_tree (limit old - body_header) (node old) root)))
+  pub why : IfErr result (causes old new)
+  pub faults : IfErr result IsChangeFault
+  pub came : follows old new

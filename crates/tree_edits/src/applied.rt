@@ -31,8 +31,12 @@ pub fn apply<N: Nodes>(
     requires held { IsHeld (N.node nodes.old) (N.kept nodes.old) (Dir root) }
     requires rooted { IsRoot (N.limit nodes.old - body_header) (N.node nodes.old) root }
     requires editable { IsEditable (N.limit nodes.old - body_header) (N.node nodes.old) (N.kept nodes.old) root edit }
+
+    // The new tree, and that the old one stays.
     ensures root { IfOk result (λ to. IsNewRoot (N.limit nodes.old - body_header) (N.node nodes.old) (N.kept nodes.old) (N.node nodes.new) (N.kept nodes.new) (source root edit.entry) to (effect (root_tree (N.limit nodes.old - body_header) (N.node nodes.old)) edit.entry (root_tree (N.limit nodes.old - body_header) (N.node nodes.old) root))) }
     ensures keeps { Keeps (N.kept nodes.old) (N.node nodes.old) (N.kept nodes.new) (N.node nodes.new) }
+
+    // What it is refused with, and what it asks for.
     ensures why { IfErr result (λ fault. N.causes nodes.old nodes.new fault) }
     ensures faults { IfErr result IsChangeFault }
     ensures still { need (N.limit nodes.old - body_header) (N.node nodes.old) edit.entry ≡ 0 → (nodes.new ≡ nodes.old) × (result ≡ Ok (source root edit.entry)) }

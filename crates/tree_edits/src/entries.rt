@@ -1,19 +1,19 @@
 //! Directories made, and entries taken out and moved.
-ghost use Rattle.std.specs.Prelude.{◌≡◌, ℕ, ◌+◌, ◌-◌, ◌≤◌, ◌<◌, true, false, length, Ok, IfOk, IfErr};
+ghost use Rattle.std.specs.Prelude.{◌≡◌, ℕ, ◌+◌, ◌-◌, ◌≤◌, ◌<◌, true, false, length, Ok};
 ghost use Rattle.plain_trees.specs.Contents.{Apart, Entry};
 ghost use Rattle.fs_types.specs.Names.{is_path};
 ghost use Rattle.plain_trees.specs.Trees.{put, remove, move};
 ghost use Rattle.node_format.specs.Headers.{body_header};
 ghost use Rattle.node_format.specs.declared.place.Place.TheVariants.{Dir};
 ghost use Rattle.block_trees.specs.Reached.{IsHeld};
-ghost use Rattle.block_trees.specs.Trees.{IsRoot, root_tree};
+ghost use Rattle.block_trees.specs.Trees.{IsRoot};
 ghost use Rattle.directory.specs.declared.lookups.Found.{Found};
 ghost use Rattle.directory.specs.declared.lookups.Found.TheVariants.{Missing};
 ghost use Rattle.directory.specs.Lookups.{look_up};
 ghost use Rattle.directory.specs.Counts.{path_nodes, move_nodes};
-ghost use Rattle.directory.specs.Trails.{IsTrail, IsChangeFault};
+ghost use Rattle.directory.specs.Trails.{IsTrail};
 ghost use Rattle.tree_edits.specs.Edits.{IsMovable, IsRemovable};
-ghost use Rattle.tree_edits.specs.Roots.{IsNewRoot};
+ghost use Rattle.tree_edits.specs.Roots.{IsApplied};
 
 use directory::{Trail, move_entry, put_directory, remove_entry};
 use fs_types::{Fault, Path};
@@ -35,12 +35,11 @@ pub(crate) fn make<N: Nodes>(
     requires lawful { is_path path.now ≡ true }
     requires way { IsTrail (N.node nodes.old) root path.now trail.now }
     requires missing { look_up (N.node nodes.old) root path.now ≡ Ok (Missing false) }
-    ensures root { IfOk result (λ to. IsNewRoot (N.limit nodes.old - body_header) (N.node nodes.old) (N.kept nodes.old) (N.node nodes.new) (N.kept nodes.new) root to (put (root_tree (N.limit nodes.old - body_header) (N.node nodes.old) root) path.now Entry.Dir)) }
-    ensures why { IfErr result (λ fault. N.causes nodes.old nodes.new fault) }
-    ensures faults { IfErr result IsChangeFault }
+
+    // The edited tree, and how many nodes were written and read for it.
+    ensures applied { IsApplied N.limit N.node N.kept N.follows N.causes nodes.old nodes.new root (λ tree. put tree path.now Entry.Dir) result }
     ensures writes { N.writes nodes.new ≤ N.writes nodes.old + (path_nodes (N.node nodes.old) trail.now path.now true 0 + 1) }
     ensures reads { N.reads nodes.new ≤ N.reads nodes.old + path_nodes (N.node nodes.old) trail.now path.now false 0 }
-    ensures follows { N.follows nodes.old nodes.new }
 {
     put_directory(alloc, nodes, root, trail, path)
 }
@@ -60,12 +59,11 @@ pub(crate) fn remove<N: Nodes>(
     requires way { IsTrail (N.node nodes.old) root path.now trail.now }
     requires below { 0 < length path.now }
     requires removable { (x : Found) × (look_up (N.node nodes.old) root path.now ≡ Ok x) × IsRemovable (N.node nodes.old) x }
-    ensures root { IfOk result (λ to. IsNewRoot (N.limit nodes.old - body_header) (N.node nodes.old) (N.kept nodes.old) (N.node nodes.new) (N.kept nodes.new) root to (remove (root_tree (N.limit nodes.old - body_header) (N.node nodes.old) root) path.now)) }
-    ensures why { IfErr result (λ fault. N.causes nodes.old nodes.new fault) }
-    ensures faults { IfErr result IsChangeFault }
+
+    // The edited tree, and how many nodes were written and read for it.
+    ensures applied { IsApplied N.limit N.node N.kept N.follows N.causes nodes.old nodes.new root (λ tree. remove tree path.now) result }
     ensures writes { N.writes nodes.new ≤ N.writes nodes.old + path_nodes (N.node nodes.old) trail.now path.now false 0 }
     ensures reads { N.reads nodes.new ≤ N.reads nodes.old + path_nodes (N.node nodes.old) trail.now path.now false 0 }
-    ensures follows { N.follows nodes.old nodes.new }
 {
     remove_entry(alloc, nodes, root, trail, path)
 }
@@ -86,12 +84,11 @@ pub(crate) fn rename<N: Nodes>(
     requires rooted { IsRoot (N.limit nodes.old - body_header) (N.node nodes.old) root }
     requires apart { Apart old.now new.now }
     requires movable { IsMovable (N.node nodes.old) root old.now old_trail.now new.now new_trail.now place }
-    ensures root { IfOk result (λ to. IsNewRoot (N.limit nodes.old - body_header) (N.node nodes.old) (N.kept nodes.old) (N.node nodes.new) (N.kept nodes.new) root to (move (root_tree (N.limit nodes.old - body_header) (N.node nodes.old) root) old.now new.now)) }
-    ensures why { IfErr result (λ fault. N.causes nodes.old nodes.new fault) }
-    ensures faults { IfErr result IsChangeFault }
+
+    // The edited tree, and how many nodes were written and read for it.
+    ensures applied { IsApplied N.limit N.node N.kept N.follows N.causes nodes.old nodes.new root (λ tree. move tree old.now new.now) result }
     ensures writes { N.writes nodes.new ≤ N.writes nodes.old + move_nodes (N.node nodes.old) old_trail.now old.now new_trail.now new.now }
     ensures reads { N.reads nodes.new ≤ N.reads nodes.old + move_nodes (N.node nodes.old) old_trail.now old.now new_trail.now new.now }
-    ensures follows { N.follows nodes.old nodes.new }
 {
     move_entry(alloc, nodes, root, old_trail, old, new_trail, new, place)
 }

@@ -9,15 +9,15 @@ ghost use Rattle.node_format.specs.declared.place.Place.TheVariants.{Dir, File};
 ghost use Rattle.block_trees.specs.Bodies.{head_index};
 ghost use Rattle.block_trees.specs.Reached.{IsHeld, Keeps};
 ghost use Rattle.block_trees.specs.Rewritten.{IsRewritten};
-ghost use Rattle.block_trees.specs.Trees.{IsRoot, root_tree};
+ghost use Rattle.block_trees.specs.Trees.{IsRoot};
 ghost use Rattle.directory.specs.declared.lookups.Found.{Found};
 ghost use Rattle.directory.specs.declared.lookups.Found.TheVariants as found;
 ghost use Rattle.directory.specs.Counts.{path_nodes};
 ghost use Rattle.directory.specs.Edits.{OnlyReaches};
 ghost use Rattle.directory.specs.Lookups.{look_up};
-ghost use Rattle.directory.specs.Trails.{IsTrail, IsChangeFault};
+ghost use Rattle.directory.specs.Trails.{IsSought, IsTrail, IsChangeFault};
 ghost use Rattle.tree_edits.specs.Edits.{TakesFile, overwrite_reads, resize_reads};
-ghost use Rattle.tree_edits.specs.Roots.{IsNewRoot};
+ghost use Rattle.tree_edits.specs.Roots.{IsApplied};
 ghost use Rattle.skip_list_file.specs.Reading.{HasDigits};
 
 use directory::{Trail, put_entry};
@@ -37,13 +37,16 @@ fn put_body<N: Nodes>(
     body: Body,
 ) -> Result<u32, Fault>
     requires sound { N.is_sound nodes.old }
-    requires held { IsHeld (N.node nodes.old) (N.kept nodes.old) (Dir root) }
-    requires way { IsTrail (N.node nodes.old) root path.now trail.now }
+    requires sought { IsSought (N.node nodes.old) (N.kept nodes.old) root path.now trail.now }
     requires fits { (x : Found) × (look_up (N.node nodes.old) root path.now ≡ Ok x) × TakesFile x }
     requires short { body.length ≤ MAX_FILE_BYTES }
+
+    // The new tree, and that the old one stays.
     ensures rewritten { IfOk result (λ to. IsRewritten (N.node nodes.old) (N.node nodes.new) (N.kept nodes.old) (N.kept nodes.new) root to path.now (Some (File body.head body.length))) }
     ensures reaches { IfOk result (λ to. OnlyReaches (N.node nodes.old) (N.node nodes.new) (N.kept nodes.old) root to (Some (File body.head body.length))) }
     ensures keeps { Keeps (N.kept nodes.old) (N.node nodes.old) (N.kept nodes.new) (N.node nodes.new) }
+
+    // What it is refused with, and what it asks for.
     ensures why { IfErr result (λ fault. N.causes nodes.old nodes.new fault) }
     ensures faults { IfErr result IsChangeFault }
     ensures writes { N.writes nodes.new ≤ N.writes nodes.old + path_nodes (N.node nodes.old) trail.now path.now true 0 }
@@ -71,12 +74,11 @@ pub(crate) fn put_empty<N: Nodes>(
     requires lawful { is_path path.now ≡ true }
     requires way { IsTrail (N.node nodes.old) root path.now trail.now }
     requires fits { (x : Found) × (look_up (N.node nodes.old) root path.now ≡ Ok x) × TakesFile x }
-    ensures root { IfOk result (λ to. IsNewRoot (N.limit nodes.old - body_header) (N.node nodes.old) (N.kept nodes.old) (N.node nodes.new) (N.kept nodes.new) root to (put (root_tree (N.limit nodes.old - body_header) (N.node nodes.old) root) path.now (Entry.File []))) }
-    ensures why { IfErr result (λ fault. N.causes nodes.old nodes.new fault) }
-    ensures faults { IfErr result IsChangeFault }
+
+    // The edited tree, and how many nodes were written and read for it.
+    ensures applied { IsApplied N.limit N.node N.kept N.follows N.causes nodes.old nodes.new root (λ tree. put tree path.now (Entry.File [])) result }
     ensures writes { N.writes nodes.new ≤ N.writes nodes.old + path_nodes (N.node nodes.old) trail.now path.now true 0 }
     ensures reads { N.reads nodes.new ≤ N.reads nodes.old + path_nodes (N.node nodes.old) trail.now path.now false 0 }
-    ensures follows { N.follows nodes.old nodes.new }
 {
     let body = Body { head: 0, length: 0 };
     put_body(alloc, nodes, root, trail, path, body)
@@ -103,12 +105,11 @@ pub(crate) fn overwrite<N: Nodes>(
     requires short { body.length ≤ MAX_FILE_BYTES }
     requires some { 0 < length bytes.now }
     requires fits { offset + length bytes.now ≤ MAX_FILE_BYTES }
-    ensures root { IfOk result (λ to. IsNewRoot (N.limit nodes.old - body_header) (N.node nodes.old) (N.kept nodes.old) (N.node nodes.new) (N.kept nodes.new) root to (put (root_tree (N.limit nodes.old - body_header) (N.node nodes.old) root) path.now (Entry.File (overwritten (bytes_at (root_tree (N.limit nodes.old - body_header) (N.node nodes.old) root) path.now) offset bytes.now)))) }
-    ensures why { IfErr result (λ fault. N.causes nodes.old nodes.new fault) }
-    ensures faults { IfErr result IsChangeFault }
+
+    // The edited tree, and how many nodes were written and read for it.
+    ensures applied { IsApplied N.limit N.node N.kept N.follows N.causes nodes.old nodes.new root (λ tree. put tree path.now (Entry.File (overwritten (bytes_at tree path.now) offset bytes.now))) result }
     ensures writes { N.writes nodes.new ≤ N.writes nodes.old + (pwrite_need (N.limit nodes.old - body_header) body.length offset (length bytes.now) + path_nodes (N.node nodes.old) trail.now path.now true 0) }
     ensures reads { (digits : ℕ) → HasDigits (head_index (N.limit nodes.old - body_header) body.length) digits → N.reads nodes.new ≤ N.reads nodes.old + (overwrite_reads (N.limit nodes.old - body_header) body.length (offset + length bytes.now) digits + path_nodes (N.node nodes.old) trail.now path.now false 0) }
-    ensures follows { N.follows nodes.old nodes.new }
 {
     let new = write_range(alloc, nodes, body, offset, bytes)?;
     put_body(alloc, nodes, root, trail, path, new)
@@ -131,12 +132,11 @@ pub(crate) fn resize<N: Nodes>(
     requires way { IsTrail (N.node nodes.old) root path.now trail.now }
     requires found { look_up (N.node nodes.old) root path.now ≡ Ok (found.File body.head body.length) }
     requires fits { size ≤ MAX_FILE_BYTES }
-    ensures root { IfOk result (λ to. IsNewRoot (N.limit nodes.old - body_header) (N.node nodes.old) (N.kept nodes.old) (N.node nodes.new) (N.kept nodes.new) root to (put (root_tree (N.limit nodes.old - body_header) (N.node nodes.old) root) path.now (Entry.File (resized (bytes_at (root_tree (N.limit nodes.old - body_header) (N.node nodes.old) root) path.now) size)))) }
-    ensures why { IfErr result (λ fault. N.causes nodes.old nodes.new fault) }
-    ensures faults { IfErr result IsChangeFault }
+
+    // The edited tree, and how many nodes were written and read for it.
+    ensures applied { IsApplied N.limit N.node N.kept N.follows N.causes nodes.old nodes.new root (λ tree. put tree path.now (Entry.File (resized (bytes_at tree path.now) size))) result }
     ensures writes { N.writes nodes.new ≤ N.writes nodes.old + (ftruncate_need (N.limit nodes.old - body_header) body.length size + path_nodes (N.node nodes.old) trail.now path.now true 0) }
     ensures reads { (digits : ℕ) → HasDigits (head_index (N.limit nodes.old - body_header) body.length) digits → N.reads nodes.new ≤ N.reads nodes.old + (resize_reads digits + path_nodes (N.node nodes.old) trail.now path.now false 0) }
-    ensures follows { N.follows nodes.old nodes.new }
 {
     let new = set_length(alloc, nodes, body, size)?;
     put_body(alloc, nodes, root, trail, path, new)

@@ -15,7 +15,7 @@ use Rattle.flash_model.specs.Reading.{OnlyReads}
 use Rattle.record_format.specs.declared.record.Record.{Record}
 use Rattle.commit_pair.specs.Parts.{newest_on, greatest_on}
 use Rattle.commit_pair.specs.Committing.{Commits, IsCommitted}
-use Rattle.commit_pair.specs.Keeping.{Keeps}
+use Rattle.commit_pair.specs.Keeping.{KeepsNewest}
 use Rattle.commit_pair.proofs.Beginning.{committed_is_newest}
 use Rattle.commit_pair.proofs.NewestLaws.{only_anchors_matter}
 use Rattle.working_state.specs.Steps.{is_sync}
@@ -84,7 +84,7 @@ module _ {T : Type 0} (d : Device) (m : System) (result : Result T Fault) (e : D
   now_listed : AreWorn e n.state.storage.bad
   now_listed = grown_worn d e m.state.storage.bad n.state.storage.bad saves.only_anchors.bad_worn stay worn.listed
 
-  kept : Keeps d.geometry d.pages e.pages → RecordListsWorn e
+  kept : KeepsNewest d.geometry d.pages e.pages → RecordListsWorn e
   kept keeps = same_record_worn d e (same_saved d e saves.only_anchors.geometry keeps.newest) stay worn.saved
 
   written : IsCommitted e.pages (record_on d m.state) (greatest_on d.geometry d.pages + 1) n.state.storage.bad → RecordListsWorn e

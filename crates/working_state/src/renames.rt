@@ -26,7 +26,7 @@ ghost use Rattle.working_state.specs.Worked.{IsLooked, WorkCause, ReadCause};
 ghost use Rattle.working_state.specs.Moments.{IsAnswered, IsRefused, moment, seen_at, machine_at};
 
 use crate::changes::change;
-use crate::lookups::find_path;
+use crate::lookups::{find_path, find_path_beside};
 use crate::state::State;
 use directory::{Found, Trail, is_deeper};
 use flash_model::Flash;
@@ -98,7 +98,7 @@ impl State {
         if old == new {
             return Ok(None);
         }
-        let new_trail = self.check_move(alloc, flash, root, old, new, place)?;
+        let new_trail = self.check_move(alloc, flash, root, old, &old_trail, new, place)?;
         Ok(Some(ToMove {
             place,
             old_trail,
@@ -146,13 +146,14 @@ impl State {
         flash: &mut F,
         root: u32,
         old: &Path,
+        old_trail: &Trail,
         new: &Path,
         place: Place,
     ) -> Result<Trail, Fault>
         requires mounted { IsMounted (F.device flash.old) self.old }
         requires working { working_root self.old.history self.old.group ≡ Some root }
         requires differ { same_path old.now new.now ≡ false }
-        requires stands { leads (node_of (F.device flash.old)) (Dir root) old.now ≡ Some place }
+        requires stands { (leads (node_of (F.device flash.old)) (Dir root) old.now ≡ Some place) × IsTrail (node_of (F.device flash.old)) root old.now old_trail.now }
 
         // Nodes were read alone.
         ensures looked { IsLooked (moment (F.device flash.old) self.old) (moment (F.device flash.new) self.new) }
@@ -170,7 +171,8 @@ impl State {
     {
         let moves_directory = place.is_dir();
         check_beyond(old, new, moves_directory)?;
-        let (lacks_room, trail) = self.check_target(flash, root, new, moves_directory)?;
+        let (lacks_room, trail) =
+            self.check_target(flash, root, old, old_trail, new, moves_directory)?;
         self.check_depth(alloc, flash, root, old, new, place)?;
         self.check_closed(old, new)?;
         check_room(old, new, lacks_room)?;
@@ -178,16 +180,20 @@ impl State {
     }
 
     /// Refuses to replace what is of another kind, and a directory with entries; else whether the path
-    /// is a new name of a full directory, and the directories that it goes through.
+    /// is a new name of a full directory, and the directories that it goes through. The path is looked up
+    /// from where it parts from the old one.
     fn check_target<F: Flash>(
         &mut self,
         flash: &mut F,
         root: u32,
+        old: &Path,
+        old_trail: &Trail,
         path: &Path,
         moves_directory: bool,
     ) -> Result<(bool, Trail), Fault>
         requires mounted { IsMounted (F.device flash.old) self.old }
         requires working { working_root self.old.history self.old.group ≡ Some root }
+        requires way { IsTrail (node_of (F.device flash.old)) root old.now old_trail.now }
 
         // Nodes were read alone.
         ensures looked { IsLooked (moment (F.device flash.old) self.old) (moment (F.device flash.new) self.new) }
@@ -202,7 +208,8 @@ impl State {
         ensures allowed { OnOk result ((entry : Entry) → is_dir entry ≡ moves_directory → target_refusal (working_tree (machine_at (moment (F.device flash.old) self.old))) path.now entry ≡ None) }
         ensures refused { IfErr result (λ fault. ((entry : Entry) → is_dir entry ≡ moves_directory → target_refusal (working_tree (machine_at (moment (F.device flash.old) self.old))) path.now entry ≡ Some fault) ⊎ ReadCause (seen_at (moment (F.device flash.old) self.old)) fault (seen_at (moment (F.device flash.new) self.new))) }
     {
-        let (found, trail) = find_path(flash, &mut self.storage, root, path)?;
+        let (found, trail) =
+            find_path_beside(flash, &mut self.storage, root, old, old_trail, path)?;
         match found {
             Found::Missing { is_full } => Ok((is_full, trail)),
             Found::File { .. } => {

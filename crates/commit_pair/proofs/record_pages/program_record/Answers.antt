@@ -35,10 +35,10 @@ module _ (g : Over) (c : After-program g) where
       let lt : c.args.place + c.loop-n.n < mid.geometry.pages = subst (λ (h : Geometry). c.args.place + c.loop-n.n < h.pages) (sym same) inside in
       ap (block_of mid) (c.page_number.ensures.value ∙ ap (λ (h : Geometry). c.args.anchor * h.pages + (c.args.place + c.loop-n.n)) (sym same)) ∙ block_of-at mid c.args.anchor (c.args.place + c.loop-n.n) lt
 
-  page : c.deref.result.now ≡ bytes_for c.args.geometry c.args.sequence c.args.payload.now c.args.count c.loop-n.n
+  page : c.deref.result.now ≡ bytes_for c.args.geometry c.args.draft.now.sequence c.args.draft.now.payload.now c.args.draft.now.count c.loop-n.n
   page =
       c.deref.ensures.value ∙ c.write_page.ensures.page
-      ∙ ap (λ (bytes : List ℕ). page_bytes c.args.geometry.page (record { sequence = c.args.sequence; index = c.loop-n.n; count = c.args.count; used = length bytes }) bytes) c.piece_of-piece.ensures
+      ∙ ap (λ (bytes : List ℕ). page_bytes c.args.geometry.page (record { sequence = c.args.draft.now.sequence; index = c.loop-n.n; count = c.args.draft.now.count; used = length bytes }) bytes) c.piece_of-piece.ensures
 
 pub returns-in_err-program-clause-touches : goal.returns-in_err-program-clause-touches
 returns-in_err-program-clause-touches g c =
@@ -58,15 +58,15 @@ returns-in_err-program-clause-programmed g c =
     let new = g.F.Flash.device c.program.new.self in
     let n = c.loop-n.n in
     let is = at g t in
-    rw (p.1, p.2) (pages_end c.args.geometry old.pages mid.pages new.pages (c.args.anchor * c.args.geometry.pages + c.args.place) c.args.sequence c.args.payload.now c.args.count n c.loop-n.invariant.pages c.loop-n-test.true
+    rw (p.1, p.2) (pages_end c.args.geometry old.pages mid.pages new.pages (c.args.anchor * c.args.geometry.pages + c.args.place) c.args.draft.now.sequence c.args.draft.now.payload.now c.args.draft.now.count n c.loop-n.invariant.pages c.loop-n-test.true
     (λ q apart. c.in_err-program.ensures.others q (λ same. apart (same ∙ is))) c.in_err-program.field-0.0 (c.loop-n.invariant.blank n (omega arith) c.loop-n-test.true)
-    (subst (λ q. AfterProgram (mid.pages q) (bytes_for c.args.geometry c.args.sequence c.args.payload.now c.args.count n) (new.pages q) (Err c.in_err-program.field-0.0)) is (subst (λ (bytes : List ℕ). AfterProgram (mid.pages c.page_number.result) bytes (new.pages c.page_number.result) (Err c.in_err-program.field-0.0)) (page g t) c.in_err-program.ensures.page)))
+    (subst (λ q. AfterProgram (mid.pages q) (bytes_for c.args.geometry c.args.draft.now.sequence c.args.draft.now.payload.now c.args.draft.now.count n) (new.pages q) (Err c.in_err-program.field-0.0)) is (subst (λ (bytes : List ℕ). AfterProgram (mid.pages c.page_number.result) bytes (new.pages c.page_number.result) (Err c.in_err-program.field-0.0)) (page g t) c.in_err-program.ensures.page)))
 
 pub returns-in_err-program-clause-tries : goal.returns-in_err-program-clause-tries
 returns-in_err-program-clause-tries g c =
     let p = err_from_is_err_and c.from_residual.result c.from_residual.ensures.1 in
     let so_far = c.loop-n.invariant in
-    rw (p.1, p.2) (tries_end (g.F.Flash.device c.args.flash.now) (g.F.Flash.device c.loop-n.flash) (g.F.Flash.device c.program.new.self) c.loop-n.n c.args.count c.in_err-program.field-0.0
+    rw (p.1, p.2) (tries_end (g.F.Flash.device c.args.flash.now) (g.F.Flash.device c.loop-n.flash) (g.F.Flash.device c.program.new.self) c.loop-n.n c.args.draft.now.count c.in_err-program.field-0.0
     (let h = so_far.touches.failures in omega arith) so_far.operations c.loop-n-test.true c.in_err-program.ensures.operates)
 
 pub loop-n-preserved : goal.loop-n-preserved
@@ -81,7 +81,7 @@ loop-n-preserved g c =
     record {
       touches = Touches_on old mid new c.args.anchor tt (Ok tt) c.loop-n.invariant.touches (program_touches mid new c.args.anchor c.page_number.result c.deref.result.now (Ok tt) (block g t) done);
       operations = let one = one_more mid new (Ok tt) 0 0 done.operates refl in let h = c.loop-n.invariant.operations in omega arith;
-      pages = pages_next c.args.geometry old.pages mid.pages new.pages (c.args.anchor * c.args.geometry.pages + c.args.place) c.args.sequence c.args.payload.now c.args.count n c.loop-n.invariant.pages c.loop-n-test.true
+      pages = pages_next c.args.geometry old.pages mid.pages new.pages (c.args.anchor * c.args.geometry.pages + c.args.place) c.args.draft.now.sequence c.args.draft.now.payload.now c.args.draft.now.count n c.loop-n.invariant.pages c.loop-n-test.true
           (λ q apart. done.others q (λ same. apart (same ∙ is))) (ap new.pages (sym is) ∙ done.page ∙ ap bytes_of (page g t));
       blank = λ m from below. done.others _ (λ same. absurd (let e = is in omega arith)) ∙ c.loop-n.invariant.blank m (omega arith) below;
       room = let a = c.loop-n.invariant.room in let b = c.write_page.ensures.capacity in omega arith;
@@ -102,29 +102,29 @@ loop-n-init g c = record {
 
 pub returns-clause-programmed : goal.returns-clause-programmed
 returns-clause-programmed g c =
-    let all : c.loop-n.n ≡ c.args.count = let test = c.loop-n-test.false in let within = c.loop-n.auto.n-end in omega arith in
+    let all : c.loop-n.n ≡ c.args.draft.now.count = let test = c.loop-n-test.false in let within = c.loop-n.auto.n-end in omega arith in
     (c.loop-n.n, all, c.loop-n.invariant.pages)
 
 pub returns-clause-touches : goal.returns-clause-touches
 returns-clause-touches g c = c.loop-n.invariant.touches
 
 pub piece_of-piece-requires-clause-lawful : goal.piece_of-piece-requires-clause-lawful
-piece_of-piece-requires-clause-lawful g c = c.requires.lawful
+piece_of-piece-requires-clause-lawful g c = c.requires.is.lawful
 
 pub piece_of-piece-requires-clause-inside : goal.piece_of-piece-requires-clause-inside
-piece_of-piece-requires-clause-inside g c = piece_inside c.args.geometry c.args.payload.now c.args.count c.loop-n.n c.requires.fills c.loop-n-test.true
+piece_of-piece-requires-clause-inside g c = piece_inside c.args.geometry c.args.draft.now.payload.now c.args.draft.now.count c.loop-n.n c.requires.is.fills c.loop-n-test.true
 
 pub write_page-requires-clause-fits : goal.write_page-requires-clause-fits
-write_page-requires-clause-fits g c = piece_fits c.args.geometry c.args.payload.now c.loop-n.n c.piece_of-piece.result.now c.requires.lawful c.piece_of-piece.ensures
+write_page-requires-clause-fits g c = piece_fits c.args.geometry c.args.draft.now.payload.now c.loop-n.n c.piece_of-piece.result.now c.requires.is.lawful c.piece_of-piece.ensures
 
 pub write_page-requires-clause-room : goal.write_page-requires-clause-room
 write_page-requires-clause-room g c = c.loop-n.invariant.room
 
 pub page_number-requires-clause-in_flash : goal.page_number-requires-clause-in_flash
-page_number-requires-clause-in_flash g c = anchor_on_flash c.args.geometry c.args.anchor c.requires.lawful c.requires.anchor
+page_number-requires-clause-in_flash g c = anchor_on_flash c.args.geometry c.args.anchor c.requires.is.lawful c.requires.anchor
 
 pub page_number-requires-clause-in_block : goal.page_number-requires-clause-in_block
-page_number-requires-clause-in_block g c = below_end c.args.place c.loop-n.n c.args.count c.args.geometry.pages c.requires.in_block c.loop-n-test.true
+page_number-requires-clause-in_block g c = below_end c.args.place c.loop-n.n c.args.draft.now.count c.args.geometry.pages c.requires.in_block c.loop-n-test.true
 
 pub program-requires-clause-in_range : goal.program-requires-clause-in_range
 program-requires-clause-in_range g c =
@@ -144,7 +144,7 @@ returns-clause-room g c = c.loop-n.invariant.room
 
 pub returns-clause-tries : goal.returns-clause-tries
 returns-clause-tries g c =
-    let all : c.loop-n.n ≡ c.args.count = let test = c.loop-n-test.false in let within = c.loop-n.auto.n-end in omega arith in
+    let all : c.loop-n.n ≡ c.args.draft.now.count = let test = c.loop-n-test.false in let within = c.loop-n.auto.n-end in omega arith in
     (failed_none _ _ c.loop-n.invariant.touches.failures, c.loop-n.invariant.operations ∙ ap (λ n. (g.F.Flash.device c.args.flash.now).operations + n) all)
 
 pub returns-in_err-program-clause-operations : goal.returns-in_err-program-clause-operations

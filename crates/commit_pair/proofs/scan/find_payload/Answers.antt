@@ -4,7 +4,7 @@ use Rattle.std.proofs.lemmas.Result.{err_from_is_err_and}
 use Rattle.fs_types.specs.declared.limits.TheConstants.{ANCHORS}
 use Rattle.flash_model.specs.Reading.{OnlyReads_on, same_pages}
 use Rattle.commit_pair.specs.Parts.{parts_on, bytes_from}
-use Rattle.commit_pair.specs.Payloads.{IsFront}
+use Rattle.commit_pair.specs.Payloads.{IsLongFront}
 use Rattle.commit_pair.proofs.Places.{below_end, long_enough}
 use Rattle.commit_pair.proofs.ReadParts.{ReadCause_on, part_held, read_on, bytes_go_on, bytes_end, long_refused}
 use Rattle.commit_pair.proofs.scan.find_payload.Goals as goal
@@ -58,7 +58,7 @@ returns-then-not-push_bytes-clause-why g c =
     let parts = parts_on c.args.geometry old.pages in
     let p = c.args.found.page + c.loop-n.n in
     let read = read_on c.args.geometry old.pages (g.F.Flash.device c.loop-n.flash).pages p c.read_head.new.buffer c.in_ok-head.head (same_pages c.loop-n.invariant.only_reads) c.in_ok-head.ensures.part in
-    let front : IsFront (c.loop-n.payload.items ++ c.bytes_of.result.now) c.push_bytes.new.payload.items = rw c.if-not-push_bytes.true at c.push_bytes.ensures.front in
+    let front : IsLongFront (c.loop-n.payload.items ++ c.bytes_of.result.now) c.push_bytes.new.payload.items = rw c.if-not-push_bytes.true at c.push_bytes.ensures.front in
     inr (long_refused c.args.geometry c.args.found.head.sequence c.push_bytes.new.payload.items (c.loop-n.payload.items ++ c.bytes_of.result.now)
     (bytes_from c.args.geometry parts c.args.found.page (c.loop-n.n + 1) (c.args.found.head.count - (c.loop-n.n + 1))) _ c.refuse_long.result front
     (bytes_go_on c.args.geometry parts c.args.found.page c.loop-n.n c.args.found.head.count c.loop-n.payload.items c.bytes_of.result.now _ c.loop-n-test.true

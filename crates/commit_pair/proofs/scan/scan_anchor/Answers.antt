@@ -4,7 +4,7 @@ use Rattle.flash_model.specs.Reading.{OnlyReads_itself, OnlyReads_on, same_pages
 use Rattle.commit_pair.specs.declared.run.Scan.{Scan}
 use Rattle.commit_pair.specs.Parts.{parts_on, head_at}
 use Rattle.commit_pair.specs.Reading.{IsEnd}
-use Rattle.commit_pair.specs.Scanning.{next, IsMet}
+use Rattle.commit_pair.specs.Scanning.{scan_next, IsMet}
 use Rattle.commit_pair.proofs.ScanLaws.{met_begins, met_next, met_ends}
 use Rattle.commit_pair.proofs.Ending.{IsEnd_start, IsEnd_blank, IsEnd_data, IsEnd_all}
 use Rattle.commit_pair.proofs.scan.scan_anchor.Goals as goal
@@ -33,7 +33,7 @@ loop-place-preserved g c =
     let at : page ≡ first + place = c.page_number-page.ensures.value in
     let head : c.in_ok-head.head ≡ head_at parts (first + place) =
     c.in_ok-head.ensures.head ∙ ap (λ (pages : ℕ → Page). head_at (parts_on size pages) page) (same_pages so_far.only_reads) ∙ ap (head_at parts) at in
-    let made : next size c.loop-place.scan (first + place) c.in_ok-head.head ≡ c.next-scan.result = ap (λ p. next size c.loop-place.scan p c.in_ok-head.head) (sym at) ∙ sym c.next-scan.ensures in
+    let made : scan_next size c.loop-place.scan (first + place) c.in_ok-head.head ≡ c.next-scan.result = ap (λ p. scan_next size c.loop-place.scan p c.in_ok-head.head) (sym at) ∙ sym c.next-scan.ensures in
     let more : first + place + 1 ≡ first + (place + 1) = omega arith in
     let met = met_next size parts first (first + place) c.loop-place.scan c.in_ok-head.head (omega arith) head so_far.met in
     let here : mid.pages page ≡ old.pages page = so_far.only_reads.pages page in
@@ -41,7 +41,7 @@ loop-place-preserved g c =
       only_reads = OnlyReads_on old mid (g.F.Flash.device c.read_page.new.flash) so_far.only_reads c.in_ok-head.ensures.only_reads;
       operations = let a = so_far.operations in let b = c.in_ok-head.ensures.operations in omega arith;
       met = subst (λ (s : Scan). IsMet size parts first (first + (place + 1)) s.best s.run) made
-          (subst (λ n. IsMet size parts first n (next size c.loop-place.scan (first + place) c.in_ok-head.head).best (next size c.loop-place.scan (first + place) c.in_ok-head.head).run) more met);
+          (subst (λ n. IsMet size parts first n (scan_next size c.loop-place.scan (first + place) c.in_ok-head.head).best (scan_next size c.loop-place.scan (first + place) c.in_ok-head.head).run) more met);
       so_far = elim c.if-not-blank.branch [
         | then-not-blank w ↦
             subst (IsEnd size old.pages c.args.anchor (place + 1)) (sym w.end-is) (IsEnd_data size old.pages c.args.anchor place page at

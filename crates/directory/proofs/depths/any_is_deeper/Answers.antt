@@ -5,7 +5,7 @@ use Rattle.block_trees.specs.Bodies.{Blocks}
 use Rattle.block_trees.specs.Chains.{link_items}
 use Rattle.directory.specs.Depths.{AreNamedBy}
 use Rattle.directory.proofs.LevelNodes.{later_has}
-use Rattle.directory.proofs.Levels.{IsLevel, one_level_more, first_level, next_is_level, no_first_items, last_shallow, last_deeper}
+use Rattle.directory.proofs.Levels.{IsLevel, one_level_more, first_level, next_is_level, no_first_items, last_shallow, last_deeper, empty_shallow}
 use Rattle.std.proofs.lemmas.Result.{err_from_is_err_and, IfErr-weaker, IfOk-weaker}
 use Rattle.directory.proofs.depths.any_is_deeper.Goals as goal
 
@@ -67,6 +67,15 @@ returns-clause-shallow g c =
     IfOk-weaker c.any_has_entries.result _ _ (λ deep none is.
     last_shallow f roots c.args.most level.blocks level.members last
     (λ b here. no_first_items f b (subst (λ (f : Blocks). length (link_items (f b)) ≡ 0) c.loop-done.invariant.looks.same_nodes (none is b here)))) c.any_has_entries.ensures.none
+
+pub returns-then-is_empty-clause-shallow : goal.returns-then-is_empty-clause-shallow
+returns-then-is_empty-clause-shallow g c =
+    λ _ root rooted. empty_shallow (g.N.Nodes.node c.args.nodes.now) c.args.roots.now c.args.most c.loop-done.done c.loop-done.level.blocks c.loop-done.level.members c.loop-done.invariant.level (c.is_empty.ensures.0 cc) root rooted
+
+pub returns-then-is_empty-clause-reads : goal.returns-then-is_empty-clause-reads
+returns-then-is_empty-clause-reads g c list all =
+    let few : c.loop-done.done * length list ≤ (c.args.most + 1) * length list = mul-le c.loop-done.done (length list) (c.args.most + 1) (length list) (omega arith) (omega arith) in
+    omega (arith, few, c.loop-done.invariant.reads list all)
 
 pub returns-in_err-level-2-clause-reads : goal.returns-in_err-level-2-clause-reads
 returns-in_err-level-2-clause-reads g c list all =

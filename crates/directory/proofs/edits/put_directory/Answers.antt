@@ -1,8 +1,12 @@
-use Rattle.std.proofs.Common.{true, false, Some, ap, ◌∙◌, arith}
+use Rattle.std.proofs.Common.{◌≡◌, ℕ, ◌<◌, true, false, Some, Ok, [], ◌∷◌, length, ap, ◌∙◌, arith}
 use Rattle.std.proofs.lemmas.Result.{err_from_is_err_and}
+use Rattle.fs_types.specs.Names.{Path}
+use Rattle.block_trees.specs.Bodies.{Blocks}
 use Rattle.block_trees.specs.Chains.{link_of}
 use Rattle.block_trees.specs.Reached.{Keeps}
 use Rattle.node_format.specs.declared.place.Place.TheVariants.{Dir}
+use Rattle.directory.specs.declared.lookups.Found.TheVariants.{Missing}
+use Rattle.directory.specs.Lookups.{look_up}
 use Rattle.directory.specs.Trails.{has_room}
 use Rattle.directory.proofs.EditedPaths.{made_reaches}
 use Rattle.directory.proofs.Held.{held_later}
@@ -11,25 +15,23 @@ use Rattle.directory.proofs.TrailEdits.{look_later, trail_later, path_nodes-late
 use Rattle.directory.proofs.WrittenNodes.{empty_written}
 use Rattle.directory.proofs.edits.put_directory.Goals as goal
 
-pub put_entry-requires-clause-held : goal.put_entry-requires-clause-held
-put_entry-requires-clause-held g c =
-    let old = c.args.nodes.now in
-    let mid = c.write.new.self in
-    let keeps : Keeps (g.N.Nodes.kept old) (g.N.Nodes.node old) (g.N.Nodes.kept mid) (g.N.Nodes.node mid) = record {
-      same = λ b kept. g.met.N.Nodes.same_node old mid b c.requires.sound c.write.ensures.works.came kept;
-      stays = λ b kept. g.met.N.Nodes.stays_kept old mid b c.write.ensures.works.came kept;
-    } in
-    held_later (g.N.Nodes.node old) (g.N.Nodes.node mid) (g.N.Nodes.kept old) (g.N.Nodes.kept mid) keeps c.args.root c.requires.held
+missing_below : (f : Blocks) (root : ℕ) (path : Path) → look_up f root path ≡ Ok (Missing false) → 0 < length path
+missing_below f root [] missing = absurd cc
+missing_below f root (n ∷ path) missing = omega arith
 
-pub put_entry-requires-clause-way : goal.put_entry-requires-clause-way
-put_entry-requires-clause-way g c =
+pub put_entry-requires-clause-sought : goal.put_entry-requires-clause-sought
+put_entry-requires-clause-sought g c =
     let old = c.args.nodes.now in
     let mid = c.write.new.self in
     let keeps : Keeps (g.N.Nodes.kept old) (g.N.Nodes.node old) (g.N.Nodes.kept mid) (g.N.Nodes.node mid) = record {
       same = λ b kept. g.met.N.Nodes.same_node old mid b c.requires.sound c.write.ensures.works.came kept;
       stays = λ b kept. g.met.N.Nodes.stays_kept old mid b c.write.ensures.works.came kept;
     } in
-    trail_later (g.N.Nodes.node old) (g.N.Nodes.node mid) (g.N.Nodes.kept old) (g.N.Nodes.kept mid) keeps c.args.path.now c.args.root c.args.trail.now c.requires.held c.requires.way
+    record {
+      below = missing_below (g.N.Nodes.node old) c.args.root c.args.path.now c.requires.missing;
+      held = held_later (g.N.Nodes.node old) (g.N.Nodes.node mid) (g.N.Nodes.kept old) (g.N.Nodes.kept mid) keeps c.args.root c.requires.held;
+      way = trail_later (g.N.Nodes.node old) (g.N.Nodes.node mid) (g.N.Nodes.kept old) (g.N.Nodes.kept mid) keeps c.args.path.now c.args.root c.args.trail.now c.requires.held c.requires.way;
+    }
 
 pub put_entry-requires-clause-room : goal.put_entry-requires-clause-room
 put_entry-requires-clause-room g c =

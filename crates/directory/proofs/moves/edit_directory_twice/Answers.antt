@@ -56,7 +56,7 @@ edit_list_twice-requires-clause-named g c =
     let last = last_read c.in_ok-read.read c.in_ok-read.tail c.args.name.now c.in_ok-read.ensures.enough in
     let all : entries_in f c.args.block ≡ Some c.in_ok-read.read = all_read f c.args.block r.0 c.in_ok-read.read c.in_ok-read.tail r.1 last in
     subst (λ (items : List Item). IsSome (named items c.args.name.now)) (sym c.list.ensures)
-    (subst (λ (entries : Option (List Item)). IsSome (named (unwrap_or entries []) c.args.name.now)) all c.requires.named)
+    (subst (λ (entries : Option (List Item)). IsSome (named (unwrap_or entries []) c.args.name.now)) all c.requires.takes.named)
 
 pub edit_list_twice-requires-clause-room : goal.edit_list_twice-requires-clause-room
 edit_list_twice-requires-clause-room g c some =
@@ -65,7 +65,7 @@ edit_list_twice-requires-clause-room g c some =
     let last = last_read c.in_ok-read.read c.in_ok-read.tail c.args.name.now c.in_ok-read.ensures.enough in
     let all : entries_in f c.args.block ≡ Some c.in_ok-read.read = all_read f c.args.block r.0 c.in_ok-read.read c.in_ok-read.tail r.1 last in
     subst (λ (items : List Item). takes (Some items) c.args.other.now c.args.here ≡ true) (sym c.list.ensures)
-    (subst (λ (entries : Option (List Item)). takes entries c.args.other.now c.args.here ≡ true) all (c.requires.room some))
+    (subst (λ (entries : Option (List Item)). takes entries c.args.other.now c.args.here ≡ true) all (c.requires.takes.room some))
 
 pub returns-clause-edited : goal.returns-clause-edited
 returns-clause-edited g c =
@@ -117,7 +117,7 @@ returns-clause-writes g c =
     let r = c.in_ok-read.ensures.read in
     let last = last_read c.in_ok-read.read c.in_ok-read.tail c.args.name.now c.in_ok-read.ensures.enough in
     let all : entries_in f c.args.block ≡ Some c.in_ok-read.read = all_read f c.args.block r.0 c.in_ok-read.read c.in_ok-read.tail r.1 last in
-    let there : IsSome (named c.in_ok-read.read c.args.name.now) = subst (λ (entries : Option (List Item)). IsSome (named (unwrap_or entries []) c.args.name.now)) all c.requires.named in
+    let there : IsSome (named c.in_ok-read.read c.args.name.now) = subst (λ (entries : Option (List Item)). IsSome (named (unwrap_or entries []) c.args.name.now)) all c.requires.takes.named in
     let edited : IsEditedTwice c.in_ok-read.read c.args.name.now c.args.gone c.args.other.now c.args.here c.in_ok-edited.edited =
     subst (λ (items : List Item). IsEditedTwice items c.args.name.now c.args.gone c.args.other.now c.args.here c.in_ok-edited.edited) c.list.ensures c.in_ok-edited.ensures in
     let count : nodes_for (length c.list-2.result) ≡ nodes_for (edited_twice_count c.in_ok-read.read c.args.name.now c.args.gone c.args.other.now c.args.here) = ap (λ (items : List Item). nodes_for (length items)) c.list-2.ensures ∙ ap nodes_for edited.counted in

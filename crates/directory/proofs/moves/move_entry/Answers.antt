@@ -23,7 +23,7 @@ rewrite_fork-requires-clause-fork g c =
     let k = g.N.Nodes.kept c.args.nodes.now in
     let old = c.args.old.now in
     let new = c.args.new.now in
-    let fork = fork_of f k c.args.root old new c.args.old_trail.now c.args.new_trail.now c.args.place c.requires.apart c.requires.held c.requires.old_way c.requires.new_way c.requires.stands c.requires.room in
+    let fork = fork_of f k c.args.root old new c.args.old_trail.now c.args.new_trail.now c.args.place c.requires.sought.apart c.requires.sought.held c.requires.sought.old_way c.requires.sought.new_way c.requires.sought.stands c.requires.sought.room in
     let names = c.names-names.ensures.names in
     let names' = c.names-2.ensures.names in
     let blocks = c.blocks-blocks.ensures in
@@ -49,7 +49,7 @@ edit_directory-requires-clause-takes g c =
     let i = c.loop-i.i - 1 in
     let test = c.loop-i-test.true in
     let auto = c.loop-i.auto.i in
-    let is = parted c.args.old.now new_names c.requires.apart in
+    let is = parted c.args.old.now new_names c.requires.sought.apart in
     let count : c.common_names-fork.result ≡ common c.args.old.now new_names = search rules in
     let in_first = is.in_first in
     let in_second = is.in_second in
@@ -60,7 +60,7 @@ edit_directory-requires-clause-takes g c =
     let name : c.index-names-i.result ≡ get_or names i [] = c.index-names-i.is ∙ get_or_default names i c.index-names-i.result [] within in
     let way : IsHeldTrail f0 k0 names trail =
     subst (λ (p : Path). IsHeldTrail f0 k0 p trail) (sym c.names-names.ensures.names)
-    (subst (λ (t : List ℕ). IsHeldTrail f0 k0 c.args.old.now t) (sym c.blocks-blocks.ensures) (record { root = c.args.root; trail_of = c.requires.old_way; held = c.requires.held })) in
+    (subst (λ (t : List ℕ). IsHeldTrail f0 k0 c.args.old.now t) (sym c.blocks-blocks.ensures) (record { root = c.args.root; trail_of = c.requires.sought.old_way; held = c.requires.sought.held })) in
     let before : Keeps (g.N.Nodes.kept old) (g.N.Nodes.node old) (g.N.Nodes.kept mid) (g.N.Nodes.node mid) = record {
       same = λ b kept. g.met.N.Nodes.same_node old mid b c.requires.sound c.loop-i.invariant.works.came kept;
       stays = λ b kept. g.met.N.Nodes.stays_kept old mid b c.loop-i.invariant.works.came kept;
@@ -75,13 +75,13 @@ edit_directory-requires-clause-held g c =
     let trail = c.blocks-blocks.result.now in
     let test = c.loop-i-test.true in
     let auto = c.loop-i.auto.i in
-    let is = parted c.args.old.now c.args.new.now c.requires.apart in
+    let is = parted c.args.old.now c.args.new.now c.requires.sought.apart in
     let count : c.common_names-fork.result ≡ common c.args.old.now c.args.new.now = search rules in
     let in_first = is.in_first in
     let size : length names ≡ length c.args.old.now = ap length c.names-names.ensures.names in
     let way : IsHeldTrail (g.N.Nodes.node old) (g.N.Nodes.kept old) names trail =
     subst (λ (p : Path). IsHeldTrail (g.N.Nodes.node old) (g.N.Nodes.kept old) p trail) (sym c.names-names.ensures.names)
-    (subst (λ (t : List ℕ). IsHeldTrail (g.N.Nodes.node old) (g.N.Nodes.kept old) c.args.old.now t) (sym c.blocks-blocks.ensures) (record { root = c.args.root; trail_of = c.requires.old_way; held = c.requires.held })) in
+    (subst (λ (t : List ℕ). IsHeldTrail (g.N.Nodes.node old) (g.N.Nodes.kept old) c.args.old.now t) (sym c.blocks-blocks.ensures) (record { root = c.args.root; trail_of = c.requires.sought.old_way; held = c.requires.sought.held })) in
     let before : Keeps (g.N.Nodes.kept old) (g.N.Nodes.node old) (g.N.Nodes.kept mid) (g.N.Nodes.node mid) = record {
       same = λ b kept. g.met.N.Nodes.same_node old mid b c.requires.sound c.loop-i.invariant.works.came kept;
       stays = λ b kept. g.met.N.Nodes.stays_kept old mid b c.loop-i.invariant.works.came kept;
@@ -119,7 +119,7 @@ loop-i-preserved g c =
     let i = c.loop-i.i - 1 in
     let test = c.loop-i-test.true in
     let auto = c.loop-i.auto.i in
-    let is = parted c.args.old.now new_names c.requires.apart in
+    let is = parted c.args.old.now new_names c.requires.sought.apart in
     let count : c.common_names-fork.result ≡ common c.args.old.now new_names = search rules in
     let in_first = is.in_first in
     let in_second = is.in_second in
@@ -130,7 +130,7 @@ loop-i-preserved g c =
     let name : c.index-names-i.result ≡ get_or names i [] = c.index-names-i.is ∙ get_or_default names i c.index-names-i.result [] within in
     let way : IsHeldTrail f0 k0 names trail =
     subst (λ (p : Path). IsHeldTrail f0 k0 p trail) (sym c.names-names.ensures.names)
-    (subst (λ (t : List ℕ). IsHeldTrail f0 k0 c.args.old.now t) (sym c.blocks-blocks.ensures) (record { root = c.args.root; trail_of = c.requires.old_way; held = c.requires.held })) in
+    (subst (λ (t : List ℕ). IsHeldTrail f0 k0 c.args.old.now t) (sym c.blocks-blocks.ensures) (record { root = c.args.root; trail_of = c.requires.sought.old_way; held = c.requires.sought.held })) in
     let before : Keeps (g.N.Nodes.kept old) (g.N.Nodes.node old) (g.N.Nodes.kept mid) (g.N.Nodes.node mid) = record {
       same = λ b kept. g.met.N.Nodes.same_node old mid b c.requires.sound c.loop-i.invariant.works.came kept;
       stays = λ b kept. g.met.N.Nodes.stays_kept old mid b c.loop-i.invariant.works.came kept;
@@ -178,7 +178,7 @@ returns-in_err-to-2-clause-writes g c =
     let i = c.loop-i.i - 1 in
     let test = c.loop-i-test.true in
     let auto = c.loop-i.auto.i in
-    let is = parted c.args.old.now new_names c.requires.apart in
+    let is = parted c.args.old.now new_names c.requires.sought.apart in
     let count : c.common_names-fork.result ≡ common c.args.old.now new_names = search rules in
     let in_first = is.in_first in
     let size : length names ≡ length c.args.old.now = ap length c.names-names.ensures.names in
@@ -187,7 +187,7 @@ returns-in_err-to-2-clause-writes g c =
     let name : c.index-names-i.result ≡ get_or names i [] = c.index-names-i.is ∙ get_or_default names i c.index-names-i.result [] within in
     let way : IsHeldTrail f0 k0 names trail =
     subst (λ (p : Path). IsHeldTrail f0 k0 p trail) (sym c.names-names.ensures.names)
-    (subst (λ (t : List ℕ). IsHeldTrail f0 k0 c.args.old.now t) (sym c.blocks-blocks.ensures) (record { root = c.args.root; trail_of = c.requires.old_way; held = c.requires.held })) in
+    (subst (λ (t : List ℕ). IsHeldTrail f0 k0 c.args.old.now t) (sym c.blocks-blocks.ensures) (record { root = c.args.root; trail_of = c.requires.sought.old_way; held = c.requires.sought.held })) in
     let before : Keeps (g.N.Nodes.kept old) (g.N.Nodes.node old) (g.N.Nodes.kept mid) (g.N.Nodes.node mid) = record {
       same = λ b kept. g.met.N.Nodes.same_node old mid b c.requires.sound c.loop-i.invariant.works.came kept;
       stays = λ b kept. g.met.N.Nodes.stays_kept old mid b c.loop-i.invariant.works.came kept;
@@ -214,7 +214,7 @@ returns-in_err-to-2-clause-reads g c =
     let i = c.loop-i.i - 1 in
     let test = c.loop-i-test.true in
     let auto = c.loop-i.auto.i in
-    let is = parted c.args.old.now new_names c.requires.apart in
+    let is = parted c.args.old.now new_names c.requires.sought.apart in
     let count : c.common_names-fork.result ≡ common c.args.old.now new_names = search rules in
     let in_first = is.in_first in
     let size : length names ≡ length c.args.old.now = ap length c.names-names.ensures.names in
@@ -223,7 +223,7 @@ returns-in_err-to-2-clause-reads g c =
     let name : c.index-names-i.result ≡ get_or names i [] = c.index-names-i.is ∙ get_or_default names i c.index-names-i.result [] within in
     let way : IsHeldTrail f0 k0 names trail =
     subst (λ (p : Path). IsHeldTrail f0 k0 p trail) (sym c.names-names.ensures.names)
-    (subst (λ (t : List ℕ). IsHeldTrail f0 k0 c.args.old.now t) (sym c.blocks-blocks.ensures) (record { root = c.args.root; trail_of = c.requires.old_way; held = c.requires.held })) in
+    (subst (λ (t : List ℕ). IsHeldTrail f0 k0 c.args.old.now t) (sym c.blocks-blocks.ensures) (record { root = c.args.root; trail_of = c.requires.sought.old_way; held = c.requires.sought.held })) in
     let before : Keeps (g.N.Nodes.kept old) (g.N.Nodes.node old) (g.N.Nodes.kept mid) (g.N.Nodes.node mid) = record {
       same = λ b kept. g.met.N.Nodes.same_node old mid b c.requires.sound c.loop-i.invariant.works.came kept;
       stays = λ b kept. g.met.N.Nodes.stays_kept old mid b c.loop-i.invariant.works.came kept;
@@ -238,8 +238,8 @@ returns-in_err-to-2-clause-reads g c =
 
 pub prove-unreachable-requires : goal.prove-unreachable-requires
 prove-unreachable-requires g c =
-    let less = (parted c.args.old.now c.args.new.now c.requires.apart).in_first in
-    let first = first_is (g.N.Nodes.node c.args.nodes.now) c.args.root c.args.old.now c.args.old_trail.now c.requires.old_way (omega arith) in
+    let less = (parted c.args.old.now c.args.new.now c.requires.sought.apart).in_first in
+    let first = first_is (g.N.Nodes.node c.args.nodes.now) c.args.root c.args.old.now c.args.old_trail.now c.requires.sought.old_way (omega arith) in
     c.if-prove.true (ap (λ (t : List ℕ). slice_index t 0) c.blocks-blocks.ensures ∙ first)
 
 pub returns-clause-reaches : goal.returns-clause-reaches
@@ -251,7 +251,7 @@ returns-clause-reaches g c =
       stays = λ b kept. g.met.N.Nodes.stays_kept old new b c.loop-i.invariant.works.came kept;
     } in
     let moved : IsMoved (g.N.Nodes.node old) (g.N.Nodes.node new) (g.N.Nodes.kept old) (g.N.Nodes.kept new) c.args.root c.loop-i.to c.args.old.now c.args.new.now c.args.place = search rules in
-    only_moved (g.N.Nodes.node old) (g.N.Nodes.node new) (g.N.Nodes.kept old) (g.N.Nodes.kept new) c.args.root c.args.old.now c.args.new.now c.args.place (Ok c.loop-i.to) keeps c.requires.held c.requires.stands moved
+    only_moved (g.N.Nodes.node old) (g.N.Nodes.node new) (g.N.Nodes.kept old) (g.N.Nodes.kept new) c.args.root c.args.old.now c.args.new.now c.args.place (Ok c.loop-i.to) keeps c.requires.sought.held c.requires.sought.stands moved
 
 pub returns-in_err-to-clause-keeps : goal.returns-in_err-to-clause-keeps
 returns-in_err-to-clause-keeps g c = record {

@@ -5,7 +5,7 @@ use Rattle.std.specs.Prelude.{slice_index, unwrap_or, nat_lt, IsSome, IfOk}
 use Rattle.std.specs.Option.{is_some}
 use Rattle.plain_trees.proofs.Needs.{nodes_for-le}
 use Rattle.directory.specs.Counts.{nodes_in, edit_nodes}
-use Rattle.fs_types.specs.Names.{Name, Path}
+use Rattle.fs_types.specs.Names.{Name, Path, same_name}
 use Rattle.node_format.specs.declared.place.Place.TheVariants.{Dir}
 use Rattle.node_format.specs.Items.{Item, named}
 use Rattle.block_trees.specs.Trees.{entries_in, items_in}
@@ -53,8 +53,8 @@ returns-in_err-here-clause-why g c =
     let p = err_from_is_err_and c.from_residual-in_err-here.result c.from_residual-in_err-here.ensures.1 in
     rw (p.1, p.2) why
 
-pub edit_directory_twice-requires-clause-named : goal.edit_directory_twice-requires-clause-named
-edit_directory_twice-requires-clause-named g c =
+pub edit_directory_twice-requires-clause-takes : goal.edit_directory_twice-requires-clause-takes
+edit_directory_twice-requires-clause-takes g c =
     let old = c.args.nodes.now in
     let one = c.rewrite_branch.new.nodes in
     let two = c.rewrite_branch-2.new.nodes in
@@ -82,41 +82,21 @@ edit_directory_twice-requires-clause-named g c =
     let new_name : c.index-new-fork.result ≡ get_or new_names fork [] = c.index-new-fork.is ∙ get_or_default new_names fork c.index-new-fork.result [] in_new in
     let held : IsHeld f0 k0 (Dir block) = level_held f0 k0 old_names c.args.old_trail.now fork c.requires.fork.old_way in_old in
     let same = same_parted f0 f1 f2 k0 k1 k2 block first second held in
+    let apart : same_name c.index-old-fork.result c.index-new-fork.result ≡ false =
+    (λ i. same_name (old_name i) (new_name i)) ∙ c.requires.fork.differs in
+    let named_it : IsSome (named (items_in f2 block) c.index-old-fork.result) =
     subst (λ (entries : Option (List Item)). IsSome (named (unwrap_or entries []) c.index-old-fork.result)) (sym same.0)
-    (subst (λ (n : Name). IsSome (named (items_in f0 block) n)) (sym old_name) c.requires.fork.stands)
-
-pub edit_directory_twice-requires-clause-room : goal.edit_directory_twice-requires-clause-room
-edit_directory_twice-requires-clause-room g c some =
-    let old = c.args.nodes.now in
-    let one = c.rewrite_branch.new.nodes in
-    let two = c.rewrite_branch-2.new.nodes in
-    let f0 = g.N.Nodes.node old in
-    let f1 = g.N.Nodes.node one in
-    let f2 = g.N.Nodes.node two in
-    let k0 = g.N.Nodes.kept old in
-    let k1 = g.N.Nodes.kept one in
-    let k2 = g.N.Nodes.kept two in
-    let first : Keeps (g.N.Nodes.kept old) (g.N.Nodes.node old) (g.N.Nodes.kept one) (g.N.Nodes.node one) = record {
-      same = λ b kept. g.met.N.Nodes.same_node old one b c.requires.sound c.rewrite_branch.ensures.works.came kept;
-      stays = λ b kept. g.met.N.Nodes.stays_kept old one b c.rewrite_branch.ensures.works.came kept;
-    } in
-    let second : Keeps (g.N.Nodes.kept one) (g.N.Nodes.node one) (g.N.Nodes.kept two) (g.N.Nodes.node two) = record {
-      same = λ b kept. g.met.N.Nodes.same_node one two b c.rewrite_branch.ensures.works.sound c.rewrite_branch-2.ensures.works.came kept;
-      stays = λ b kept. g.met.N.Nodes.stays_kept one two b c.rewrite_branch-2.ensures.works.came kept;
-    } in
-    let fork = c.args.fork in
-    let old_names = c.args.old.now in
-    let new_names = c.args.new.now in
-    let block = slice_index c.args.old_trail.now fork in
-    let in_old = c.requires.fork.in_old in
-    let in_new = c.requires.fork.in_new in
-    let old_name : c.index-old-fork.result ≡ get_or old_names fork [] = c.index-old-fork.is ∙ get_or_default old_names fork c.index-old-fork.result [] in_old in
-    let new_name : c.index-new-fork.result ≡ get_or new_names fork [] = c.index-new-fork.is ∙ get_or_default new_names fork c.index-new-fork.result [] in_new in
-    let held : IsHeld f0 k0 (Dir block) = level_held f0 k0 old_names c.args.old_trail.now fork c.requires.fork.old_way in_old in
-    let same = same_parted f0 f1 f2 k0 k1 k2 block first second held in
-    let room = fork_room f0 f1 f2 k0 k1 k2 old_names new_names c.args.old_trail.now c.args.new_trail.now c.args.place fork c.in_ok-gone.gone c.in_ok-here.here c.requires.fork c.in_ok-gone.ensures.branch c.in_ok-here.ensures.branch some in
-    subst (λ (entries : Option (List Item)). takes entries c.index-new-fork.result c.in_ok-here.here ≡ true) (sym same.0)
-    (subst (λ (n : Name). takes (entries_in f0 block) n c.in_ok-here.here ≡ true) (sym new_name) room)
+    (subst (λ (n : Name). IsSome (named (items_in f0 block) n)) (sym old_name) c.requires.fork.stands) in
+    record {
+      gone_place = c.in_ok-gone.ensures.lawful;
+      here_place = c.in_ok-here.ensures.lawful;
+      apart = apart;
+      named = named_it;
+      room = λ some.
+          let room = fork_room f0 f1 f2 k0 k1 k2 old_names new_names c.args.old_trail.now c.args.new_trail.now c.args.place fork c.in_ok-gone.gone c.in_ok-here.here c.requires.fork c.in_ok-gone.ensures.branch c.in_ok-here.ensures.branch some in
+          subst (λ (entries : Option (List Item)). takes entries c.index-new-fork.result c.in_ok-here.here ≡ true) (sym same.0)
+          (subst (λ (n : Name). takes (entries_in f0 block) n c.in_ok-here.here ≡ true) (sym new_name) room);
+    }
 
 pub returns-clause-moved : goal.returns-clause-moved
 returns-clause-moved g c =
@@ -230,12 +210,6 @@ rewrite_branch-requires-2-clause-fork g c = c.requires.fork.in_new
 
 pub edit_directory_twice-requires-clause-sound : goal.edit_directory_twice-requires-clause-sound
 edit_directory_twice-requires-clause-sound g c = c.rewrite_branch-2.ensures.works.sound
-
-pub edit_directory_twice-requires-clause-gone : goal.edit_directory_twice-requires-clause-gone
-edit_directory_twice-requires-clause-gone g c = c.in_ok-gone.ensures.lawful
-
-pub edit_directory_twice-requires-clause-here : goal.edit_directory_twice-requires-clause-here
-edit_directory_twice-requires-clause-here g c = c.in_ok-here.ensures.lawful
 
 pub returns-in_err-here-clause-writes : goal.returns-in_err-here-clause-writes
 returns-in_err-here-clause-writes g c =

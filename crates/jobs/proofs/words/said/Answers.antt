@@ -21,5 +21,6 @@ returns-clause-some c =
       stop = c.has_flag.ensures;
       path = c.word.ensures;
       file = c.word-2.ensures;
+      view = c.word-3.ensures;
       progress = c.has_flag-2.ensures;
     })

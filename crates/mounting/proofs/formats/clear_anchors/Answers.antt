@@ -24,12 +24,12 @@ returns-clause-cleared g c =
 
 pub returns-in_err-clear-clause-asks : goal.returns-in_err-clear-clause-asks
 returns-in_err-clear-clause-asks g c =
-    clears_asked (g.F.Flash.device c.args.flash.now) (g.F.Flash.device c.clear.new.flash) c.new-bad.result c.clear.new.bad c.new-bad.ensures c.clear.ensures.only_anchors c.clear.ensures.operations
+    clears_asked (g.F.Flash.device c.args.flash.now) (g.F.Flash.device c.clear.new.flash) c.new-bad.result c.clear.new.bad c.new-bad.ensures c.clear.ensures.only_anchors c.in_err-clear.ensures.operations
 
 pub returns-then-bad_anchors-ge7-clause-asks : goal.returns-then-bad_anchors-ge7-clause-asks
 returns-then-bad_anchors-ge7-clause-asks g c =
-    clears_asked (g.F.Flash.device c.args.flash.now) (g.F.Flash.device c.clear.new.flash) c.new-bad.result c.clear.new.bad c.new-bad.ensures c.clear.ensures.only_anchors c.clear.ensures.operations
+    clears_asked (g.F.Flash.device c.args.flash.now) (g.F.Flash.device c.clear.new.flash) c.new-bad.result c.clear.new.bad c.new-bad.ensures c.clear.ensures.only_anchors (let each = c.in_ok-clear.ensures.operations in omega arith)
 
 pub returns-clause-asks : goal.returns-clause-asks
 returns-clause-asks g c =
-    clears_asked (g.F.Flash.device c.args.flash.now) (g.F.Flash.device c.clear.new.flash) c.new-bad.result c.clear.new.bad c.new-bad.ensures c.clear.ensures.only_anchors c.clear.ensures.operations
+    clears_asked (g.F.Flash.device c.args.flash.now) (g.F.Flash.device c.clear.new.flash) c.new-bad.result c.clear.new.bad c.new-bad.ensures c.clear.ensures.only_anchors (let each = c.in_ok-clear.ensures.operations in omega arith)

@@ -12,6 +12,9 @@ use Rattle.mounting.specs.Costs.{AsksToVerify}
 use Rattle.mounting.proofs.Asking.{verifies_none}
 use Rattle.mounting.proofs.loads.load.Goals as goal
 
+pub use_reached-requires-clause-fits : goal.use_reached-requires-clause-fits
+use_reached-requires-clause-fits g c = c.in_ok-storage.ensures.fits (g.F.Flash.device c.args.flash.now) (sym c.requires.same)
+
 pub returns-clause-loaded : goal.returns-clause-loaded
 returns-clause-loaded g c =
     let d = g.F.Flash.device c.args.flash.now in

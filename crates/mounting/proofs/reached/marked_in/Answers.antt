@@ -1,7 +1,14 @@
-use Rattle.std.proofs.Common.{◌≡◌, ℕ, None, Err, List, refl, sym, ap, subst}
+use Rattle.std.proofs.Common.{◌≡◌, ◌↔◌, ℕ, true, None, Err, List, refl, sym, ap, subst, ◌∙◌}
+use Rattle.std.specs.Prelude.{Contains}
+use Rattle.std.specs.FinSet as set
 use Rattle.std.proofs.lemmas.Result.{err_from_is_err_and}
 use Rattle.allocator.specs.Ring.{IsDataBlock}
+use Rattle.flash_model.specs.Geometry.{block_bytes}
 use Rattle.node_store.specs.NodePages.{node_of}
+use Rattle.block_trees.specs.Bodies.{Blocks}
+use Rattle.reclaim.specs.Passes.{IsPass}
+use Rattle.reclaim.specs.Verified.{AreRoots}
+use Rattle.reclaim.proofs.KnownPasses.{begins_known}
 use Rattle.block_trees.specs.Reached.{Reached}
 use Rattle.mounting.proofs.Marking.{roots_hold_data, marking_why, reads_none, reads_each}
 use Rattle.mounting.proofs.Asking.{asks_none, asks_each}
@@ -13,6 +20,27 @@ start-requires g c = λ b has.
 
 pub read_all-requires-clause-pass : goal.read_all-requires-clause-pass
 read_all-requires-clause-pass g c = c.in_ok-pass.ensures.pass (node_of (g.F.Flash.device c.args.store.now.flash.now))
+
+pub read_all-requires-clause-known : goal.read_all-requires-clause-known
+read_all-requires-clause-known g c =
+    let d = g.F.Flash.device c.args.store.now.flash.now in
+    let limit = block_bytes d.geometry in
+    let roots = c.in_ok-pass.ensures.begun.1 in
+    begins_known limit (node_of d) c.in_ok-pass.pass (subst (AreRoots limit (node_of d)) (sym roots) c.requires.trees) (c.in_ok-pass.ensures.pass (node_of d))
+    (λ b has. subst (λ (l : List ℕ). Contains l b) (sym roots) ((c.in_ok-pass.ensures.first b).0 has)) c.in_ok-pass.ensures.none
+
+pub finish-requires : goal.finish-requires
+finish-requires g c = c.in_ok-read_all.ensures.pass.1
+
+pub returns-clause-reached : goal.returns-clause-reached
+returns-clause-reached g c =
+    let d = g.F.Flash.device c.args.store.now.flash.now in
+    let roots = c.read_all.ensures.on.roots ∙ c.in_ok-pass.ensures.begun.1 in
+    let pass : IsPass (node_of d) c.read_all.new.self = subst (λ (f : Blocks). IsPass f c.read_all.new.self) c.read_all.ensures.looks.same_nodes c.in_ok-read_all.ensures.pass.0 in
+    λ b. subst (λ (l : List ℕ). (set.contains c.finish.result.members b ≡ true) ↔ Reached (node_of d) l b) roots (c.finish.ensures.exact (node_of d) pass b)
+
+pub returns-clause-blocks : goal.returns-clause-blocks
+returns-clause-blocks g c = c.finish.ensures.blocks ∙ c.read_all.ensures.on.blocks ∙ c.in_ok-pass.ensures.begun.0 ∙ c.block_count.ensures
 
 pub returns-in_err-read_all-clause-why : goal.returns-in_err-read_all-clause-why
 returns-in_err-read_all-clause-why g c =

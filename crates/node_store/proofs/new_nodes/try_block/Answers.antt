@@ -14,17 +14,6 @@ use Rattle.node_store.proofs.new_nodes.try_block.Given.{Over}
 spends_once : (old new takes later each : ℕ) → later ≡ takes + 1 → new ≤ old + each → new + takes * each ≤ old + later * each
 spends_once old new takes later each one few = subst (λ (n : ℕ). new + takes * each ≤ old + n * each) (sym one) (omega arith)
 
-pub returns-in-Ok-clause-tries : goal.returns-in-Ok-clause-tries
-returns-in-Ok-clause-tries g c =
-    took_added (storage (g.F.Flash.device c.args.flash.now) c.args.bad.now c.args.ring.now) c.args.block c.take_block.new.ring
-    c.args.bytes.now (g.F.Flash.device c.write_block.new.flash) c.in-Ok.field-0 c.requires.lawful c.requires.ring_blocks c.requires.node c.requires.room
-    c.take_block.ensures c.in-Ok.ensures.writes
-
-pub returns-in-Ok-clause-evolved : goal.returns-in-Ok-clause-evolved
-returns-in-Ok-clause-evolved g c =
-    took_good (storage (g.F.Flash.device c.args.flash.now) c.args.bad.now c.args.ring.now) c.args.block c.take_block.new.ring
-    c.args.bytes.now (g.F.Flash.device c.write_block.new.flash) _ c.requires.node c.take_block.ensures c.in-Ok.ensures.writes refl
-
 -- the block of the failed write, and the list with it
 module _ (g : Over) (c : After-list_block g) where
   writes : WritesBlock (g.F.Flash.device c.args.flash.now) c.args.block c.args.bytes.now (g.F.Flash.device c.write_block.new.flash) (Err Failed)
@@ -57,59 +46,64 @@ module _ (g : Over) (c : After-list_block g) where
       subst (λ bads. free_count c.take_block.new.ring bads < free_count c.args.ring.now c.args.bad.now) (sym c.list_block.ensures.listed)
       (less_free old c.args.block c.take_block.new.ring c.take_block.ensures)
 
-pub returns-in_err-list_block-in-Err-Failed-clause-evolved : goal.returns-in_err-list_block-in-Err-Failed-clause-evolved
-returns-in_err-list_block-in-Err-Failed-clause-evolved g c =
-    evolved g (goal.at.returns-in_err-list_block-in-Err-Failed-clause-evolved g c).After-list_block
+pub returns-in-Ok-clause-attempt : goal.returns-in-Ok-clause-attempt
+returns-in-Ok-clause-attempt g c = record {
+  tries =
+      took_added (storage (g.F.Flash.device c.args.flash.now) c.args.bad.now c.args.ring.now) c.args.block c.take_block.new.ring
+      c.args.bytes.now (g.F.Flash.device c.write_block.new.flash) c.in-Ok.field-0 c.requires.lawful c.requires.ring_blocks c.requires.node c.requires.room
+      c.take_block.ensures c.in-Ok.ensures.writes;
+  evolved =
+      took_good (storage (g.F.Flash.device c.args.flash.now) c.args.bad.now c.args.ring.now) c.args.block c.take_block.new.ring
+      c.args.bytes.now (g.F.Flash.device c.write_block.new.flash) _ c.requires.node c.take_block.ensures c.in-Ok.ensures.writes refl;
+  pays = pays_good (storage (g.F.Flash.device c.args.flash.now) c.args.bad.now c.args.ring.now) c.args.block c.take_block.new.ring (g.F.Flash.device c.write_block.new.flash) c.take_block.ensures;
+  next = record { next = c.take_block.ensures.next; last = c.take_block.ensures.last };
+  operations =
+      spends_once (g.F.Flash.device c.args.flash.now).operations (g.F.Flash.device c.write_block.new.flash).operations c.args.ring.now.takes c.take_block.new.ring.takes (1 + pages_for (g.F.Flash.device c.args.flash.now).geometry.page (length c.args.bytes.now)) c.take_block.ensures.takes c.write_block.ensures.operations;
+}
 
-pub returns-in_err-list_block-in-Err-Failed-clause-pays : goal.returns-in_err-list_block-in-Err-Failed-clause-pays
-returns-in_err-list_block-in-Err-Failed-clause-pays g c =
-    let answer = c.from_residual in
-    let p = err_from_is_err_and answer.result answer.ensures.1 in
-    rw (p.1, p.2, c.in_err-list_block-in-Err-Failed.ensures.limit.0)
-    (pays g (goal.at.returns-in_err-list_block-in-Err-Failed-clause-pays g c).After-list_block)
+pub returns-in-Err-PowerCut-clause-attempt : goal.returns-in-Err-PowerCut-clause-attempt
+returns-in-Err-PowerCut-clause-attempt g c = record {
+  tries =
+      let writes = rw c.in-Err-PowerCut.field-0-is at c.in-Err-PowerCut.ensures.writes in (writes.ends, c.requires.room);
+  evolved =
+      took_good (storage (g.F.Flash.device c.args.flash.now) c.args.bad.now c.args.ring.now) c.args.block c.take_block.new.ring
+      c.args.bytes.now (g.F.Flash.device c.write_block.new.flash) _ c.requires.node c.take_block.ensures (rw c.in-Err-PowerCut.field-0-is at c.in-Err-PowerCut.ensures.writes) refl;
+  pays = pays_good (storage (g.F.Flash.device c.args.flash.now) c.args.bad.now c.args.ring.now) c.args.block c.take_block.new.ring (g.F.Flash.device c.write_block.new.flash) c.take_block.ensures;
+  next = tt;
+  operations =
+      spends_once (g.F.Flash.device c.args.flash.now).operations (g.F.Flash.device c.write_block.new.flash).operations c.args.ring.now.takes c.take_block.new.ring.takes (1 + pages_for (g.F.Flash.device c.args.flash.now).geometry.page (length c.args.bytes.now)) c.take_block.ensures.takes c.write_block.ensures.operations;
+}
 
-pub returns-in_ok-list_block-in-Err-Failed-clause-tries : goal.returns-in_ok-list_block-in-Err-Failed-clause-tries
-returns-in_ok-list_block-in-Err-Failed-clause-tries g c =
-    (less g (goal.at.returns-in_ok-list_block-in-Err-Failed-clause-tries g c).After-list_block, c.in_ok-list_block-in-Err-Failed.ensures.limit)
+pub returns-in_err-list_block-in-Err-Failed-clause-attempt : goal.returns-in_err-list_block-in-Err-Failed-clause-attempt
+returns-in_err-list_block-in-Err-Failed-clause-attempt g c = record {
+  tries =
+      let p = err_from_is_err_and c.from_residual.result c.from_residual.ensures.1 in
+      rw (p.1, p.2, c.in_err-list_block-in-Err-Failed.ensures.limit.0) c.in_err-list_block-in-Err-Failed.ensures.limit.1;
+  evolved =
+      evolved g (goal.at.returns-in_err-list_block-in-Err-Failed-clause-attempt g c).After-list_block;
+  pays =
+      let answer = c.from_residual in
+      let p = err_from_is_err_and answer.result answer.ensures.1 in
+      rw (p.1, p.2, c.in_err-list_block-in-Err-Failed.ensures.limit.0)
+      (pays g (goal.at.returns-in_err-list_block-in-Err-Failed-clause-attempt g c).After-list_block);
+  next = rw (err_from_is_err_and c.from_residual.result c.from_residual.ensures.1).1 tt;
+  operations =
+      spends_once (g.F.Flash.device c.args.flash.now).operations (g.F.Flash.device c.write_block.new.flash).operations c.args.ring.now.takes c.take_block.new.ring.takes (1 + pages_for (g.F.Flash.device c.args.flash.now).geometry.page (length c.args.bytes.now)) c.take_block.ensures.takes c.write_block.ensures.operations;
+}
 
-pub returns-in_ok-list_block-in-Err-Failed-clause-evolved : goal.returns-in_ok-list_block-in-Err-Failed-clause-evolved
-returns-in_ok-list_block-in-Err-Failed-clause-evolved g c =
-    evolved g (goal.at.returns-in_ok-list_block-in-Err-Failed-clause-evolved g c).After-list_block
-
-pub returns-in_ok-list_block-in-Err-Failed-clause-pays : goal.returns-in_ok-list_block-in-Err-Failed-clause-pays
-returns-in_ok-list_block-in-Err-Failed-clause-pays g c =
-    pays g (goal.at.returns-in_ok-list_block-in-Err-Failed-clause-pays g c).After-list_block
-
-pub returns-in_ok-list_block-in-Err-Failed-clause-next : goal.returns-in_ok-list_block-in-Err-Failed-clause-next
-returns-in_ok-list_block-in-Err-Failed-clause-next g c =
-    passes g (goal.at.returns-in_ok-list_block-in-Err-Failed-clause-next g c).After-list_block
-
-pub returns-in-Ok-clause-pays : goal.returns-in-Ok-clause-pays
-returns-in-Ok-clause-pays g c = pays_good (storage (g.F.Flash.device c.args.flash.now) c.args.bad.now c.args.ring.now) c.args.block c.take_block.new.ring (g.F.Flash.device c.write_block.new.flash) c.take_block.ensures
-
-pub returns-in-Err-PowerCut-clause-evolved : goal.returns-in-Err-PowerCut-clause-evolved
-returns-in-Err-PowerCut-clause-evolved g c =
-    took_good (storage (g.F.Flash.device c.args.flash.now) c.args.bad.now c.args.ring.now) c.args.block c.take_block.new.ring
-    c.args.bytes.now (g.F.Flash.device c.write_block.new.flash) _ c.requires.node c.take_block.ensures (rw c.in-Err-PowerCut.field-0-is at c.in-Err-PowerCut.ensures.writes) refl
-
-pub returns-in-Err-PowerCut-clause-pays : goal.returns-in-Err-PowerCut-clause-pays
-returns-in-Err-PowerCut-clause-pays g c = pays_good (storage (g.F.Flash.device c.args.flash.now) c.args.bad.now c.args.ring.now) c.args.block c.take_block.new.ring (g.F.Flash.device c.write_block.new.flash) c.take_block.ensures
-
-pub returns-in-Ok-clause-operations : goal.returns-in-Ok-clause-operations
-returns-in-Ok-clause-operations g c =
-    spends_once (g.F.Flash.device c.args.flash.now).operations (g.F.Flash.device c.write_block.new.flash).operations c.args.ring.now.takes c.take_block.new.ring.takes (1 + pages_for (g.F.Flash.device c.args.flash.now).geometry.page (length c.args.bytes.now)) c.take_block.ensures.takes c.write_block.ensures.operations
-
-pub returns-in-Err-PowerCut-clause-operations : goal.returns-in-Err-PowerCut-clause-operations
-returns-in-Err-PowerCut-clause-operations g c =
-    spends_once (g.F.Flash.device c.args.flash.now).operations (g.F.Flash.device c.write_block.new.flash).operations c.args.ring.now.takes c.take_block.new.ring.takes (1 + pages_for (g.F.Flash.device c.args.flash.now).geometry.page (length c.args.bytes.now)) c.take_block.ensures.takes c.write_block.ensures.operations
-
-pub returns-in_err-list_block-in-Err-Failed-clause-operations : goal.returns-in_err-list_block-in-Err-Failed-clause-operations
-returns-in_err-list_block-in-Err-Failed-clause-operations g c =
-    spends_once (g.F.Flash.device c.args.flash.now).operations (g.F.Flash.device c.write_block.new.flash).operations c.args.ring.now.takes c.take_block.new.ring.takes (1 + pages_for (g.F.Flash.device c.args.flash.now).geometry.page (length c.args.bytes.now)) c.take_block.ensures.takes c.write_block.ensures.operations
-
-pub returns-in_ok-list_block-in-Err-Failed-clause-operations : goal.returns-in_ok-list_block-in-Err-Failed-clause-operations
-returns-in_ok-list_block-in-Err-Failed-clause-operations g c =
-    spends_once (g.F.Flash.device c.args.flash.now).operations (g.F.Flash.device c.write_block.new.flash).operations c.args.ring.now.takes c.take_block.new.ring.takes (1 + pages_for (g.F.Flash.device c.args.flash.now).geometry.page (length c.args.bytes.now)) c.take_block.ensures.takes c.write_block.ensures.operations
+pub returns-in_ok-list_block-in-Err-Failed-clause-attempt : goal.returns-in_ok-list_block-in-Err-Failed-clause-attempt
+returns-in_ok-list_block-in-Err-Failed-clause-attempt g c = record {
+  tries =
+      (less g (goal.at.returns-in_ok-list_block-in-Err-Failed-clause-attempt g c).After-list_block, c.in_ok-list_block-in-Err-Failed.ensures.limit);
+  evolved =
+      evolved g (goal.at.returns-in_ok-list_block-in-Err-Failed-clause-attempt g c).After-list_block;
+  pays =
+      pays g (goal.at.returns-in_ok-list_block-in-Err-Failed-clause-attempt g c).After-list_block;
+  next =
+      passes g (goal.at.returns-in_ok-list_block-in-Err-Failed-clause-attempt g c).After-list_block;
+  operations =
+      spends_once (g.F.Flash.device c.args.flash.now).operations (g.F.Flash.device c.write_block.new.flash).operations c.args.ring.now.takes c.take_block.new.ring.takes (1 + pages_for (g.F.Flash.device c.args.flash.now).geometry.page (length c.args.bytes.now)) c.take_block.ensures.takes c.write_block.ensures.operations;
+}
 
 pub returns-in-Ok-clause-page : goal.returns-in-Ok-clause-page
 returns-in-Ok-clause-page g c = c.write_block.ensures.page

@@ -1,136 +1,117 @@
-use Rattle.std.proofs.Common.{◌≡◌, ◌≢◌, Ok, Some, None, drop, arith, refl, ap, subst, sym, ◌∙◌}
+use Rattle.std.proofs.Common.{◌≡◌, ◌≢◌, slice_get, Ok, Some, None, drop, ap, subst, sym, ◌∙◌}
 use Rattle.std.specs.FinSet as set
 use Rattle.std.proofs.lemmas.Bool.{true≢false}
-use Rattle.std.proofs.lemmas.Result.{err_from_is_err_and}
-use Rattle.node_store.proofs.Attempts.{Pays_itself, Spends_itself, none_new}
-use Rattle.node_store.specs.Stores.{storage_on}
-use Rattle.node_cache.specs.CacheLaws.{taken_none, still_none, out_none}
-use Rattle.node_cache.specs.Cache.{NodeCache, node_in, with_first}
+use Rattle.flash_model.specs.Geometry.{block_bytes}
+use Rattle.node_cache.specs.CacheLaws.{first_shown, first_entry, taken_none, still_none, out_none}
+use Rattle.node_cache.specs.Cache.{NodeCache, node_in, with_first, first_bytes}
+use Rattle.node_format.specs.Headers.{IsNode}
 use Rattle.node_store.specs.Caching.{IsTruthful}
 use Rattle.node_store.specs.CachingLaws.{written_truthful, tried_truthful}
-use Rattle.node_store.specs.FittingLaws.{still_itself, still_fits, lists_none}
-use Rattle.node_store.specs.NodePages.{node_of}
-use Rattle.node_store.specs.Storage.{storage, Tries}
-use Rattle.node_store.specs.StorageLaws.{Evolved_itself, new_listed}
-use Rattle.node_store.proofs.new_nodes.write_next.Goals as goal
-use Rattle.node_store.proofs.new_nodes.write_next.Goals.{After-forget_first}
-use Rattle.node_store.proofs.new_nodes.write_next.Given.{Over}
 use Rattle.node_store.specs.Fitting.{ListsNoneTried}
+use Rattle.node_store.specs.FittingLaws.{still_fits, lists_none}
+use Rattle.node_store.specs.NodePages.{node_of}
+use Rattle.node_store.specs.Storage.{storage, IsAttempt}
+use Rattle.node_store.specs.StorageLaws.{new_listed}
+use Rattle.node_store.proofs.new_nodes.write_next.Goals as goal
+use Rattle.node_store.proofs.new_nodes.write_next.Goals.{After-first, After-take_first}
+use Rattle.node_store.proofs.new_nodes.write_next.Given.{Over}
+
+module _ (g : Over) (c : After-first g) where
+  -- the node moved into the cache
+  moved : c.list.new.self ≡ with_first c.args.storage.now.cache c.in_ok-block.block c.args.node.now.items
+  moved = c.in_ok-list.ensures.listed ∙ ap (λ v. with_first c.args.storage.now.cache c.in_ok-block.block v.items) c.replace.ensures.value
+
+  -- what is lent to the attempt are its bytes
+  lent : c.first.result.now ≡ c.args.node.now.items
+  lent =
+      c.first.ensures ∙ ap (λ (k : NodeCache). first_bytes k.entries) moved
+      ∙ first_shown c.args.storage.now.cache c.list.ensures.bounded c.in_ok-block.block c.args.node.now.items
+
+pub try_block-tried-requires-clause-node : goal.try_block-tried-requires-clause-node
+try_block-tried-requires-clause-node g c =
+    subst (IsNode (block_bytes (g.F.Flash.device c.args.flash.now).geometry)) (sym (lent g (goal.at.try_block-tried-requires-clause-node g c).After-first)) c.requires.node
+
+pub returns-in-Ok-Some-clause-attempt : goal.returns-in-Ok-Some-clause-attempt
+returns-in-Ok-Some-clause-attempt g c =
+    subst (λ bytes. IsAttempt (storage (g.F.Flash.device c.args.flash.now) c.args.storage.now.bad c.args.storage.now.ring) bytes
+    (storage (g.F.Flash.device c.try_block-tried.new.flash) c.try_block-tried.new.bad c.try_block-tried.new.ring) c.try_block-tried.result)
+    (lent g (goal.at.returns-in-Ok-Some-clause-attempt g c).After-first) c.try_block-tried.ensures.attempt
+
+pub returns-clause-attempt : goal.returns-clause-attempt
+returns-clause-attempt g c =
+    subst (λ bytes. IsAttempt (storage (g.F.Flash.device c.args.flash.now) c.args.storage.now.bad c.args.storage.now.ring) bytes
+    (storage (g.F.Flash.device c.try_block-tried.new.flash) c.try_block-tried.new.bad c.try_block-tried.new.ring) c.try_block-tried.result)
+    (lent g (goal.at.returns-clause-attempt g c).After-first) c.try_block-tried.ensures.attempt
 
 pub returns-in-Ok-Some-clause-fits : goal.returns-in-Ok-Some-clause-fits
 returns-in-Ok-Some-clause-fits g c =
-    let listed = c.in_ok-list_copy.ensures.listed in
-    let here : c.in-Ok-Some.block ≡ c.in_ok-block.block = c.try_block.ensures.block c.in-Ok-Some.block (c.in-Ok-Some.is ∙ ap Ok c.in-Ok-Some.field-0-is) in
-    let tried : Tries (storage (g.F.Flash.device c.args.flash.now) c.args.storage.now.bad c.args.storage.now.ring) c.args.bytes.now
-    (storage (g.F.Flash.device c.try_block.new.flash) c.try_block.new.bad c.try_block.new.ring) (Ok (Some c.in-Ok-Some.block)) =
-    rw c.in-Ok-Some.field-0-is at c.in-Ok-Some.ensures.tries in
-    still_fits _ _ _ _ c.try_block.ensures.evolved.geometry c.try_block.ensures.page (omega arith) (ap (λ (k : NodeCache). k.room) listed)
-    (λ fits. subst (IsTruthful (g.F.Flash.device c.try_block.new.flash)) (sym listed)
-    (written_truthful (g.F.Flash.device c.args.flash.now) (g.F.Flash.device c.try_block.new.flash) c.args.storage.now.cache c.in_ok-block.block c.args.bytes.now c.requires.lawful c.try_block.ensures.evolved.geometry
-    c.try_block.ensures.others c.list_copy.ensures.bounded (ap (node_of (g.F.Flash.device c.try_block.new.flash)) (sym here) ∙ tried.node) fits.truthful))
+    let t = (goal.at.returns-in-Ok-Some-clause-fits g c).After-first in
+    let listed = moved g t in
+    let block = c.in-Ok-Some.field-0-0 in
+    let new = g.F.Flash.device c.try_block-tried.new.flash in
+    let was : c.try_block-tried.result ≡ Ok (Some block) = c.in-Ok-Some.is ∙ ap Ok (rw c.in-Ok-Some.is at c.in-Ok-Some.field-0-is) in
+    let here : block ≡ c.in_ok-block.block = c.try_block-tried.ensures.block block was in
+    let attempt : IsAttempt (storage (g.F.Flash.device c.args.flash.now) c.args.storage.now.bad c.args.storage.now.ring) c.first.result.now
+    (storage new c.try_block-tried.new.bad c.try_block-tried.new.ring) (Ok (Some block)) =
+    subst (IsAttempt (storage (g.F.Flash.device c.args.flash.now) c.args.storage.now.bad c.args.storage.now.ring) c.first.result.now
+    (storage new c.try_block-tried.new.bad c.try_block-tried.new.ring)) was c.try_block-tried.ensures.attempt in
+    still_fits _ _ _ _ attempt.evolved.geometry c.try_block-tried.ensures.page (ap (λ (k : NodeCache). k.room) listed)
+    (λ fits. subst (IsTruthful new) (sym listed)
+    (written_truthful (g.F.Flash.device c.args.flash.now) new c.args.storage.now.cache c.in_ok-block.block c.args.node.now.items c.requires.lawful attempt.evolved.geometry
+    c.try_block-tried.ensures.others c.list.ensures.bounded (ap (node_of new) (sym here) ∙ attempt.tries.node ∙ ap Some (lent g t)) fits.truthful))
 
-pub returns-in_default-clause-fits : goal.returns-in_default-clause-fits
-returns-in_default-clause-fits g c =
-    let listed = c.in_ok-list_copy.ensures.listed in
-    let out = c.forget_first.ensures in
-    still_fits _ _ _ _ c.try_block.ensures.evolved.geometry c.try_block.ensures.page (omega arith)
-    (ap (λ (k : NodeCache). k.room) out ∙ ap (λ (k : NodeCache). k.room) listed)
-    (λ fits. subst (IsTruthful (g.F.Flash.device c.try_block.new.flash)) (sym (out ∙ ap (λ (k : NodeCache). record k { entries = drop 1 k.entries }) listed))
-    (tried_truthful (g.F.Flash.device c.args.flash.now) (g.F.Flash.device c.try_block.new.flash) c.args.storage.now.cache c.in_ok-block.block c.args.bytes.now c.requires.lawful c.try_block.ensures.evolved.geometry
-    c.try_block.ensures.others c.list_copy.ensures.bounded fits.truthful))
+pub returns-in-Ok-Some-clause-listed : goal.returns-in-Ok-Some-clause-listed
+returns-in-Ok-Some-clause-listed g c = λ b is.
+    let here : b ≡ c.in_ok-block.block = c.try_block-tried.ensures.block b is in
+    ap (λ (k : NodeCache). slice_get k.entries 0) (moved g (goal.at.returns-in-Ok-Some-clause-listed g c).After-first)
+    ∙ first_entry c.args.storage.now.cache c.list.ensures.bounded c.in_ok-block.block c.args.node.now.items
+    ∙ ap (λ n. Some (n, c.args.node.now.items)) (sym here)
 
 pub returns-in-Ok-Some-clause-apart : goal.returns-in-Ok-Some-clause-apart
 returns-in-Ok-Some-clause-apart g c = λ b used none.
-    let other : b ≢ c.in_ok-block.block = λ same. true≢false (sym used ∙ ap (set.contains c.args.storage.now.ring.used) same ∙ c.try_block.ensures.fresh) in
-    subst (λ (k : NodeCache). node_in k b ≡ None) (sym c.in_ok-list_copy.ensures.listed)
-    (still_none c.args.storage.now.cache c.list_copy.ensures.bounded c.in_ok-block.block c.args.bytes.now b other none)
+    let other : b ≢ c.in_ok-block.block = λ same. true≢false (sym used ∙ ap (set.contains c.args.storage.now.ring.used) same ∙ c.try_block-tried.ensures.fresh) in
+    subst (λ (k : NodeCache). node_in k b ≡ None) (sym (moved g (goal.at.returns-in-Ok-Some-clause-apart g c).After-first))
+    (still_none c.args.storage.now.cache c.list.ensures.bounded c.in_ok-block.block c.args.node.now.items b other none)
 
-pub returns-in_default-clause-apart : goal.returns-in_default-clause-apart
-returns-in_default-clause-apart g c = λ b used none.
-    subst (λ (k : NodeCache). node_in k b ≡ None)
-    (sym (c.forget_first.ensures ∙ ap (λ (k : NodeCache). record k { entries = drop 1 k.entries }) c.in_ok-list_copy.ensures.listed))
-    (out_none c.args.storage.now.cache c.list_copy.ensures.bounded c.in_ok-block.block c.args.bytes.now b none)
+module _ (g : Over) (c : After-take_first g) (moves : c.list.new.self ≡ with_first c.args.storage.now.cache c.in_ok-block.block c.args.node.now.items) where
+  -- it is taken out again
+  out : c.take_first.new.self ≡ record c.args.storage.now.cache { entries = drop 1 (with_first c.args.storage.now.cache c.in_ok-block.block c.args.node.now.items).entries }
+  out = c.take_first.ensures.rest ∙ ap (λ (k : NodeCache). record k { entries = drop 1 k.entries }) moves
 
-module _ (g : Over) (c : After-forget_first g) where
   -- the block that was tried is not listed
-  unlisted : ListsNoneTried c.args.storage.now (record { bad = c.try_block.new.bad; ring = c.try_block.new.ring; page = c.try_block.new.page; node = c.args.storage.now.node; cache = c.forget_first.new.self })
+  unlisted : ListsNoneTried c.args.storage.now (record { bad = c.try_block-tried.new.bad; ring = c.try_block-tried.new.ring; page = c.try_block-tried.new.page; cache = c.take_first.new.self })
   unlisted = λ b fresh used.
       let here : b ≡ c.in_ok-block.block =
-      new_listed c.args.storage.now.ring.used c.in_ok-block.block b (ap (λ s. set.contains s b) (sym c.try_block.ensures.taken) ∙ used) fresh in
-      subst (λ (k : NodeCache). node_in k b ≡ None)
-      (sym (c.forget_first.ensures ∙ ap (λ (k : NodeCache). record k { entries = drop 1 k.entries }) c.in_ok-list_copy.ensures.listed))
-      (subst (λ n. node_in (record c.args.storage.now.cache { entries = drop 1 (with_first c.args.storage.now.cache c.in_ok-block.block c.args.bytes.now).entries }) n ≡ None) (sym here)
-      (taken_none c.args.storage.now.cache c.list_copy.ensures.bounded c.in_ok-block.block c.args.bytes.now))
+      new_listed c.args.storage.now.ring.used c.in_ok-block.block b (ap (λ s. set.contains s b) (sym c.try_block-tried.ensures.taken) ∙ used) fresh in
+      subst (λ (k : NodeCache). node_in k b ≡ None) (sym out)
+      (subst (λ n. node_in (record c.args.storage.now.cache { entries = drop 1 (with_first c.args.storage.now.cache c.in_ok-block.block c.args.node.now.items).entries }) n ≡ None) (sym here)
+      (taken_none c.args.storage.now.cache c.list.ensures.bounded c.in_ok-block.block c.args.node.now.items))
 
-pub returns-in_default-clause-unlisted : goal.returns-in_default-clause-unlisted
-returns-in_default-clause-unlisted g c =
+pub returns-clause-back : goal.returns-clause-back
+returns-clause-back g c = λ is.
+    let t = (goal.at.returns-clause-back g c).After-first in
+    c.take_first.ensures.node ∙ ap (λ (k : NodeCache). first_bytes k.entries) (moved g t)
+    ∙ first_shown c.args.storage.now.cache c.list.ensures.bounded c.in_ok-block.block c.args.node.now.items
+
+pub returns-clause-fits : goal.returns-clause-fits
+returns-clause-fits g c =
+    let t = goal.at.returns-clause-fits g c in
+    let gone = out g t.After-take_first (moved g t.After-first) in
+    let evolved = c.try_block-tried.ensures.attempt.evolved in
+    still_fits _ _ _ _ evolved.geometry c.try_block-tried.ensures.page (ap (λ (k : NodeCache). k.room) gone)
+    (λ fits. subst (IsTruthful (g.F.Flash.device c.try_block-tried.new.flash)) (sym gone)
+    (tried_truthful (g.F.Flash.device c.args.flash.now) (g.F.Flash.device c.try_block-tried.new.flash) c.args.storage.now.cache c.in_ok-block.block c.args.node.now.items c.requires.lawful evolved.geometry
+    c.try_block-tried.ensures.others c.list.ensures.bounded fits.truthful))
+
+pub returns-clause-unlisted : goal.returns-clause-unlisted
+returns-clause-unlisted g c =
+    let t = goal.at.returns-clause-unlisted g c in
     lists_none c.args.storage.now
-    (record { bad = c.try_block.new.bad; ring = c.try_block.new.ring; page = c.try_block.new.page; node = c.args.storage.now.node; cache = c.forget_first.new.self })
-    _ (unlisted g c)
+    (record { bad = c.try_block-tried.new.bad; ring = c.try_block-tried.new.ring; page = c.try_block-tried.new.page; cache = c.take_first.new.self })
+    _ (unlisted g t.After-take_first (moved g t.After-first))
 
-pub returns-in_err-block-clause-tries : goal.returns-in_err-block-clause-tries
-returns-in_err-block-clause-tries g c =
-    let p = err_from_is_err_and c.from_residual.result c.from_residual.ensures.1 in
-    rw (p.1, p.2, c.in_err-block.ensures.full.0) (c.in_err-block.ensures.full.1, c.requires.room)
-
-pub returns-in_err-block-clause-evolved : goal.returns-in_err-block-clause-evolved
-returns-in_err-block-clause-evolved g c = Evolved_itself (storage_on (g.F.Flash.device c.args.flash.now) c.args.storage.now)
-
-pub returns-in_err-block-clause-pays : goal.returns-in_err-block-clause-pays
-returns-in_err-block-clause-pays g c =
-    let p = err_from_is_err_and c.from_residual.result c.from_residual.ensures.1 in
-    rw (p.1, p.2, c.in_err-block.ensures.full.0) (Pays_itself (storage_on (g.F.Flash.device c.args.flash.now) c.args.storage.now))
-
-pub returns-in_err-block-clause-next : goal.returns-in_err-block-clause-next
-returns-in_err-block-clause-next g c = rw (err_from_is_err_and c.from_residual.result c.from_residual.ensures.1).1 tt
-
-pub returns-in_err-block-clause-operations : goal.returns-in_err-block-clause-operations
-returns-in_err-block-clause-operations g c = Spends_itself (storage_on (g.F.Flash.device c.args.flash.now) c.args.storage.now) c.args.bytes.now
-
-pub returns-in_err-block-clause-fits : goal.returns-in_err-block-clause-fits
-returns-in_err-block-clause-fits g c = still_itself (g.F.Flash.device c.args.flash.now) c.args.storage.now
-
-pub returns-in_err-block-clause-unlisted : goal.returns-in_err-block-clause-unlisted
-returns-in_err-block-clause-unlisted g c = rw (err_from_is_err_and c.from_residual.result c.from_residual.ensures.1).1 (none_new c.args.storage.now c.args.storage.now refl)
-
-pub returns-in_err-block-clause-apart : goal.returns-in_err-block-clause-apart
-returns-in_err-block-clause-apart g c = λ b used none. none
-
-pub returns-in-Ok-Some-clause-tries : goal.returns-in-Ok-Some-clause-tries
-returns-in-Ok-Some-clause-tries g c = rw c.in-Ok-Some.field-0-is at c.in-Ok-Some.ensures.tries
-
-pub returns-in-Ok-Some-clause-evolved : goal.returns-in-Ok-Some-clause-evolved
-returns-in-Ok-Some-clause-evolved g c = c.try_block.ensures.evolved
-
-pub returns-in-Ok-Some-clause-pays : goal.returns-in-Ok-Some-clause-pays
-returns-in-Ok-Some-clause-pays g c = rw c.in-Ok-Some.field-0-is at c.in-Ok-Some.ensures.pays
-
-pub returns-in-Ok-Some-clause-next : goal.returns-in-Ok-Some-clause-next
-returns-in-Ok-Some-clause-next g c = rw c.in-Ok-Some.field-0-is at c.in-Ok-Some.ensures.next
-
-pub returns-in-Ok-Some-clause-operations : goal.returns-in-Ok-Some-clause-operations
-returns-in-Ok-Some-clause-operations g c = c.try_block.ensures.operations
-
-pub returns-in_default-clause-evolved : goal.returns-in_default-clause-evolved
-returns-in_default-clause-evolved g c = c.try_block.ensures.evolved
-
-pub returns-in_default-clause-operations : goal.returns-in_default-clause-operations
-returns-in_default-clause-operations g c = c.try_block.ensures.operations
-
-pub try_block-requires-clause-lawful : goal.try_block-requires-clause-lawful
-try_block-requires-clause-lawful g c = c.requires.lawful
-
-pub try_block-requires-clause-ring_blocks : goal.try_block-requires-clause-ring_blocks
-try_block-requires-clause-ring_blocks g c = c.requires.ring_blocks
-
-pub try_block-requires-clause-node : goal.try_block-requires-clause-node
-try_block-requires-clause-node g c = c.requires.node
-
-pub try_block-requires-clause-room : goal.try_block-requires-clause-room
-try_block-requires-clause-room g c = c.requires.room
-
-pub try_block-requires-clause-whole : goal.try_block-requires-clause-whole
-try_block-requires-clause-whole g c = c.requires.fits.page_len
-
-pub try_block-requires-clause-next : goal.try_block-requires-clause-next
-try_block-requires-clause-next g c = c.in_ok-block.ensures.next
+pub returns-clause-apart : goal.returns-clause-apart
+returns-clause-apart g c = λ b used none.
+    let t = goal.at.returns-clause-apart g c in
+    subst (λ (k : NodeCache). node_in k b ≡ None) (sym (out g t.After-take_first (moved g t.After-first)))
+    (out_none c.args.storage.now.cache c.list.ensures.bounded c.in_ok-block.block c.args.node.now.items b none)

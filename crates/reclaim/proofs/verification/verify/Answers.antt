@@ -50,8 +50,8 @@ returns-in_err-read_all-clause-reads g c =
 pub have_trees-requires-clause-marked : goal.have_trees-requires-clause-marked
 have_trees-requires-clause-marked g c =
     marked_exact (g.N.Nodes.node c.read_all.new.nodes) c.read_all.new.self c.marked.result.now c.args.roots.now
-    c.in_ok-read_all.ensures.pass c.in_ok-read_all.ensures.finished c.marked.ensures
-    (c.read_all.ensures.same.1 ∙ c.in_ok-pass.ensures.begun.1)
+    c.in_ok-read_all.ensures.pass.0 c.in_ok-read_all.ensures.pass.1 c.marked.ensures
+    (c.read_all.ensures.on.roots ∙ c.in_ok-pass.ensures.begun.1)
 
 pub have_trees-requires-clause-directories : goal.have_trees-requires-clause-directories
 have_trees-requires-clause-directories g c =
@@ -61,25 +61,25 @@ pub returns-in_err-have_trees-clause-reads : goal.returns-in_err-have_trees-clau
 returns-in_err-have_trees-clause-reads g c =
     tree_reads (g.N.Nodes.node c.args.nodes.now) (g.N.Nodes.node c.read_all.new.nodes) c.args.roots.now c.in_ok-pass.pass.order c.marked.result.now c.in_ok-pass.pass c.read_all.new.self
     (g.N.Nodes.reads c.args.nodes.now) (g.N.Nodes.reads c.start_pass.new.nodes) (g.N.Nodes.reads c.read_all.new.nodes) (g.N.Nodes.reads c.have_trees.new.nodes)
-    (c.read_all.ensures.looks.same_nodes ∙ c.start_pass.ensures.looks.same_nodes) c.in_ok-read_all.ensures.pass c.in_ok-read_all.ensures.finished
-    (c.read_all.ensures.same.1 ∙ c.in_ok-pass.ensures.begun.1) refl c.marked.ensures c.read_all.ensures.begins c.in_ok-pass.ensures.begun.2
-    c.in_ok-pass.ensures.asked c.in_ok-read_all.ensures.read c.have_trees.ensures.reads
+    (c.read_all.ensures.looks.same_nodes ∙ c.start_pass.ensures.looks.same_nodes) c.in_ok-read_all.ensures.pass.0 c.in_ok-read_all.ensures.pass.1
+    (c.read_all.ensures.on.roots ∙ c.in_ok-pass.ensures.begun.1) refl c.marked.ensures c.read_all.ensures.on.begins c.in_ok-pass.ensures.begun.2
+    c.in_ok-pass.ensures.asked c.in_ok-read_all.ensures.read.0 c.have_trees.ensures.reads
 
 pub returns-then-not-have_trees-clause-reads : goal.returns-then-not-have_trees-clause-reads
 returns-then-not-have_trees-clause-reads g c =
     tree_reads (g.N.Nodes.node c.args.nodes.now) (g.N.Nodes.node c.read_all.new.nodes) c.args.roots.now c.in_ok-pass.pass.order c.marked.result.now c.in_ok-pass.pass c.read_all.new.self
     (g.N.Nodes.reads c.args.nodes.now) (g.N.Nodes.reads c.start_pass.new.nodes) (g.N.Nodes.reads c.read_all.new.nodes) (g.N.Nodes.reads c.have_trees.new.nodes)
-    (c.read_all.ensures.looks.same_nodes ∙ c.start_pass.ensures.looks.same_nodes) c.in_ok-read_all.ensures.pass c.in_ok-read_all.ensures.finished
-    (c.read_all.ensures.same.1 ∙ c.in_ok-pass.ensures.begun.1) refl c.marked.ensures c.read_all.ensures.begins c.in_ok-pass.ensures.begun.2
-    c.in_ok-pass.ensures.asked c.in_ok-read_all.ensures.read c.have_trees.ensures.reads
+    (c.read_all.ensures.looks.same_nodes ∙ c.start_pass.ensures.looks.same_nodes) c.in_ok-read_all.ensures.pass.0 c.in_ok-read_all.ensures.pass.1
+    (c.read_all.ensures.on.roots ∙ c.in_ok-pass.ensures.begun.1) refl c.marked.ensures c.read_all.ensures.on.begins c.in_ok-pass.ensures.begun.2
+    c.in_ok-pass.ensures.asked c.in_ok-read_all.ensures.read.0 c.have_trees.ensures.reads
 
 pub returns-clause-reads : goal.returns-clause-reads
 returns-clause-reads g c =
     tree_reads (g.N.Nodes.node c.args.nodes.now) (g.N.Nodes.node c.read_all.new.nodes) c.args.roots.now c.in_ok-pass.pass.order c.marked.result.now c.in_ok-pass.pass c.read_all.new.self
     (g.N.Nodes.reads c.args.nodes.now) (g.N.Nodes.reads c.start_pass.new.nodes) (g.N.Nodes.reads c.read_all.new.nodes) (g.N.Nodes.reads c.have_trees.new.nodes)
-    (c.read_all.ensures.looks.same_nodes ∙ c.start_pass.ensures.looks.same_nodes) c.in_ok-read_all.ensures.pass c.in_ok-read_all.ensures.finished
-    (c.read_all.ensures.same.1 ∙ c.in_ok-pass.ensures.begun.1) refl c.marked.ensures c.read_all.ensures.begins c.in_ok-pass.ensures.begun.2
-    c.in_ok-pass.ensures.asked c.in_ok-read_all.ensures.read c.have_trees.ensures.reads
+    (c.read_all.ensures.looks.same_nodes ∙ c.start_pass.ensures.looks.same_nodes) c.in_ok-read_all.ensures.pass.0 c.in_ok-read_all.ensures.pass.1
+    (c.read_all.ensures.on.roots ∙ c.in_ok-pass.ensures.begun.1) refl c.marked.ensures c.read_all.ensures.on.begins c.in_ok-pass.ensures.begun.2
+    c.in_ok-pass.ensures.asked c.in_ok-read_all.ensures.read.0 c.have_trees.ensures.reads
 
 pub returns-then-not-have_trees-clause-damaged : goal.returns-then-not-have_trees-clause-damaged
 returns-then-not-have_trees-clause-damaged g c _ both =
@@ -166,7 +166,7 @@ have_trees-requires-clause-sound g c = c.read_all.ensures.looks.sound
 
 pub returns-clause-pass : goal.returns-clause-pass
 returns-clause-pass g c =
-    (subst (λ (f : Blocks). IsPass f c.read_all.new.self) (sym c.have_trees.ensures.looks.same_nodes) c.in_ok-read_all.ensures.pass, c.in_ok-read_all.ensures.finished)
+    (subst (λ (f : Blocks). IsPass f c.read_all.new.self) (sym c.have_trees.ensures.looks.same_nodes) c.in_ok-read_all.ensures.pass.0, c.in_ok-read_all.ensures.pass.1)
 
 pub returns-clause-of : goal.returns-clause-of
-returns-clause-of g c = (c.read_all.ensures.same.0 ∙ c.in_ok-pass.ensures.begun.0, c.read_all.ensures.same.1 ∙ c.in_ok-pass.ensures.begun.1)
+returns-clause-of g c = (c.read_all.ensures.on.blocks ∙ c.in_ok-pass.ensures.begun.0, c.read_all.ensures.on.roots ∙ c.in_ok-pass.ensures.begun.1)

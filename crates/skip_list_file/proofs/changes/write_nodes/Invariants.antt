@@ -1,6 +1,5 @@
 use Rattle.std.proofs.Common.{◌≡◌, ◌+◌, ◌-◌, ◌*◌, length, min}
 use Rattle.node_store.specs.Frames.{Works}
-use Rattle.block_trees.specs.Bodies.{body}
 use Rattle.skip_list_file.specs.Writing as spec
 use Rattle.skip_list_file.specs.Writing.{IsTable}
 use Rattle.skip_list_file.proofs.Counted.{AreFew}
@@ -11,7 +10,7 @@ use Rattle.skip_list_file.proofs.changes.write_nodes.Given as goal
 abbrev pub invariant-loop-index : goal.invariant-loop-index
 invariant-loop-index g l = record {
   begun : IsBegun l.change.capacity (g.N.Nodes.node l.fn.nodes) (g.N.Nodes.kept l.fn.nodes) l.change.body
-      (spec.edited (body l.change.capacity (g.N.Nodes.node l.fn.nodes) l.change.body.head l.change.body.length) l.change.offset l.bytes l.change.size)
+      (spec.bytes_after (g.N.Nodes.node l.fn.nodes) l.change l.bytes)
       (g.N.Nodes.node l.nodes) (g.N.Nodes.kept l.nodes) l.head (min (l.index * l.change.capacity) l.change.size);
   table : IsTable (g.N.Nodes.node l.nodes) l.head l.index l.last l.table.blocks;
   reads : AreFew l.change.capacity l.change.body.length (l.change.offset + length l.bytes) l.first l.index (g.N.Nodes.reads l.fn.nodes) (g.N.Nodes.reads l.nodes);

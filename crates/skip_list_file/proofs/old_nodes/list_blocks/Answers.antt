@@ -11,7 +11,7 @@ pointer_at-requires-clause-slot g c =
     let f = g.N.Nodes.node c.args.nodes.now in
     let now = c.loop-step.invariant in
     let step : ℕ = c.loop-step._step - 1 in
-    let there = listed_pointer c.args.capacity f c.args.body.head c.args.body.length step (omega arith) c.requires.whole (omega arith) in
+    let there = listed_pointer c.args.capacity f c.args.body.head c.args.body.length step (omega arith) c.requires.holds.whole (omega arith) in
     let same : g.N.Nodes.node c.loop-step.nodes c.loop-step.block ≡ f (back f c.args.body.head step) = ap (λ (h : Blocks). h c.loop-step.block) now.looks.same_nodes ∙ ap f now.here in
     subst (λ (node : Option (List ℕ)). HasPointer node 0) (sym same) there
 
@@ -35,6 +35,7 @@ loop-step-preserved g c =
       long = c.push_reserved-in-loop-step.ensures.len ∙ ap (λ (n : ℕ). n + 1) now.long;
       held = c.push_reserved-in-loop-step.ensures.capacity ∙ now.held;
       reads = omega (arith, now.reads, done.reads);
+      asks = omega (arith, now.asks, done.asks, done.reads);
       looks = g.met.N.Nodes.looks_on c.args.nodes.now c.loop-step.nodes c.pointer_at.new.nodes now.looks done.looks;
     }
 
@@ -44,11 +45,12 @@ pointer_at-requires-clause-sound g c = c.loop-step.invariant.looks.sound
 pub returns-in_err-block-clause-looks : goal.returns-in_err-block-clause-looks
 returns-in_err-block-clause-looks g c = g.met.N.Nodes.looks_on c.args.nodes.now c.loop-step.nodes c.pointer_at.new.nodes c.loop-step.invariant.looks c.pointer_at.ensures.looks
 
-pub returns-in_err-block-clause-why : goal.returns-in_err-block-clause-why
-returns-in_err-block-clause-why g c =
+pub returns-in_err-block-clause-refused : goal.returns-in_err-block-clause-refused
+returns-in_err-block-clause-refused g c =
     let p = err_from_is_err_and c.from_residual-in_err-block.result c.from_residual-in_err-block.ensures.1 in
-    let why = g.met.N.Nodes.causes_on c.args.nodes.now c.loop-step.nodes c.pointer_at.new.nodes c.in_err-block.field-0.0 c.loop-step.invariant.looks.came c.in_err-block.ensures.why in
-    rw (p.1, p.2) why
+    let refused = c.in_err-block.ensures.refused in
+    let why = g.met.N.Nodes.causes_on c.args.nodes.now c.loop-step.nodes c.pointer_at.new.nodes c.in_err-block.field-0.0 c.loop-step.invariant.looks.came refused.1 in
+    rw (p.1, p.2) (refused.0, why)
 
 pub returns-clause-looks : goal.returns-clause-looks
 returns-clause-looks g c = c.loop-step.invariant.looks

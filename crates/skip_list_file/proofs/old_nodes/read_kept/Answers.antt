@@ -10,36 +10,36 @@ use Rattle.skip_list_file.proofs.old_nodes.read_kept.Goals as goal
 
 pub returns-then-kept-eq0-clause-kept : goal.returns-then-kept-eq0-clause-kept
 returns-then-kept-eq0-clause-kept g c =
-    let file : List ℕ = body c.args.capacity (g.N.Nodes.node c.args.nodes.now) c.args.body.head c.args.body.length in
-    let start : ℕ = c.args.index * c.args.capacity in
-    let size : length file ≡ c.args.body.length = body_length c.args.capacity (g.N.Nodes.node c.args.nodes.now) c.args.body.head c.args.body.length c.requires.whole in
+    let file : List ℕ = body c.args.change.capacity (g.N.Nodes.node c.args.nodes.now) c.args.change.body.head c.args.change.body.length in
+    let start : ℕ = c.args.index * c.args.change.capacity in
+    let size : length file ≡ c.args.change.body.length = body_length c.args.change.capacity (g.N.Nodes.node c.args.nodes.now) c.args.change.body.head c.args.change.body.length c.requires.holds.whole in
     let is : c.min-kept.result ≡ min (length file - start) (length c.args.out.now) = omega (arith, c.min-kept.ensures, c.saturating_sub.ensures) in
-    none_kept file c.args.out.now start c.args.offset c.args.end c.min-kept.result c.requires.zeros is (inl (omega arith))
+    none_kept file c.args.out.now start c.args.change.offset c.args.end c.min-kept.result c.requires.zeros is (inl (omega arith))
 
 pub returns-then-start-kept-clause-kept : goal.returns-then-start-kept-clause-kept
 returns-then-start-kept-clause-kept g c =
-    let file : List ℕ = body c.args.capacity (g.N.Nodes.node c.args.nodes.now) c.args.body.head c.args.body.length in
-    let start : ℕ = c.args.index * c.args.capacity in
-    let size : length file ≡ c.args.body.length = body_length c.args.capacity (g.N.Nodes.node c.args.nodes.now) c.args.body.head c.args.body.length c.requires.whole in
+    let file : List ℕ = body c.args.change.capacity (g.N.Nodes.node c.args.nodes.now) c.args.change.body.head c.args.change.body.length in
+    let start : ℕ = c.args.index * c.args.change.capacity in
+    let size : length file ≡ c.args.change.body.length = body_length c.args.change.capacity (g.N.Nodes.node c.args.nodes.now) c.args.change.body.head c.args.change.body.length c.requires.holds.whole in
     let is : c.min-kept.result ≡ min (length file - start) (length c.args.out.now) = omega (arith, c.min-kept.ensures, c.saturating_sub.ensures) in
-    none_kept file c.args.out.now start c.args.offset c.args.end c.min-kept.result c.requires.zeros is (inr (omega arith, omega arith))
+    none_kept file c.args.out.now start c.args.change.offset c.args.end c.min-kept.result c.requires.zeros is (inr (omega arith, omega arith))
 
 pub copy_data-requires-clause-node : goal.copy_data-requires-clause-node
 copy_data-requires-clause-node g c =
     let f = g.N.Nodes.node c.args.nodes.now in
-    let head_index : ℕ = (c.args.body.length - 1) / c.args.capacity in
-    let some : 0 < c.args.body.length = omega (arith, c.min-kept.ensures, c.saturating_sub.ensures) in
-    let chain = listed_chain c.args.capacity f c.args.body.head c.args.body.length (head_index - c.args.index) some c.requires.whole (omega arith) in
+    let head_index : ℕ = (c.args.change.body.length - 1) / c.args.change.capacity in
+    let some : 0 < c.args.change.body.length = omega (arith, c.min-kept.ensures, c.saturating_sub.ensures) in
+    let chain = listed_chain c.args.change.capacity f c.args.change.body.head c.args.change.body.length (head_index - c.args.index) some c.requires.holds.whole (omega arith) in
     let same = ap (λ (h : Blocks). index_of (h c.in_ok-block.block)) c.in_ok-block.ensures.looks.same_nodes in (
       head_index - (head_index - c.args.index),
-      same ∙ ap (λ (b : ℕ). index_of (f b)) c.in_ok-block.ensures.found ∙ chain_node c.args.capacity (head_index - (head_index - c.args.index)) (back f c.args.body.head (head_index - c.args.index)) f chain,
+      same ∙ ap (λ (b : ℕ). index_of (f b)) c.in_ok-block.ensures.found ∙ chain_node c.args.change.capacity (head_index - (head_index - c.args.index)) (back f c.args.change.body.head (head_index - c.args.index)) f chain,
     )
 
 pub copy_data-requires-clause-within : goal.copy_data-requires-clause-within
 copy_data-requires-clause-within g c =
     let f = g.N.Nodes.node c.args.nodes.now in
     let kept = c.min-kept.result in
-    let part = part_of c.args.capacity f c.args.body.head c.args.body.length c.args.index kept c.in_ok-block.block c.requires.least c.requires.whole (omega arith)
+    let part = part_of c.args.change.capacity f c.args.change.body.head c.args.change.body.length c.args.index kept c.in_ok-block.block c.requires.holds.least c.requires.holds.whole (omega arith)
     (omega (arith, c.min-kept.ensures, c.requires.size)) (omega (arith, c.min-kept.ensures, c.saturating_sub.ensures)) c.in_ok-block.ensures.found in
     let same = ap (λ (h : Blocks). length (data_of (h c.in_ok-block.block))) c.in_ok-block.ensures.looks.same_nodes in
     omega (arith, part.long, same, length-take-le kept c.args.out.now (omega (arith, c.min-kept.ensures)))
@@ -48,44 +48,37 @@ pub returns-clause-kept : goal.returns-clause-kept
 returns-clause-kept g c =
     let f = g.N.Nodes.node c.args.nodes.now in
     let kept = c.min-kept.result in
-    let file : List ℕ = body c.args.capacity f c.args.body.head c.args.body.length in
-    let start : ℕ = c.args.index * c.args.capacity in
-    let size : length file ≡ c.args.body.length = body_length c.args.capacity f c.args.body.head c.args.body.length c.requires.whole in
+    let file : List ℕ = body c.args.change.capacity f c.args.change.body.head c.args.change.body.length in
+    let start : ℕ = c.args.index * c.args.change.capacity in
+    let size : length file ≡ c.args.change.body.length = body_length c.args.change.capacity f c.args.change.body.head c.args.change.body.length c.requires.holds.whole in
     let is : kept ≡ min (length file - start) (length c.args.out.now) = omega (arith, c.min-kept.ensures, c.saturating_sub.ensures) in
-    let part = part_of c.args.capacity f c.args.body.head c.args.body.length c.args.index kept c.in_ok-block.block c.requires.least c.requires.whole (omega arith)
+    let part = part_of c.args.change.capacity f c.args.change.body.head c.args.change.body.length c.args.index kept c.in_ok-block.block c.requires.holds.least c.requires.holds.whole (omega arith)
     (omega (arith, c.min-kept.ensures, c.requires.size)) (omega (arith, c.min-kept.ensures, c.saturating_sub.ensures)) c.in_ok-block.ensures.found in
     let copied : c.copy_data.new.out ≡ take kept (data_of (f c.in_ok-block.block)) =
     c.in_ok-copy_data.ensures.copied ∙ ap (λ (n : ℕ). take n (data_of (g.N.Nodes.node c.find_listed.new.nodes c.in_ok-block.block))) (length-take-le kept c.args.out.now (omega (arith, c.min-kept.ensures)))
     ∙ ap (λ (h : Blocks). take kept (data_of (h c.in_ok-block.block))) c.in_ok-block.ensures.looks.same_nodes in
-    let all = part_kept file c.args.out.now (data_of (f c.in_ok-block.block)) start c.args.offset c.args.end kept c.requires.zeros is part.long part.bytes in
+    let all = part_kept file c.args.out.now (data_of (f c.in_ok-block.block)) start c.args.change.offset c.args.end kept c.requires.zeros is part.long part.bytes in
     λ i lt which. ap (λ (xs : List ℕ). slice_index (xs ++ drop kept c.args.out.now) i) copied ∙ all i lt which
 
-pub returns-in_err-copy_data-clause-why : goal.returns-in_err-copy_data-clause-why
-returns-in_err-copy_data-clause-why g c =
+pub returns-in_err-copy_data-clause-refused : goal.returns-in_err-copy_data-clause-refused
+returns-in_err-copy_data-clause-refused g c =
     let p = err_from_is_err_and c.from_residual-in_err-copy_data.result c.from_residual-in_err-copy_data.ensures.1 in
-    let why = g.met.N.Nodes.causes_on c.args.nodes.now c.find_listed.new.nodes c.copy_data.new.nodes c.in_err-copy_data.field-0.0 c.find_listed.ensures.looks.came c.in_err-copy_data.ensures.why in
-    rw (p.1, p.2) why
+    let refused = c.in_err-copy_data.ensures.refused in
+    let why = g.met.N.Nodes.causes_on c.args.nodes.now c.find_listed.new.nodes c.copy_data.new.nodes c.in_err-copy_data.field-0.0 c.find_listed.ensures.looks.came refused.1 in
+    rw (p.1, p.2) (refused.0, why)
+
+pub returns-in_err-block-clause-refused : goal.returns-in_err-block-clause-refused
+returns-in_err-block-clause-refused g c =
+    let p = err_from_is_err_and c.from_residual.result c.from_residual.ensures.1 in
+    rw (p.1, p.2) c.in_err-block.ensures.refused
 
 pub returns-in_err-copy_data-clause-looks : goal.returns-in_err-copy_data-clause-looks
 returns-in_err-copy_data-clause-looks g c = g.met.N.Nodes.looks_on c.args.nodes.now c.find_listed.new.nodes c.copy_data.new.nodes c.find_listed.ensures.looks c.copy_data.ensures.looks
 
 pub returns-clause-looks : goal.returns-clause-looks
-returns-clause-looks g c = g.met.N.Nodes.looks_on c.args.nodes.now c.find_listed.new.nodes c.copy_data.new.nodes c.find_listed.ensures.looks c.copy_data.ensures.looks
+returns-clause-looks g c =
+    g.met.N.Nodes.looks_on c.args.nodes.now c.copy_data.new.nodes c.supersede.new.self
+    (g.met.N.Nodes.looks_on c.args.nodes.now c.find_listed.new.nodes c.copy_data.new.nodes c.find_listed.ensures.looks c.copy_data.ensures.looks) c.supersede.ensures.looks
 
 pub returns-in_err-block-clause-looks : goal.returns-in_err-block-clause-looks
 returns-in_err-block-clause-looks g c = c.find_listed.ensures.looks
-
-pub returns-in_err-block-clause-why : goal.returns-in_err-block-clause-why
-returns-in_err-block-clause-why g c =
-    let p = err_from_is_err_and c.from_residual.result c.from_residual.ensures.1 in
-    rw (p.1, p.2) c.in_err-block.ensures.why
-
-pub returns-in_err-block-clause-faults : goal.returns-in_err-block-clause-faults
-returns-in_err-block-clause-faults g c =
-    let p = err_from_is_err_and c.from_residual.result c.from_residual.ensures.1 in
-    rw (p.1, p.2) c.in_err-block.ensures.faults
-
-pub returns-in_err-copy_data-clause-faults : goal.returns-in_err-copy_data-clause-faults
-returns-in_err-copy_data-clause-faults g c =
-    let p = err_from_is_err_and c.from_residual-in_err-copy_data.result c.from_residual-in_err-copy_data.ensures.1 in
-    rw (p.1, p.2) c.in_err-copy_data.ensures.faults

@@ -1,8 +1,10 @@
-use Rattle.std.proofs.Common.{◌≡◌, ◌≤◌, ◌<◌, ◌-◌, ◌*◌, ◌/◌, length, take, drop, refl, ap, ◌∙◌, arith}
+use Rattle.std.proofs.Common.{◌≡◌, ◌≤◌, ◌<◌, ℕ, ◌+◌, ◌-◌, ◌*◌, ◌/◌, length, take, drop, refl, ap, subst, ◌∙◌, arith}
 use borrow.Rule.Slice.PartMut.{put_mid}
+use Rattle.node_store.specs.NodePages.{pages_for}
 use Rattle.block_trees.specs.Bodies.{Blocks, index_of, pointer_of, data_of}
 use Rattle.block_trees.proofs.Bodies.{chain_node}
-use Rattle.skip_list_file.proofs.Parts.{piece_length, part_length, filled_length, step_of, step_left, one_fewer}
+use Rattle.skip_list_file.specs.Reading.{nodes_between}
+use Rattle.skip_list_file.proofs.Parts.{piece_length, part_length, filled_length, step_of, step_left, one_fewer, pages_fewer}
 use Rattle.skip_list_file.proofs.range_reads.fill.Goals as goal
 
 pub copy_data-requires-clause-node : goal.copy_data-requires-clause-node
@@ -31,6 +33,17 @@ returns-in_err-block-clause-reads g c =
     let fewer = one_fewer c.args.capacity c.args.start c.loop-end.end c.max-from.result c.requires.capacity c.loop-end-test.true c.max-from.ensures in
     omega (arith, fewer, now.reads, c.in_err-block.ensures.reads)
 
+-- the pages of a block are as many as at first
+pub returns-in_err-block-clause-asks : goal.returns-in_err-block-clause-asks
+returns-in_err-block-clause-asks g c =
+    let old = c.args.nodes.now in
+    let now = c.loop-end.invariant in
+    let same_pages = ap (λ (n : ℕ). pages_for n (g.N.Nodes.limit c.loop-end.nodes)) (g.met.N.Nodes.same_page old c.loop-end.nodes now.looks.came) ∙ ap (pages_for (g.N.Nodes.page old)) now.looks.same_limit in
+    let fewer = one_fewer c.args.capacity c.args.start c.loop-end.end c.max-from.result c.requires.capacity c.loop-end-test.true c.max-from.ensures in
+    let step = pages_fewer (pages_for (g.N.Nodes.page old) (g.N.Nodes.limit old)) (nodes_between c.args.capacity c.args.start c.max-from.result) (nodes_between c.args.capacity c.args.start c.loop-end.end) (g.N.Nodes.asked c.loop-end.nodes) (g.N.Nodes.asked c.copy_data.new.nodes)
+    (g.N.Nodes.asked old + nodes_between c.args.capacity c.args.start c.args.end * pages_for (g.N.Nodes.page old) (g.N.Nodes.limit old)) fewer (subst (λ (n : ℕ). g.N.Nodes.asked c.copy_data.new.nodes ≤ g.N.Nodes.asked c.loop-end.nodes + n) same_pages c.copy_data.ensures.asks) now.asks in
+    omega (arith, step)
+
 pub loop-end-preserved : goal.loop-end-preserved
 loop-end-preserved g c =
     let old = c.args.nodes.now in
@@ -57,11 +70,14 @@ loop-end-preserved g c =
     ∙ ap (λ (f : Blocks). pointer_of (f c.loop-end.block) 0) now.looks.same_nodes in
     let step = step_of c.args.capacity f c.args.start end index c.loop-end.block from c.in_ok-block.block out ys new lt last now.left.size is copied refl before in
     let fewer = one_fewer c.args.capacity c.args.start end from c.requires.capacity lt is in
+    let same_pages = ap (λ (n : ℕ). pages_for n (g.N.Nodes.limit c.loop-end.nodes)) (g.met.N.Nodes.same_page old c.loop-end.nodes now.looks.came) ∙ ap (pages_for (g.N.Nodes.page old)) now.looks.same_limit in
     record {
       left = step_left c.args.capacity f c.args.start end index c.loop-end.block from c.in_ok-block.block out new _ ((from - 1) / c.args.capacity) c.requires.capacity lt now.left step same refl;
       below = omega (arith, le', now.below);
       size = same ∙ now.size;
       reads = omega (arith, fewer, now.reads, done.reads);
+      asks = pages_fewer (pages_for (g.N.Nodes.page old) (g.N.Nodes.limit old)) (nodes_between c.args.capacity c.args.start from) (nodes_between c.args.capacity c.args.start end) (g.N.Nodes.asked c.loop-end.nodes) (g.N.Nodes.asked c.copy_data.new.nodes)
+          (g.N.Nodes.asked old + nodes_between c.args.capacity c.args.start c.args.end * pages_for (g.N.Nodes.page old) (g.N.Nodes.limit old)) fewer (subst (λ (n : ℕ). g.N.Nodes.asked c.copy_data.new.nodes ≤ g.N.Nodes.asked c.loop-end.nodes + n) same_pages done.asks) now.asks;
       looks = g.met.N.Nodes.looks_on old c.loop-end.nodes c.copy_data.new.nodes now.looks done.looks;
     }
 

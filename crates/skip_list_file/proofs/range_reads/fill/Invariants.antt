@@ -1,5 +1,6 @@
-use Rattle.std.proofs.Common.{◌≡◌, ◌+◌, ◌-◌, ◌/◌, ◌≤◌, length, take, drop}
+use Rattle.std.proofs.Common.{◌≡◌, ◌+◌, ◌-◌, ◌*◌, ◌/◌, ◌≤◌, length, take, drop}
 use Rattle.node_store.specs.Frames.{OnlyLooks}
+use Rattle.node_store.specs.NodePages.{pages_for}
 use Rattle.block_trees.specs.Bodies.{data_to}
 use Rattle.skip_list_file.specs.Reading.{nodes_between}
 use Rattle.skip_list_file.proofs.Parts.{IsLeft}
@@ -15,5 +16,7 @@ invariant-loop-end g l = record {
   below : l.end ≤ l.initial.end;
   size : length l.out ≡ l.initial.end - l.start;
   reads : g.N.Nodes.reads l.nodes + nodes_between l.capacity l.start l.end ≤ g.N.Nodes.reads l.initial.nodes + nodes_between l.capacity l.start l.initial.end;
+  asks : g.N.Nodes.asked l.nodes + nodes_between l.capacity l.start l.end * pages_for (g.N.Nodes.page l.initial.nodes) (g.N.Nodes.limit l.initial.nodes)
+      ≤ g.N.Nodes.asked l.initial.nodes + nodes_between l.capacity l.start l.initial.end * pages_for (g.N.Nodes.page l.initial.nodes) (g.N.Nodes.limit l.initial.nodes);
   looks : OnlyLooks g.N.Nodes.node g.N.Nodes.kept g.N.Nodes.writes g.N.Nodes.follows g.N.Nodes.is_sound g.N.Nodes.limit g.N.Nodes.blocks l.initial.nodes l.nodes;
 }

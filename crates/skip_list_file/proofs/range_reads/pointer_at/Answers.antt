@@ -1,12 +1,12 @@
-use Rattle.std.proofs.Common.{sym, subst}
-use Rattle.node_format.specs.BodyNodes.{IsBodyNode}
-use Rattle.skip_list_file.proofs.Chains.{body_at}
+use Rattle.std.proofs.Common.{List, ℕ, ◌+◌, ◌*◌, ap, ◌∙◌}
+use Rattle.node_format.specs.Headers.{field}
+use Rattle.skip_list_file.proofs.FirstPages.{front_pointer}
 use Rattle.skip_list_file.proofs.range_reads.pointer_at.Goals as goal
 
-pub unreachable-requires : goal.unreachable-requires
-unreachable-requires g c =
+pub returns-clause-found : goal.returns-clause-found
+returns-clause-found g c =
     let old = c.args.nodes.now in
-    let shown = c.in_ok-read.ensures.shown in
-    let at = body_at (g.N.Nodes.limit old) c.requires.slot.0 (g.N.Nodes.node old c.args.block) (g.N.Nodes.shown c.read.new.self) shown (g.met.N.Nodes.whole old c.args.block _ c.requires.sound shown) c.requires.slot.1 in
-    let read = c.in_default.ensures.only (subst IsBodyNode (sym c.lent.ensures) at.is_node) in
-    absurd cc
+    let slot = c.args.slot in
+    c.u32_at.ensures ∙ ap (λ (bytes : List ℕ). field bytes (16 + 4 * slot)) c.fronted.ensures
+    ∙ front_pointer (g.N.Nodes.page old) (g.N.Nodes.limit old) c.requires.slot.0 slot (g.N.Nodes.node old c.args.block) (g.N.Nodes.beginning c.front.new.self)
+    (g.met.N.Nodes.least_page old c.requires.sound) c.in_ok-front.ensures.begins (λ bytes is. g.met.N.Nodes.whole old c.args.block bytes c.requires.sound is) c.requires.slot.1 c.requires.slot.2.0

@@ -58,21 +58,19 @@ loop-slot-preserved g c =
       reads = omega (arith, now.reads, c.step_back.ensures.reads);
       few = λ digits small. few_more c.args.index digits slot (g.N.Nodes.reads c.args.nodes.now) (g.N.Nodes.reads c.loop-slot.nodes) (g.N.Nodes.reads c.step_back.new.nodes)
           (omega arith) small (omega arith) now.reads (now.few digits small) c.step_back.ensures.reads c.step_back.ensures.unread;
+      asks = omega (arith, now.asks, done.asks);
       looks = g.met.N.Nodes.looks_on c.args.nodes.now c.loop-slot.nodes c.step_back.new.nodes now.looks done.looks;
     }
 
 pub returns-in_err-block-clause-looks : goal.returns-in_err-block-clause-looks
 returns-in_err-block-clause-looks g c = g.met.N.Nodes.looks_on c.args.nodes.now c.loop-slot.nodes c.step_back.new.nodes c.loop-slot.invariant.looks c.step_back.ensures.looks
 
-pub returns-in_err-block-clause-why : goal.returns-in_err-block-clause-why
-returns-in_err-block-clause-why g c =
+pub returns-in_err-block-clause-refused : goal.returns-in_err-block-clause-refused
+returns-in_err-block-clause-refused g c =
     let p = err_from_is_err_and c.from_residual.result c.from_residual.ensures.1 in
-    rw (p.1, p.2) (g.met.N.Nodes.causes_on c.args.nodes.now c.loop-slot.nodes c.step_back.new.nodes c.in_err-block.field-0.0 c.loop-slot.invariant.looks.came c.in_err-block.ensures.why)
-
-pub returns-in_err-block-clause-faults : goal.returns-in_err-block-clause-faults
-returns-in_err-block-clause-faults g c =
-    let p = err_from_is_err_and c.from_residual.result c.from_residual.ensures.1 in
-    rw (p.1, p.2) c.in_err-block.ensures.faults
+    let refused = c.in_err-block.ensures.refused in
+    let why = g.met.N.Nodes.causes_on c.args.nodes.now c.loop-slot.nodes c.step_back.new.nodes c.in_err-block.field-0.0 c.loop-slot.invariant.looks.came refused.1 in
+    rw (p.1, p.2) (refused.0, why)
 
 pub returns-then-last-power-clause-looks : goal.returns-then-last-power-clause-looks
 returns-then-last-power-clause-looks g c = c.loop-slot.invariant.looks

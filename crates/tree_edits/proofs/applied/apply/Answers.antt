@@ -38,90 +38,90 @@ returns-in-Move-clause-still g c = λ none.
 
 pub returns-in-MakeDirectory-clause-keeps : goal.returns-in-MakeDirectory-clause-keeps
 returns-in-MakeDirectory-clause-keeps g c = record {
-  same = λ b kept. g.met.N.Nodes.same_node c.args.nodes.now c.make.new.nodes b c.requires.sound c.make.ensures.follows kept;
-  stays = λ b kept. g.met.N.Nodes.stays_kept c.args.nodes.now c.make.new.nodes b c.make.ensures.follows kept;
+  same = λ b kept. g.met.N.Nodes.same_node c.args.nodes.now c.make.new.nodes b c.requires.sound c.make.ensures.applied.came kept;
+  stays = λ b kept. g.met.N.Nodes.stays_kept c.args.nodes.now c.make.new.nodes b c.make.ensures.applied.came kept;
 }
 
 pub returns-in-MakeDirectory-clause-why : goal.returns-in-MakeDirectory-clause-why
-returns-in-MakeDirectory-clause-why g c = c.make.ensures.why
+returns-in-MakeDirectory-clause-why g c = c.make.ensures.applied.why
 
 pub returns-in-MakeDirectory-clause-faults : goal.returns-in-MakeDirectory-clause-faults
-returns-in-MakeDirectory-clause-faults g c = c.make.ensures.faults
+returns-in-MakeDirectory-clause-faults g c = c.make.ensures.applied.faults
 
 pub returns-in-MakeDirectory-clause-follows : goal.returns-in-MakeDirectory-clause-follows
-returns-in-MakeDirectory-clause-follows g c = c.make.ensures.follows
+returns-in-MakeDirectory-clause-follows g c = c.make.ensures.applied.came
 
 pub returns-in-PutEmptyFile-clause-keeps : goal.returns-in-PutEmptyFile-clause-keeps
 returns-in-PutEmptyFile-clause-keeps g c = record {
-  same = λ b kept. g.met.N.Nodes.same_node c.args.nodes.now c.put_empty.new.nodes b c.requires.sound c.put_empty.ensures.follows kept;
-  stays = λ b kept. g.met.N.Nodes.stays_kept c.args.nodes.now c.put_empty.new.nodes b c.put_empty.ensures.follows kept;
+  same = λ b kept. g.met.N.Nodes.same_node c.args.nodes.now c.put_empty.new.nodes b c.requires.sound c.put_empty.ensures.applied.came kept;
+  stays = λ b kept. g.met.N.Nodes.stays_kept c.args.nodes.now c.put_empty.new.nodes b c.put_empty.ensures.applied.came kept;
 }
 
 pub returns-in-PutEmptyFile-clause-why : goal.returns-in-PutEmptyFile-clause-why
-returns-in-PutEmptyFile-clause-why g c = c.put_empty.ensures.why
+returns-in-PutEmptyFile-clause-why g c = c.put_empty.ensures.applied.why
 
 pub returns-in-PutEmptyFile-clause-faults : goal.returns-in-PutEmptyFile-clause-faults
-returns-in-PutEmptyFile-clause-faults g c = c.put_empty.ensures.faults
+returns-in-PutEmptyFile-clause-faults g c = c.put_empty.ensures.applied.faults
 
 pub returns-in-PutEmptyFile-clause-follows : goal.returns-in-PutEmptyFile-clause-follows
-returns-in-PutEmptyFile-clause-follows g c = c.put_empty.ensures.follows
+returns-in-PutEmptyFile-clause-follows g c = c.put_empty.ensures.applied.came
 
 pub returns-in-Overwrite-clause-keeps : goal.returns-in-Overwrite-clause-keeps
 returns-in-Overwrite-clause-keeps g c = record {
-  same = λ b kept. g.met.N.Nodes.same_node c.args.nodes.now c.overwrite.new.nodes b c.requires.sound c.overwrite.ensures.follows kept;
-  stays = λ b kept. g.met.N.Nodes.stays_kept c.args.nodes.now c.overwrite.new.nodes b c.overwrite.ensures.follows kept;
+  same = λ b kept. g.met.N.Nodes.same_node c.args.nodes.now c.overwrite.new.nodes b c.requires.sound c.overwrite.ensures.applied.came kept;
+  stays = λ b kept. g.met.N.Nodes.stays_kept c.args.nodes.now c.overwrite.new.nodes b c.overwrite.ensures.applied.came kept;
 }
 
 pub returns-in-Overwrite-clause-why : goal.returns-in-Overwrite-clause-why
-returns-in-Overwrite-clause-why g c = c.overwrite.ensures.why
+returns-in-Overwrite-clause-why g c = c.overwrite.ensures.applied.why
 
 pub returns-in-Overwrite-clause-faults : goal.returns-in-Overwrite-clause-faults
-returns-in-Overwrite-clause-faults g c = c.overwrite.ensures.faults
+returns-in-Overwrite-clause-faults g c = c.overwrite.ensures.applied.faults
 
 pub returns-in-Overwrite-clause-follows : goal.returns-in-Overwrite-clause-follows
-returns-in-Overwrite-clause-follows g c = c.overwrite.ensures.follows
+returns-in-Overwrite-clause-follows g c = c.overwrite.ensures.applied.came
 
 pub returns-in-SetLength-clause-keeps : goal.returns-in-SetLength-clause-keeps
 returns-in-SetLength-clause-keeps g c = record {
-  same = λ b kept. g.met.N.Nodes.same_node c.args.nodes.now c.resize.new.nodes b c.requires.sound c.resize.ensures.follows kept;
-  stays = λ b kept. g.met.N.Nodes.stays_kept c.args.nodes.now c.resize.new.nodes b c.resize.ensures.follows kept;
+  same = λ b kept. g.met.N.Nodes.same_node c.args.nodes.now c.resize.new.nodes b c.requires.sound c.resize.ensures.applied.came kept;
+  stays = λ b kept. g.met.N.Nodes.stays_kept c.args.nodes.now c.resize.new.nodes b c.resize.ensures.applied.came kept;
 }
 
 pub returns-in-SetLength-clause-why : goal.returns-in-SetLength-clause-why
-returns-in-SetLength-clause-why g c = c.resize.ensures.why
+returns-in-SetLength-clause-why g c = c.resize.ensures.applied.why
 
 pub returns-in-SetLength-clause-faults : goal.returns-in-SetLength-clause-faults
-returns-in-SetLength-clause-faults g c = c.resize.ensures.faults
+returns-in-SetLength-clause-faults g c = c.resize.ensures.applied.faults
 
 pub returns-in-SetLength-clause-follows : goal.returns-in-SetLength-clause-follows
-returns-in-SetLength-clause-follows g c = c.resize.ensures.follows
+returns-in-SetLength-clause-follows g c = c.resize.ensures.applied.came
 
 pub returns-in-Remove-clause-keeps : goal.returns-in-Remove-clause-keeps
 returns-in-Remove-clause-keeps g c = record {
-  same = λ b kept. g.met.N.Nodes.same_node c.args.nodes.now c.remove.new.nodes b c.requires.sound c.remove.ensures.follows kept;
-  stays = λ b kept. g.met.N.Nodes.stays_kept c.args.nodes.now c.remove.new.nodes b c.remove.ensures.follows kept;
+  same = λ b kept. g.met.N.Nodes.same_node c.args.nodes.now c.remove.new.nodes b c.requires.sound c.remove.ensures.applied.came kept;
+  stays = λ b kept. g.met.N.Nodes.stays_kept c.args.nodes.now c.remove.new.nodes b c.remove.ensures.applied.came kept;
 }
 
 pub returns-in-Remove-clause-why : goal.returns-in-Remove-clause-why
-returns-in-Remove-clause-why g c = c.remove.ensures.why
+returns-in-Remove-clause-why g c = c.remove.ensures.applied.why
 
 pub returns-in-Remove-clause-faults : goal.returns-in-Remove-clause-faults
-returns-in-Remove-clause-faults g c = c.remove.ensures.faults
+returns-in-Remove-clause-faults g c = c.remove.ensures.applied.faults
 
 pub returns-in-Remove-clause-follows : goal.returns-in-Remove-clause-follows
-returns-in-Remove-clause-follows g c = c.remove.ensures.follows
+returns-in-Remove-clause-follows g c = c.remove.ensures.applied.came
 
 pub returns-in-Move-clause-keeps : goal.returns-in-Move-clause-keeps
 returns-in-Move-clause-keeps g c = record {
-  same = λ b kept. g.met.N.Nodes.same_node c.args.nodes.now c.rename.new.nodes b c.requires.sound c.rename.ensures.follows kept;
-  stays = λ b kept. g.met.N.Nodes.stays_kept c.args.nodes.now c.rename.new.nodes b c.rename.ensures.follows kept;
+  same = λ b kept. g.met.N.Nodes.same_node c.args.nodes.now c.rename.new.nodes b c.requires.sound c.rename.ensures.applied.came kept;
+  stays = λ b kept. g.met.N.Nodes.stays_kept c.args.nodes.now c.rename.new.nodes b c.rename.ensures.applied.came kept;
 }
 
 pub returns-in-Move-clause-why : goal.returns-in-Move-clause-why
-returns-in-Move-clause-why g c = c.rename.ensures.why
+returns-in-Move-clause-why g c = c.rename.ensures.applied.why
 
 pub returns-in-Move-clause-faults : goal.returns-in-Move-clause-faults
-returns-in-Move-clause-faults g c = c.rename.ensures.faults
+returns-in-Move-clause-faults g c = c.rename.ensures.applied.faults
 
 pub returns-in-Move-clause-follows : goal.returns-in-Move-clause-follows
-returns-in-Move-clause-follows g c = c.rename.ensures.follows
+returns-in-Move-clause-follows g c = c.rename.ensures.applied.came

@@ -9,20 +9,12 @@ use Rattle.commit_pair.specs.Parts.{greatest_on}
 use Rattle.commit_pair.proofs.Anchoring.{OnlyAnchors_on, OnlyAnchors_itself}
 use Rattle.commit_pair.proofs.Asking.{placed_after, tried_none, tried_after}
 use Rattle.commit_pair.proofs.Beginning.{above_all, reads_only_anchors, reads_untouched, reads_may_commit, reads_keep, reads_commit, read_commit_cause, try_commit_cause, if_err_each, none_left, one_left}
-use Rattle.commit_pair.proofs.Following.{Commits_on, refused_on}
+use Rattle.commit_pair.proofs.Following.{Commits_on, in_vain_on, in_vain_untouched, suits_still}
 use Rattle.commit_pair.proofs.anchors.Anchors.commit.Goals as goal
 
 pub commit_as-requires-clause-older : goal.commit_as-requires-clause-older
 commit_as-requires-clause-older g c =
     above_all c.args.saved.now.geometry (g.F.Flash.device c.args.flash.now).pages (g.F.Flash.device c.greatest.new.flash).pages c.in_ok-greatest.greatest (same_pages c.in_ok-greatest.ensures.only_reads) c.in_ok-greatest.ensures.greatest
-
-pub returns-clause-untouched : goal.returns-clause-untouched
-returns-clause-untouched g c =
-    let old = g.F.Flash.device c.args.flash.now in
-    let mid = g.F.Flash.device c.greatest.new.flash in
-    let reads = c.in_ok-greatest.ensures.only_reads in
-    refused_on old mid (g.F.Flash.device c.commit_as.new.flash) c.args.bad.now c.args.bad.now c.commit_as.new.bad c.commit_as.result
-    (reads_only_anchors old mid c.args.bad.now reads) c.commit_as.ensures.only_anchors (reads_untouched old mid c.args.bad.now reads) c.commit_as.ensures.untouched
 
 pub returns-clause-placed : goal.returns-clause-placed
 returns-clause-placed g c =
@@ -64,9 +56,6 @@ returns-then-greatest-clause-untouched g c = λ on.
 pub returns-then-greatest-clause-commits : goal.returns-then-greatest-clause-commits
 returns-then-greatest-clause-commits g c = reads_keep c.args.saved.now.geometry _ _ (same_pages c.in_ok-greatest.ensures.only_reads)
 
-pub commit_as-requires-clause-same : goal.commit_as-requires-clause-same
-commit_as-requires-clause-same g c = c.in_ok-greatest.ensures.only_reads.geometry ∙ c.requires.same
-
 pub returns-clause-only_anchors : goal.returns-clause-only_anchors
 returns-clause-only_anchors g c =
     let old = g.F.Flash.device c.args.flash.now in
@@ -81,15 +70,6 @@ returns-clause-commits g c =
 
 pub returns-clause-ready : goal.returns-clause-ready
 returns-clause-ready g c = c.commit_as.ensures.ready
-
-pub returns-clause-open : goal.returns-clause-open
-returns-clause-open g c = c.commit_as.ensures.open
-
-pub returns-clause-known : goal.returns-clause-known
-returns-clause-known g c = c.commit_as.ensures.known
-
-pub returns-clause-same : goal.returns-clause-same
-returns-clause-same g c = c.commit_as.ensures.same
 
 pub returns-then-is_read_only-clause-only_anchors : goal.returns-then-is_read_only-clause-only_anchors
 returns-then-is_read_only-clause-only_anchors g c = OnlyAnchors_itself (g.F.Flash.device c.args.flash.now) c.args.bad.now
@@ -156,17 +136,8 @@ returns-in_err-page-clause-commits g c =
 pub returns-in_err-page-clause-placed : goal.returns-in_err-page-clause-placed
 returns-in_err-page-clause-placed g c = rw (err_from_is_err_and c.from_residual.result c.from_residual.ensures.1).1 tt
 
-pub returns-in_err-page-clause-known : goal.returns-in_err-page-clause-known
-returns-in_err-page-clause-known g c = rw (err_from_is_err_and c.from_residual.result c.from_residual.ensures.1).1 tt
-
-pub returns-in_err-page-clause-open : goal.returns-in_err-page-clause-open
-returns-in_err-page-clause-open g c = rw (err_from_is_err_and c.from_residual.result c.from_residual.ensures.1).1 tt
-
 pub returns-in_err-page-clause-untouched : goal.returns-in_err-page-clause-untouched
 returns-in_err-page-clause-untouched g c = rw (err_from_is_err_and c.from_residual.result c.from_residual.ensures.1).1 (λ other q good. refl)
-
-pub returns-in_err-page-clause-same : goal.returns-in_err-page-clause-same
-returns-in_err-page-clause-same g c = rw (err_from_is_err_and c.from_residual.result c.from_residual.ensures.1).1 refl
 
 pub returns-in_err-page-clause-ready : goal.returns-in_err-page-clause-ready
 returns-in_err-page-clause-ready g c = λ on. c.requires.ready
@@ -179,20 +150,11 @@ returns-in_err-page-clause-last g c = λ all. record {
   refused = c.from_residual.ensures.0;
   pages = refl;
   list = refl;
-  known = λ some good. absurd (one_left (g.F.Flash.device c.args.flash.now) c.args.saved.now.geometry c.args.bad.now c.args.self.now c.has_next_sequence.result c.requires.same c.requires.ready c.has_next_sequence.ensures c.if-not-has_next_sequence.false all some);
+  known = λ some good. absurd (one_left (g.F.Flash.device c.args.flash.now) c.args.saved.now.geometry c.args.bad.now c.args.self.now c.has_next_sequence.result c.requires.suits.same c.requires.ready c.has_next_sequence.ensures c.if-not-has_next_sequence.false all some);
 }
 
 pub returns-in_err-greatest-clause-placed : goal.returns-in_err-greatest-clause-placed
 returns-in_err-greatest-clause-placed g c = rw (err_from_is_err_and c.from_residual-in_err-greatest.result c.from_residual-in_err-greatest.ensures.1).1 tt
-
-pub returns-in_err-greatest-clause-known : goal.returns-in_err-greatest-clause-known
-returns-in_err-greatest-clause-known g c = rw (err_from_is_err_and c.from_residual-in_err-greatest.result c.from_residual-in_err-greatest.ensures.1).1 tt
-
-pub returns-in_err-greatest-clause-open : goal.returns-in_err-greatest-clause-open
-returns-in_err-greatest-clause-open g c = rw (err_from_is_err_and c.from_residual-in_err-greatest.result c.from_residual-in_err-greatest.ensures.1).1 tt
-
-pub returns-in_err-greatest-clause-same : goal.returns-in_err-greatest-clause-same
-returns-in_err-greatest-clause-same g c = rw (err_from_is_err_and c.from_residual-in_err-greatest.result c.from_residual-in_err-greatest.ensures.1).1 refl
 
 pub returns-in_err-greatest-clause-at_once : goal.returns-in_err-greatest-clause-at_once
 returns-in_err-greatest-clause-at_once g c = λ full. absurd (both_ways (is_read_only c.args.bad.now) (sym c.is_read_only.ensures ∙ c.if-is_read_only.false) full)
@@ -202,7 +164,7 @@ returns-in_err-greatest-clause-last g c = λ all. record {
   refused = c.from_residual-in_err-greatest.ensures.0;
   pages = (same_pages c.in_err-greatest.ensures.only_reads);
   list = refl;
-  known = λ some good. absurd (one_left (g.F.Flash.device c.args.flash.now) c.args.saved.now.geometry c.args.bad.now c.args.self.now c.has_next_sequence.result c.requires.same c.requires.ready c.has_next_sequence.ensures c.if-not-has_next_sequence.false all some);
+  known = λ some good. absurd (one_left (g.F.Flash.device c.args.flash.now) c.args.saved.now.geometry c.args.bad.now c.args.self.now c.has_next_sequence.result c.requires.suits.same c.requires.ready c.has_next_sequence.ensures c.if-not-has_next_sequence.false all some);
 }
 
 pub returns-in_err-greatest-clause-untouched : goal.returns-in_err-greatest-clause-untouched
@@ -222,13 +184,13 @@ returns-then-greatest-clause-last g c = λ all. record {
   refused = refl;
   pages = (same_pages c.in_ok-greatest.ensures.only_reads);
   list = refl;
-  known = λ some good. absurd (one_left (g.F.Flash.device c.args.flash.now) c.args.saved.now.geometry c.args.bad.now c.args.self.now c.has_next_sequence.result c.requires.same c.requires.ready c.has_next_sequence.ensures c.if-not-has_next_sequence.false all some);
+  known = λ some good. absurd (one_left (g.F.Flash.device c.args.flash.now) c.args.saved.now.geometry c.args.bad.now c.args.self.now c.has_next_sequence.result c.requires.suits.same c.requires.ready c.has_next_sequence.ensures c.if-not-has_next_sequence.false all some);
 }
 
 pub returns-then-greatest-clause-why : goal.returns-then-greatest-clause-why
 returns-then-greatest-clause-why g c =
     let old = g.F.Flash.device c.args.flash.now in
-    (ap (λ (h : Geometry). greatest_on h old.pages) c.requires.same ∙ sym c.in_ok-greatest.ensures.greatest ∙ c.if-greatest.true, (same_pages c.in_ok-greatest.ensures.only_reads), refl)
+    (ap (λ (h : Geometry). greatest_on h old.pages) c.requires.suits.same ∙ sym c.in_ok-greatest.ensures.greatest ∙ c.if-greatest.true, (same_pages c.in_ok-greatest.ensures.only_reads), refl)
 
 pub returns-clause-at_once : goal.returns-clause-at_once
 returns-clause-at_once g c = λ full. absurd (both_ways (is_read_only c.args.bad.now) (sym c.is_read_only.ensures ∙ c.if-is_read_only.false) full)
@@ -236,38 +198,17 @@ returns-clause-at_once g c = λ full. absurd (both_ways (is_read_only c.args.bad
 pub returns-clause-last : goal.returns-clause-last
 returns-clause-last g c = λ all. absurd (c.if-greatest.false (c.in_ok-greatest.ensures.greatest ∙ all))
 
-pub returns-clause-why : goal.returns-clause-why
-returns-clause-why g c = try_commit_cause (g.F.Flash.device c.args.flash.now) c.args.bad.now c.args.self.now (g.F.Flash.device c.commit_as.new.flash) c.commit_as.new.bad c.commit_as.result c.commit_as.ensures.why
-
 pub greatest-requires-clause-same : goal.greatest-requires-clause-same
-greatest-requires-clause-same g c = c.requires.same
+greatest-requires-clause-same g c = c.requires.suits.same
 
 pub greatest-requires-clause-lawful : goal.greatest-requires-clause-lawful
-greatest-requires-clause-lawful g c = c.requires.lawful
+greatest-requires-clause-lawful g c = c.requires.suits.lawful
 
 pub greatest-requires-clause-ready : goal.greatest-requires-clause-ready
 greatest-requires-clause-ready g c = c.requires.ready
 
-pub commit_as-requires-clause-lawful : goal.commit_as-requires-clause-lawful
-commit_as-requires-clause-lawful g c = c.requires.lawful
-
-pub commit_as-requires-clause-is_lawful : goal.commit_as-requires-clause-is_lawful
-commit_as-requires-clause-is_lawful g c = c.requires.is_lawful
-
-pub commit_as-requires-clause-on_flash : goal.commit_as-requires-clause-on_flash
-commit_as-requires-clause-on_flash g c = c.requires.on_flash
-
 pub commit_as-requires-clause-open : goal.commit_as-requires-clause-open
 commit_as-requires-clause-open g c = sym c.is_read_only.ensures ∙ c.if-is_read_only.false
-
-pub returns-in_err-page-clause-uncleared : goal.returns-in_err-page-clause-uncleared
-returns-in_err-page-clause-uncleared g c = rw (err_from_is_err_and c.from_residual.result c.from_residual.ensures.1).1 tt
-
-pub returns-in_err-greatest-clause-uncleared : goal.returns-in_err-greatest-clause-uncleared
-returns-in_err-greatest-clause-uncleared g c = rw (err_from_is_err_and c.from_residual-in_err-greatest.result c.from_residual-in_err-greatest.ensures.1).1 tt
-
-pub returns-clause-uncleared : goal.returns-clause-uncleared
-returns-clause-uncleared g c = c.commit_as.ensures.uncleared
 
 pub returns-then-is_read_only-clause-tries : goal.returns-then-is_read_only-clause-tries
 returns-then-is_read_only-clause-tries g c = tried_none (g.F.Flash.device c.args.flash.now) c.args.bad.now c.args.self.now
@@ -281,14 +222,41 @@ returns-in_err-page-clause-tries g c = tried_none (g.F.Flash.device c.args.flash
 pub returns-in_err-greatest-clause-tries : goal.returns-in_err-greatest-clause-tries
 returns-in_err-greatest-clause-tries g c =
     let mid = g.F.Flash.device c.greatest.new.flash in
-    tried_after (g.F.Flash.device c.args.flash.now) mid mid c.args.bad.now c.args.self.now c.args.saved.now.geometry.pages c.greatest.ensures.only_reads (ap (λ (h : Geometry). h.pages) (sym c.requires.same)) c.greatest.ensures.quiet c.greatest.ensures.operations (omega arith)
+    tried_after (g.F.Flash.device c.args.flash.now) mid mid c.args.bad.now c.args.self.now c.args.saved.now.geometry.pages c.greatest.ensures.only_reads (ap (λ (h : Geometry). h.pages) (sym c.requires.suits.same)) c.greatest.ensures.quiet c.greatest.ensures.operations (omega arith)
 
 pub returns-then-greatest-clause-tries : goal.returns-then-greatest-clause-tries
 returns-then-greatest-clause-tries g c =
     let mid = g.F.Flash.device c.greatest.new.flash in
-    tried_after (g.F.Flash.device c.args.flash.now) mid mid c.args.bad.now c.args.self.now c.args.saved.now.geometry.pages c.greatest.ensures.only_reads (ap (λ (h : Geometry). h.pages) (sym c.requires.same)) c.greatest.ensures.quiet c.greatest.ensures.operations (omega arith)
+    tried_after (g.F.Flash.device c.args.flash.now) mid mid c.args.bad.now c.args.self.now c.args.saved.now.geometry.pages c.greatest.ensures.only_reads (ap (λ (h : Geometry). h.pages) (sym c.requires.suits.same)) c.greatest.ensures.quiet c.greatest.ensures.operations (omega arith)
 
 pub returns-clause-tries : goal.returns-clause-tries
 returns-clause-tries g c =
     tried_after (g.F.Flash.device c.args.flash.now) (g.F.Flash.device c.greatest.new.flash) (g.F.Flash.device c.commit_as.new.flash) c.args.bad.now c.args.self.now c.args.saved.now.geometry.pages c.greatest.ensures.only_reads
-    (ap (λ (h : Geometry). h.pages) (sym c.requires.same)) c.greatest.ensures.quiet c.greatest.ensures.operations c.commit_as.ensures.operations
+    (ap (λ (h : Geometry). h.pages) (sym c.requires.suits.same)) c.greatest.ensures.quiet c.greatest.ensures.operations c.commit_as.ensures.operations
+
+pub commit_as-requires-clause-suits : goal.commit_as-requires-clause-suits
+commit_as-requires-clause-suits g c =
+    let old = g.F.Flash.device c.args.flash.now in
+    let mid = g.F.Flash.device c.greatest.new.flash in
+    suits_still old mid c.args.bad.now c.args.bad.now c.args.saved.now (reads_only_anchors old mid c.args.bad.now c.in_ok-greatest.ensures.only_reads) c.requires.suits
+
+pub returns-clause-untouched : goal.returns-clause-untouched
+returns-clause-untouched g c =
+    let old = g.F.Flash.device c.args.flash.now in
+    let mid = g.F.Flash.device c.greatest.new.flash in
+    let new = g.F.Flash.device c.commit_as.new.flash in
+    let reads = c.in_ok-greatest.ensures.only_reads in
+    in_vain_untouched old new c.commit_as.new.bad c.commit_as.result (in_vain_on old mid new c.args.bad.now c.args.bad.now c.commit_as.new.bad c.commit_as.result
+    (reads_only_anchors old mid c.args.bad.now reads) c.commit_as.ensures.only_anchors (reads_untouched old mid c.args.bad.now reads) c.commit_as.ensures.in_vain)
+
+pub returns-clause-why : goal.returns-clause-why
+returns-clause-why g c = try_commit_cause (g.F.Flash.device c.args.flash.now) (g.F.Flash.device c.greatest.new.flash) c.args.bad.now c.args.self.now (g.F.Flash.device c.commit_as.new.flash) c.commit_as.new.bad c.commit_as.result c.commit_as.ensures.in_vain
+
+pub returns-clause-remembers : goal.returns-clause-remembers
+returns-clause-remembers g c = c.commit_as.ensures.remembers
+
+pub returns-in_err-page-clause-remembers : goal.returns-in_err-page-clause-remembers
+returns-in_err-page-clause-remembers g c = rw (err_from_is_err_and c.from_residual.result c.from_residual.ensures.1).1 refl
+
+pub returns-in_err-greatest-clause-remembers : goal.returns-in_err-greatest-clause-remembers
+returns-in_err-greatest-clause-remembers g c = rw (err_from_is_err_and c.from_residual-in_err-greatest.result c.from_residual-in_err-greatest.ensures.1).1 refl

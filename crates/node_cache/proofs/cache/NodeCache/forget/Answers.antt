@@ -1,10 +1,12 @@
-use Rattle.std.proofs.Common.{◌∙◌, ap, nat_eq}
-use Rattle.std.specs.Map.{remove_entry}
-use Rattle.node_cache.specs.Cache.{NodeCache}
-use Rattle.node_cache.proofs.Plain.{view, out_plain}
+use Rattle.std.proofs.Common.{◌∙◌, ap, subst}
+use Rattle.node_cache.specs.Cache.{NodeCache, without, IsBounded}
+use Rattle.node_cache.proofs.Plain.{view, bounded_plain, out_plain}
 use Rattle.node_cache.proofs.cache.NodeCache.forget.Goals as goal
 
-pub returns : goal.returns
-returns c =
+pub returns-clause-taken : goal.returns-clause-taken
+returns-clause-taken c =
     ap view c.pop.ensures.entries ∙ out_plain c.self.inside.nodes c.args.block
-    ∙ ap (λ (k : NodeCache). record k { entries = remove_entry (nat_eq c.args.block) k.entries }) c.self.view_is
+    ∙ ap (λ (k : NodeCache). without k c.args.block) c.self.view_is
+
+pub returns-clause-bounded : goal.returns-clause-bounded
+returns-clause-bounded c = subst IsBounded c.self.view_is (bounded_plain c.self.inside.nodes c.len.ensures.valid)

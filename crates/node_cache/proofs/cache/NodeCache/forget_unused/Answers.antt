@@ -21,12 +21,12 @@ unused-preserved c =
     let passes = found_passes (λ b. not (these b)) _ c.in-Some.block (sym c.first_unused.ensures ∙ c.in-Some.is) in
     record {
       rest =
-          ap (λ (k : NodeCache). with_blocks these k.entries) c.forget.ensures
+          ap (λ (k : NodeCache). with_blocks these k.entries) c.forget.ensures.taken
           ∙ unused_out these c.in-Some.block c.unused.self.entries (not_so (these c.in-Some.block) passes) ∙ c.unused.invariant.rest;
-      room = ap (λ (k : NodeCache). k.room) c.forget.ensures ∙ c.unused.invariant.room;
+      room = ap (λ (k : NodeCache). k.room) c.forget.ensures.taken ∙ c.unused.invariant.room;
     }
 
 pub unused-smaller : goal.unused-smaller
 unused-smaller c =
     let less = shorter (λ b. not (set.contains c.args.ring.now.used b)) c.in-Some.block c.unused.self.entries (sym c.first_unused.ensures ∙ c.in-Some.is) in
-    subst (λ (k : NodeCache). length k.entries < length c.unused.self.entries) (sym c.forget.ensures) less
+    subst (λ (k : NodeCache). length k.entries < length c.unused.self.entries) (sym c.forget.ensures.taken) less

@@ -13,13 +13,13 @@ returns-then-block-lt-ANCHORS-clause-why c =
     ]
 
 pub invariant_of-self-then-not-contains : goal.invariant_of-self-then-not-contains
-invariant_of-self-then-not-contains c = rw (c.insert.ensures, c.in_ok-push.ensures.items) (order_push _ _ _ _ c.self.invariant)
+invariant_of-self-then-not-contains c = rw (c.insert.ensures, c.in_ok-push.ensures.items) (order_push _ _ _ _ c.self.invariant.0, c.self.invariant.1)
 
 pub returns-in_ok-push-clause-marked : goal.returns-in_ok-push-clause-marked
 returns-in_ok-push-clause-marked c =
-    marked_push _ c.args.self.now c.self.inside.marks c.args.block _ c.self.view_is c.self.invariant (sym c.contains.ensures ∙ c.if-not-contains.true)
+    marked_push _ c.args.self.now c.self.inside.marks c.args.block _ c.self.view_is c.self.invariant.0 (sym c.contains.ensures ∙ c.if-not-contains.true)
     c.in_ok-push.ensures.items
 
 pub returns-else-not-contains-clause-marked : goal.returns-else-not-contains-clause-marked
 returns-else-not-contains-clause-marked c =
-    marked_there _ c.args.self.now c.self.inside.marks c.args.block c.self.view_is c.self.invariant (sym c.contains.ensures ∙ c.if-not-contains.false)
+    marked_there _ c.args.self.now c.self.inside.marks c.args.block c.self.view_is c.self.invariant.0 (sym c.contains.ensures ∙ c.if-not-contains.false)

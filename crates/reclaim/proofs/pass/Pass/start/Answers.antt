@@ -13,9 +13,9 @@ returns-in_err-mark_all-clause-memory c =
 pub returns-clause-pass : goal.returns-clause-pass
 returns-clause-pass c f =
     let same = c.mark_all.ensures.same in
-    begun f _ _ _ c.new-2.ensures.items
+    begun f _ _ _ c.new-3.ensures.items
     (ap (λ (p : Pass). p.roots) same ∙ c.in_ok-own.ensures.items_if_clones_equal (λ x y same. same))
     c.in_ok-mark_all.ensures.marked (ap (λ (p : Pass). p.next) same)
 
 pub returns-clause-first : goal.returns-clause-first
-returns-clause-first c = first_marked _ _ _ c.new-2.ensures.items c.in_ok-mark_all.ensures.marked
+returns-clause-first c = first_marked _ _ _ c.new-3.ensures.items c.in_ok-mark_all.ensures.marked

@@ -17,11 +17,9 @@ returns g c =
       placed = c.commit-answer.ensures.placed;
       only_anchors = c.commit-answer.ensures.only_anchors;
       ready = c.commit-answer.ensures.ready;
-      known = c.commit-answer.ensures.known;
-      same = c.commit-answer.ensures.same;
+      remembers = c.commit-answer.ensures.remembers;
       listed = search rules;
       unlisted = c.remember_roots.ensures.older;
-      opens = c.commit-answer.ensures.open;
       why = c.commit-answer.ensures.why;
     })
     c.remember_roots.new.self c.remember_cut.new.self c.remember_cut.result c.remember_roots.ensures.same c.remember_cut.ensures.off c.remember_cut.ensures.same in

@@ -1,6 +1,6 @@
 use Rattle.std.proofs.Common.{Some, rules}
 use Rattle.std.proofs.lemmas.Result.{err_from_is_err_and}
-use Rattle.system.proofs.Passing.{is_stepped, must_be_data, noted_system, step_is_on, refused_system, refused_ends, untaken_asks, stepped_asks, goes_system, stepped_stays, all_system, all_stays, all_ends}
+use Rattle.system.proofs.Passing.{known_of_new, is_stepped, must_be_data, noted_system, step_is_on, refused_system, refused_ends, untaken_asks, stepped_asks, goes_ends, goes_system, stepped_stays, all_system, all_stays, all_ends}
 use Rattle.system.proofs.systems.System.step_pass.Goals as goal
 
 pub take_pass-requires : goal.take_pass-requires
@@ -21,7 +21,7 @@ returns-in_err-step_on g c =
       is_on = step_is_on _ _ _ _ _ _ _ t;
       stays = stepped_stays _ _ _ _ _ _ _ t c.take_pass.new.self.pass;
       ends = rw (p.1, p.2) (refused_ends _ _ _ _ _ _ _ t c.in_err-step_on.field-0.0 c.args.budget c.in_err-step_on.ensures.damaged c.in_err-step_on.ensures.why);
-      asks = stepped_asks _ _ _ _ _ _ _ t c.args.budget c.step_on.ensures.few c.step_on.ensures.rest;
+      asks = stepped_asks _ _ _ _ _ _ _ t c.args.budget c.step_on.ensures.asks.0 c.step_on.ensures.asks.1;
     }
 
 pub returns-then-not-branch : goal.returns-then-not-branch
@@ -31,8 +31,8 @@ returns-then-not-branch g c =
       system = goes_system _ _ _ _ _ _ _ t c.in_ok-step_on.ensures.pass;
       is_on = step_is_on _ _ _ _ _ _ _ t;
       stays = stepped_stays _ _ _ _ _ _ _ t (Some c.step_on.new.pass);
-      ends = search rules;
-      asks = stepped_asks _ _ _ _ _ _ _ t c.args.budget c.step_on.ensures.few c.step_on.ensures.rest;
+      ends = goes_ends _ _ _ _ _ _ _ t c.args.budget (rw c.if-not-branch.true at c.in_ok-step_on.ensures.reads_on);
+      asks = stepped_asks _ _ _ _ _ _ _ t c.args.budget c.step_on.ensures.asks.0 c.step_on.ensures.asks.1;
     }
 
 pub returns-clause-system : goal.returns-clause-system
@@ -53,9 +53,14 @@ returns-clause-stays g c =
 pub returns-clause-ends : goal.returns-clause-ends
 returns-clause-ends g c =
     let t = is_stepped _ _ _ _ _ _ _ c.requires.system c.requires.is_on c.take_pass.ensures.same c.in_ok-pass.ensures.from c.in_ok-pass.ensures.begun c.step_on.ensures.on c.step_on.ensures.looked in
-    all_ends _ _ _ _ _ _ _ t c.finish.result c.install.new.self c.install.ensures c.blocks-blocks.ensures.used c.in_ok-step_on.ensures.pass c.finish.ensures.exact c.args.budget (c.step_on.ensures.done (search rules))
+    all_ends _ _ _ _ _ _ _ t c.finish.result c.install.new.self c.install.ensures c.blocks-blocks.ensures.used c.in_ok-step_on.ensures.pass c.finish.ensures.exact c.args.budget (rw c.if-not-branch.false at c.in_ok-step_on.ensures.reads_on)
 
 pub returns-clause-asks : goal.returns-clause-asks
 returns-clause-asks g c =
     let t = is_stepped _ _ _ _ _ _ _ c.requires.system c.requires.is_on c.take_pass.ensures.same c.in_ok-pass.ensures.from c.in_ok-pass.ensures.begun c.step_on.ensures.on c.step_on.ensures.looked in
-    stepped_asks _ _ _ _ _ _ _ t c.args.budget c.step_on.ensures.few c.step_on.ensures.rest
+    stepped_asks _ _ _ _ _ _ _ t c.args.budget c.step_on.ensures.asks.0 c.step_on.ensures.asks.1
+
+pub step_on-requires-clause-known : goal.step_on-requires-clause-known
+step_on-requires-clause-known g c =
+    known_of_new (g.F.Flash.device c.args.flash.now) c.args.self.now c.requires.system c.requires.is_on c.in_ok-pass.pass c.take_pass.new.self.state.storage.ring.note c.way_to_read-reading.result c.way_to_read-reading.ensures
+    c.in_ok-pass.ensures.from c.in_ok-pass.ensures.begun c.in_ok-pass.ensures.first

@@ -33,8 +33,11 @@ check_depth-requires-clause-mounted g c = worked_mounted _ _ c.requires.mounted 
 pub check_depth-requires-clause-working : goal.check_depth-requires-clause-working
 check_depth-requires-clause-working g c = same_working _ _ c.check_target.ensures.looked.rest ∙ c.requires.working
 
+pub check_target-requires-clause-way : goal.check_target-requires-clause-way
+check_target-requires-clause-way g c = c.requires.stands.1
+
 pub check_depth-requires-clause-stands : goal.check_depth-requires-clause-stands
-check_depth-requires-clause-stands g c = ap (λ (f : Blocks). leads f (Dir c.args.root) c.args.old.now) c.check_target.ensures.nodes ∙ c.requires.stands
+check_depth-requires-clause-stands g c = ap (λ (f : Blocks). leads f (Dir c.args.root) c.args.old.now) c.check_target.ensures.nodes ∙ c.requires.stands.0
 
 pub returns-in_err-check_depth-clause-refused : goal.returns-in_err-check_depth-clause-refused
 returns-in_err-check_depth-clause-refused g c =
@@ -45,7 +48,7 @@ returns-in_err-check_depth-clause-refused g c =
     (elim c.in_err-check_depth.ensures.refused [
       | inl told ↦ inl (λ entry kind. move_then (moment (g.F.Flash.device c.args.flash.now) c.args.self.now) c.args.old.now c.args.new.now c.args.place _ c.requires.differ c.is_dir-moves_directory.ensures (Some fault) c.in_ok-check_beyond.ensures.ok c.in_ok-lacks_room.ensures.allowed
           (deep_refuses (machine_at (moment (g.F.Flash.device c.args.flash.now) c.args.self.now)) c.args.old.now c.args.new.now
-          (is_deep (moment (g.F.Flash.device c.args.flash.now) c.args.self.now) c.args.root c.args.old.now c.args.new.now c.args.place c.requires.mounted c.requires.working c.requires.stands (path_within c.args.new.now lawful.1)
+          (is_deep (moment (g.F.Flash.device c.args.flash.now) c.args.self.now) c.args.root c.args.old.now c.args.new.now c.args.place c.requires.mounted c.requires.working c.requires.stands.0 (path_within c.args.new.now lawful.1)
           (deeper_before (node_of (g.F.Flash.device c.args.flash.now)) (node_of (g.F.Flash.device c.check_target.new.flash)) c.args.place _ c.check_target.ensures.nodes told.1))
           ∙ ap Some (sym told.0)) entry kind)
       | inr why ↦ inr (read_later (seen_at (moment (g.F.Flash.device c.args.flash.now) c.args.self.now)) (seen_at (moment (g.F.Flash.device c.check_target.new.flash) c.check_target.new.self)) (seen_at (moment (g.F.Flash.device c.check_depth.new.flash) c.check_depth.new.self)) fault
@@ -60,7 +63,7 @@ returns-in_err-check_closed-clause-refused g c =
     of_fault (MoveRefused (moment (g.F.Flash.device c.args.flash.now) c.args.self.now) (moment (g.F.Flash.device c.check_depth.new.flash) c.check_depth.new.self) c.args.old.now c.args.new.now c.args.place) c.in_err-check_closed.field-0.0 c.from_residual-in_err-check_closed.result (p.1 ∙ ap Err p.2)
     (inl (move_then (moment (g.F.Flash.device c.args.flash.now) c.args.self.now) c.args.old.now c.args.new.now c.args.place _ c.requires.differ c.is_dir-moves_directory.ensures (Some c.in_err-check_closed.field-0.0) c.in_ok-check_beyond.ensures.ok c.in_ok-lacks_room.ensures.allowed
     (busy_refuses (machine_at (moment (g.F.Flash.device c.args.flash.now) c.args.self.now)) c.args.old.now c.args.new.now
-    (is_shallow (moment (g.F.Flash.device c.args.flash.now) c.args.self.now) c.args.root c.args.old.now c.args.new.now c.args.place c.requires.mounted c.requires.working c.requires.stands (path_within c.args.new.now lawful.1)
+    (is_shallow (moment (g.F.Flash.device c.args.flash.now) c.args.self.now) c.args.root c.args.old.now c.args.new.now c.args.place c.requires.mounted c.requires.working c.requires.stands.0 (path_within c.args.new.now lawful.1)
     (shallow_before (node_of (g.F.Flash.device c.args.flash.now)) (node_of (g.F.Flash.device c.check_target.new.flash)) c.args.place _ c.check_target.ensures.nodes c.in_ok-check_depth.ensures.shallow))
     (busy_before c.args.self.now c.check_depth.new.self c.args.old.now c.args.new.now true (c.check_depth.ensures.looked.rest.files ∙ c.check_target.ensures.looked.rest.files) told.1)
     ∙ ap Some (sym told.0))))
@@ -73,7 +76,7 @@ returns-in_err-check_room-clause-refused g c =
     of_fault (MoveRefused (moment (g.F.Flash.device c.args.flash.now) c.args.self.now) (moment (g.F.Flash.device c.check_depth.new.flash) c.check_depth.new.self) c.args.old.now c.args.new.now c.args.place) c.in_err-check_room.field-0.0 c.from_residual-in_err-check_room.result (p.1 ∙ ap Err p.2)
     (inl (move_then (moment (g.F.Flash.device c.args.flash.now) c.args.self.now) c.args.old.now c.args.new.now c.args.place _ c.requires.differ c.is_dir-moves_directory.ensures (Some c.in_err-check_room.field-0.0) c.in_ok-check_beyond.ensures.ok c.in_ok-lacks_room.ensures.allowed
     (moves_by (machine_at (moment (g.F.Flash.device c.args.flash.now) c.args.self.now)) c.args.old.now c.args.new.now false false true
-    (is_shallow (moment (g.F.Flash.device c.args.flash.now) c.args.self.now) c.args.root c.args.old.now c.args.new.now c.args.place c.requires.mounted c.requires.working c.requires.stands (path_within c.args.new.now lawful.1)
+    (is_shallow (moment (g.F.Flash.device c.args.flash.now) c.args.self.now) c.args.root c.args.old.now c.args.new.now c.args.place c.requires.mounted c.requires.working c.requires.stands.0 (path_within c.args.new.now lawful.1)
     (shallow_before (node_of (g.F.Flash.device c.args.flash.now)) (node_of (g.F.Flash.device c.check_target.new.flash)) c.args.place _ c.check_target.ensures.nodes c.in_ok-check_depth.ensures.shallow))
     (busy_before c.args.self.now c.check_depth.new.self c.args.old.now c.args.new.now false (c.check_depth.ensures.looked.rest.files ∙ c.check_target.ensures.looked.rest.files) c.in_ok-check_closed.ensures.ok)
     (room_is (working_tree (machine_at (moment (g.F.Flash.device c.args.flash.now) c.args.self.now))) c.args.old.now c.args.new.now _ _ c.in_ok-lacks_room.ensures.room told.1)
@@ -84,7 +87,7 @@ returns-clause-accepted g c =
     let lawful = and_parts (is_path c.args.old.now) (is_path c.args.new.now) c.in_ok-check_beyond.ensures.lawful in
     move_then (moment (g.F.Flash.device c.args.flash.now) c.args.self.now) c.args.old.now c.args.new.now c.args.place _ c.requires.differ c.is_dir-moves_directory.ensures None c.in_ok-check_beyond.ensures.ok c.in_ok-lacks_room.ensures.allowed
     (moves_by (machine_at (moment (g.F.Flash.device c.args.flash.now) c.args.self.now)) c.args.old.now c.args.new.now false false false
-    (is_shallow (moment (g.F.Flash.device c.args.flash.now) c.args.self.now) c.args.root c.args.old.now c.args.new.now c.args.place c.requires.mounted c.requires.working c.requires.stands (path_within c.args.new.now lawful.1)
+    (is_shallow (moment (g.F.Flash.device c.args.flash.now) c.args.self.now) c.args.root c.args.old.now c.args.new.now c.args.place c.requires.mounted c.requires.working c.requires.stands.0 (path_within c.args.new.now lawful.1)
     (shallow_before (node_of (g.F.Flash.device c.args.flash.now)) (node_of (g.F.Flash.device c.check_target.new.flash)) c.args.place _ c.check_target.ensures.nodes c.in_ok-check_depth.ensures.shallow))
     (busy_before c.args.self.now c.check_depth.new.self c.args.old.now c.args.new.now false (c.check_depth.ensures.looked.rest.files ∙ c.check_target.ensures.looked.rest.files) c.in_ok-check_closed.ensures.ok)
     (room_is (working_tree (machine_at (moment (g.F.Flash.device c.args.flash.now) c.args.self.now))) c.args.old.now c.args.new.now _ _ c.in_ok-lacks_room.ensures.room c.in_ok-check_room.ensures.ok))

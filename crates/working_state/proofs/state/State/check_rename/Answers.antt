@@ -34,7 +34,10 @@ pub check_move-requires-clause-differ : goal.check_move-requires-clause-differ
 check_move-requires-clause-differ g c = sym c.eq.ensures ∙ c.if-eq.false
 
 pub check_move-requires-clause-stands : goal.check_move-requires-clause-stands
-check_move-requires-clause-stands g c = subst (λ f. leads f (Dir c.args.root) c.args.old.now ≡ Some c.in_ok-place.place) (sym c.find_place.ensures.nodes) c.in_ok-place.ensures.stands
+check_move-requires-clause-stands g c = (
+  subst (λ f. leads f (Dir c.args.root) c.args.old.now ≡ Some c.in_ok-place.place) (sym c.find_place.ensures.nodes) c.in_ok-place.ensures.stands,
+  subst (λ f. IsTrail f c.args.root c.args.old.now c.in_ok-place.old_trail) (sym c.find_place.ensures.nodes) c.in_ok-place.ensures.way,
+)
 
 pub returns-in_err-new_trail-clause-looked : goal.returns-in_err-new_trail-clause-looked
 returns-in_err-new_trail-clause-looked g c = looked_on _ _ _ c.find_place.ensures.looked c.check_move.ensures.looked

@@ -1,0 +1,33 @@
+-- What is told of a flash to who asks.
+use Rattle.std.specs.Prelude.{◌≡◌, ◌⊎◌, ℕ, Some, None, List}
+use Rattle.fs_types.specs.declared.fault.Fault.{Fault}
+use Rattle.flash_model.specs.Device.{Device}
+use Rattle.working_state.specs.Seen.{machine_on}
+use Rattle.system.specs.Mounts.{IsMountOf}
+use Rattle.system.specs.declared.systems.System.{System}
+use Rattle.undofs.specs.Refusals.{RefusesMount}
+use Rattle.inquiries.specs.Inquiries.{refusal_of, told}
+use Rattle.inquiries.specs.Readings.{Meets}
+use Rattle.inquiries.specs.declared.asking.AskFault.{AskFault}
+use Rattle.inquiries.specs.declared.inquiry.Inquiry.{Inquiry}
+
+-- what the newest record holds is mounted, and these bytes are told of it
+pub record Tells (d : Device) (inquiry : Inquiry) (bytes : List ℕ) : Type 0 where
+  pub device : Device
+  pub system : System
+  pub mounted : IsMountOf d device system
+  pub accepted : refusal_of (machine_on device system.state) inquiry ≡ None
+  pub told : bytes ≡ told (machine_on device system.state) inquiry
+
+-- it is mounted, and what is asked is refused: by the refusal that is its own, or by what the work met
+pub record RefusesInquiry (d : Device) (inquiry : Inquiry) (fault : Fault) : Type 0 where
+  pub device : Device
+  pub system : System
+  pub left : Device
+  pub mounted : IsMountOf d device system
+  pub why : (refusal_of (machine_on device system.state) inquiry ≡ Some fault) ⊎ Meets device left fault
+
+-- why nothing is told: no system is mounted, or what is asked is refused
+abbrev pub AskCause : Device → Inquiry → AskFault → Type 0
+AskCause d inquiry (AskFault.Unmounted fault) = RefusesMount d fault
+AskCause d inquiry (AskFault.Refused fault) = RefusesInquiry d inquiry fault

@@ -1,0 +1,30 @@
+-- All that stands in a tree.
+use Rattle.std.specs.Prelude.{◌≡◌, ◌++◌, zero, suc, ℕ, Some, None, List, [], ◌∷◌, if◌then◌else◌}
+use Rattle.std.specs.FinMap.{get}
+use Rattle.std.specs.List.{flat_map}
+use Rattle.fs_types.specs.Names.{Path}
+use Rattle.fs_types.specs.declared.call.View.{View}
+use Rattle.fs_types.specs.declared.limits.TheConstants.{MAX_NAMES}
+use Rattle.plain_trees.specs.Contents.{Entry}
+use Rattle.plain_trees.specs.Trees.{Tree, children}
+use Rattle.history_machine.specs.History.{view_refusal}
+use Rattle.history_machine.specs.Machine.{Machine, view_tree, stat_of}
+use Rattle.inquiries.specs.declared.items.Item.{Item}
+
+-- what stands at a path
+abbrev pub item_at : Tree → Path → Item
+item_at t path = record { path = path; stat = stat_of t path (get t path) }
+
+-- what stands below a directory, in so many levels: its entries in byte order of their names, each before what stands below it
+unfoldable pub items_below : Tree → ℕ → Path → List Item
+items_below t zero directory = []
+items_below t (suc levels) directory = flat_map (λ entry. item_at t (directory ++ entry.0 ∷ []) ∷ (if entry.1 then items_below t levels (directory ++ entry.0 ∷ []) else [])) (children t directory)
+
+-- what stands below the root: no path has more names
+abbrev pub items_of : Tree → List Item
+items_of t = items_below t MAX_NAMES []
+
+-- a view is there, and a directory of its tree stands at the path
+pub record IsDirectoryOf (m : Machine) (view : View) (path : Path) : Type 0 where
+  pub accepted : view_refusal m.history view ≡ None
+  pub there : get (view_tree m view) path ≡ Some Entry.Dir

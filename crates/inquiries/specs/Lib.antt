@@ -1,0 +1,5 @@
+pub mod Asked
+pub mod Inquiries
+pub mod Items
+pub mod Printed
+pub mod Readings

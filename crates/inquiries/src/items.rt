@@ -1,0 +1,93 @@
+//! All that stands in a tree.
+ghost use Rattle.std.specs.Prelude.{◌≡◌, ◌++◌, [], ◌∷◌, ◌<◌, true, None, IfOk, OnOk, IfErr};
+ghost use Rattle.fs_types.specs.Names.{is_path};
+ghost use Rattle.history_machine.specs.History.{view_refusal};
+ghost use Rattle.history_machine.specs.Machine.{view_tree};
+ghost use Rattle.inquiries.specs.Items.{items_below, items_of, IsDirectoryOf};
+ghost use Rattle.inquiries.specs.Readings.{shown, IsUnchanged, Fails, Meets};
+
+use crate::reading::{list_at, stat_at};
+use flash_model::Flash;
+use fs_types::{Fault, MAX_NAMES, Name, Path, Stat, View};
+use std::alloc::{AllocError, Global};
+use undofs::Fs;
+
+/// What stands at a path of a tree.
+#[derive(Debug, Drop)]
+pub struct Item {
+    /// The path.
+    pub path: Path,
+    /// A directory, with its number of entries, or a file, with its length in bytes.
+    pub stat: Stat,
+}
+
+/// All that stands in the tree of a view below its root: a directory before what stands in it, and
+/// names in byte order.
+pub(crate) fn items_of<F: Flash>(
+    alloc: Global,
+    fs: &mut Fs<'_, F>,
+    view: &View,
+) -> Result<Vec<Item>, Fault>
+    ensures same { IsUnchanged fs.old fs.new }
+    ensures accepted { IfOk result (λ _. view_refusal (shown fs.old).history view.now ≡ None) }
+    ensures ok { IfOk result (λ items. items.items ≡ items_of (view_tree (shown fs.old) view.now)) }
+    ensures err { IfErr result (Fails (view_refusal (shown fs.old).history view.now) fs.old fs.new) }
+{
+    let root = Path::root(alloc);
+    stat_at(fs, view, &root)?;
+    let mut items = Vec::new(alloc);
+    add_items(alloc, fs, view, &root, MAX_NAMES, &mut items)?;
+    Ok(items)
+}
+
+/// Adds what stands below a directory, in so many levels.
+fn add_items<F: Flash>(
+    alloc: Global,
+    fs: &mut Fs<'_, F>,
+    view: &View,
+    directory: &Path,
+    levels: usize,
+    items: &mut Vec<Item>,
+) -> Result<(), Fault>
+    requires { 0 < levels → IsDirectoryOf (shown fs.old) view.now directory.now }
+    ensures same { IsUnchanged fs.old fs.new }
+    ensures ok { OnOk result (items.new.items ≡ items.old.items ++ items_below (view_tree (shown fs.old) view.now) levels directory.now) }
+    ensures err { IfErr result (Meets (F.device fs.old.flash.now) (F.device fs.new.flash.now)) }
+{
+    if levels == 0 {
+        return Ok(());
+    }
+    let names = list_at(alloc, fs, view, directory)?;
+    for (name, is_directory) in names.as_slice() {
+        let path = child_of(alloc, directory, name)?;
+        let stat = stat_at(fs, view, &path)?;
+        items.push(Item {
+            path: path.clone()?,
+            stat,
+        })?;
+        // Nothing stands below a file.
+        let below = if *is_directory { levels - 1 } else { 0 };
+        add_items(alloc, fs, view, &path, below, items)?;
+    }
+    Ok(())
+}
+
+/// The path of an entry of a directory.
+fn child_of(alloc: Global, directory: &Path, name: &Name) -> Result<Path, AllocError>
+    requires { is_path (directory.now ++ name.now ∷ []) ≡ true }
+    ensures { IfOk result (λ path. path ≡ directory.now ++ name.now ∷ []) }
+{
+    let mut names = Vec::new(alloc);
+    append_names(&mut names, directory.names())?;
+    names.push(name.clone()?)?;
+    Ok(Path::from_names(names))
+}
+
+fn append_names(names: &mut Vec<Name>, more: &[Name]) -> Result<(), AllocError>
+    ensures { OnOk result (names.new.items ≡ names.old.items ++ more.now) }
+{
+    for name in more {
+        names.push(name.clone()?)?;
+    }
+    Ok(())
+}

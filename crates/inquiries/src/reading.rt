@@ -1,0 +1,55 @@
+//! Calls that only read a mounted file system.
+ghost use Rattle.std.specs.Prelude.{◌≡◌, Some, None, IfOk, IfErr};
+ghost use Rattle.std.specs.FinMap.{get};
+ghost use Rattle.plain_trees.specs.Contents.{Entry};
+ghost use Rattle.plain_trees.specs.Trees.{children};
+ghost use Rattle.history_machine.specs.Machine.{refusal, view_tree, stat_of};
+ghost use Rattle.fs_types.specs.declared.call.Call.{Call};
+ghost use Rattle.inquiries.specs.Readings.{shown, IsUnchanged, Fails};
+
+use flash_model::Flash;
+use fs_types::{Bytes, Fault, MAX_FILE_BYTES, Name, Path, Sequence, Stat, View};
+use std::alloc::Global;
+use undofs::Fs;
+
+/// So many bytes are asked for where all bytes of a file are: none has more.
+const ALL_BYTES: u64 = MAX_FILE_BYTES as u64;
+
+/// What stands at a path of a view.
+pub(crate) fn stat_at<F: Flash>(fs: &mut Fs<'_, F>, view: &View, path: &Path) -> Result<Stat, Fault>
+    ensures same { IsUnchanged fs.old fs.new }
+    ensures accepted { IfOk result (λ _. refusal (shown fs.old) (Call.Stat view.now path.now) ≡ None) }
+    ensures ok { IfOk result (λ stat. stat ≡ stat_of (view_tree (shown fs.old) view.now) path.now (get (view_tree (shown fs.old) view.now) path.now)) }
+    ensures err { IfErr result (Fails (refusal (shown fs.old) (Call.Stat view.now path.now)) fs.old fs.new) }
+{
+    fs.stat(view, path)
+}
+
+/// The names in a directory of a view, in byte order, each with whether it is a directory.
+pub(crate) fn list_at<F: Flash>(
+    alloc: Global,
+    fs: &mut Fs<'_, F>,
+    view: &View,
+    path: &Path,
+) -> Result<Sequence<(Name, bool)>, Fault>
+    ensures same { IsUnchanged fs.old fs.new }
+    ensures ok { IfOk result (λ names. names ≡ children (view_tree (shown fs.old) view.now) path.now) }
+    ensures err { IfErr result (Fails (refusal (shown fs.old) (Call.List view.now path.now)) fs.old fs.new) }
+{
+    fs.list(alloc, view, path)
+}
+
+/// All bytes of a file of a view.
+pub(crate) fn read_file<F: Flash>(
+    alloc: Global,
+    fs: &mut Fs<'_, F>,
+    view: &View,
+    path: &Path,
+) -> Result<Bytes, Fault>
+    ensures same { IsUnchanged fs.old fs.new }
+    ensures accepted { IfOk result (λ _. refusal (shown fs.old) (Call.ReadAt view.now path.now 0 MAX_FILE_BYTES) ≡ None) }
+    ensures ok { IfOk result (λ bytes. get (view_tree (shown fs.old) view.now) path.now ≡ Some (Entry.File bytes)) }
+    ensures err { IfErr result (Fails (refusal (shown fs.old) (Call.ReadAt view.now path.now 0 MAX_FILE_BYTES)) fs.old fs.new) }
+{
+    fs.read_at(alloc, view, path, 0, ALL_BYTES)
+}

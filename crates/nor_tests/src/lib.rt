@@ -1,0 +1,5 @@
+//! The file system over a serial NOR part in memory: whole sessions, cuts and failures.
+#![tactic(auto)]
+
+#[cfg(test)]
+mod sessions;

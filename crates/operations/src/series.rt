@@ -1,0 +1,111 @@
+//! Calls one after the other that are measured together.
+use crate::error::MeasureError;
+use crate::measures::{beyond, counts_of};
+use crate::texts::{LARGE_BLOCKS, SMALL_BLOCKS};
+use flash_model::{Counters, Geometry};
+use std::alloc::Global;
+
+/// Calls that are measured together: the sizes of the flash, what is called before, the calls with
+/// what is called before, and how many calls these are.
+#[derive(Clone, Copy)]
+pub struct Series {
+    pub name: &'static str,
+    pub sizes: Geometry,
+    pub before: &'static [&'static str],
+    pub after: &'static [&'static str],
+    pub calls: u64,
+}
+
+/// What the calls ask of the flash, each on the average, where a part counts as a whole.
+pub fn asked_by_each(alloc: Global, series: &Series) -> Result<Counters, MeasureError> {
+    let before = counts_of(alloc, series.sizes, series.before)?;
+    let after = counts_of(alloc, series.sizes, series.after)?;
+    let Counters {
+        reads,
+        programs,
+        erases,
+    } = beyond(after, before);
+    let calls = series.calls.max(1);
+    Ok(Counters {
+        reads: reads.div_ceil(calls),
+        programs: programs.div_ceil(calls),
+        erases: erases.div_ceil(calls),
+    })
+}
+
+const FILE: &[&str] = &["open /f 7", "fill 1048576"];
+
+const FILE_WRITTEN: &[&str] = &["open /f 7", "fill 1048576", "scatter 64"];
+
+const FILE_IN_PIECES: &[&str] = &["open /f 7", "fill 1048576", "scan 4096"];
+
+const FILE_IN_SMALL_PIECES: &[&str] = &["open /f 7", "fill 1048576", "scan 512"];
+
+const FILE_TOLD: &[&str] = &["open /f 7", "fill 1048576", "df"];
+
+/// The calls.
+pub const SERIES: &[Series] = &[
+    Series {
+        name: "mkdir and rmdir at depth 8",
+        sizes: SMALL_BLOCKS,
+        before: &["deep 7"],
+        after: &["deep 7", "mkdir /a/a/a/a/a/a/a/a", "rmdir /a/a/a/a/a/a/a/a"],
+        calls: 1,
+    },
+    Series {
+        name: "a byte at 64 places of 1 MiB",
+        sizes: SMALL_BLOCKS,
+        before: FILE,
+        after: FILE_WRITTEN,
+        calls: 64,
+    },
+    Series {
+        name: "4,096 bytes of 1 MiB, in turn",
+        sizes: SMALL_BLOCKS,
+        before: FILE,
+        after: FILE_IN_PIECES,
+        calls: 256,
+    },
+    Series {
+        name: "512 bytes of 1 MiB, in turn",
+        sizes: SMALL_BLOCKS,
+        before: FILE,
+        after: FILE_IN_SMALL_PIECES,
+        calls: 2048,
+    },
+    Series {
+        name: "mkdir and rmdir at depth 8",
+        sizes: LARGE_BLOCKS,
+        before: &["deep 7"],
+        after: &["deep 7", "mkdir /a/a/a/a/a/a/a/a", "rmdir /a/a/a/a/a/a/a/a"],
+        calls: 1,
+    },
+    Series {
+        name: "a byte at 64 places of 1 MiB",
+        sizes: LARGE_BLOCKS,
+        before: FILE,
+        after: FILE_WRITTEN,
+        calls: 64,
+    },
+    Series {
+        name: "4,096 bytes of 1 MiB, in turn",
+        sizes: LARGE_BLOCKS,
+        before: FILE,
+        after: FILE_IN_PIECES,
+        calls: 256,
+    },
+    Series {
+        name: "512 bytes of 1 MiB, in turn",
+        sizes: LARGE_BLOCKS,
+        before: FILE,
+        after: FILE_IN_SMALL_PIECES,
+        calls: 2048,
+    },
+    Series {
+        name: "df with a file of 1 MiB",
+        sizes: LARGE_BLOCKS,
+        before: FILE,
+        after: FILE_TOLD,
+        calls: 1,
+    },
+];

@@ -1,0 +1,15 @@
+use Rattle.std.proofs.Common.{◌≡◌, ◌↔◌, ℕ, Some, List, Option, sym, ap, subst, ◌∙◌}
+use Rattle.std.specs.Prelude.{IfOk, Contains}
+use Rattle.block_trees.specs.Reached.{Names}
+use Rattle.reclaim.specs.Kinds.{NamesBody}
+use Rattle.reclaim.proofs.named.read_whole.Goals as goal
+
+pub returns-clause-blocks : goal.returns-clause-blocks
+returns-clause-blocks g c =
+    let is : g.N.Nodes.node c.args.nodes.now c.args.block ≡ Some c.lent.result.now = c.in_ok-read.ensures.shown ∙ ap (λ (bytes : List ℕ). Some bytes) (sym c.lent.ensures) in
+    subst (λ (node : Option (List ℕ)). IfOk c.list_named.result (λ n. (b : ℕ) → Contains n.blocks.items b ↔ Names node b)) (sym is) c.list_named.ensures.blocks
+
+pub returns-clause-bodies : goal.returns-clause-bodies
+returns-clause-bodies g c =
+    let is : g.N.Nodes.node c.args.nodes.now c.args.block ≡ Some c.lent.result.now = c.in_ok-read.ensures.shown ∙ ap (λ (bytes : List ℕ). Some bytes) (sym c.lent.ensures) in
+    subst (λ (node : Option (List ℕ)). IfOk c.list_named.result (λ n. (b : ℕ) → Contains n.bodies.items b ↔ NamesBody node b)) (sym is) c.list_named.ensures.bodies

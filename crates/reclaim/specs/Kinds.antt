@@ -1,0 +1,65 @@
+-- Blocks that hold nodes of bodies, and those of directories.
+use Rattle.std.specs.Prelude.{◌≡◌, ◌⊎◌, ℕ, ◌<◌, Bool, true, false, ◌&&◌, ◌+◌, ◌≤◌, Option, Some, None, List, length, take, Contains}
+use Rattle.std.specs.List.{sum_by}
+use Rattle.std.specs.Option.{is_some}
+use Rattle.std.specs.FinSet as set
+use Rattle.node_format.specs.Items.{Item}
+use Rattle.node_format.specs.declared.place.Place.{Place}
+use Rattle.node_format.specs.declared.place.Place.TheVariants.{Dir, File}
+use Rattle.node_store.specs.NodePages.{pages_for}
+use Rattle.block_trees.specs.Bodies.{Blocks, index_of, pointer_of}
+use Rattle.block_trees.specs.Chains.{link_items}
+use Rattle.block_trees.specs.Reached.{BodyNames}
+use Rattle.reclaim.specs.Passes.{Pass, IsPass}
+use Rattle.reclaim.specs.Verified.{AreRoots}
+use Rattle.reclaim.specs.declared.reading.Reading.{Reading}
+use Rattle.reclaim.specs.declared.reading.Reading.TheVariants.{Whole, Fronts}
+
+-- the first page alone is read of the nodes of bodies
+abbrev pub is_by_fronts : Reading → Bool
+is_by_fronts Whole = false
+is_by_fronts Fronts = true
+
+-- the block holds a node of a body
+abbrev pub HoldsBody : Blocks → ℕ → Type 0
+HoldsBody f block = (index : ℕ) × (index_of (f block) ≡ Some index)
+
+-- a place names the head of a file that is not empty
+abbrev pub FileNames : Place → ℕ → Type 0
+FileNames (Dir block) next = ⊥
+FileNames (File head size) next = (0 < size) × (head ≡ next)
+
+-- the node in a block names a block as that of a body: by an entry of a file, or by a slot
+abbrev pub NamesBody : Option (List ℕ) → ℕ → Type 0
+NamesBody node next = ((item : Item) × Contains (link_items node) item × FileNames item.place next) ⊎ BodyNames (index_of node) (pointer_of node) next
+
+-- a marking noted as those of bodies the marked blocks that hold their nodes, and no others
+pub record KnowsBodies (f : Blocks) (p : Pass) : Type 0 where
+  pub bodies : (b : ℕ) → set.contains p.bodies b ≡ true → HoldsBody f b
+  pub others : (b : ℕ) → Contains p.order b → set.contains p.bodies b ≡ false → index_of (f b) ≡ None
+
+-- a marking of roots that have trees, on blocks of so many bytes
+pub record IsKnown (limit : ℕ) (f : Blocks) (p : Pass) : Type 0 where
+  pub trees : AreRoots limit f p.roots
+  pub pass : IsPass f p
+  pub kinds : KnowsBodies f p
+
+-- what a way of reading asks of a marking
+abbrev pub Knows : Reading → ℕ → Blocks → Pass → Type 0
+Knows Whole limit f p = Unit {0}
+Knows Fronts limit f p = IsKnown limit f p
+
+-- how many pages are asked at most for a node: one where the first page alone is read
+abbrev pub read_pages : Bool → ℕ → Option (List ℕ) → ℕ
+read_pages by_front page None = 0
+read_pages true page (Some bytes) = 1
+read_pages false page (Some bytes) = pages_for page (length bytes)
+
+-- how many pages a marking asks at most for a node: by fronts one for each of a body
+abbrev pub mark_pages : Reading → ℕ → Option (List ℕ) → ℕ
+mark_pages reading page node = read_pages (is_by_fronts reading && is_some (index_of node)) page node
+
+-- as a marking went on, the pages of the blocks that were read were asked at most
+abbrev pub HasAsked : Reading → ℕ → Blocks → Pass → Pass → ℕ → ℕ → Type 0
+HasAsked reading page f old new before after =
+    after + sum_by (λ b. mark_pages reading page (f b)) (take old.next old.order) ≤ before + sum_by (λ b. mark_pages reading page (f b)) (take new.next new.order)

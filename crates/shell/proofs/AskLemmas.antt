@@ -1,0 +1,50 @@
+-- How what is asked of an image ends, by how its parts do.
+use Rattle.std.proofs.Common.{◌≡◌, ◌⊎◌, ℕ, Option, Result, Ok, Err, List, IfErr, OnOk, IfSome, take, inl, inr, refl, sym, subst, ap, ◌∙◌}
+use Rattle.std.specs.Io.KnownBytes.{Appends}
+use Rattle.std.specs.Borrow.{Bor}
+use Rattle.fs_types.specs.Names.{Path}
+use Rattle.fs_types.specs.declared.call.View.{View}
+use Rattle.inquiries.specs.declared.inquiry.Inquiry.{Inquiry}
+use Rattle.shell.specs.Asking.{IsMisspelled, file_at, file_in, tree_in}
+use Rattle.shell.specs.Files.{Held}
+use Rattle.shell.specs.Tools.{IsTold, IsUnclaimed, Unsaved, GetEnds, TellEnds}
+use Rattle.shell.specs.declared.failure.Failure.{Failure}
+
+-- the bytes that are told are put into a file
+pub got_saved : (spelled : Result Inquiry Failure) (name file : List ℕ) (held saved : Held) (inquiry : Inquiry) (bytes lent : List ℕ) (result : Result (Unit {0}) Failure)
+    → spelled ≡ Ok inquiry → IsTold (held name) inquiry bytes → lent ≡ bytes → OnOk result (IfSome (saved file) (λ all. all ≡ lent))
+    → IfErr result (λ failure. (IsUnclaimed failure × (saved ≡ held)) ⊎ Unsaved (held file) (saved file) lent failure)
+    → GetEnds spelled name file held saved result
+got_saved spelled name file held saved inquiry bytes lent (Ok done) is told same ok err =
+    (lent, record { inquiry = inquiry; is = is; told = subst (IsTold (held name) inquiry) (sym same) told }, ok)
+got_saved spelled name file held saved inquiry bytes lent (Err failure) is told same ok err = elim err [
+  | inl unclaimed ↦ inl (inr unclaimed.0, unclaimed.1)
+  | inr unsaved ↦ inr (lent, record { inquiry = inquiry; is = is; told = subst (IsTold (held name) inquiry) (sym same) told }, unsaved)
+]
+
+-- they are written
+pub tree_told : (spelled : Result Inquiry Failure) (held : Option (List ℕ)) (inquiry : Inquiry) (bytes lent : List ℕ) (old new : Option (List ℕ))
+    → spelled ≡ Ok inquiry → IsTold held inquiry bytes → lent ≡ bytes → Appends old new lent → TellEnds spelled held (Ok tt) old new
+tree_told spelled held inquiry bytes lent old new is told same ok =
+    (lent, record { inquiry = inquiry; is = is; told = subst (IsTold held inquiry) (sym same) told }, ok)
+
+pub tree_cut : (spelled : Result Inquiry Failure) (held : Option (List ℕ)) (inquiry : Inquiry) (bytes lent : List ℕ) (n : ℕ) (old new : Option (List ℕ))
+    → spelled ≡ Ok inquiry → IsTold held inquiry bytes → lent ≡ bytes → Appends old new (take n lent) → TellEnds spelled held (Err Failure.Output) old new
+tree_cut spelled held inquiry bytes lent n old new is told same cut =
+    inr (lent, n, record { inquiry = inquiry; is = is; told = subst (IsTold held inquiry) (sym same) told }, refl, cut)
+
+-- what is not spelled
+pub path_misspelled : (path : Result Path Failure) (view : Result View Failure) (failure : Failure) → IsMisspelled path failure → IsMisspelled (file_at path view) failure
+path_misspelled path view failure (inl memory) = inl memory
+path_misspelled path view failure (inr is) = inr (ap (λ p. file_at p view) is)
+
+pub view_misspelled : (path : Result Path Failure) (view : Result View Failure) (there : Path) (failure : Failure) → path ≡ Ok there → IsMisspelled view failure → IsMisspelled (file_at path view) failure
+view_misspelled path view there failure is (inl memory) = inl memory
+view_misspelled path view there failure is (inr wrong) = inr (ap (λ p. file_at p view) is ∙ ap (file_in there) wrong)
+
+pub tree_misspelled : (view : Result View Failure) (failure : Failure) → IsMisspelled view failure → IsMisspelled (tree_in view) failure
+tree_misspelled view failure (inl memory) = inl memory
+tree_misspelled view failure (inr wrong) = inr (ap tree_in wrong)
+
+pub file_there : (path : Result Path Failure) (view : Result View Failure) (there : Path) (seen : View) → path ≡ Ok there → view ≡ Ok seen → file_at path view ≡ Ok (Inquiry.File seen there)
+file_there path view there seen is sees = ap (λ p. file_at p view) is ∙ ap (file_in there) sees

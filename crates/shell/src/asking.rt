@@ -1,0 +1,137 @@
+//! What is asked of an image.
+ghost use Rattle.std.specs.Prelude.{◌≡◌, ◌⊎◌, Ok, IfOk, OnOk, IfErr, IfSome};
+ghost use Rattle.shell.specs.Asking.{file_spelled, tree_spelled, of_ask, IsMisspelled};
+ghost use Rattle.shell.specs.Files.{KeepsOthers};
+ghost use Rattle.shell.specs.Tools.{IsTold, UntoldCause, IsUnclaimed, Unsaved, TellEnds, GetEnds};
+
+use crate::failure::Failure;
+use crate::image_files::ImageFiles;
+use crate::images::{claim, load, write_image};
+use crate::path_word::path_of_word;
+use crate::scripts::Refusal;
+use crate::view_word::view_of_word;
+use fs_types::Bytes;
+use inquiries::{AskFault, Inquiry, ask};
+use script::write_out;
+use std::alloc::Global;
+use std::io::Write;
+
+/// Puts the file at a path of an image into a file of the host, which is claimed then.
+pub(crate) fn get_file<F: ImageFiles>(
+    files: &mut F,
+    alloc: Global,
+    name: &str,
+    path: &str,
+    view: Option<&str>,
+    file: &str,
+) -> Result<(), Failure>
+    ensures ends { GetEnds (file_spelled path.now view.entry) name.now file.now (F.held files.old) (F.held files.new) result }
+    ensures others { KeepsOthers file.now (F.held files.old) (F.held files.new) }
+{
+    let inquiry = match file_inquiry(alloc, path, view) {
+        Ok(inquiry) => inquiry,
+        Err(failure) => return Err(failure),
+    };
+    let bytes = match ask_image(files, alloc, name, &inquiry) {
+        Ok(bytes) => bytes,
+        Err(failure) => return Err(failure),
+    };
+    save_bytes(files, alloc, file, bytes.as_slice())
+}
+
+/// Writes a line for each directory and each file of an image.
+pub(crate) fn tell_tree<F: ImageFiles, W: Write>(
+    files: &F,
+    alloc: Global,
+    name: &str,
+    view: Option<&str>,
+    out: &mut W,
+) -> Result<(), Failure>
+    ensures { TellEnds (tree_spelled view.entry) (F.held files.now name.now) result (W.contents out.old) (W.contents out.new) }
+{
+    let inquiry = match tree_inquiry(alloc, view) {
+        Ok(inquiry) => inquiry,
+        Err(failure) => return Err(failure),
+    };
+    let bytes = match ask_image(files, alloc, name, &inquiry) {
+        Ok(bytes) => bytes,
+        Err(failure) => return Err(failure),
+    };
+    match write_out(out, bytes.as_slice()) {
+        Ok(()) => Ok(()),
+        Err(_) => Err(Failure::Output),
+    }
+}
+
+/// The inquiry for the bytes of a file.
+fn file_inquiry(alloc: Global, path: &str, view: Option<&str>) -> Result<Inquiry, Failure>
+    ensures ok { IfOk result (λ inquiry. file_spelled path.now view.entry ≡ Ok inquiry) }
+    ensures err { IfErr result (IsMisspelled (file_spelled path.now view.entry)) }
+{
+    let path = match path_of_word(alloc, path) {
+        Ok(path) => path,
+        Err(failure) => return Err(failure),
+    };
+    match view_of_word(alloc, view) {
+        Ok(view) => Ok(Inquiry::File { view, path }),
+        Err(failure) => Err(failure),
+    }
+}
+
+/// The inquiry for a tree.
+fn tree_inquiry(alloc: Global, view: Option<&str>) -> Result<Inquiry, Failure>
+    ensures ok { IfOk result (λ inquiry. tree_spelled view.entry ≡ Ok inquiry) }
+    ensures err { IfErr result (IsMisspelled (tree_spelled view.entry)) }
+{
+    match view_of_word(alloc, view) {
+        Ok(view) => Ok(Inquiry::Tree { view }),
+        Err(failure) => Err(failure),
+    }
+}
+
+/// What is told of an image.
+fn ask_image<F: ImageFiles>(
+    files: &F,
+    alloc: Global,
+    name: &str,
+    inquiry: &Inquiry,
+) -> Result<Bytes, Failure>
+    ensures ok { IfOk result (IsTold (F.held files.now name.now) inquiry.now) }
+    ensures err { IfErr result (UntoldCause (F.held files.now name.now) inquiry.now) }
+{
+    let mut flash = match load(files, alloc, name) {
+        Ok(flash) => flash,
+        Err(failure) => return Err(failure),
+    };
+    match ask(alloc, &mut flash, inquiry) {
+        Ok(bytes) => Ok(bytes),
+        Err(fault) => Err(of_ask(fault)),
+    }
+}
+
+/// By why nothing is told.
+fn of_ask(fault: AskFault) -> Failure
+    ensures { result ≡ of_ask fault }
+{
+    match fault {
+        AskFault::Unmounted(fault) => Failure::of_system(fault),
+        AskFault::Refused(fault) => Failure::of_refusal(Refusal::Fault(fault)),
+    }
+}
+
+/// Puts a file of these bytes in the place of what has a name, which is claimed first.
+fn save_bytes<F: ImageFiles>(
+    files: &mut F,
+    alloc: Global,
+    name: &str,
+    bytes: &[u8],
+) -> Result<(), Failure>
+    ensures ok { OnOk result (IfSome (F.held files.new name.now) (λ all. all ≡ bytes.now)) }
+    ensures err { IfErr result (λ failure. (IsUnclaimed failure × (F.held files.new ≡ F.held files.old)) ⊎ Unsaved (F.held files.old name.now) (F.held files.new name.now) bytes.now failure) }
+    ensures others { KeepsOthers name.now (F.held files.old) (F.held files.new) }
+{
+    match claim(files, alloc, name) {
+        Ok(()) => write_image(files, alloc, name, bytes),
+        Err(failure) => Err(failure),
+    }
+}

@@ -7,12 +7,14 @@
 
 mod error;
 mod measures;
+mod mount;
 mod series;
 mod texts;
 
 use anyhow::{Context, Result};
 use flash_model::Counters;
-use measures::{Asked, MEASURES, SYNCED_DIRECTORIES, asked_by, asked_by_format, asked_by_mount};
+use measures::{Asked, MEASURES, asked_by, asked_by_format};
+use mount::{MOUNTS, asked_by_mount};
 use series::{SERIES, Series, asked_by_each};
 
 fn main(rt: HostRuntime) -> Result<()> {
@@ -21,12 +23,7 @@ fn main(rt: HostRuntime) -> Result<()> {
     )?;
     tell_calls(&rt)?;
     tell_format(&rt)?;
-    tell_mount(&rt, "mount of an empty root", &[])?;
-    tell_mount(
-        &rt,
-        "mount of five versions, 15 directories",
-        SYNCED_DIRECTORIES,
-    )?;
+    tell_mounts(&rt)?;
     tell_series(&rt)
 }
 
@@ -68,9 +65,13 @@ fn tell_format<R: AllocGlobal + Print>(rt: &R) -> Result<()> {
     tell_one(rt, "format", 1, asked_by_format(rt.alloc())?)
 }
 
-/// Tells what a mount asks after these lines.
-fn tell_mount<R: AllocGlobal + Print>(rt: &R, name: &str, lines: &[&str]) -> Result<()> {
-    tell_one(rt, name, 0, asked_by_mount(rt.alloc(), lines)?)
+/// Tells what each mount asks.
+fn tell_mounts<R: AllocGlobal + Print>(rt: &R) -> Result<()> {
+    for row in MOUNTS {
+        let asked = asked_by_mount(rt.alloc(), row).context(row.name)?;
+        tell_one(rt, row.name, 0, asked)?;
+    }
+    Ok(())
 }
 
 /// Tells what was asked of a flash where no node was in memory before.

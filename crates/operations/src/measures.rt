@@ -1,7 +1,7 @@
 //! The calls that are measured.
 use crate::error::MeasureError;
-use crate::texts::{SMALL_BLOCKS, counts_after, formatted};
-use flash_model::{Counters, Geometry, SimFlash};
+use crate::texts::{HISTORY, SMALL_BLOCKS, counts_after, formatted};
+use flash_model::{Counters, Geometry};
 use std::alloc::{AllocError, Global};
 
 /// A call that is measured: what is called before, the call, and the nodes that it may write.
@@ -57,30 +57,13 @@ fn lines_of(
 
 /// What a format, a mount and these lines ask of a flash of these sizes.
 pub fn counts_of(alloc: Global, sizes: Geometry, lines: &[&str]) -> Result<Counters, MeasureError> {
-    let mut flash = formatted(alloc, sizes)?;
+    let mut flash = formatted(alloc, sizes, HISTORY)?;
     counts_after(alloc, &mut flash, lines)
-}
-
-/// What a mount asks of a flash on which these lines were carried out.
-pub fn asked_by_mount(alloc: Global, lines: &[&str]) -> Result<Counters, MeasureError> {
-    let mut flash = formatted(alloc, SMALL_BLOCKS)?;
-    asked_by_second_mount(alloc, &mut flash, lines)
-}
-
-/// Carries out lines on a flash, and answers what a mount asks after them.
-fn asked_by_second_mount(
-    alloc: Global,
-    flash: &mut SimFlash,
-    lines: &[&str],
-) -> Result<Counters, MeasureError> {
-    let before = counts_after(alloc, flash, lines)?;
-    let after = counts_after(alloc, flash, &[])?;
-    Ok(beyond(after, before))
 }
 
 /// What format asks of an erased flash.
 pub fn asked_by_format(alloc: Global) -> Result<Counters, MeasureError> {
-    Ok(formatted(alloc, SMALL_BLOCKS)?.counts())
+    Ok(formatted(alloc, SMALL_BLOCKS, HISTORY)?.counts())
 }
 
 /// What was asked beyond what was asked before.
@@ -115,9 +98,6 @@ const LONG_RECORD: &[&str] = &[
 ];
 
 const THOUSAND_ENTRIES: &[&str] = &["wide 1000"];
-
-/// What is done before a mount that is measured.
-pub const SYNCED_DIRECTORIES: &[&str] = &["deep 4", "sync"];
 
 /// The calls, with the most nodes that each may write.
 pub const MEASURES: &[Measure] = &[

@@ -1,7 +1,7 @@
 //! Calls one after the other that are measured together.
 use crate::error::MeasureError;
 use crate::measures::{beyond, counts_of};
-use crate::texts::{LARGE_BLOCKS, SMALL_BLOCKS};
+use crate::texts::{LARGE_BLOCKS, MANY_BLOCKS, SMALL_BLOCKS};
 use flash_model::{Counters, Geometry};
 use std::alloc::Global;
 
@@ -33,6 +33,10 @@ pub fn asked_by_each(alloc: Global, series: &Series) -> Result<Counters, Measure
     })
 }
 
+const QUARTER: &[&str] = &["open /f 7", "fill 262144"];
+
+const QUARTER_WRITTEN: &[&str] = &["open /f 7", "fill 262144", "scatter 16"];
+
 const FILE: &[&str] = &["open /f 7", "fill 1048576"];
 
 const FILE_WRITTEN: &[&str] = &["open /f 7", "fill 1048576", "scatter 64"];
@@ -46,6 +50,13 @@ const FILE_TOLD: &[&str] = &["open /f 7", "fill 1048576", "df"];
 /// The calls.
 pub const SERIES: &[Series] = &[
     Series {
+        name: "mkdir and rmdir at depth 4",
+        sizes: SMALL_BLOCKS,
+        before: &["deep 3"],
+        after: &["deep 3", "mkdir /a/a/a/a", "rmdir /a/a/a/a"],
+        calls: 1,
+    },
+    Series {
         name: "mkdir and rmdir at depth 8",
         sizes: SMALL_BLOCKS,
         before: &["deep 7"],
@@ -53,8 +64,47 @@ pub const SERIES: &[Series] = &[
         calls: 1,
     },
     Series {
-        name: "a byte at 64 places of 1 MiB",
+        name: "mkdir and rmdir at depth 16",
         sizes: SMALL_BLOCKS,
+        before: &["deep 15"],
+        after: &[
+            "deep 15",
+            "mkdir /a/a/a/a/a/a/a/a/a/a/a/a/a/a/a/a",
+            "rmdir /a/a/a/a/a/a/a/a/a/a/a/a/a/a/a/a",
+        ],
+        calls: 1,
+    },
+    Series {
+        name: "mkdir and rmdir among 10",
+        sizes: SMALL_BLOCKS,
+        before: &["wide 10"],
+        after: &["wide 10", "mkdir /a", "rmdir /a"],
+        calls: 1,
+    },
+    Series {
+        name: "mkdir and rmdir among 100",
+        sizes: SMALL_BLOCKS,
+        before: &["wide 100"],
+        after: &["wide 100", "mkdir /a", "rmdir /a"],
+        calls: 1,
+    },
+    Series {
+        name: "mkdir and rmdir among 1,000",
+        sizes: SMALL_BLOCKS,
+        before: &["wide 1000"],
+        after: &["wide 1000", "mkdir /a", "rmdir /a"],
+        calls: 1,
+    },
+    Series {
+        name: "a byte at 16 places of 256 KiB",
+        sizes: SMALL_BLOCKS,
+        before: QUARTER,
+        after: QUARTER_WRITTEN,
+        calls: 16,
+    },
+    Series {
+        name: "a byte at 64 places of 1 MiB",
+        sizes: MANY_BLOCKS,
         before: FILE,
         after: FILE_WRITTEN,
         calls: 64,

@@ -13,6 +13,13 @@ pub const SMALL_BLOCKS: Geometry = Geometry {
     blocks: 2048,
 };
 
+/// Small pages and blocks, as many as 64 changes of a file of 1 MiB write, none of them twice.
+pub const MANY_BLOCKS: Geometry = Geometry {
+    page: 256,
+    pages: 16,
+    blocks: 16_384,
+};
+
 /// Large pages and blocks.
 pub const LARGE_BLOCKS: Geometry = Geometry {
     page: 2048,
@@ -23,13 +30,13 @@ pub const LARGE_BLOCKS: Geometry = Geometry {
 /// How many bytes the files have that are read in pieces.
 const MIB: usize = 1_048_576;
 
-/// How many versions are kept.
-const HISTORY: u32 = 8;
+/// How many versions are kept where nothing else is said.
+pub const HISTORY: u32 = 8;
 
-/// A flash of these sizes on which an empty file system was made.
-pub fn formatted(alloc: Global, sizes: Geometry) -> Result<SimFlash, MeasureError> {
+/// A flash of these sizes on which an empty file system was made that keeps so many versions.
+pub fn formatted(alloc: Global, sizes: Geometry, history: u32) -> Result<SimFlash, MeasureError> {
     let mut flash = SimFlash::new(alloc, sizes, &[])?;
-    format(alloc, &mut flash, HISTORY)?;
+    format(alloc, &mut flash, history)?;
     Ok(flash)
 }
 

@@ -171,8 +171,14 @@ impl State {
     {
         let moves_directory = place.is_dir();
         check_beyond(old, new, moves_directory)?;
-        let (lacks_room, trail) =
-            self.check_target(flash, root, old, old_trail, new, moves_directory)?;
+        let (lacks_room, trail) = self.check_target(
+            flash,
+            root,
+            old,
+            old_trail,
+            new,
+            moves_directory,
+        )?;
         self.check_depth(alloc, flash, root, old, new, place)?;
         self.check_closed(old, new)?;
         check_room(old, new, lacks_room)?;
@@ -208,8 +214,14 @@ impl State {
         ensures allowed { OnOk result ((entry : Entry) → is_dir entry ≡ moves_directory → target_refusal (working_tree (machine_at (moment (F.device flash.old) self.old))) path.now entry ≡ None) }
         ensures refused { IfErr result (λ fault. ((entry : Entry) → is_dir entry ≡ moves_directory → target_refusal (working_tree (machine_at (moment (F.device flash.old) self.old))) path.now entry ≡ Some fault) ⊎ ReadCause (seen_at (moment (F.device flash.old) self.old)) fault (seen_at (moment (F.device flash.new) self.new))) }
     {
-        let (found, trail) =
-            find_path_beside(flash, &mut self.storage, root, old, old_trail, path)?;
+        let (found, trail) = find_path_beside(
+            flash,
+            &mut self.storage,
+            root,
+            old,
+            old_trail,
+            path,
+        )?;
         match found {
             Found::Missing { is_full } => Ok((is_full, trail)),
             Found::File { .. } => {

@@ -1,2 +1,3 @@
 pub mod SetBits
 pub mod RingOrder
+pub mod RangeCounts

@@ -1,11 +1,17 @@
 //! A set of blocks, with a bit for each block of the flash.
-ghost use Rattle.std.specs.Prelude.{◌≡◌, ℕ, ◌<◌, ◌↔◌, IsTrue, IfOk, IfErr, length, replicate, slice_index};
+ghost use Rattle.std.specs.Prelude.{◌≡◌, ℕ, ◌*◌, ◌^◌, ◌-◌, ◌<◌, ◌≤◌, ◌↔◌, ◌&&◌, ◌||◌, not, nat_le, nat_lt, IsTrue, IfOk, IfErr, count_by, length, replicate, slice_index};
 ghost use Rattle.std.specs.FinSet as set;
 ghost use Rattle.std.specs.Int.RustNames.{bit_or};
+ghost use Rattle.std.specs.List.{range_with_len};
+ghost use Rattle.std.specs.Slice.Iter.{iter_rest};
+ghost use Rattle.allocator.specs.Ring.{AreDataBlocks, data_blocks};
 
-use fs_types::Fault;
+use crate::data_blocks::is_data_block;
+use bad_blocks::BadBlocks;
+use fs_types::{ANCHORS, Fault};
 use std::alloc::Global;
 use std::marker::Model;
+use std::slice;
 
 /// A set of blocks of one flash.
 #[derive(Drop)]
@@ -53,6 +59,60 @@ impl BlockSet {
             }
         }
         true
+    }
+
+    /// How many blocks are in the set.
+    pub(crate) fn len(&self) -> u32
+        ensures { result ≡ count_by (set.contains self.now.members) (range_with_len 0 self.now.blocks) }
+    {
+        let whole = self.blocks / 64;
+        self.count_in_words(whole) + self.count_from(64 * whole)
+    }
+
+    // How many of the blocks from `first` on are in the set.
+    fn count_from(&self, first: u32) -> u32
+        ensures { result ≡ count_by (set.contains self.now.members) (range_with_len first (self.now.blocks - first)) }
+    {
+        (first..self.blocks)
+            .filter(|block| self.contains(*block))
+            .count() as u32
+    }
+
+    // How many of the blocks of the first `whole` words are in the set.
+    fn count_in_words(&self, whole: u32) -> u32
+        requires within { 64 * whole ≤ self.now.blocks }
+        requires fits { 64 * whole < 2 ^ 32 }
+        ensures { result ≡ count_by (set.contains self.now.members) (range_with_len 0 (64 * whole)) }
+    {
+        let mut ones = 0;
+        for place in 0..whole {
+            ones += self.words[place as usize].count_ones();
+        }
+        ones
+    }
+
+    /// How many data blocks are neither in the set, which has data blocks alone, nor bad.
+    pub(crate) fn free_count(&self, bad: &BadBlocks) -> u32
+        requires size { ANCHORS ≤ self.now.blocks }
+        requires data_blocks { AreDataBlocks self.now.blocks self.now.members }
+        ensures { result ≡ count_by (λ b. not (set.contains self.now.members b || set.contains bad.now b)) (data_blocks self.now.blocks) }
+    {
+        let listed = bad.iter();
+        self.blocks - ANCHORS - self.len() - self.count_beside(listed) as u32
+    }
+
+    // How many of these blocks are data blocks that are not in the set.
+    fn count_beside(&self, blocks: slice::Iter<'_, u32>) -> usize
+        ensures { result ≡ count_by (λ b. nat_le ANCHORS b && nat_lt b self.now.blocks && not (set.contains self.now.members b)) (iter_rest blocks.entry) }
+    {
+        blocks.filter(|block| self.is_beside(**block)).count()
+    }
+
+    // Whether `block` is a data block that is not in the set.
+    fn is_beside(&self, block: u32) -> bool
+        ensures { result ≡ (nat_le ANCHORS block && nat_lt block self.now.blocks && not (set.contains self.now.members block)) }
+    {
+        is_data_block(self.blocks, block) && !self.contains(block)
     }
 
     /// How many blocks the flash has.

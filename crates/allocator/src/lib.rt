@@ -2,9 +2,11 @@
 #![tactic(auto)]
 
 mod block_set;
+mod data_blocks;
 mod marks;
 mod ring;
 
 pub use block_set::BlockSet;
+pub use data_blocks::count_bad;
 pub use marks::Marks;
 pub use ring::Ring;

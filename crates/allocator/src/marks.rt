@@ -1,10 +1,11 @@
 //! What a marking found: the data blocks that are in use.
-ghost use Rattle.std.specs.Prelude.{◌≡◌, ℕ, true, IfOk, IfErr};
+ghost use Rattle.std.specs.Prelude.{◌≡◌, ℕ, ◌≤◌, ◌||◌, true, not, count_by, IfOk, IfErr};
 ghost use Rattle.std.specs.FinSet as set;
-ghost use Rattle.allocator.specs.Ring.{IsDataBlock, AreDataBlocks};
+ghost use Rattle.allocator.specs.Ring.{IsDataBlock, AreDataBlocks, data_blocks};
 
 use crate::block_set::BlockSet;
-use fs_types::Fault;
+use bad_blocks::BadBlocks;
+use fs_types::{ANCHORS, Fault};
 use std::alloc::Global;
 use std::marker::Model;
 
@@ -50,6 +51,14 @@ impl Marks {
         ensures { result ≡ set.contains self.now.members block }
     {
         self.set.contains(block)
+    }
+
+    /// How many data blocks are neither bad nor marked.
+    pub fn free_count(&self, bad: &BadBlocks) -> u32
+        requires { ANCHORS ≤ self.now.blocks }
+        ensures { result ≡ count_by (λ b. not (set.contains bad.now b || set.contains self.now.members b)) (data_blocks self.now.blocks) }
+    {
+        self.set.free_count(bad)
     }
 
     /// Marks `block`, which is a data block.

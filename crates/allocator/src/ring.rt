@@ -97,9 +97,7 @@ impl Ring {
     pub fn free_count(&self, bad: &BadBlocks) -> u32
         ensures { result ≡ free_blocks self.now bad.now }
     {
-        (ANCHORS..self.used.blocks())
-            .filter(|block| self.is_free(*block, bad))
-            .count() as u32
+        self.used.free_count(bad)
     }
 
     /// Makes `block` used and notes it, which is a data block.

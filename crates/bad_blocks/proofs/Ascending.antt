@@ -73,11 +73,14 @@ none_ties : (x : ℕ) (xs : List ℕ) → AllByRecursion (λ y. eq_by_cmp nat_cm
 none_ties x [] none = refl
 none_ties x (y ∷ ys) none = rw none.0 (none_ties x ys none.1)
 
+-- the first member of a list without doubles is not in the set of the others
+pub not_in_rest : (x : ℕ) (xs : List ℕ) → IsDistinct (eq_by_cmp nat_cmp) (x ∷ xs) → set.contains (set_of xs) x ≡ false
+not_in_rest x xs apart = set.contains-from_list nat_cmp_total xs x ∙ none_ties x xs (IsDistinct-head _ x xs apart)
+
 len_of_distinct : (xs : List ℕ) → IsDistinct (eq_by_cmp nat_cmp) xs → set.len (set_of xs) ≡ length xs
 len_of_distinct [] apart = set.len-empty nat_cmp
 len_of_distinct (x ∷ xs) apart =
-    let new : set.contains (set_of xs) x ≡ false =
-    set.contains-from_list nat_cmp_total xs x ∙ none_ties x xs (IsDistinct-head _ x xs apart) in
+    let new : set.contains (set_of xs) x ≡ false = not_in_rest x xs apart in
     let more : set.len (set_of xs) ≡ length xs = len_of_distinct xs (IsDistinct-tail _ x xs apart) in
     rw (set.len-insert nat_cmp_total (set_of xs) x, new) (omega arith)
 

@@ -8,7 +8,7 @@ use Rattle.node_format.specs.Order.{both_true}
 use Rattle.node_format.specs.Links.{Link}
 use Rattle.node_format.proofs.LinkLaws.{IsFilled, link_filled}
 use Rattle.block_trees.specs.Bodies.{Blocks}
-use Rattle.block_trees.specs.Chains.{link_of, next_of, is_later, after, most_after, entries_in, items_in, blocks_after, chain}
+use Rattle.block_trees.specs.Chains.{link_of, next_of, is_later, entries_after, most_after, entries_in, items_in, blocks_after, chain}
 use Rattle.block_trees.specs.ChainLaws.{CountLaw}
 use Rattle.block_trees.proofs.Chains.{kept, same_items, either_of, AfterParts, none_after, after_parts, first_parts, next_is, listed_after, chain_is}
 
@@ -18,11 +18,11 @@ linked_filled (Some bytes) l e = link_filled bytes l e
 
 -- ---- how many entries there are
 
-after_most : (f : Blocks) (n next : ℕ) (items : List Item) → after n f next ≡ Some items → length items ≤ NODE_ENTRIES * n
+after_most : (f : Blocks) (n next : ℕ) (items : List Item) → entries_after n f next ≡ Some items → length items ≤ NODE_ENTRIES * n
 after_most f zero next items e = let k = kept (eqb next 0) (Some []) items e in omega (arith, ap length (same_items [] items k.1))
 after_most f (suc n) next items e = on (after_parts f n next items e) (after_most f n)
   where
-    on : AfterParts f n next items → ((c : ℕ) (more : List Item) → after n f c ≡ Some more → length more ≤ NODE_ENTRIES * n) → length items ≤ NODE_ENTRIES * suc n
+    on : AfterParts f n next items → ((c : ℕ) (more : List Item) → entries_after n f c ≡ Some more → length more ≤ NODE_ENTRIES * n) → length items ≤ NODE_ENTRIES * suc n
     on (inl none) again = omega (arith, ap length none.1)
     on (inr p) again = omega (arith, again p.l.next p.more p.rest, (linked_filled (f next) p.l p.is).few, ap length p.parts, length-append p.l.items p.more)
 
@@ -45,13 +45,13 @@ record HasLater (nodes count : ℕ) : Type 0 where
   enough : count ≤ NODE_ENTRIES * nodes
   needed : NODE_ENTRIES * nodes < count + NODE_ENTRIES
 
-after_count : (f : Blocks) (n next : ℕ) (items : List Item) → after n f next ≡ Some items → HasLater (length (blocks_after n f next)) (length items) × ((next ≡ 0) → items ≡ [])
+after_count : (f : Blocks) (n next : ℕ) (items : List Item) → entries_after n f next ≡ Some items → HasLater (length (blocks_after n f next)) (length items) × ((next ≡ 0) → items ≡ [])
 after_count f zero next items e =
     let none = none_after f next items e in
     (record { enough = omega (arith, ap length none.1); needed = omega arith }, λ _. none.1)
 after_count f (suc n) next items e = on (after_parts f n next items e) (after_count f n)
   where
-    on : AfterParts f n next items → ((b : ℕ) (more : List Item) → after n f b ≡ Some more → HasLater (length (blocks_after n f b)) (length more) × ((b ≡ 0) → more ≡ []))
+    on : AfterParts f n next items → ((b : ℕ) (more : List Item) → entries_after n f b ≡ Some more → HasLater (length (blocks_after n f b)) (length more) × ((b ≡ 0) → more ≡ []))
         → HasLater (length (blocks_after (suc n) f next)) (length items) × ((next ≡ 0) → items ≡ [])
     on (inl none) again =
         let no_block : length (blocks_after (suc n) f next) ≡ 0 = rw none.0 refl in

@@ -4,13 +4,13 @@ use Rattle.std.specs.Prelude.{Contains}
 use Rattle.std.proofs.lemmas.Bool.{eqb-true}
 use Rattle.std.proofs.lemmas.List.Elements.{Contains-append_left, Contains-append_right, Contains-append_cases}
 use Rattle.fs_types.specs.Names.{Name, same_name}
-use Rattle.node_format.specs.Items.{Item, named, are_ascending}
-use Rattle.node_format.specs.EntryLaws.{named-contained, contained-named}
+use Rattle.node_format.specs.Items.{Item, named_place, are_ascending}
+use Rattle.node_format.specs.EntryLaws.{named-contained, contained-named_place}
 use Rattle.node_format.specs.Links.{Link}
 use Rattle.node_format.specs.declared.place.Place.{Place}
 use Rattle.node_format.specs.declared.place.Place.TheVariants.{Dir}
 use Rattle.block_trees.specs.Bodies.{Blocks}
-use Rattle.block_trees.specs.Chains.{link_of, next_of, after, most_after, link_items, entries_in, items_in, blocks_after, chain}
+use Rattle.block_trees.specs.Chains.{link_of, next_of, entries_after, most_after, link_items, entries_in, items_in, blocks_after, chain}
 use Rattle.block_trees.specs.Trees.{child}
 use Rattle.block_trees.specs.Reached.{Reached, IsFirst, IsNamed, PlaceNames}
 use Rattle.block_trees.specs.ChainLaws.{ReachedLaw, EntryLaw, NamedLaw}
@@ -26,7 +26,7 @@ directory_ascends f block = on (entries_in f block) refl
     on (Some items) is = (first_parts f block items is).order
 
 pub entry_named : EntryLaw
-entry_named f block item inside = contained-named (items_in f block) item (directory_ascends f block) inside
+entry_named f block item inside = contained-named_place (items_in f block) item (directory_ascends f block) inside
 
 -- ---- what the nodes of a chain say
 
@@ -37,17 +37,17 @@ pub record IsAmong (f : Blocks) (b : ℕ) (items : List Item) (blocks : List ℕ
   pub entries : (item : Item) → Contains l.items item → Contains items item
   pub on : 0 < l.next → Contains blocks l.next
 
-head_in : (f : Blocks) (n next : ℕ) (items : List Item) → after n f next ≡ Some items → 0 < next → Contains (blocks_after n f next) next
+head_in : (f : Blocks) (n next : ℕ) (items : List Item) → entries_after n f next ≡ Some items → 0 < next → Contains (blocks_after n f next) next
 head_in f zero next items e some = absurd (let k = kept (eqb next 0) (Some []) items e in let none = eqb-true next 0 k.0 in omega (arith, none, some))
 head_in f (suc n) next items e some =
     let not_zero : eqb next 0 ≡ false = grind arith in
     rw not_zero (head_of next (blocks_after n f (next_of (f next))))
 
-among_after : (f : Blocks) (n next : ℕ) (items : List Item) → after n f next ≡ Some items → (b : ℕ) → Contains (blocks_after n f next) b → IsAmong f b items (blocks_after n f next)
+among_after : (f : Blocks) (n next : ℕ) (items : List Item) → entries_after n f next ≡ Some items → (b : ℕ) → Contains (blocks_after n f next) b → IsAmong f b items (blocks_after n f next)
 among_after f zero next items e b (k, lt, is) = absurd (omega (arith, lt))
 among_after f (suc n) next items e b inside = on (after_parts f n next items e) (among_after f n)
   where
-    on : AfterParts f n next items → ((c : ℕ) (more : List Item) → after n f c ≡ Some more → (b : ℕ) → Contains (blocks_after n f c) b → IsAmong f b more (blocks_after n f c)) → IsAmong f b items (blocks_after (suc n) f next)
+    on : AfterParts f n next items → ((c : ℕ) (more : List Item) → entries_after n f c ≡ Some more → (b : ℕ) → Contains (blocks_after n f c) b → IsAmong f b more (blocks_after n f c)) → IsAmong f b items (blocks_after (suc n) f next)
     on (inl none) again = absurd (empty (subst (λ (t : Bool). Contains (cond t [] (next ∷ blocks_after n f (next_of (f next)))) b) none.0 inside))
       where
         empty : Contains [] b → ⊥
@@ -94,7 +94,7 @@ pub record IsHeldBy (f : Blocks) (blocks : List ℕ) (item : Item) : Type 0 wher
   pub listed : Contains blocks node
   pub holds : Contains (link_items (f node)) item
 
-held_after : (f : Blocks) (n next : ℕ) (items : List Item) → after n f next ≡ Some items → (item : Item) → Contains items item → IsHeldBy f (blocks_after n f next) item
+held_after : (f : Blocks) (n next : ℕ) (items : List Item) → entries_after n f next ≡ Some items → (item : Item) → Contains items item → IsHeldBy f (blocks_after n f next) item
 held_after f zero next items e item inside = absurd (let k = kept (eqb next 0) (Some []) items e in none (subst (λ (xs : List Item). Contains xs item) (sym (same_items [] items k.1)) inside))
   where
     none : Contains [] item → ⊥
@@ -104,7 +104,7 @@ held_after f (suc n) next items e item inside = on (after_parts f n next items e
     none : Contains [] item → ⊥
     none (k, lt, is) = omega (arith, lt)
 
-    on : AfterParts f n next items → ((c : ℕ) (more : List Item) → after n f c ≡ Some more → (item : Item) → Contains more item → IsHeldBy f (blocks_after n f c) item) → IsHeldBy f (blocks_after (suc n) f next) item
+    on : AfterParts f n next items → ((c : ℕ) (more : List Item) → entries_after n f c ≡ Some more → (item : Item) → Contains more item → IsHeldBy f (blocks_after n f c) item) → IsHeldBy f (blocks_after (suc n) f next) item
     on (inl empty) again = absurd (none (subst (λ (xs : List Item). Contains xs item) empty.1 inside))
     on (inr p) again =
         subst (λ (bs : List ℕ). IsHeldBy f bs item) (sym (listed_after f n next p.some p.l p.is)) (elim (Contains-append_cases p.l.items p.more item (subst (λ (xs : List Item). Contains xs item) p.parts inside)) [
@@ -153,31 +153,31 @@ pub child_names : NamedLaw
 child_names f block name place root is names = on (entries_in f block) refl
   where
     on : (o : Option (List Item)) → entries_in f block ≡ o → Reached f (block ∷ []) root
-    on None none = absurd (let e : named (unwrap_or (entries_in f block) []) name ≡ named [] name = ap (λ (o : Option (List Item)). named (unwrap_or o []) name) none in let x : None ≡ Some place = sym e ∙ is in cc)
+    on None none = absurd (let e : named_place (unwrap_or (entries_in f block) []) name ≡ named_place [] name = ap (λ (o : Option (List Item)). named_place (unwrap_or o []) name) none in let x : None ≡ Some place = sym e ∙ is in cc)
     on (Some items) some =
-        let found = named-contained items name place (sym (ap (λ (o : Option (List Item)). named (unwrap_or o []) name) some) ∙ is) in
+        let found = named-contained items name place (sym (ap (λ (o : Option (List Item)). named_place (unwrap_or o []) name) some) ∙ is) in
         let h = held_chain f block items some found.0 found.1 in
         IsNamed (reached_chain f block h.node h.listed) (inl (found.0, h.holds, subst (λ (p : Place). PlaceNames p root) (sym found.2) names))
 
 -- ---- what a name leads to is an entry of a node
 
-named_either : (front back : List Item) (n : Name) (place : Place) → named (front ++ back) n ≡ Some place → (named front n ≡ Some place) ⊎ (named back n ≡ Some place)
+named_either : (front back : List Item) (n : Name) (place : Place) → named_place (front ++ back) n ≡ Some place → (named_place front n ≡ Some place) ⊎ (named_place back n ≡ Some place)
 named_either [] back n place e = inr e
 named_either (item ∷ front) back n place e = by_test (same_name item.name n)
-    (λ same. inl (rw same (sym (ap (λ (t : Bool). cond t (Some item.place) (named (front ++ back) n)) same) ∙ e)))
-    (λ differs. elim (named_either front back n place (sym (ap (λ (t : Bool). cond t (Some item.place) (named (front ++ back) n)) differs) ∙ e)) [ inl here ↦ inl (rw differs here) | inr later ↦ inr later ])
+    (λ same. inl (rw same (sym (ap (λ (t : Bool). cond t (Some item.place) (named_place (front ++ back) n)) same) ∙ e)))
+    (λ differs. elim (named_either front back n place (sym (ap (λ (t : Bool). cond t (Some item.place) (named_place (front ++ back) n)) differs) ∙ e)) [ inl here ↦ inl (rw differs here) | inr later ↦ inr later ])
 
 -- a name that leads to a place leads to it in one of the nodes
 abbrev pub IsInNode : Blocks → Name → Place → Type 0
-IsInNode f n place = (b : ℕ) × (l : Link) × (link_of (f b) ≡ Some l) × (named l.items n ≡ Some place)
+IsInNode f n place = (b : ℕ) × (l : Link) × (link_of (f b) ≡ Some l) × (named_place l.items n ≡ Some place)
 
-named_after : (f : Blocks) (n next : ℕ) (items : List Item) (name : Name) (place : Place) → after n f next ≡ Some items → named items name ≡ Some place → IsInNode f name place
-named_after f zero next items name place e leads = absurd (let k = kept (eqb next 0) (Some []) items e in let none : None ≡ Some place = ap (λ (xs : List Item). named xs name) (same_items [] items k.1) ∙ leads in cc)
+named_after : (f : Blocks) (n next : ℕ) (items : List Item) (name : Name) (place : Place) → entries_after n f next ≡ Some items → named_place items name ≡ Some place → IsInNode f name place
+named_after f zero next items name place e leads = absurd (let k = kept (eqb next 0) (Some []) items e in let none : None ≡ Some place = ap (λ (xs : List Item). named_place xs name) (same_items [] items k.1) ∙ leads in cc)
 named_after f (suc n) next items name place e leads = on (after_parts f n next items e) (named_after f n)
   where
-    on : AfterParts f n next items → ((c : ℕ) (more : List Item) (name : Name) (place : Place) → after n f c ≡ Some more → named more name ≡ Some place → IsInNode f name place) → IsInNode f name place
-    on (inl none) again = absurd (let nothing : None ≡ Some place = sym (ap (λ (xs : List Item). named xs name) none.1) ∙ leads in cc)
-    on (inr p) again = elim (named_either p.l.items p.more name place (sym (ap (λ (xs : List Item). named xs name) p.parts) ∙ leads)) [
+    on : AfterParts f n next items → ((c : ℕ) (more : List Item) (name : Name) (place : Place) → entries_after n f c ≡ Some more → named_place more name ≡ Some place → IsInNode f name place) → IsInNode f name place
+    on (inl none) again = absurd (let nothing : None ≡ Some place = sym (ap (λ (xs : List Item). named_place xs name) none.1) ∙ leads in cc)
+    on (inr p) again = elim (named_either p.l.items p.more name place (sym (ap (λ (xs : List Item). named_place xs name) p.parts) ∙ leads)) [
       | inl here ↦ (next, p.l, p.is, here)
       | inr later ↦ again p.l.next p.more name place p.rest later
     ]
@@ -185,11 +185,11 @@ named_after f (suc n) next items name place e leads = on (after_parts f n next i
 pub child_in_node : (f : Blocks) (block : ℕ) (name : Name) (place : Place) → child f (Dir block) name ≡ Some place → IsInNode f name place
 child_in_node f block name place leads = on (entries_in f block) refl leads
   where
-    on : (o : Option (List Item)) → entries_in f block ≡ o → named (unwrap_or o []) name ≡ Some place → IsInNode f name place
+    on : (o : Option (List Item)) → entries_in f block ≡ o → named_place (unwrap_or o []) name ≡ Some place → IsInNode f name place
     on None is e = absurd cc
     on (Some items) is e =
         let p = first_parts f block items is in
-        elim (named_either p.l.items p.more name place (sym (ap (λ (xs : List Item). named xs name) p.parts) ∙ e)) [
+        elim (named_either p.l.items p.more name place (sym (ap (λ (xs : List Item). named_place xs name) p.parts) ∙ e)) [
           | inl here ↦ (block, p.l, p.is, here)
           | inr later ↦ named_after f most_after p.l.next p.more name place p.rest later
         ]

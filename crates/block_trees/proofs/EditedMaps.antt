@@ -11,8 +11,8 @@ use Rattle.plain_trees.proofs.Grafts.{graft_law, contents_law}
 use Rattle.node_format.specs.declared.place.Place.{Place}
 use Rattle.node_format.specs.declared.place.Place.TheVariants.{Dir, File}
 use Rattle.block_trees.specs.Bodies.{Blocks, body, IsBody}
-use Rattle.block_trees.specs.Trees.{child, leads, entry_at, tree_at, tree, IsWhole, HasTree, IsRoot, root_tree}
-use Rattle.block_trees.specs.Laws.{RemoveLaw, PutFileLaw}
+use Rattle.block_trees.specs.Trees.{child, leads, entry_at, tree_at, tree, IsWholePlace, HasTree, IsRoot, root_tree}
+use Rattle.block_trees.specs.Laws.{BlockRemoveLaw, PutFileLaw}
 use Rattle.block_trees.proofs.Entries.{place_is}
 use Rattle.block_trees.proofs.EditedTrees.{edit_law}
 use Rattle.block_trees.proofs.RootMaps.{map_law}
@@ -50,12 +50,12 @@ file_tree capacity f head size [] = refl
 file_tree capacity f head size (n ∷ q) = refl
 
 file_shape : (capacity : ℕ) (f : Blocks) (head size depth : ℕ) → IsBody capacity f head size → HasTree capacity f (File head size) depth
-file_shape capacity f head size depth is [] there e = (subst (IsWhole capacity f) (place_is (File head size) there e) is, omega arith)
+file_shape capacity f head size depth is [] there e = (subst (IsWholePlace capacity f) (place_is (File head size) there e) is, omega arith)
 file_shape capacity f head size depth is (n ∷ q) there e = absurd cc
 
 -- ---- the edits
 
-pub remove_law : RemoveLaw
+pub remove_law : BlockRemoveLaw
 remove_law capacity old new kept kept' from to path keeps held root last deep rewritten =
     let law = edit_law old new kept kept' from to path None keeps held rewritten in
     let whole : IsRoot capacity new to = law.shape capacity 16 root deep tt in

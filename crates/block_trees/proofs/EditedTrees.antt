@@ -9,11 +9,11 @@ use Rattle.plain_trees.specs.Trees.{put}
 use Rattle.fs_types.proofs.Orders.{same_name-is, same_name-own}
 use Rattle.plain_trees.proofs.Edits.{same_tree}
 use Rattle.plain_trees.proofs.Grafts.{graft_law, contents_law}
-use Rattle.node_format.specs.Items.{Item, named}
+use Rattle.node_format.specs.Items.{Item, named_place}
 use Rattle.node_format.specs.declared.place.Place.{Place}
 use Rattle.node_format.specs.declared.place.Place.TheVariants.{Dir}
 use Rattle.block_trees.specs.Bodies.{Blocks}
-use Rattle.block_trees.specs.Trees.{entries_in, child, leads, entry_at, tree_at, tree, IsWhole, HasTree, IsRoot, root_tree}
+use Rattle.block_trees.specs.Trees.{entries_in, child, leads, entry_at, tree_at, tree, IsWholePlace, HasTree, IsRoot, root_tree}
 use Rattle.block_trees.specs.Trees as trees
 use Rattle.block_trees.specs.Reached.{IsHeld, Keeps, Reached, PlaceNames}
 use Rattle.block_trees.specs.Rewritten.{IsDirectoryEdit, IsRewritten, IsFreshChain}
@@ -32,7 +32,7 @@ by_test false is differs = differs refl
 
 -- what an edited directory's names lead to
 pub edited_child : (old new : Blocks) (from to : ℕ) (n m : Name) (at : Option Place) → IsDirectoryEdit old new from to n at → child new (Dir to) m ≡ cond (same_name n m) at (child old (Dir from) m)
-edited_child old new from to n m at (items, spelled, leads) = ap (λ (found : Option (List Item)). named (unwrap_or found []) m) spelled ∙ leads m
+edited_child old new from to n m at (items, spelled, leads) = ap (λ (found : Option (List Item)). named_place (unwrap_or found []) m) spelled ∙ leads m
 
 pub edited_here : (old new : Blocks) (from to : ℕ) (n : Name) (at : Option Place) → IsDirectoryEdit old new from to n at → child new (Dir to) n ≡ at
 edited_here old new from to n at edit =
@@ -171,21 +171,21 @@ module _ (old new : Blocks) (kept kept' : ℕ → Bool) (keeps : Keeps kept old 
   edit_shape : (capacity depth from to : ℕ) (n : Name) (at : Option Place) → 1 ≤ depth → IsHeld old kept (Dir from) → HasTree capacity old (Dir from) depth → IsDirectoryEdit old new from to n at
       → HasTreeOrNothing capacity new at (depth - 1) → HasTree capacity new (Dir to) depth
   edit_shape capacity depth from to n at deep held has edit below [] there is =
-      (subst (IsWhole capacity new) (place_is (Dir to) there is) (edit.0, edit.1), omega arith)
+      (subst (IsWholePlace capacity new) (place_is (Dir to) there is) (edit.0, edit.1), omega arith)
   edit_shape capacity depth from to n at deep held has edit below (k ∷ path) there is =
       let found = on (same_name n k) (sym (ap (option_and_then (λ next. trees.leads new next path)) (edited_child old new from to n k at edit)) ∙ is) in
       (found.0, omega (arith, found.1))
     where
-      new_place : (o : Option Place) → HasTreeOrNothing capacity new o (depth - 1) → option_and_then (λ next. trees.leads new next path) o ≡ Some there → IsWhole capacity new there × (length path ≤ depth - 1)
+      new_place : (o : Option Place) → HasTreeOrNothing capacity new o (depth - 1) → option_and_then (λ next. trees.leads new next path) o ≡ Some there → IsWholePlace capacity new there × (length path ≤ depth - 1)
       new_place None tree is = absurd cc
       new_place (Some next) tree is = tree path there is
 
-      old_place : (o : Option Place) → child old (Dir from) k ≡ o → option_and_then (λ next. trees.leads new next path) o ≡ Some there → IsWhole capacity new there × (length path ≤ depth - 1)
+      old_place : (o : Option Place) → child old (Dir from) k ≡ o → option_and_then (λ next. trees.leads new next path) o ≡ Some there → IsWholePlace capacity new there × (length path ≤ depth - 1)
       old_place None leads is = absurd cc
       old_place (Some next) leads is =
           (frame_law old new kept kept' keeps).shape capacity (depth - 1) next (held_child old kept (Dir from) k next leads held) (child_tree capacity old depth (Dir from) k next leads has) path there is
 
-      on : (test : Bool) → option_and_then (λ next. trees.leads new next path) (cond test at (child old (Dir from) k)) ≡ Some there → IsWhole capacity new there × (length path ≤ depth - 1)
+      on : (test : Bool) → option_and_then (λ next. trees.leads new next path) (cond test at (child old (Dir from) k)) ≡ Some there → IsWholePlace capacity new there × (length path ≤ depth - 1)
       on true is = new_place at below is
       on false is = old_place (child old (Dir from) k) refl is
 
@@ -221,14 +221,14 @@ nothing_below capacity f (k ∷ path) at e n q = on (child f at k) e (nothing_be
     on (Some next) e again = again next e n q
 
 empty_child : (f : Blocks) (block : ℕ) → entries_in f block ≡ Some [] → (n : Name) → child f (Dir block) n ≡ None
-empty_child f block is n = ap (λ (found : Option (List Item)). named (unwrap_or found []) n) is
+empty_child f block is n = ap (λ (found : Option (List Item)). named_place (unwrap_or found []) n) is
 
 empty_tree : (capacity : ℕ) (f : Blocks) (block : ℕ) → entries_in f block ≡ Some [] → (q : Path) → tree capacity f block q ≡ leaf Entry.Dir q
 empty_tree capacity f block is [] = refl
 empty_tree capacity f block is (n ∷ q) = ap (λ (o : Option Place). option_map (entry_at capacity f) (option_and_then (λ next. leads f next q) o)) (empty_child f block is n)
 
 empty_shape : (capacity : ℕ) (f : Blocks) (block depth : ℕ) → entries_in f block ≡ Some [] → HasTree capacity f (Dir block) depth
-empty_shape capacity f block depth is [] there e = (subst (IsWhole capacity f) (place_is (Dir block) there e) ([], is), omega arith)
+empty_shape capacity f block depth is [] there e = (subst (IsWholePlace capacity f) (place_is (Dir block) there e) ([], is), omega arith)
 empty_shape capacity f block depth is (n ∷ q) there e =
     let none : None ≡ Some there = sym (ap (option_and_then (λ next. leads f next q)) (empty_child f block is n)) ∙ e in
     absurd cc

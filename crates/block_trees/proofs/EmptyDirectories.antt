@@ -1,7 +1,7 @@
 -- An empty directory reaches only itself.
 use Rattle.std.proofs.Common.{◌≡◌, ℕ, inl, inr, Bool, true, Option, Some, None, unwrap_or, List, [], ◌∷◌, ap, sym, subst, ◌∙◌}
 use Rattle.fs_types.specs.Names.{Name}
-use Rattle.node_format.specs.Items.{Item, named}
+use Rattle.node_format.specs.Items.{Item, named_place}
 use Rattle.node_format.specs.declared.place.Place.{Place}
 use Rattle.node_format.specs.declared.place.Place.TheVariants.{Dir}
 use Rattle.block_trees.specs.Bodies.{Blocks}
@@ -14,7 +14,7 @@ use Rattle.block_trees.proofs.Reaching.{reached_from}
 
 module _ (f : Blocks) (block : ℕ) (empty : entries_in f block ≡ Some []) where
   none_there : (name : Name) (place : Place) → child f (Dir block) name ≡ Some place → ⊥
-  none_there name place is = let e : None ≡ some_place place = sym (ap (λ (o : Option (List Item)). named (unwrap_or o []) name) empty) ∙ is in cc
+  none_there name place is = let e : None ≡ some_place place = sym (ap (λ (o : Option (List Item)). named_place (unwrap_or o []) name) empty) ∙ is in cc
 
   pub reaches_itself : (b : ℕ) → Reached f (block ∷ []) b → b ≡ block
   reaches_itself b reached = on (reached_from f block [] b empty reached)

@@ -16,7 +16,7 @@ use Rattle.plain_trees.proofs.Counts.{count-within}
 use Rattle.fields.specs.Numbers.{byte_at, number_at}
 use Rattle.fields.proofs.Found.{bind_some, passed, not_refused, some_is}
 use Rattle.node_format.specs.Headers.{field}
-use Rattle.node_format.specs.Items.{Item, named, is_dir_place}
+use Rattle.node_format.specs.Items.{Item, named_place, is_dir_place}
 use Rattle.node_format.specs.Directories.{name_at, place_at, item_at, items_at}
 use Rattle.node_format.specs.declared.place.Place.{Place}
 use Rattle.node_format.specs.declared.place.Place.TheVariants.{Dir, File}
@@ -76,20 +76,20 @@ item_lawful bytes x e =
     subst (λ (y : Item × List ℕ). (is_name y.0.name ≡ true) × IsShort y.0.place) (some_is read x place.2)
     (name_lawful size.0.0 size.0.1 name.0 name.1, place_short kind.0.0 head.0.0 length.0.0 place.0 place.1)
 
-items_lawful : (count : ℕ) (bytes : List ℕ) (n : Name) (place : Place) → named (items_at count bytes) n ≡ Some place → (is_name n ≡ true) × IsShort place
+items_lawful : (count : ℕ) (bytes : List ℕ) (n : Name) (place : Place) → named_place (items_at count bytes) n ≡ Some place → (is_name n ≡ true) × IsShort place
 unfolding items_at
 items_lawful zero bytes n place e = absurd cc
 items_lawful (suc count) bytes n place e = on (item_at bytes) refl e (λ rest. items_lawful count rest n place)
   where
-    one : (x : Item × List ℕ) → item_at bytes ≡ Some x → (b : Bool) → same_name x.0.name n ≡ b → cond b (Some x.0.place) (named (items_at count x.1) n) ≡ Some place
-        → ((rest : List ℕ) → named (items_at count rest) n ≡ Some place → (is_name n ≡ true) × IsShort place) → (is_name n ≡ true) × IsShort place
+    one : (x : Item × List ℕ) → item_at bytes ≡ Some x → (b : Bool) → same_name x.0.name n ≡ b → cond b (Some x.0.place) (named_place (items_at count x.1) n) ≡ Some place
+        → ((rest : List ℕ) → named_place (items_at count rest) n ≡ Some place → (is_name n ≡ true) × IsShort place) → (is_name n ≡ true) × IsShort place
     one x is true same e again =
         let lawful = item_lawful bytes x is in
         (ap is_name (sym (same_name-is x.0.name n same)) ∙ lawful.0, subst IsShort (place_is x.0.place place e) lawful.1)
     one x is false other e again = again x.1 e
 
-    on : (read : Option (Item × List ℕ)) → item_at bytes ≡ read → named (option_map_or (λ x. x.0 ∷ items_at count x.1) read []) n ≡ Some place
-        → ((rest : List ℕ) → named (items_at count rest) n ≡ Some place → (is_name n ≡ true) × IsShort place) → (is_name n ≡ true) × IsShort place
+    on : (read : Option (Item × List ℕ)) → item_at bytes ≡ read → named_place (option_map_or (λ x. x.0 ∷ items_at count x.1) read []) n ≡ Some place
+        → ((rest : List ℕ) → named_place (items_at count rest) n ≡ Some place → (is_name n ≡ true) × IsShort place) → (is_name n ≡ true) × IsShort place
     on None is e again = absurd cc
     on (Some x) is e again = one x is (same_name x.0.name n) refl e again
 
@@ -107,12 +107,12 @@ named_lawful f block n place e =
     l : Link
     l = (child_in_node f block n place e).1
 
-    leads : named l.items n ≡ Some place
+    leads : named_place l.items n ≡ Some place
     leads = (child_in_node f block n place e).3
 
     on : (node : Option (List ℕ)) → link_of node ≡ Some l → (is_name n ≡ true) × IsShort place
     on None is = absurd cc
-    on (Some bytes) is = items_lawful (field bytes 4) (drop 16 bytes) n place (ap (λ (items : List Item). named items n) (link_items_at bytes l is) ∙ leads)
+    on (Some bytes) is = items_lawful (field bytes 4) (drop 16 bytes) n place (ap (λ (items : List Item). named_place items n) (link_items_at bytes l is) ∙ leads)
 
 -- ---- paths
 

@@ -6,12 +6,12 @@ use Rattle.std.specs.List.{flat_map}
 use Rattle.std.specs.FinMap.{from_entries}
 use Rattle.fs_types.specs.Names.{Name, Path}
 use Rattle.plain_trees.specs.Contents.{Entry}
-use Rattle.node_format.specs.Items.{Item, named}
+use Rattle.node_format.specs.Items.{Item, named_place}
 use Rattle.node_format.specs.declared.place.Place.{Place}
 use Rattle.node_format.specs.declared.place.Place.TheVariants.{Dir, File}
 use Rattle.node_format.specs.BodyNodes.{HasSlot}
 use Rattle.block_trees.specs.Bodies.{Blocks, index_of, pointer_of, data_of, back, data_to, head_index, body, IsChain, IsLinked, IsBody}
-use Rattle.block_trees.specs.Trees.{entries_in, child, leads, entry_at, tree_at, IsWhole, HasTree, listed, items_in}
+use Rattle.block_trees.specs.Trees.{entries_in, child, leads, entry_at, tree_at, IsWholePlace, HasTree, listed, items_in}
 use Rattle.block_trees.specs.Chains.{chain}
 use Rattle.block_trees.specs.Reached.{IsHeld, Keeps, Reached, IsFirst, IsNamed, Names}
 use Rattle.block_trees.specs.Laws.{FrameLaw, AllFrames}
@@ -81,7 +81,7 @@ module _ (old new : Blocks) (kept kept' : ℕ → Bool) (keeps : Keeps kept old 
 
   -- ---- places
 
-  whole_same : (capacity : ℕ) (at : Place) → IsHeld old kept at → IsWhole capacity old at → IsWhole capacity new at
+  whole_same : (capacity : ℕ) (at : Place) → IsHeld old kept at → IsWholePlace capacity old at → IsWholePlace capacity new at
   whole_same capacity (Dir block) held (items, is) = (items, (same_chain block (held block refl)).0 ∙ is)
   whole_same capacity (File head zero) held is = is
   whole_same capacity (File head (suc n)) held is =
@@ -90,12 +90,12 @@ module _ (old new : Blocks) (kept kept' : ℕ → Bool) (keeps : Keeps kept old 
       let long : suc n ≤ length (data_to new i head) = omega (arith, is.1, ap length (data_same capacity i head is.0 below)) in
       (chain_same capacity i head is.0 below, long, linked_same capacity i head is.0 below is.2)
 
-  entry_same : (capacity : ℕ) (at : Place) → IsHeld old kept at → IsWhole capacity old at → entry_at capacity new at ≡ entry_at capacity old at
+  entry_same : (capacity : ℕ) (at : Place) → IsHeld old kept at → IsWholePlace capacity old at → entry_at capacity new at ≡ entry_at capacity old at
   entry_same capacity (Dir block) held is = refl
   entry_same capacity (File head size) held is = ap Entry.File (body_same capacity head size is held)
 
   child_same : (at : Place) (name : Name) → IsHeld old kept at → child new at name ≡ child old at name
-  child_same (Dir block) name held = ap (λ (o : Option (List Item)). named (unwrap_or o []) name) (same_chain block (held block refl)).0
+  child_same (Dir block) name held = ap (λ (o : Option (List Item)). named_place (unwrap_or o []) name) (same_chain block (held block refl)).0
   child_same (File head size) name held = refl
 
   pub leads_same : (path : Path) (at : Place) → IsHeld old kept at → leads new at path ≡ leads old at path
@@ -110,7 +110,7 @@ module _ (old new : Blocks) (kept kept' : ℕ → Bool) (keeps : Keeps kept old 
 
   -- all that paths lead to from a place is whole
   abbrev Whole : ℕ → Place → Type 0
-  Whole capacity at = (path : Path) (place : Place) → leads old at path ≡ Some place → IsWhole capacity old place
+  Whole capacity at = (path : Path) (place : Place) → leads old at path ≡ Some place → IsWholePlace capacity old place
 
   pub tree_same : (capacity : ℕ) (at : Place) → IsHeld old kept at → Whole capacity at → (path : Path) → tree_at capacity new at path ≡ tree_at capacity old at path
   tree_same capacity at held whole path = ap (option_map (entry_at capacity new)) (leads_same path at held) ∙ on (leads old at path) refl

@@ -11,15 +11,15 @@ use Rattle.fs_types.proofs.Orders.{same_name-is}
 use Rattle.plain_trees.proofs.Beneath.{None≢Some}
 use Rattle.plain_trees.proofs.Edits.{same_tree}
 use Rattle.plain_trees.proofs.Grafts.{graft_law, contents_law}
-use Rattle.node_format.specs.Items.{Item, named}
+use Rattle.node_format.specs.Items.{Item, named_place}
 use Rattle.node_format.specs.declared.place.Place.{Place}
 use Rattle.node_format.specs.declared.place.Place.TheVariants.{Dir, File}
 use Rattle.block_trees.specs.Bodies.{Blocks}
-use Rattle.block_trees.specs.Trees.{entries_in, child, leads, entry_at, tree_at, tree, IsWhole, HasTree, IsRoot, root_tree}
+use Rattle.block_trees.specs.Trees.{entries_in, child, leads, entry_at, tree_at, tree, IsWholePlace, HasTree, IsRoot, root_tree}
 use Rattle.block_trees.specs.Trees as trees
 use Rattle.block_trees.specs.Reached.{IsHeld, Keeps, Reached, PlaceNames}
 use Rattle.block_trees.specs.Rewritten.{IsDirectoryEdit, IsSecondEdit, IsBranch, IsMoved, IsFreshChain}
-use Rattle.block_trees.specs.Laws.{tree_or_nothing, HasTreeOrNothing, IsHeldOrNothing, IsShallow, AllMoves, RenameLaw}
+use Rattle.block_trees.specs.Laws.{tree_or_nothing, HasTreeOrNothing, IsHeldOrNothing, IsShallow, AllMoves, BlockRenameLaw}
 use Rattle.block_trees.proofs.Entries.{some_place, place_is}
 use Rattle.block_trees.specs.Chains.{chain}
 use Rattle.block_trees.proofs.Chained.{child_names, reached_chain}
@@ -33,7 +33,7 @@ use Rattle.block_trees.proofs.EditedTrees.{by_test, edited_child, child_tree, ed
 
 -- what a name of a directory written twice leads to
 second_child : (old new : Blocks) (from to : ℕ) (n m k : Name) (at at' : Option Place) → IsSecondEdit old new from to n at m at' → child new (Dir to) k ≡ cond (same_name m k) at' (cond (same_name n k) at (child old (Dir from) k))
-second_child old new from to n m k at at' (items, spelled, leads) = ap (λ (found : Option (List Item)). named (unwrap_or found []) k) spelled ∙ leads k
+second_child old new from to n m k at at' (items, spelled, leads) = ap (λ (found : Option (List Item)). named_place (unwrap_or found []) k) spelled ∙ leads k
 
 -- ---- grafts by one name
 
@@ -76,14 +76,14 @@ module _ (old new : Blocks) (kept kept' : ℕ → Bool) (keeps : Keeps kept old 
 
   level_shape : (capacity depth from to : ℕ) (items : List Item) → 1 ≤ depth → IsHeld old kept (Dir from) → HasTree capacity old (Dir from) depth → entries_in new to ≡ Some items
       → OldOr from to (λ place. HasTree capacity new place (depth - 1)) → HasTree capacity new (Dir to) depth
-  level_shape capacity depth from to items deep held has spelled each [] there is = (subst (IsWhole capacity new) (place_is (Dir to) there is) (items, spelled), omega arith)
+  level_shape capacity depth from to items deep held has spelled each [] there is = (subst (IsWholePlace capacity new) (place_is (Dir to) there is) (items, spelled), omega arith)
   level_shape capacity depth from to items deep held has spelled each (k ∷ path) there is = on (child new (Dir to) k) refl is
     where
       below : (place : Place) → (child old (Dir from) k ≡ Some place) ⊎ HasTree capacity new place (depth - 1) → HasTree capacity new place (depth - 1)
       below place (inl leads) = (frame_law old new kept kept' keeps).shape capacity (depth - 1) place (held_child old kept (Dir from) k place leads held) (child_tree capacity old depth (Dir from) k place leads has)
       below place (inr tree) = tree
 
-      on : (o : Option Place) → child new (Dir to) k ≡ o → option_and_then (λ next. trees.leads new next path) o ≡ Some there → IsWhole capacity new there × (length (k ∷ path) ≤ depth)
+      on : (o : Option Place) → child new (Dir to) k ≡ o → option_and_then (λ next. trees.leads new next path) o ≡ Some there → IsWholePlace capacity new there × (length (k ∷ path) ≤ depth)
       on None leads is = absurd cc
       on (Some place) leads is = let found = below place (each k place leads) path there is in (found.0, omega (arith, found.1))
 
@@ -358,7 +358,7 @@ move_law old new kept kept' from to old_path new_path place keeps held led moved
   reached = reached_is old new kept kept' from to old_path new_path place keeps held led moved;
 }
 
-pub rename_law : RenameLaw
+pub rename_law : BlockRenameLaw
 rename_law capacity old new kept kept' from to old_path new_path place keeps held root led deep shallow moved =
     let law = move_law old new kept kept' from to old_path new_path place keeps held led moved in
     let whole : IsRoot capacity new to = law.shape capacity 16 root deep shallow in

@@ -15,14 +15,14 @@ use Rattle.fs_types.proofs.Orders.{names_total, names_exact, paths_total, name_t
 use Rattle.plain_trees.proofs.Beneath.{None≢Some, same_Some}
 use Rattle.plain_trees.proofs.Listings.{directory, get-directory, entries-directory, children-sorted}
 use Rattle.plain_trees.proofs.Edits.{get-bare, same_tree}
-use Rattle.node_format.specs.Items.{Item, is_before, are_ascending, named}
+use Rattle.node_format.specs.Items.{Item, is_before, are_ascending, named_place}
 use Rattle.node_format.specs.EntryLaws.{after-differs}
 use Rattle.node_format.specs.Order.{both_true}
 use Rattle.node_format.specs.declared.place.Place.{Place}
 use Rattle.node_format.specs.declared.place.Place.TheVariants.{Dir, File}
 use Rattle.block_trees.specs.Bodies.{Blocks}
 use Rattle.block_trees.proofs.Chained.{directory_ascends}
-use Rattle.block_trees.specs.Trees.{entries_in, child, leads, entry_at, tree_at, tree, IsWhole, HasTree, IsRoot, listed, root_tree, names_of, is_dir_place, items_in}
+use Rattle.block_trees.specs.Trees.{entries_in, child, leads, entry_at, tree_at, tree, IsWholePlace, HasTree, IsRoot, listed, root_tree, names_of, is_dir_place, items_in}
 use Rattle.block_trees.specs.Laws.{AllMaps}
 
 -- ---- the first entry of a path in a list
@@ -62,11 +62,11 @@ first-below m n q (e ∷ es) =
 -- ---- the entries of a directory
 
 -- a name before all the others leads to none of them
-pub not-named : (items : List Item) (n : Name) → list_all (λ other. is_before n other.name) items ≡ true → named items n ≡ None
-not-named [] n h = refl
-not-named (item ∷ items) n h =
+pub not-named_place : (items : List Item) (n : Name) → list_all (λ other. is_before n other.name) items ≡ true → named_place items n ≡ None
+not-named_place [] n h = refl
+not-named_place (item ∷ items) n h =
     let parts = both_true (is_before n item.name) (list_all (λ other. is_before n other.name) items) h in
-    ap (λ b. cond b (Some item.place) (named items n)) (after-differs n item.name parts.0) ∙ not-named items n parts.1
+    ap (λ b. cond b (Some item.place) (named_place items n)) (after-differs n item.name parts.0) ∙ not-named_place items n parts.1
 
 or-None : {A : Type 0} (o : Option A) → option_or o None ≡ o
 or-None None = refl
@@ -74,7 +74,7 @@ or-None (Some x) = refl
 
 -- a name leads to what is listed at its place
 first-items : (at : Place → List (Path × Entry)) (items : List Item) (n : Name) (q : Path) → are_ascending items ≡ true
-    → first (n ∷ q) (flat_map (λ item. below item.name (at item.place)) items) ≡ option_and_then (λ place. first q (at place)) (named items n)
+    → first (n ∷ q) (flat_map (λ item. below item.name (at item.place)) items) ≡ option_and_then (λ place. first q (at place)) (named_place items n)
 first-items at [] n q h = refl
 first-items at (item ∷ items) n q h =
     let parts = both_true (list_all (λ other. is_before item.name other.name) items) (are_ascending items) h in
@@ -83,10 +83,10 @@ first-items at (item ∷ items) n q h =
     ∙ go (same_name item.name n) refl parts.0
   where
     go : (b : Bool) → same_name item.name n ≡ b → list_all (λ other. is_before item.name other.name) items ≡ true
-        → option_or (cond b (first q (at item.place)) None) (option_and_then (λ place. first q (at place)) (named items n))
-        ≡ option_and_then (λ place. first q (at place)) (cond b (Some item.place) (named items n))
+        → option_or (cond b (first q (at item.place)) None) (option_and_then (λ place. first q (at place)) (named_place items n))
+        ≡ option_and_then (λ place. first q (at place)) (cond b (Some item.place) (named_place items n))
     go true same before =
-        let none : named items n ≡ None = ap (named items) (sym (same_name-is item.name n same)) ∙ not-named items item.name before in
+        let none : named_place items n ≡ None = ap (named_place items) (sym (same_name-is item.name n same)) ∙ not-named_place items item.name before in
         ap (λ o. option_or (first q (at item.place)) (option_and_then (λ place. first q (at place)) o)) none ∙ or-None (first q (at item.place))
     go false other before = refl
 
@@ -117,9 +117,9 @@ module _ (capacity : ℕ) (f : Blocks) where
   first-listed (suc depth) (Dir block) has [] = refl
   first-listed (suc depth) (Dir block) has (n ∷ q) =
       first-items (listed capacity f depth) (items_in f block) n q (directory_ascends f block)
-      ∙ go (named (items_in f block) n) refl (λ at tree. first-listed depth at tree q)
+      ∙ go (named_place (items_in f block) n) refl (λ at tree. first-listed depth at tree q)
     where
-      go : (o : Option Place) → named (items_in f block) n ≡ o → ((at : Place) → HasTree capacity f at depth → first q (listed capacity f depth at) ≡ tree_at capacity f at q)
+      go : (o : Option Place) → named_place (items_in f block) n ≡ o → ((at : Place) → HasTree capacity f at depth → first q (listed capacity f depth at) ≡ tree_at capacity f at q)
           → option_and_then (λ at. first q (listed capacity f depth at)) o ≡ option_map (entry_at capacity f) (option_and_then (λ next. leads f next q) o)
       go None is rest = refl
       go (Some at) is rest = rest at (tree-below depth block n at has is)
@@ -142,11 +142,11 @@ is_dir-place : (capacity : ℕ) (f : Blocks) (at : Place) → is_dir_place at �
 is_dir-place capacity f (Dir block) = refl
 is_dir-place capacity f (File head size) = refl
 
-pub find-names : (capacity : ℕ) (f : Blocks) (items : List Item) (n : Name) → find name_cmp n (names_of items) ≡ option_map is_dir (option_map (entry_at capacity f) (named items n))
+pub find-names : (capacity : ℕ) (f : Blocks) (items : List Item) (n : Name) → find name_cmp n (names_of items) ≡ option_map is_dir (option_map (entry_at capacity f) (named_place items n))
 find-names capacity f [] n = refl
 find-names capacity f (item ∷ items) n =
     (λ i. cond ((sym (name_ties n item.name) ∙ same_name-turned n item.name) i) (Some (is_dir-place capacity f item.place i)) (find-names capacity f items n i))
-    ∙ elim (same_name item.name n) as (λ b. cond b (Some (is_dir (entry_at capacity f item.place))) (option_map is_dir (option_map (entry_at capacity f) (named items n))) ≡ option_map is_dir (option_map (entry_at capacity f) (cond b (Some item.place) (named items n)))) [ true ↦ refl | false ↦ refl ]
+    ∙ elim (same_name item.name n) as (λ b. cond b (Some (is_dir (entry_at capacity f item.place))) (option_map is_dir (option_map (entry_at capacity f) (named_place items n))) ≡ option_map is_dir (option_map (entry_at capacity f) (cond b (Some item.place) (named_place items n)))) [ true ↦ refl | false ↦ refl ]
 
 pub leads-append : (f : Blocks) (at : Place) (p q : Path) → leads f at (p ++ q) ≡ option_and_then (λ next. leads f next q) (leads f at p)
 leads-append f at [] q = refl
@@ -157,8 +157,8 @@ leads-append f at (n ∷ p) q = go (child f at n) (λ next. leads-append f next 
     go None rest = refl
     go (Some next) rest = rest next
 
-leads-child : (f : Blocks) (at : Place) (p : Path) (block : ℕ) (n : Name) → leads f at p ≡ Some (Dir block) → leads f at (p ++ n ∷ []) ≡ named (items_in f block) n
-leads-child f at p block n is = leads-append f at p (n ∷ []) ∙ ap (option_and_then (λ next. leads f next (n ∷ []))) is ∙ go (named (items_in f block) n)
+leads-child : (f : Blocks) (at : Place) (p : Path) (block : ℕ) (n : Name) → leads f at p ≡ Some (Dir block) → leads f at (p ++ n ∷ []) ≡ named_place (items_in f block) n
+leads-child f at p block n is = leads-append f at p (n ∷ []) ∙ ap (option_and_then (λ next. leads f next (n ∷ []))) is ∙ go (named_place (items_in f block) n)
   where
     go : (o : Option Place) → option_and_then (λ next. leads f next []) o ≡ o
     go None = refl
@@ -199,7 +199,7 @@ full_directory capacity f root path block has is =
 
 -- nothing stands below a directory without entries
 empty-child : (f : Blocks) (block : ℕ) → entries_in f block ≡ Some [] → (n : Name) → child f (Dir block) n ≡ None
-empty-child f block empty n = ap (λ o. named (unwrap_or o []) n) empty
+empty-child f block empty n = ap (λ o. named_place (unwrap_or o []) n) empty
 
 -- an empty directory is a root, and has the bare tree
 pub empty_root : (capacity : ℕ) (f : Blocks) (root : ℕ) → entries_in f root ≡ Some [] → IsRoot capacity f root × (root_tree capacity f root ≡ bare)
@@ -209,7 +209,7 @@ empty_root capacity f root empty = (has, same_tree (root_tree capacity f root) b
     none n p = ap (option_and_then (λ next. leads f next p)) (empty-child f root empty n)
 
     has : IsRoot capacity f root
-    has [] at is = (subst (IsWhole capacity f) (same_Some is) ([], empty), omega arith)
+    has [] at is = (subst (IsWholePlace capacity f) (same_Some is) ([], empty), omega arith)
     has (n ∷ p) at is = absurd (None≢Some (sym (none n p) ∙ is))
 
     alone : (q : Path) → tree capacity f root q ≡ leaf Entry.Dir q

@@ -7,7 +7,7 @@ use Rattle.node_format.specs.Links.{Link}
 use Rattle.node_format.specs.declared.place.Place.{Place}
 use Rattle.node_format.specs.declared.place.Place.TheVariants.{Dir}
 use Rattle.block_trees.specs.Bodies.{Blocks}
-use Rattle.block_trees.specs.Chains.{link_of, is_later, after, most_after, entries_in, items_in, chain}
+use Rattle.block_trees.specs.Chains.{link_of, is_later, entries_after, most_after, entries_in, items_in, chain}
 use Rattle.block_trees.specs.Trees.{child}
 use Rattle.block_trees.specs.Reached.{Reached, PlaceNames}
 
@@ -18,11 +18,11 @@ ChainFrameLaw = (old new : Blocks) (block : ℕ) → ((b : ℕ) → Contains (ch
 
 -- one node more before others
 abbrev pub StepLaw : Type 0
-StepLaw = (f : Blocks) (n next : ℕ) (l : Link) (more : List Item) → 0 < next → link_of (f next) ≡ Some l → is_later l ≡ true → after n f l.next ≡ Some more → after (suc n) f next ≡ Some (l.items ++ more)
+StepLaw = (f : Blocks) (n next : ℕ) (l : Link) (more : List Item) → 0 < next → link_of (f next) ≡ Some l → is_later l ≡ true → entries_after n f l.next ≡ Some more → entries_after (suc n) f next ≡ Some (l.items ++ more)
 
 -- and the first one
 abbrev pub FirstLaw : Type 0
-FirstLaw = (f : Blocks) (n block : ℕ) (l : Link) (more : List Item) → n ≤ most_after → link_of (f block) ≡ Some l → after n f l.next ≡ Some more → are_ascending (l.items ++ more) ≡ true → entries_in f block ≡ Some (l.items ++ more)
+FirstLaw = (f : Blocks) (n block : ℕ) (l : Link) (more : List Item) → n ≤ most_after → link_of (f block) ≡ Some l → entries_after n f l.next ≡ Some more → are_ascending (l.items ++ more) ≡ true → entries_in f block ≡ Some (l.items ++ more)
 
 -- a directory begins in a block
 abbrev pub BeginsIn : Blocks → ℕ → Type 0

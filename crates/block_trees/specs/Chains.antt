@@ -27,9 +27,9 @@ later rest None = None
 later rest (Some link) = if is_later link then and_after rest link else None
 
 -- the entries of the nodes from a block on, at most so many nodes; 0 names none
-abbrev pub after : ℕ → Blocks → ℕ → Option (List Item)
-after zero f next = if next == 0 then Some [] else None
-after (suc n) f next = if next == 0 then Some [] else later (after n f) (link_of (f next))
+abbrev pub entries_after : ℕ → Blocks → ℕ → Option (List Item)
+entries_after zero f next = if next == 0 then Some [] else None
+entries_after (suc n) f next = if next == 0 then Some [] else later (entries_after n f) (link_of (f next))
 
 -- the most nodes after the first one of a chain
 abbrev pub most_after : ℕ
@@ -45,7 +45,7 @@ in_order items = if are_ascending items then Some items else None
 
 -- the entries of the directory that begins in a block: a chain of at most 32 nodes; none where it is no directory
 abbrev pub entries_in : Blocks → ℕ → Option (List Item)
-entries_in f block = option_and_then in_order (option_and_then (and_after (after most_after f)) (link_of (f block)))
+entries_in f block = option_and_then in_order (option_and_then (and_after (entries_after most_after f)) (link_of (f block)))
 
 abbrev pub items_in : Blocks → ℕ → List Item
 items_in f block = unwrap_or (entries_in f block) []

@@ -56,8 +56,8 @@ MkdirLaw = (capacity : ℕ) (old new : Blocks) (kept kept' : ℕ → Bool) (from
     → IsRoot capacity new to × (root_tree capacity new to ≡ put (root_tree capacity old from) path Entry.Dir)
 
 -- an entry taken out that nothing stands below
-abbrev pub RemoveLaw : Type 0
-RemoveLaw = (capacity : ℕ) (old new : Blocks) (kept kept' : ℕ → Bool) (from to : ℕ) (path : Path) → Keeps kept old kept' new → IsHeld old kept (Dir from) → IsRoot capacity old from
+abbrev pub BlockRemoveLaw : Type 0
+BlockRemoveLaw = (capacity : ℕ) (old new : Blocks) (kept kept' : ℕ → Bool) (from to : ℕ) (path : Path) → Keeps kept old kept' new → IsHeld old kept (Dir from) → IsRoot capacity old from
     → IsLast (tree capacity old from) path → length path ≤ MAX_NAMES → IsRewritten old new kept kept' from to path None
     → IsRoot capacity new to × (root_tree capacity new to ≡ remove (root_tree capacity old from) path)
 
@@ -73,7 +73,7 @@ IsShallow f at most = (path : Path) → IsSome (leads f at path) → length path
 
 -- what stood at one path stands at another: the new tree is the old one moved; it is a tree where no path gets too
 -- long; all that the new root reaches is kept, and the old root reached it, or it is in a block that was not kept before
-pub record MoveLaw (old new : Blocks) (kept kept' : ℕ → Bool) (from to : ℕ) (old_path new_path : Path) (place : Place) : Type 0 where
+pub record BlockMoveLaw (old new : Blocks) (kept kept' : ℕ → Bool) (from to : ℕ) (old_path new_path : Path) (place : Place) : Type 0 where
   pub moved : (capacity depth : ℕ) → HasTree capacity old (Dir from) depth → tree capacity new to ≡ plain.move (tree capacity old from) old_path new_path
   pub shape : (capacity depth : ℕ) → HasTree capacity old (Dir from) depth → length new_path ≤ depth → IsShallow old place (depth - length new_path) → HasTree capacity new (Dir to) depth
   pub held : IsHeld new kept' (Dir to)
@@ -81,11 +81,11 @@ pub record MoveLaw (old new : Blocks) (kept kept' : ℕ → Bool) (from to : ℕ
 
 abbrev pub AllMoves : Type 0
 AllMoves = (old new : Blocks) (kept kept' : ℕ → Bool) (from to : ℕ) (old_path new_path : Path) (place : Place) → Keeps kept old kept' new → IsHeld old kept (Dir from)
-    → leads old (Dir from) old_path ≡ Some place → IsMoved old new kept kept' from to old_path new_path place → MoveLaw old new kept kept' from to old_path new_path place
+    → leads old (Dir from) old_path ≡ Some place → IsMoved old new kept kept' from to old_path new_path place → BlockMoveLaw old new kept kept' from to old_path new_path place
 
 -- a move as one of finite maps
-abbrev pub RenameLaw : Type 0
-RenameLaw = (capacity : ℕ) (old new : Blocks) (kept kept' : ℕ → Bool) (from to : ℕ) (old_path new_path : Path) (place : Place) → Keeps kept old kept' new → IsHeld old kept (Dir from) → IsRoot capacity old from
+abbrev pub BlockRenameLaw : Type 0
+BlockRenameLaw = (capacity : ℕ) (old new : Blocks) (kept kept' : ℕ → Bool) (from to : ℕ) (old_path new_path : Path) (place : Place) → Keeps kept old kept' new → IsHeld old kept (Dir from) → IsRoot capacity old from
     → leads old (Dir from) old_path ≡ Some place → length new_path ≤ MAX_NAMES → IsShallow old place (MAX_NAMES - length new_path) → IsMoved old new kept kept' from to old_path new_path place
     → IsRoot capacity new to × (root_tree capacity new to ≡ move (root_tree capacity old from) old_path new_path)
 

@@ -1,7 +1,7 @@
 -- A path of directories written anew from a changed entry up to the root.
 use Rattle.std.specs.Prelude.{◌≡◌, ◌⊎◌, ℕ, Bool, true, false, Option, Some, None, List, [], ◌∷◌, Contains, if◌then◌else◌}
 use Rattle.fs_types.specs.Names.{Name, Path, same_name}
-use Rattle.node_format.specs.Items.{Item, named}
+use Rattle.node_format.specs.Items.{Item, named_place}
 use Rattle.node_format.specs.declared.place.Place.{Place}
 use Rattle.node_format.specs.declared.place.Place.TheVariants.{Dir}
 use Rattle.block_trees.specs.Bodies.{Blocks}
@@ -11,7 +11,7 @@ use Rattle.block_trees.specs.Trees.{entries_in, child}
 -- the directory at `to` has the entries of the one at `from`, but that a name leads to this place (None: to nothing)
 abbrev pub IsDirectoryEdit : Blocks → Blocks → ℕ → ℕ → Name → Option Place → Type 0
 IsDirectoryEdit old new from to n at =
-    (items : List Item) × (entries_in new to ≡ Some items) × ((m : Name) → named items m ≡ (if same_name n m then at else child old (Dir from) m))
+    (items : List Item) × (entries_in new to ≡ Some items) × ((m : Name) → named_place items m ≡ (if same_name n m then at else child old (Dir from) m))
 
 -- each node of the new directory is kept, in a block that was not kept, or is a node of the old one
 abbrev pub IsFreshChain : Blocks → Blocks → (ℕ → Bool) → (ℕ → Bool) → ℕ → ℕ → Type 0
@@ -28,7 +28,7 @@ IsRewritten old new kept kept' from to (n ∷ m ∷ p) at =
 -- in new the directory at `to` has the entries of the one at `from` in old, but that one name leads to one place and another to another (None: to nothing)
 abbrev pub IsSecondEdit : Blocks → Blocks → ℕ → ℕ → Name → Option Place → Name → Option Place → Type 0
 IsSecondEdit old new from to n at m at' =
-    (items : List Item) × (entries_in new to ≡ Some items) × ((k : Name) → named items k ≡ (if same_name m k then at' else if same_name n k then at else child old (Dir from) k))
+    (items : List Item) × (entries_in new to ≡ Some items) × ((k : Name) → named_place items k ≡ (if same_name m k then at' else if same_name n k then at else child old (Dir from) k))
 
 -- what a name of a directory leads to now, so that the names after it lead on to this place: the place itself where
 -- none come after it, else the directory below, written anew

@@ -7,7 +7,7 @@ use Rattle.fs_types.specs.declared.limits.TheConstants.{MAX_NAMES}
 use Rattle.fs_types.specs.Names.{Name, Path}
 use Rattle.plain_trees.specs.Contents.{Contents, Entry}
 use Rattle.plain_trees.specs.Trees.{Tree}
-use Rattle.node_format.specs.Items.{Item, named}
+use Rattle.node_format.specs.Items.{Item, named_place}
 pub use Rattle.node_format.specs.Items.{is_dir_place}
 pub use Rattle.block_trees.specs.Chains.{entries_in, items_in}
 use Rattle.node_format.specs.declared.place.Place.{Place}
@@ -16,7 +16,7 @@ use Rattle.block_trees.specs.Bodies.{Blocks, body, IsBody}
 
 -- what a name in a directory leads to
 abbrev pub child : Blocks → Place → Name → Option Place
-child f (Dir block) n = named (items_in f block) n
+child f (Dir block) n = named_place (items_in f block) n
 child f (File head size) n = None
 
 -- what a path leads to
@@ -38,13 +38,13 @@ abbrev pub tree : ℕ → Blocks → ℕ → Contents
 tree capacity f root = tree_at capacity f (Dir root)
 
 -- a directory begins in its block, a file has a body
-abbrev pub IsWhole : ℕ → Blocks → Place → Type 0
-IsWhole capacity f (Dir block) = (items : List Item) × (entries_in f block ≡ Some items)
-IsWhole capacity f (File head size) = IsBody capacity f head size
+abbrev pub IsWholePlace : ℕ → Blocks → Place → Type 0
+IsWholePlace capacity f (Dir block) = (items : List Item) × (entries_in f block ≡ Some items)
+IsWholePlace capacity f (File head size) = IsBody capacity f head size
 
 -- all that paths lead to is whole, and no path has more names than `depth`; so no directory is below itself
 abbrev pub HasTree : ℕ → Blocks → Place → ℕ → Type 0
-HasTree capacity f from depth = (p : Path) (at : Place) → leads f from p ≡ Some at → IsWhole capacity f at × (length p ≤ depth)
+HasTree capacity f from depth = (p : Path) (at : Place) → leads f from p ≡ Some at → IsWholePlace capacity f at × (length p ≤ depth)
 
 -- a root has a tree of paths that are not too long
 abbrev pub IsRoot : ℕ → Blocks → ℕ → Type 0

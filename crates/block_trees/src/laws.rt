@@ -1,6 +1,6 @@
 //! The laws of trees of nodes. Each function does nothing: its contract is the law.
 ghost use Rattle.block_trees.specs.ChainLaws.{ChainFrameLaw, CountLaw, EntryLaw, FirstLaw, NamedLaw, ReachedByLaw, ReachedLaw, StepLaw, TailLaw};
-ghost use Rattle.block_trees.specs.Laws.{AllEdits, AllFrames, AllMoves, DepthLaw, MkdirLaw, PutFileLaw, RemoveLaw, RenameLaw};
+ghost use Rattle.block_trees.specs.Laws.{AllEdits, AllFrames, AllMoves, DepthLaw, MkdirLaw, PutFileLaw, BlockRemoveLaw, BlockRenameLaw};
 
 /// Where all that a place or a root reaches is kept, nothing of it changes.
 pub fn frame_laws()
@@ -12,7 +12,7 @@ pub fn frame_laws()
 pub fn edit_laws()
     ensures edits { AllEdits }
     ensures made { MkdirLaw }
-    ensures removed { RemoveLaw }
+    ensures removed { BlockRemoveLaw }
     ensures file_put { PutFileLaw }
 {}
 
@@ -20,7 +20,7 @@ pub fn edit_laws()
 /// the new root, and what it reaches; as finite maps too, and when a path would get too long.
 pub fn move_laws()
     ensures moves { AllMoves }
-    ensures renamed { RenameLaw }
+    ensures renamed { BlockRenameLaw }
     ensures depth { DepthLaw }
 {}
 

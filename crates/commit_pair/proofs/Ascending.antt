@@ -7,7 +7,7 @@ use Rattle.std.specs.List.Sorted.{IsStrictlyIncreasing}
 use Rattle.std.proofs.lemmas.Bool.{lt-ltb, le-leb, eq-eqb, or_right}
 use Rattle.std.proofs.lemmas.List.Kept.{AllPairs-from_increasing}
 use Rattle.record_format.specs.declared.record.Record.{Record}
-use Rattle.record_format.specs.Payloads.{numbers_ascend, is_record, written, Fits, payload_bytes, payload_at}
+use Rattle.record_format.specs.Payloads.{numbers_ascend, is_record, written, FitsFields, payload_bytes, payload_at}
 use Rattle.record_format.specs.Laws.{WrittenIsRead}
 
 ascend : (least : ℕ) (xs : List ℕ) → ((i j : ℕ) → i < j → j < length xs → get_or xs i 0 < get_or xs j 0) → (0 < length xs → least ≤ get_or xs 0 0) → numbers_ascend least xs ≡ true
@@ -32,7 +32,7 @@ lawful_with r list bad lawful increasing is short below =
     rw (le-leb (length list) 256 short, up, on) lawful
 
 -- the payload means the record with a sequence
-pub means_with : WrittenIsRead → (r : Record) (list : List ℕ) (sequence : ℕ) (bytes : List ℕ) → is_record (written r list) ≡ true → Fits (written r list) → bytes ≡ payload_bytes (written r list)
+pub means_with : WrittenIsRead → (r : Record) (list : List ℕ) (sequence : ℕ) (bytes : List ℕ) → is_record (written r list) ≡ true → FitsFields (written r list) → bytes ≡ payload_bytes (written r list)
     → payload_at r.geometry sequence bytes ≡ Ok (record (written r list) { sequence = sequence })
 means_with law r list sequence bytes lawful fits spelled =
     ap (payload_at r.geometry sequence) spelled

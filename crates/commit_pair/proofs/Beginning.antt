@@ -18,7 +18,7 @@ use Rattle.record_format.specs.declared.record.Record.{Record}
 use Rattle.commit_pair.specs.declared.best.Found.{Found}
 use Rattle.commit_pair.specs.declared.anchors.Anchors.{Anchors}
 use Rattle.commit_pair.specs.Parts.{RecordBytes, Part, part_of, parts_on, best_on, newest_at, newest_on, sequence_of, greatest_on}
-use Rattle.commit_pair.specs.Reading.{IsEnd, ReadCause}
+use Rattle.commit_pair.specs.Reading.{IsEnd, PageReadCause}
 use Rattle.commit_pair.specs.Anchored.{OnlyAnchors}
 use Rattle.commit_pair.specs.Keeping.{KeepsNewest, AreOlder, Spares}
 use Rattle.commit_pair.specs.Committing.{IsLowest, Commits, Untouched, IsInVain}
@@ -248,7 +248,7 @@ ready_at old new bad anchors found reads here at end = reads_may_commit old new 
 }))
 
 -- why a commit is refused
-pub read_commit_cause : (old new : Device) (was : set.FinSet nat_cmp) (anchors : Anchors) (fault : Fault) → remembered anchors ≡ None → OnlyReads old new → ReadCause old new fault → CommitCause old was anchors new was fault
+pub read_commit_cause : (old new : Device) (was : set.FinSet nat_cmp) (anchors : Anchors) (fault : Fault) → remembered anchors ≡ None → OnlyReads old new → PageReadCause old new fault → CommitCause old was anchors new was fault
 read_commit_cause old new was anchors ReadFailed none reads cause = (none, cause, (same_pages reads), refl)
 read_commit_cause old new was anchors PowerCut none reads cause = cause
 read_commit_cause old new was anchors _ none reads cause = absurd cause

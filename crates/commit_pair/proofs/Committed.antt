@@ -16,7 +16,7 @@ use Rattle.commit_pair.specs.declared.best.Best.{Best}
 use Rattle.commit_pair.specs.Parts.{RecordBytes, parts_on, best_on, newest_at, newest_on, payload_of}
 use Rattle.commit_pair.specs.Laws.{HasNone, HasTie}
 use Rattle.commit_pair.specs.Newest.{committed_on, IsNewestRecord, NewestCause}
-use Rattle.commit_pair.specs.Reading.{ReadCause}
+use Rattle.commit_pair.specs.Reading.{PageReadCause}
 use Rattle.std.proofs.Common.{arith}
 use Rattle.fs_types.specs.declared.fault.Fault.TheVariants.{ReadFailed, PowerCut}
 use Rattle.commit_pair.proofs.NewestLaws.{none_valid, tied}
@@ -107,7 +107,7 @@ none_committed d g found (Some r) same at none is =
     cc
 
 -- a read that was refused
-pub read_cause : (old new : Device) (fault : Fault) → ReadCause old new fault → NewestCause old new fault
+pub read_cause : (old new : Device) (fault : Fault) → PageReadCause old new fault → NewestCause old new fault
 read_cause old new ReadFailed cause = cause
 read_cause old new PowerCut cause = cause
 read_cause old new _ cause = absurd cause

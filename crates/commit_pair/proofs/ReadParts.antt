@@ -14,17 +14,17 @@ use Rattle.flash_model.specs.Device.{Device, Page, bytes_of, Reads}
 use Rattle.flash_model.specs.declared.flash.DevFault.{DevFault}
 use Rattle.flash_model.specs.declared.flash.PageState.{PageState}
 use Rattle.flash_model.specs.Reading.{OnlyReads}
-use Rattle.record_format.specs.Pages.{head_of, used_bytes}
+use Rattle.record_format.specs.Pages.{page_head_of, used_bytes}
 use Rattle.record_format.specs.Payloads.{payload_at}
 use Rattle.record_format.specs.declared.page_head.PageHead.{PageHead}
 use Rattle.commit_pair.specs.Anchored.{AreErased}
 use Rattle.commit_pair.specs.Parts.{Part, part_of, parts_on, part_bytes, head_at, is_part, are_parts, is_valid_record, record_head, considered, best_below, best_on, newest_at, bytes_from, held_bytes}
 use Rattle.commit_pair.specs.declared.best.Best.{Best}
 use Rattle.commit_pair.specs.Payloads.{IsLongFront}
-use Rattle.commit_pair.specs.Reading.{ReadCause}
+use Rattle.commit_pair.specs.Reading.{PageReadCause}
 
 -- the part in a page of an anchor whose bytes are read
-pub data_part : (g : Geometry) (pages : ℕ → Page) (p : ℕ) (shown : List ℕ) (found : Option PageHead) → p / g.pages < ANCHORS → pages p ≡ bytes_of shown → found ≡ head_of shown
+pub data_part : (g : Geometry) (pages : ℕ → Page) (p : ℕ) (shown : List ℕ) (found : Option PageHead) → p / g.pages < ANCHORS → pages p ≡ bytes_of shown → found ≡ page_head_of shown
     → option_map (λ head. record { head = head; bytes = used_bytes head shown }) found ≡ parts_on g pages p
 data_part g pages p shown found lt held tells = rw (lt-ltb _ _ lt, held, tells) refl
 
@@ -76,7 +76,7 @@ pub parts_read : (g : Geometry) (old mid : ℕ → Page) (p : ℕ) (first : Page
 parts_read g old mid p first has same is = is ∙ ap (λ (pages : ℕ → Page). are_parts g (parts_on g pages) p first 0 first.count) same
 
 -- a refusal after reads
-pub ReadCause_on : (old mid new : Device) (fault : Fault) → OnlyReads old mid → ReadCause mid new fault → ReadCause old new fault
+pub ReadCause_on : (old mid new : Device) (fault : Fault) → OnlyReads old mid → PageReadCause mid new fault → PageReadCause old new fault
 ReadCause_on old mid new ReadFailed reads cause = let h = reads.failed_reads in omega arith
 ReadCause_on old mid new PowerCut reads cause = cause
 ReadCause_on old mid new _ reads cause = cause

@@ -4,7 +4,7 @@ use Rattle.std.specs.Option.{option_map, option_and_then}
 use Rattle.fs_types.specs.declared.limits.TheConstants.{ANCHORS}
 use Rattle.flash_model.specs.declared.geometry.Geometry.{Geometry}
 use Rattle.flash_model.specs.Device.{Page, erased, bytes_of, unreadable}
-use Rattle.record_format.specs.Pages.{head_size, head_of, used_bytes}
+use Rattle.record_format.specs.Pages.{head_size, page_head_of, used_bytes}
 use Rattle.record_format.specs.declared.page_head.PageHead.{PageHead}
 use Rattle.commit_pair.specs.declared.best.Found.{Found}
 use Rattle.commit_pair.specs.declared.best.Best.{Best}
@@ -16,7 +16,7 @@ pub record Part : Type 0 where
 
 abbrev pub part_of : Page → Option Part
 part_of erased = None
-part_of (bytes_of page) = option_map (λ head. record { head = head; bytes = used_bytes head page }) (head_of page)
+part_of (bytes_of page) = option_map (λ head. record { head = head; bytes = used_bytes head page }) (page_head_of page)
 part_of unreadable = None
 
 -- the parts on the anchors, by page; other pages hold none

@@ -4,7 +4,7 @@ use Rattle.flash_model.specs.declared.geometry.Geometry.{Geometry}
 use Rattle.flash_model.specs.declared.flash.DevFault.{DevFault}
 use Rattle.flash_model.specs.declared.flash.DevFault.TheVariants.{Failed, PowerCut}
 use Rattle.flash_model.specs.Device.{Device, Page, bytes_of}
-use Rattle.record_format.specs.Pages.{page_bytes}
+use Rattle.record_format.specs.Pages.{record_page_bytes}
 use Rattle.record_format.specs.declared.page_head.PageHead.{PageHead}
 use Rattle.commit_pair.specs.Anchored.{AsksInTurn}
 use Rattle.commit_pair.specs.Parts.{room, part_of}
@@ -17,7 +17,7 @@ abbrev pub head_for : Geometry → ℕ → List ℕ → ℕ → ℕ → PageHead
 head_for g sequence payload count n = record { sequence = sequence; index = n; count = count; used = length (piece g payload n) }
 
 abbrev pub bytes_for : Geometry → ℕ → List ℕ → ℕ → ℕ → List ℕ
-bytes_for g sequence payload count n = page_bytes g.page (head_for g sequence payload count n) (piece g payload n)
+bytes_for g sequence payload count n = record_page_bytes g.page (head_for g sequence payload count n) (piece g payload n)
 
 -- a payload fills so many pages: each but the last whole, and at least one byte of the last
 pub record Fills (g : Geometry) (payload : List ℕ) (count : ℕ) : Type 0 where

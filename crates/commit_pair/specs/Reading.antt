@@ -12,7 +12,7 @@ pub record IsEnd (g : Geometry) (pages : ℕ → Page) (anchor count place : ℕ
   pub last : (m : ℕ) → place ≡ m + 1 → pages (anchor * g.pages + m) ≢ erased
 
 -- a read is refused only because it failed, or because power is off
-abbrev pub ReadCause : Device → Device → Fault → Type 0
-ReadCause old new ReadFailed = old.failed_reads < new.failed_reads
-ReadCause old new PowerCut = new.powered ≡ false
-ReadCause old new _ = ⊥
+abbrev pub PageReadCause : Device → Device → Fault → Type 0
+PageReadCause old new ReadFailed = old.failed_reads < new.failed_reads
+PageReadCause old new PowerCut = new.powered ≡ false
+PageReadCause old new _ = ⊥

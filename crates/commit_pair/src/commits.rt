@@ -7,7 +7,7 @@ ghost use Rattle.commit_pair.specs.Parts.{sequence_of, greatest_on};
 ghost use Rattle.commit_pair.specs.Anchored.{OnlyAnchors};
 ghost use Rattle.commit_pair.specs.Keeping.{AreOlder};
 ghost use Rattle.commit_pair.specs.Newest.{remembered};
-ghost use Rattle.commit_pair.specs.Reading.{ReadCause};
+ghost use Rattle.commit_pair.specs.Reading.{PageReadCause};
 ghost use Rattle.commit_pair.specs.Committing.{Suits, IsLowest, Commits, Untouched, IsInVain};
 ghost use Rattle.commit_pair.specs.Remembering.{MayCommit, BeginsAt, ReadsNone, IsPlaced, Remembers, TriesEach, RefusesLast, CommitCause};
 
@@ -124,7 +124,7 @@ impl Anchors {
         ensures none { IfErr result (λ fault. remembered self.now ≡ None) }
         ensures quiet { ReadsNone bad.now self.now → (F.device flash.new).operations ≡ (F.device flash.old).operations }
         ensures operations { (F.device flash.new).operations ≤ (F.device flash.old).operations + ANCHORS * geometry.pages }
-        ensures why { IfErr result (ReadCause (F.device flash.old) (F.device flash.new)) }
+        ensures why { IfErr result (PageReadCause (F.device flash.old) (F.device flash.new)) }
     {
         match self.newest {
             Some(newest) => Ok(newest.head.sequence),

@@ -5,7 +5,7 @@ ghost use Rattle.flash_model.specs.Geometry.{IsGeometry};
 ghost use Rattle.flash_model.specs.Reading.{OnlyReads};
 ghost use Rattle.commit_pair.specs.Anchored.{AreErased};
 ghost use Rattle.commit_pair.specs.Parts as spec;
-ghost use Rattle.commit_pair.specs.Reading.{ReadCause};
+ghost use Rattle.commit_pair.specs.Reading.{PageReadCause};
 
 use crate::best::Best;
 use crate::scan::scan_anchor;
@@ -37,7 +37,7 @@ fn scan_left<F: Flash>(
     ensures only_reads { OnlyReads (F.device flash.old) (F.device flash.new) }
     ensures operations { (F.device flash.new).operations ≤ (F.device flash.old).operations + geometry.pages }
     ensures quiet { set.contains bad.now anchor ≡ false → (F.device flash.new).operations ≡ (F.device flash.old).operations }
-    ensures why { IfErr result (ReadCause (F.device flash.old) (F.device flash.new)) }
+    ensures why { IfErr result (PageReadCause (F.device flash.old) (F.device flash.new)) }
 {
     if !bad.contains(anchor) {
         return Ok(best);
@@ -66,7 +66,7 @@ pub(crate) fn find_greatest<F: Flash>(
     ensures only_reads { OnlyReads (F.device flash.old) (F.device flash.new) }
     ensures operations { (F.device flash.new).operations ≤ (F.device flash.old).operations + ANCHORS * geometry.pages }
     ensures quiet { ((b : ℕ) → b < ANCHORS → set.contains bad.now b ≡ false) → (F.device flash.new).operations ≡ (F.device flash.old).operations }
-    ensures why { IfErr result (ReadCause (F.device flash.old) (F.device flash.new)) }
+    ensures why { IfErr result (PageReadCause (F.device flash.old) (F.device flash.new)) }
 {
     let mut best = Best {
         found: None,

@@ -6,7 +6,7 @@ ghost use Rattle.flash_model.specs.Geometry.{IsGeometry};
 ghost use Rattle.flash_model.specs.Reading.{OnlyReads};
 ghost use Rattle.record_format.specs.Pages.{used_bytes};
 ghost use Rattle.commit_pair.specs.Parts as spec;
-ghost use Rattle.commit_pair.specs.Reading.{ReadCause};
+ghost use Rattle.commit_pair.specs.Reading.{PageReadCause};
 
 use flash_model::{DevFault, Flash, Geometry, PageState};
 use fs_types::Fault;
@@ -29,7 +29,7 @@ pub(crate) fn read_head<F: Flash>(
     // By reads alone, and how many.
     ensures only_reads { OnlyReads (F.device flash.old) (F.device flash.new) }
     ensures operations { (F.device flash.new).operations ≤ (F.device flash.old).operations + 1 }
-    ensures why { IfErr result (ReadCause (F.device flash.old) (F.device flash.new)) }
+    ensures why { IfErr result (PageReadCause (F.device flash.old) (F.device flash.new)) }
 {
     match flash.read(page, buffer) {
         Ok(PageState::Data) => Ok(PageHead::of(buffer)),

@@ -8,7 +8,7 @@ ghost use Rattle.record_format.specs.Payloads.{payload_at};
 ghost use Rattle.commit_pair.specs.declared.best.Found.{Found};
 ghost use Rattle.commit_pair.specs.Parts as spec;
 ghost use Rattle.commit_pair.specs.Payloads.{IsLongFront};
-ghost use Rattle.commit_pair.specs.Reading.{IsEnd, ReadCause};
+ghost use Rattle.commit_pair.specs.Reading.{IsEnd, PageReadCause};
 
 use crate::best::{Best, Found};
 use crate::parts::read_head;
@@ -39,7 +39,7 @@ fn read_page<F: Flash>(
     // By reads alone, and how many.
     ensures only_reads { OnlyReads (F.device flash.old) (F.device flash.new) }
     ensures operations { (F.device flash.new).operations ≤ (F.device flash.old).operations + 1 }
-    ensures why { IfErr result (ReadCause (F.device flash.old) (F.device flash.new)) }
+    ensures why { IfErr result (PageReadCause (F.device flash.old) (F.device flash.new)) }
 {
     match flash.read(page, buffer) {
         Ok(PageState::Data) => Ok((PageHead::of(buffer), false)),
@@ -72,7 +72,7 @@ pub(crate) fn scan_anchor<F: Flash>(
     // By reads alone, and how many.
     ensures only_reads { OnlyReads (F.device flash.old) (F.device flash.new) }
     ensures operations { (F.device flash.new).operations ≤ (F.device flash.old).operations + geometry.pages }
-    ensures why { IfErr result (ReadCause (F.device flash.old) (F.device flash.new)) }
+    ensures why { IfErr result (PageReadCause (F.device flash.old) (F.device flash.new)) }
 {
     let mut scan = Scan { best, run: None };
     let mut end = 0;
@@ -117,7 +117,7 @@ pub(crate) fn find_best<F: Flash>(
     // By reads alone, and how many.
     ensures only_reads { OnlyReads (F.device flash.old) (F.device flash.new) }
     ensures operations { (F.device flash.new).operations ≤ (F.device flash.old).operations + ANCHORS * geometry.pages }
-    ensures why { IfErr result (ReadCause (F.device flash.old) (F.device flash.new)) }
+    ensures why { IfErr result (PageReadCause (F.device flash.old) (F.device flash.new)) }
 {
     let mut best = Best {
         found: None,
@@ -184,7 +184,7 @@ pub(crate) fn find_payload<F: Flash>(
     // By reads alone, and how many.
     ensures only_reads { OnlyReads (F.device flash.old) (F.device flash.new) }
     ensures operations { (F.device flash.new).operations ≤ (F.device flash.old).operations + found.head.count }
-    ensures why { IfErr result (λ fault. ReadCause (F.device flash.old) (F.device flash.new) fault ⊎ (payload_at geometry found.head.sequence (spec.payload_of geometry (spec.parts_on geometry (F.device flash.old).pages) found) ≡ Err fault)) }
+    ensures why { IfErr result (λ fault. PageReadCause (F.device flash.old) (F.device flash.new) fault ⊎ (payload_at geometry found.head.sequence (spec.payload_of geometry (spec.parts_on geometry (F.device flash.old).pages) found) ≡ Err fault)) }
 {
     let mut payload = ArrayVec::new();
     for n in 0..found.head.count {

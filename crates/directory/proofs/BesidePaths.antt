@@ -7,7 +7,7 @@ use Rattle.fs_types.specs.declared.fault.Fault.{Fault}
 use Rattle.fs_types.specs.declared.limits.TheConstants.{MAX_ENTRIES}
 use Rattle.fs_types.specs.Names.{Name, Path, same_name}
 use Rattle.fs_types.proofs.Orders.{same_name-is}
-use Rattle.node_format.specs.Items.{Item, named}
+use Rattle.node_format.specs.Items.{Item, named_place}
 use Rattle.node_format.specs.declared.place.Place.{Place}
 use Rattle.node_format.specs.declared.place.Place.TheVariants.{Dir}
 use Rattle.block_trees.specs.Bodies.{Blocks}
@@ -57,8 +57,8 @@ common_name (suc k) (n ∷ p) (m ∷ q) less = on (same_name n m) less (common_n
 
 -- ---- a look up goes on at the directory that its first name leads to
 
-child_items : (f : Blocks) (block : ℕ) (name : Name) (items : List Item) → entries_in f block ≡ Some items → child f (Dir block) name ≡ named items name
-child_items f block name items begins = ap (λ (o : Option (List Item)). named (unwrap_or o []) name) begins
+child_items : (f : Blocks) (block : ℕ) (name : Name) (items : List Item) → entries_in f block ≡ Some items → child f (Dir block) name ≡ named_place items name
+child_items f block name items begins = ap (λ (o : Option (List Item)). named_place (unwrap_or o []) name) begins
 
 look_step : (f : Blocks) (block below : ℕ) (name : Name) (rest : Path) (items : List Item) → entries_in f block ≡ Some items → child f (Dir block) name ≡ Some (Dir below)
     → look_up f block (name ∷ rest) ≡ look_up f below rest

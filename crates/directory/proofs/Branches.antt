@@ -7,7 +7,7 @@ use Rattle.std.proofs.lemmas.Bool.{true≢false, lt-ltb, le-ltb}
 use Rattle.std.proofs.Math.Seq.{drop-cons}
 use Rattle.fs_types.specs.Names.{Name, Path, same_name}
 use Rattle.plain_trees.specs.Trees.{nodes_for}
-use Rattle.node_format.specs.Items.{Item, named}
+use Rattle.node_format.specs.Items.{Item, named_place}
 use Rattle.node_format.specs.declared.place.Place.{Place}
 use Rattle.node_format.specs.declared.place.Place.TheVariants.{Dir}
 use Rattle.block_trees.specs.Bodies.{Blocks}
@@ -96,7 +96,7 @@ moved_up f0 f1 f2 k0 k1 k2 old new trail i to next place way more more' same bef
         slice_index trail (i + 1),
         next,
         level_child f0 way.root old trail i way.trail_of more,
-        (items, spelled, λ k. led k ∙ ap (λ (xs : List Item). cond (same_name (get_or old i []) k) (Some (Dir next)) (named xs k)) (level_items f0 f1 k0 k1 old trail i way (omega arith) before)),
+        (items, spelled, λ k. led k ∙ ap (λ (xs : List Item). cond (same_name (get_or old i []) k) (Some (Dir next)) (named_place xs k)) (level_items f0 f1 k0 k1 old trail i way (omega arith) before)),
         moved_later f0 f1 f2 k0 k1 k2 keeps (drop (i + 1) old) (drop (i + 1) new) (slice_index trail (i + 1)) next place lower,
       ),
     ))
@@ -109,7 +109,7 @@ level_along f0 f1 k0 k1 path trail i way more before =
     let items = items_in f1 (slice_index trail i) in
     let name = get_or path i [] in
     let same : items ≡ items_in f0 (slice_index trail i) = level_items f0 f1 k0 k1 path trail i way (omega arith) before in
-    let there : IsSome (named items name) = ap is_some (ap (λ (xs : List Item). named xs name) same ∙ level_child f0 way.root path trail i way.trail_of more) in
+    let there : IsSome (named_place items name) = ap is_some (ap (λ (xs : List Item). named_place xs name) same ∙ level_child f0 way.root path trail i way.trail_of more) in
     let whole : nodes_for (length items) ≡ nodes_in f0 (slice_index trail i) = ap (λ (xs : List Item). nodes_for (length xs)) same in
     let one = nodes_along f0 trail i (omega (arith, way.trail_of.counted, more)) in
     let puts = edit_nodes-there items name true there in

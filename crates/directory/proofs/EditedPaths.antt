@@ -12,7 +12,7 @@ use Rattle.block_trees.proofs.EditedTrees.{edit_law}
 use Rattle.block_trees.proofs.EmptyDirectories.{reaches_itself}
 use Rattle.block_trees.proofs.Entries.{place_is}
 use Rattle.directory.specs.Edits.{OnlyReaches}
-use Rattle.directory.specs.Making.{IsMade}
+use Rattle.directory.specs.Making.{IsNewDirectory}
 
 pub only_reaches : (old new : Blocks) (kept kept' : ℕ → Bool) (from : ℕ) (path : Path) (at : Option Place) (result : Result ℕ Fault) → Keeps kept old kept' new → IsHeld old kept (Dir from)
     → IfOk result (λ to. IsRewritten old new kept kept' from to path at) → IfOk result (λ to. OnlyReaches old new kept from to at)
@@ -21,7 +21,7 @@ only_reaches old new kept kept' from path at (Err fault) keeps held rewritten = 
 
 -- ---- a new empty directory
 
-pub made_reaches : (old new : Blocks) (kept kept' : ℕ → Bool) (from to : ℕ) (path : Path) → Keeps kept old kept' new → IsHeld old kept (Dir from) → IsMade old new kept kept' from to path → OnlyReaches old new kept from to None
+pub made_reaches : (old new : Blocks) (kept kept' : ℕ → Bool) (from to : ℕ) (path : Path) → Keeps kept old kept' new → IsHeld old kept (Dir from) → IsNewDirectory old new kept kept' from to path → OnlyReaches old new kept from to None
 made_reaches old new kept kept' from to path keeps held made b reached =
     on ((edit_law old new kept kept' from to path (Some (Dir made.block)) keeps held made.rewritten).reached b reached)
   where

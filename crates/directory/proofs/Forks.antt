@@ -8,7 +8,7 @@ use Rattle.fs_types.specs.declared.limits.TheConstants.{MAX_ENTRIES}
 use Rattle.fs_types.specs.Names.{Name, Path, same_name, same_path}
 use Rattle.plain_trees.specs.Contents.{Apart, parent_of}
 use Rattle.fs_types.proofs.Orders.{same_name-is, same_name-own}
-use Rattle.node_format.specs.Items.{Item, named}
+use Rattle.node_format.specs.Items.{Item, named_place}
 use Rattle.node_format.specs.Edits.{edited_count, IsEdited}
 use Rattle.node_format.specs.declared.place.Place.{Place}
 use Rattle.node_format.specs.declared.place.Place.TheVariants.{Dir}
@@ -24,19 +24,19 @@ use Rattle.directory.proofs.TrailEdits.{level_child, leads_last, room_taken, sta
 -- ---- a directory edited twice
 
 -- a name taken out makes room
-pub takes_made : (items without : List Item) (name other : Name) (here : Option Place) → length items ≤ MAX_ENTRIES → IsSome (named items name) → IsEdited items name None without → takes (Some without) other here ≡ true
+pub takes_made : (items without : List Item) (name other : Name) (here : Option Place) → length items ≤ MAX_ENTRIES → IsSome (named_place items name) → IsEdited items name None without → takes (Some without) other here ≡ true
 takes_made items without name other here most some edited = on here
   where
-    fewer : (was : Option Place) → named items name ≡ was → length without < MAX_ENTRIES
+    fewer : (was : Option Place) → named_place items name ≡ was → length without < MAX_ENTRIES
     fewer None is = absurd (true≢false (sym some ∙ ap is_some is))
     fewer (Some was) is = omega (arith, some_there items name some, most, edited.counted ∙ ap (λ (o : Option Place). edited_count o None (length items)) is)
       where
-        some_there : (items : List Item) (name : Name) → IsSome (named items name) → 0 < length items
+        some_there : (items : List Item) (name : Name) → IsSome (named_place items name) → 0 < length items
         some_there [] name some = absurd cc
         some_there (item ∷ items) name some = omega arith
 
     few : nat_le MAX_ENTRIES (length without) ≡ false
-    few = lt-leb MAX_ENTRIES (length without) (fewer (named items name) refl)
+    few = lt-leb MAX_ENTRIES (length without) (fewer (named_place items name) refl)
 
     either : (there : Bool) → (there || not (nat_le MAX_ENTRIES (length without))) ≡ true
     either true = refl
@@ -44,17 +44,17 @@ takes_made items without name other here most some edited = on here
 
     on : (here : Option Place) → takes (Some without) other here ≡ true
     on None = refl
-    on (Some place) = either (is_some (named without other))
+    on (Some place) = either (is_some (named_place without other))
 
 -- a name that is there is so still once another was edited
-pub takes_still : (items with : List Item) (name other : Name) (gone here : Option Place) → same_name name other ≡ false → IsSome (named items name) → IsEdited items other here with → takes (Some with) name gone ≡ true
+pub takes_still : (items with : List Item) (name other : Name) (gone here : Option Place) → same_name name other ≡ false → IsSome (named_place items name) → IsEdited items other here with → takes (Some with) name gone ≡ true
 takes_still items with name other gone here apart some edited = on gone
   where
-    differs : (b : Bool) → same_name other name ≡ b → cond b here (named items name) ≡ named items name
+    differs : (b : Bool) → same_name other name ≡ b → cond b here (named_place items name) ≡ named_place items name
     differs true same = absurd (true≢false (sym (ap (same_name name) (same_name-is other name same) ∙ same_name-own name) ∙ apart))
     differs false other = refl
 
-    still : named with name ≡ named items name
+    still : named_place with name ≡ named_place items name
     still = edited.leads name ∙ differs (same_name other name) refl
 
     on : (gone : Option Place) → takes (Some with) name gone ≡ true

@@ -4,7 +4,7 @@ use Rattle.std.specs.Prelude.{Contains}
 use Rattle.fs_types.specs.Names.{Name}
 use Rattle.fs_types.specs.declared.fault.Fault.{Fault}
 use Rattle.fs_types.specs.declared.fault.Fault.TheVariants.{Damaged}
-use Rattle.node_format.specs.Items.{Item, named}
+use Rattle.node_format.specs.Items.{Item, named_place}
 use Rattle.node_format.specs.EntryLaws.{named-contained}
 use Rattle.node_format.specs.Links.{Link}
 use Rattle.node_format.specs.declared.place.Place.{Place}
@@ -35,7 +35,7 @@ seek_same f g name (suc n) next same = by_test (eqb next 0) (λ none. rw none re
         on None is rest = refl
         on (Some l) is rest =
             let at = next_is f next l is in
-            ap (λ (r : Result (Option Place) Fault). cond (is_later l) (here_or (named l.items name) r) (Err Damaged)) (subst (λ (b : ℕ). seek n g name b ≡ seek n f name b) at rest)
+            ap (λ (r : Result (Option Place) Fault). cond (is_later l) (here_or (named_place l.items name) r) (Err Damaged)) (subst (λ (b : ℕ). seek n g name b ≡ seek n f name b) at rest)
 
 pub place_same : (f g : Blocks) (block : ℕ) (name : Name) → ((b : ℕ) → Contains (chain f block) b → g b ≡ f b) → place_in g name block ≡ place_in f name block
 place_same f g block name same =
@@ -46,7 +46,7 @@ place_same f g block name same =
     on None is rest = refl
     on (Some l) is rest =
         let at = next_is f block l is in
-        ap (here_or (named l.items name)) (subst (λ (b : ℕ). seek most_after g name b ≡ seek most_after f name b) at rest)
+        ap (here_or (named_place l.items name)) (subst (λ (b : ℕ). seek most_after g name b ≡ seek most_after f name b) at rest)
 
 along_same : (f g : Blocks) (blocks : List ℕ) → ((b : ℕ) → Contains blocks b → g b ≡ f b) → entries_along g blocks ≡ entries_along f blocks
 along_same f g [] same = refl
@@ -68,10 +68,10 @@ ok_place place = Ok place
 place_is : (x y : Option Place) → ok_place x ≡ ok_place y → x ≡ y
 place_is x y e = cc
 
-named_in : (f : Blocks) (block : ℕ) (l : Link) (name : Name) (place : Place) (rest : Result (Option Place) Fault) → link_of (f block) ≡ Some l → here_or (named l.items name) rest ≡ Ok (Some place) → ((item : Item) × Contains (link_items (f block)) item × (item.place ≡ place)) ⊎ (rest ≡ Ok (Some place))
-named_in f block l name place rest is e = on (named l.items name) refl e
+named_in : (f : Blocks) (block : ℕ) (l : Link) (name : Name) (place : Place) (rest : Result (Option Place) Fault) → link_of (f block) ≡ Some l → here_or (named_place l.items name) rest ≡ Ok (Some place) → ((item : Item) × Contains (link_items (f block)) item × (item.place ≡ place)) ⊎ (rest ≡ Ok (Some place))
+named_in f block l name place rest is e = on (named_place l.items name) refl e
   where
-    on : (o : Option Place) → named l.items name ≡ o → here_or o rest ≡ Ok (Some place) → ((item : Item) × Contains (link_items (f block)) item × (item.place ≡ place)) ⊎ (rest ≡ Ok (Some place))
+    on : (o : Option Place) → named_place l.items name ≡ o → here_or o rest ≡ Ok (Some place) → ((item : Item) × Contains (link_items (f block)) item × (item.place ≡ place)) ⊎ (rest ≡ Ok (Some place))
     on None named_is e = inr e
     on (Some other) named_is e =
         let found = named-contained l.items name place (named_is ∙ place_is (Some other) (Some place) e) in

@@ -14,7 +14,7 @@ use Rattle.block_trees.specs.Bodies.{Blocks}
 use Rattle.block_trees.specs.Chains.{link_of, link_items, next_of, most_after, entries_in, blocks_after, chain}
 use Rattle.block_trees.proofs.Chains.{by_test, head_of, either_of, next_is, items_are}
 use Rattle.block_trees.proofs.Chained.{among_chain, held_chain}
-use Rattle.directory.specs.Depths.{count_below, is_directory_at, names_directory, is_left, IsSeen, IsRead, NamesWhole, AreOf, AreAmong, AreNamedBy, HasDirectories}
+use Rattle.directory.specs.Depths.{count_below, is_directory_at, names_directory, is_left, IsSeen, AreFoundBelow, NamesWhole, AreOf, AreAmong, AreNamedBy, HasDirectories}
 use Rattle.directory.proofs.Counting.{count_none, count_put, count_most}
 use Rattle.directory.proofs.Levels.{any_contains, contains_insert}
 
@@ -96,7 +96,7 @@ pub record IsReadTo (f : Blocks) (blocks at : ℕ) (seen found : FinSet nat_cmp)
   pub named : (parent b : ℕ) → contains seen parent ≡ true → b < blocks → names_directory (link_items (f parent)) b ≡ true → contains found b ≡ true
 
 pub record IsOnWay (f : Blocks) (blocks block at : ℕ) (seen0 found0 seen found : FinSet nat_cmp) : Type 0 where
-  pub read : IsRead f blocks seen0 found0 → IsReadTo f blocks at seen found
+  pub read : AreFoundBelow f blocks seen0 found0 → IsReadTo f blocks at seen found
   pub here : (at ≡ block) ⊎ (contains seen block ≡ true)
   pub chained : (items : List Item) → entries_in f block ≡ Some items → 0 < at → Contains (chain f block) at
   pub named : AreOf f blocks block found0 found
@@ -136,7 +136,7 @@ module _ (f : Blocks) (blocks block at at' : ℕ) (seen0 found0 seen found found
   split : (b : ℕ) → contains found' b ≡ true → (contains found b ≡ true) ⊎ ((nat_lt b blocks ≡ true) × (names_directory (link_items (f at)) b ≡ true))
   split b here = or_cases (contains found b) (nat_lt b blocks) (names_directory (link_items (f at)) b) (sym (added b) ∙ here)
 
-  read_on : IsRead f blocks seen0 found0 → IsReadTo f blocks at' (insert seen at) found'
+  read_on : AreFoundBelow f blocks seen0 found0 → IsReadTo f blocks at' (insert seen at) found'
   read_on r = record {
     on = λ b here. elim (either_in seen at b here) [
       | inl same ↦ inl (ap (λ (c : ℕ). next_of (f c)) same ∙ to)
@@ -197,7 +197,7 @@ seen_more f blocks block at seen0 found0 seen found way left roots list has with
 pub stays_more : (f : Blocks) (blocks block at : ℕ) (seen0 found0 seen found : FinSet nat_cmp) → IsOnWay f blocks block at seen0 found0 seen found → (b : ℕ) → contains seen0 b ≡ true → contains (insert seen at) b ≡ true
 stays_more f blocks block at seen0 found0 seen found way b here = stays_in seen at b (way.stays b here)
 
-pub way_read : (f : Blocks) (blocks block at : ℕ) (seen0 found0 seen found : FinSet nat_cmp) → IsOnWay f blocks block at seen0 found0 seen found → IsSeen f seen at → IsRead f blocks seen0 found0 → IsRead f blocks seen found
+pub way_read : (f : Blocks) (blocks block at : ℕ) (seen0 found0 seen found : FinSet nat_cmp) → IsOnWay f blocks block at seen0 found0 seen found → IsSeen f seen at → AreFoundBelow f blocks seen0 found0 → AreFoundBelow f blocks seen found
 way_read f blocks block at seen0 found0 seen found way ends r =
     let to = way.read r in
     record {
@@ -215,7 +215,7 @@ counted_more seen at blocks below new = (count_put (contains seen) (contains (in
 -- ---- the directories of a level, block by block
 
 pub record IsLevelRead (f : Blocks) (blocks i : ℕ) (level seen next : FinSet nat_cmp) : Type 0 where
-  pub read : IsRead f blocks seen next
+  pub read : AreFoundBelow f blocks seen next
   pub heads : (b : ℕ) → b < i → contains level b ≡ true → IsSeen f seen b
   pub named : (b : ℕ) → contains next b ≡ true → (b < blocks) × (parent : ℕ) × (contains level parent ≡ true) × NamesWhole f parent b
   pub seen_in : (roots list : List ℕ) → HasDirectories f blocks roots list → ((b : ℕ) → contains level b ≡ true → Contains list b) → (b : ℕ) → contains seen b ≡ true → Contains list b
@@ -250,7 +250,7 @@ level_skips f blocks i level seen next is none = record {
 }
 
 -- the nodes of a directory of the level were read
-pub level_on : (f : Blocks) (blocks i : ℕ) (level seen next seen' next' : FinSet nat_cmp) → IsLevelRead f blocks i level seen next → contains level i ≡ true → (IsRead f blocks seen next → IsRead f blocks seen' next') → IsSeen f seen' i → AreOf f blocks i next next'
+pub level_on : (f : Blocks) (blocks i : ℕ) (level seen next seen' next' : FinSet nat_cmp) → IsLevelRead f blocks i level seen next → contains level i ≡ true → (AreFoundBelow f blocks seen next → AreFoundBelow f blocks seen' next') → IsSeen f seen' i → AreOf f blocks i next next'
     → ((b : ℕ) → contains seen b ≡ true → contains seen' b ≡ true) → ((roots list : List ℕ) → HasDirectories f blocks roots list → Contains list i → AreAmong list seen seen' × AreAmong list next next') → IsLevelRead f blocks (i + 1) level seen' next'
 level_on f blocks i level seen next seen' next' is in_level read here of stays among = record {
   read = read is.read;
@@ -264,7 +264,7 @@ level_on f blocks i level seen next seen' next' is in_level read here of stays a
 }
 
 -- the nodes after one that was seen were seen too
-after_seen : (f : Blocks) (blocks : ℕ) (seen found : FinSet nat_cmp) → IsRead f blocks seen found → (n next : ℕ) → (0 < next → IsSeen f seen next) → (x : ℕ) → Contains (blocks_after n f next) x → IsSeen f seen x
+after_seen : (f : Blocks) (blocks : ℕ) (seen found : FinSet nat_cmp) → AreFoundBelow f blocks seen found → (n next : ℕ) → (0 < next → IsSeen f seen next) → (x : ℕ) → Contains (blocks_after n f next) x → IsSeen f seen x
 after_seen f blocks seen found read zero next known x (k, lt, is) = absurd (omega (arith, lt))
 after_seen f blocks seen found read (suc n) next known x inside = by_test (eqb next 0)
     (λ none. absurd (nothing (subst (λ (t : Bool). Contains (cond t [] (next ∷ blocks_after n f (next_of (f next)))) x) none inside)))
@@ -284,7 +284,7 @@ after_seen f blocks seen found read (suc n) next known x inside = by_test (eqb n
     goes here (inl same) again = subst (IsSeen f seen) same here
     goes here (inr later) again = again (on here) x later
 
-chain_seen : (f : Blocks) (blocks : ℕ) (seen found : FinSet nat_cmp) → IsRead f blocks seen found → (block : ℕ) → IsSeen f seen block → (x : ℕ) → Contains (chain f block) x → IsSeen f seen x
+chain_seen : (f : Blocks) (blocks : ℕ) (seen found : FinSet nat_cmp) → AreFoundBelow f blocks seen found → (block : ℕ) → IsSeen f seen block → (x : ℕ) → Contains (chain f block) x → IsSeen f seen x
 chain_seen f blocks seen found read block here x inside = elim (either_of block x (blocks_after most_after f (next_of (f block))) inside) [
   | inl same ↦ subst (IsSeen f seen) same here
   | inr later ↦ after_seen f blocks seen found read most_after (next_of (f block)) (next here) x later
@@ -356,11 +356,11 @@ pub later_has : (f h : Blocks) (blocks blocks' : ℕ) (roots list : List ℕ) �
 later_has f h blocks blocks' roots list same size all = subst (λ (e : Blocks). HasDirectories e blocks' roots list) (sym same) (subst (λ (n : ℕ). HasDirectories f n roots list) (sym size) all)
 
 -- the nodes of a directory of the level were read, as the call says of the nodes that it was given
-pub level_step : (f f2 : Blocks) (blocks blocks2 i : ℕ) (level seen next seen' next' : FinSet nat_cmp) → f2 ≡ f → blocks2 ≡ blocks → IsLevelRead f blocks i level seen next → contains level i ≡ true → (IsRead f2 blocks2 seen next → IsRead f2 blocks2 seen' next') → IsSeen f2 seen' i → AreOf f2 blocks2 i next next'
+pub level_step : (f f2 : Blocks) (blocks blocks2 i : ℕ) (level seen next seen' next' : FinSet nat_cmp) → f2 ≡ f → blocks2 ≡ blocks → IsLevelRead f blocks i level seen next → contains level i ≡ true → (AreFoundBelow f2 blocks2 seen next → AreFoundBelow f2 blocks2 seen' next') → IsSeen f2 seen' i → AreOf f2 blocks2 i next next'
     → ((b : ℕ) → contains seen b ≡ true → contains seen' b ≡ true) → ((roots list : List ℕ) → HasDirectories f2 blocks2 roots list → Contains list i → AreAmong list seen seen' × AreAmong list next next') → IsLevelRead f blocks (i + 1) level seen' next'
 level_step f f2 blocks blocks2 i level seen next seen' next' same size is in_level read here of stays among =
     level_on f blocks i level seen next seen' next' is in_level
-    (subst (λ (h : Blocks). IsRead h blocks seen next → IsRead h blocks seen' next') same (subst (λ (n : ℕ). IsRead f2 n seen next → IsRead f2 n seen' next') size read))
+    (subst (λ (h : Blocks). AreFoundBelow h blocks seen next → AreFoundBelow h blocks seen' next') same (subst (λ (n : ℕ). AreFoundBelow f2 n seen next → AreFoundBelow f2 n seen' next') size read))
     (subst (λ (h : Blocks). IsSeen h seen' i) same here)
     (subst (λ (h : Blocks). AreOf h blocks i next next') same (subst (λ (n : ℕ). AreOf f2 n i next next') size of))
     stays

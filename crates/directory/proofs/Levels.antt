@@ -11,11 +11,11 @@ use Rattle.std.proofs.lemmas.List.Elements.{Contains-append_left, Contains-push,
 use Rattle.std.proofs.lemmas.List.FromFn.{length-range_with_len, get_or-range_with_len}
 use Rattle.fs_types.specs.Names.{Name, Path, same_name}
 use Rattle.fs_types.proofs.Orders.{same_name-own}
-use Rattle.node_format.specs.Items.{Item, named}
+use Rattle.node_format.specs.Items.{Item, named_place}
 use Rattle.node_format.specs.declared.place.Place.{Place}
 use Rattle.node_format.specs.declared.place.Place.TheVariants.{Dir, File}
 use Rattle.block_trees.specs.Bodies.{Blocks}
-use Rattle.block_trees.specs.Chains.{link_of, link_items, next_of, and_after, after, most_after, in_order}
+use Rattle.block_trees.specs.Chains.{link_of, link_items, next_of, and_after, entries_after, most_after, in_order}
 use Rattle.block_trees.specs.Trees.{child, leads, entries_in, items_in}
 use Rattle.block_trees.specs.Laws.{IsShallow}
 use Rattle.block_trees.proofs.Chains.{by_test}
@@ -47,7 +47,7 @@ named_child f parent b names =
 abbrev some_place : Place → Option Place
 some_place place = Some place
 
-child_named : (items : List Item) (n : Name) (b : ℕ) → named items n ≡ Some (Dir b) → names_directory items b ≡ true
+child_named : (items : List Item) (n : Name) (b : ℕ) → named_place items n ≡ Some (Dir b) → names_directory items b ≡ true
 child_named [] n b is = absurd cc
 child_named (item ∷ items) n b is = on (same_name item.name n) is (child_named items n b)
   where
@@ -58,7 +58,7 @@ child_named (item ∷ items) n b is = on (same_name item.name n) is (child_named
     either true y e = refl
     either false y e = e
 
-    on : (t : Bool) → cond t (Some item.place) (named items n) ≡ Some (Dir b) → (named items n ≡ Some (Dir b) → names_directory items b ≡ true) → (is_directory_at item.place b || names_directory items b) ≡ true
+    on : (t : Bool) → cond t (Some item.place) (named_place items n) ≡ Some (Dir b) → (named_place items n ≡ Some (Dir b) → names_directory items b ≡ true) → (is_directory_at item.place b || names_directory items b) ≡ true
     on true is again = ap (λ (x : Bool). x || names_directory items b) (here item.place is)
     on false is again = either (is_directory_at item.place b) (names_directory items b) (again is)
 
@@ -92,7 +92,7 @@ some_leads f at path n p is led = on (child f at n) (subst (λ (q : Path). IsSom
     on (Some next) led = refl
 
 pub no_entries : (f : Blocks) (block : ℕ) → f block ≡ None → entries_in f block ≡ None
-no_entries f block none = ap (λ (node : Option (List ℕ)). option_and_then in_order (option_and_then (and_after (after most_after f)) (link_of node))) none
+no_entries f block none = ap (λ (node : Option (List ℕ)). option_and_then in_order (option_and_then (and_after (entries_after most_after f)) (link_of node))) none
 
 -- a directory with a path below it is in a block
 led_below : (f : Blocks) (blocks root : ℕ) (p : Path) → ((b : ℕ) → blocks ≤ b → f b ≡ None) → IsSome (leads f (Dir root) p) → 0 < length p → root < blocks
@@ -100,7 +100,7 @@ led_below f blocks root [] beyond led some = absurd (omega arith)
 led_below f blocks root (n ∷ p) beyond led some = by_test (nat_lt root blocks) (λ less. ltb-true root blocks less) (λ not_less. absurd (none (ltb-false root blocks not_less)))
   where
     none : blocks ≤ root → ⊥
-    none past = let no_child : child f (Dir root) n ≡ None = ap (λ (o : Option (List Item)). named (unwrap_or o []) n) (no_entries f root (beyond root past)) in
+    none past = let no_child : child f (Dir root) n ≡ None = ap (λ (o : Option (List Item)). named_place (unwrap_or o []) n) (no_entries f root (beyond root past)) in
         true≢false (sym (some_leads f (Dir root) (n ∷ p) n p refl led) ∙ ap is_some no_child)
 
 pub first_level : (f : Blocks) (roots : List ℕ) (most blocks : ℕ) (level : FinSet nat_cmp) → ((b : ℕ) → blocks ≤ b → f b ≡ None) → HasBlocks blocks roots level
@@ -156,7 +156,7 @@ front_leads f (suc k) (n ∷ path) at led = on (child f at n) led (front_leads f
     on None led again = absurd cc
     on (Some next) led again = again next led
 
-no_items : (items : List Item) (n : Name) → length items ≡ 0 → named items n ≡ None
+no_items : (items : List Item) (n : Name) → length items ≡ 0 → named_place items n ≡ None
 no_items [] n none = refl
 no_items (item ∷ items) n none = absurd (omega arith)
 
@@ -184,9 +184,9 @@ empty_shallow f roots most k blocks level is none root rooted path led = by_test
         let found = is.covers root rooted (take (suc most) path) (front_leads f (suc most) path (Dir root) led) exact in
         true≢false (sym found.2 ∙ ap (λ (s : FinSet nat_cmp). contains s found.0) none ∙ contains-empty nat_cmp found.0)
 
-first_named : (items : List Item) → 0 < length items → (n : Name) × IsSome (named items n)
+first_named : (items : List Item) → 0 < length items → (n : Name) × IsSome (named_place items n)
 first_named [] some = absurd (omega arith)
-first_named (item ∷ items) some = (item.name, ap (λ (t : Bool). is_some (cond t (Some item.place) (named items item.name))) (same_name-own item.name))
+first_named (item ∷ items) some = (item.name, ap (λ (t : Bool). is_some (cond t (Some item.place) (named_place items item.name))) (same_name-own item.name))
 
 -- a directory has entries where its first node has
 some_items : (f : Blocks) (b : ℕ) (items : List Item) → entries_in f b ≡ Some items → 0 < length (link_items (f b)) → 0 < length (items_in f b)

@@ -9,9 +9,9 @@ use Rattle.fs_types.specs.declared.limits.TheConstants.{NODE_ENTRIES, CHAIN_NODE
 use Rattle.fs_types.specs.declared.fault.Fault.{Fault}
 use Rattle.fs_types.specs.Names.{Name, same_name}
 use Rattle.plain_trees.specs.Trees.{nodes_for}
-use Rattle.node_format.specs.Items.{Item, named, is_item, is_before, are_ascending, are_entries}
+use Rattle.node_format.specs.Items.{Item, named_place, is_item, is_before, are_ascending, are_entries}
 use Rattle.node_format.specs.Edits.{edited_count, IsEdited}
-use Rattle.node_format.specs.EntryLaws.{same_name-true, contained-named}
+use Rattle.node_format.specs.EntryLaws.{same_name-true, contained-named_place}
 use Rattle.node_format.specs.Order.{both_true, and_true, AreParts, ascending_parts}
 use Rattle.node_format.specs.declared.place.Place.{Place}
 use Rattle.node_format.specs.declared.place.Place.TheVariants.{Dir}
@@ -35,13 +35,13 @@ all_of q [] each = refl
 all_of q (item ∷ items) each = and_true _ _ (each item (0, omega arith, refl)) (all_of q items (λ other (k, lt, e). each other (suc k, omega arith, e)))
 
 -- what holds of the names of all entries holds of a name that is there
-name_among : (p : Name → Bool) (items : List Item) (name : Name) → list_all (λ item. p item.name) items ≡ true → IsSome (named items name) → p name ≡ true
+name_among : (p : Name → Bool) (items : List Item) (name : Name) → list_all (λ item. p item.name) items ≡ true → IsSome (named_place items name) → p name ≡ true
 name_among p [] name all some = absurd (true≢false (sym some))
 name_among p (item ∷ items) name all some =
     let parts = both_true (p item.name) (list_all (λ item. p item.name) items) all in
     by_test (same_name item.name name)
     (λ same. ap p (sym (same_name-true item.name name same)) ∙ parts.0)
-    (λ differs. name_among p items name parts.1 (sym (ap (λ (t : Bool). is_some (cond t (Some item.place) (named items name))) differs) ∙ some))
+    (λ differs. name_among p items name parts.1 (sym (ap (λ (t : Bool). is_some (cond t (Some item.place) (named_place items name))) differs) ∙ some))
 
 ascending_across : (front back : List Item) → are_ascending front ≡ true → are_ascending back ≡ true → list_all (λ item. list_all (λ other. is_before item.name other.name) back) front ≡ true → are_ascending (front ++ back) ≡ true
 ascending_across [] back f b across = b
@@ -57,7 +57,7 @@ lawful_order : (items : List Item) → are_entries items ≡ true → are_ascend
 lawful_order items lawful = (both_true (list_all is_item items) (are_ascending items) (both_true (nat_le (length items) MAX_ENTRIES) (list_all is_item items && are_ascending items) lawful).1).1
 
 -- entries with the same names stay before those that come after them
-order_stays : (old new more : List Item) (name : Name) (place : Option Place) → are_ascending (old ++ more) ≡ true → IsSome (named old name) → IsEdited old name place new → are_ascending (new ++ more) ≡ true
+order_stays : (old new more : List Item) (name : Name) (place : Option Place) → are_ascending (old ++ more) ≡ true → IsSome (named_place old name) → IsEdited old name place new → are_ascending (new ++ more) ≡ true
 order_stays old new more name place order some edited =
     ascending_across new more ascends parts.back_ascends (all_of (λ item. list_all (λ other. is_before item.name other.name) more) new among)
   where
@@ -67,13 +67,13 @@ order_stays old new more name place order some edited =
     ascends : are_ascending new ≡ true
     ascends = lawful_order new edited.lawful
 
-    there : (n : Name) → IsSome (named new n) → IsSome (named old n)
+    there : (n : Name) → IsSome (named_place new n) → IsSome (named_place old n)
     there n here = by_test (same_name name n)
-        (λ same. subst (λ (m : Name). IsSome (named old m)) (same_name-true name n same) some)
+        (λ same. subst (λ (m : Name). IsSome (named_place old m)) (same_name-true name n same) some)
         (λ differs. ap is_some (sym (edited.leads n ∙ rw differs refl)) ∙ here)
 
     among : (item : Item) → Contains new item → list_all (λ other. is_before item.name other.name) more ≡ true
-    among item inside = name_among (λ n. list_all (λ other. is_before n other.name) more) old item.name parts.across (there item.name (ap is_some (contained-named new item ascends inside)))
+    among item inside = name_among (λ n. list_all (λ other. is_before n other.name) more) old item.name parts.across (there item.name (ap is_some (contained-named_place new item ascends inside)))
 
 -- ---- what an edit of the whole directory asks, the entries that were read take too
 
@@ -124,10 +124,10 @@ put_all old new kept kept' block left items changed tail to r last lawful puts =
     }
 
 -- the nodes after them stay
-put_some : (old new : Blocks) (kept kept' : ℕ → Bool) (block left : ℕ) (items changed : List Item) (tail to : ℕ) (name : Name) (place : Option Place) → IsHeld old kept (Dir block) → IsReadTo old block left items tail → is_some place ≡ true → IsSome (named items name)
+put_some : (old new : Blocks) (kept kept' : ℕ → Bool) (block left : ℕ) (items changed : List Item) (tail to : ℕ) (name : Name) (place : Option Place) → IsHeld old kept (Dir block) → IsReadTo old block left items tail → is_some place ≡ true → IsSome (named_place items name)
     → IsEdited items name place changed → PutsDirectory old kept new kept' tail to changed → IsPutBack old new kept kept' block left items changed tail to
 put_some old new kept kept' block left items changed tail to name place held r putting some edited puts =
-    let counted : length changed ≡ length items = edited.counted ∙ same_count (named items name) place (length items) putting some in
+    let counted : length changed ≡ length items = edited.counted ∙ same_count (named_place items name) place (length items) putting some in
     let few : left + nodes_for (length changed) ≤ CHAIN_NODES = omega (arith, r.few, ap nodes_for counted) in
     let order = order_stays items changed r.more name place (first_parts old block (items ++ r.more) r.all).order some edited in
     let put = puts left r.more few order (record { entries = r.rest; held = λ b inside. held block refl b (reached_chain old block b (r.within b inside)) }) in
@@ -139,33 +139,33 @@ put_some old new kept kept' block left items changed tail to name place held r p
     }
 
 -- the edit of a list is one of the directory
-leads_on : (items changed more : List Item) (name : Name) (place : Option Place) → (m : Name) → (place ≡ None → more ≡ []) → named changed m ≡ cond (same_name name m) place (named items m)
-    → named (changed ++ more) m ≡ cond (same_name name m) place (named (items ++ more) m)
+leads_on : (items changed more : List Item) (name : Name) (place : Option Place) → (m : Name) → (place ≡ None → more ≡ []) → named_place changed m ≡ cond (same_name name m) place (named_place items m)
+    → named_place (changed ++ more) m ≡ cond (same_name name m) place (named_place (items ++ more) m)
 leads_on items changed more name place m only led = by_test (same_name name m) here other
   where
     whole : (xs : List Item) → more ≡ [] → xs ++ more ≡ xs
     whole xs none = ap (λ (ys : List Item). xs ++ ys) none ∙ append-nil xs
 
-    joined : (xs : List Item) (o : Option Place) → named xs m ≡ o → (o ≡ None → named (xs ++ more) m ≡ named more m) × (IsSome o → named (xs ++ more) m ≡ o)
+    joined : (xs : List Item) (o : Option Place) → named_place xs m ≡ o → (o ≡ None → named_place (xs ++ more) m ≡ named_place more m) × (IsSome o → named_place (xs ++ more) m ≡ o)
     joined xs o is = (λ none. named_back xs more m (is ∙ none), λ some. named_front xs more m (ap is_some is ∙ some) ∙ is)
 
-    here : same_name name m ≡ true → named (changed ++ more) m ≡ cond (same_name name m) place (named (items ++ more) m)
+    here : same_name name m ≡ true → named_place (changed ++ more) m ≡ cond (same_name name m) place (named_place (items ++ more) m)
     here same = rw same (on place refl)
       where
-        led_here : named changed m ≡ place
-        led_here = led ∙ ap (λ (t : Bool). cond t place (named items m)) same
+        led_here : named_place changed m ≡ place
+        led_here = led ∙ ap (λ (t : Bool). cond t place (named_place items m)) same
 
-        on : (o : Option Place) → place ≡ o → named (changed ++ more) m ≡ place
-        on None is = ap (λ (xs : List Item). named xs m) (whole changed (only is)) ∙ led_here
+        on : (o : Option Place) → place ≡ o → named_place (changed ++ more) m ≡ place
+        on None is = ap (λ (xs : List Item). named_place xs m) (whole changed (only is)) ∙ led_here
         on (Some p) is = (joined changed place led_here).1 (ap is_some is)
 
-    other : same_name name m ≡ false → named (changed ++ more) m ≡ cond (same_name name m) place (named (items ++ more) m)
-    other differs = rw differs (on (named items m) refl)
+    other : same_name name m ≡ false → named_place (changed ++ more) m ≡ cond (same_name name m) place (named_place (items ++ more) m)
+    other differs = rw differs (on (named_place items m) refl)
       where
-        led_other : named changed m ≡ named items m
-        led_other = led ∙ ap (λ (t : Bool). cond t place (named items m)) differs
+        led_other : named_place changed m ≡ named_place items m
+        led_other = led ∙ ap (λ (t : Bool). cond t place (named_place items m)) differs
 
-        on : (o : Option Place) → named items m ≡ o → named (changed ++ more) m ≡ named (items ++ more) m
+        on : (o : Option Place) → named_place items m ≡ o → named_place (changed ++ more) m ≡ named_place (items ++ more) m
         on None is = (joined changed None (led_other ∙ is)).0 refl ∙ sym ((joined items None is).0 refl)
         on (Some p) is = (joined changed (Some p) (led_other ∙ is)).1 refl ∙ sym ((joined items (Some p) is).1 refl)
 
@@ -193,7 +193,7 @@ edit_written old new kept kept' block left items changed tail to name place held
 
     made : (p : IsPutBack old new kept kept' block left items changed tail to) → ((q : IsPutBack old new kept kept' block left items changed tail to) → place ≡ None → q.more ≡ []) → IsWritten old new kept kept' block to name place changed
     made p only = record {
-      edited = (changed ++ p.more, p.now, λ m. leads_on items changed p.more name place m (only p) (edited.leads m) ∙ ap (λ (xs : List Item). cond (same_name name m) place (named xs m)) (sym (items_are old block (items ++ p.more) p.was)));
+      edited = (changed ++ p.more, p.now, λ m. leads_on items changed p.more name place m (only p) (edited.leads m) ∙ ap (λ (xs : List Item). cond (same_name name m) place (named_place xs m)) (sym (items_are old block (items ++ p.more) p.was)));
       nodes = p.nodes;
     }
 
@@ -213,7 +213,7 @@ full_tail f block left items changed tail name place r e edited = elim e.ends [
   | inr there ↦ elim r.full [
     | inl last ↦ inl last
     | inr full ↦
-        let same : length changed ≡ length items = edited.counted ∙ same_count (named items name) place (length items) there.0 there.1 in
+        let same : length changed ≡ length items = edited.counted ∙ same_count (named_place items name) place (length items) there.0 there.1 in
         inr (omega (arith, same, full), omega (arith, same, full))
   ]
 ]
@@ -224,24 +224,24 @@ pub nodes_written : (f : Blocks) (block left : ℕ) (items changed : List Item) 
     → nodes_for (length changed) ≡ written_nodes (items_in f block) name place
 nodes_written f block left items changed tail name place r e edited = elim e.ends [ inl last ↦ whole last | inr there ↦ part there.0 there.1 ]
   where
-    part : is_some place ≡ true → IsSome (named items name) → nodes_for (length changed) ≡ written_nodes (items_in f block) name place
+    part : is_some place ≡ true → IsSome (named_place items name) → nodes_for (length changed) ≡ written_nodes (items_in f block) name place
     part putting some =
-        let there : is_some (named (items_in f block) name) ≡ true = ap (λ (xs : List Item). is_some (named xs name)) (items_are f block (items ++ r.more) r.all) ∙ ap is_some (named_front items r.more name some) ∙ some in
-        ap nodes_for (edited.counted ∙ same_count (named items name) place (length items) putting some)
+        let there : is_some (named_place (items_in f block) name) ≡ true = ap (λ (xs : List Item). is_some (named_place xs name)) (items_are f block (items ++ r.more) r.all) ∙ ap is_some (named_front items r.more name some) ∙ some in
+        ap nodes_for (edited.counted ∙ same_count (named_place items name) place (length items) putting some)
         ∙ e.needed putting
         ∙ ap nodes_for (sym (entries_to-read f block left items tail name r (inr some)))
         ∙ rw (putting, there) refl
 
     whole : tail ≡ 0 → nodes_for (length changed) ≡ written_nodes (items_in f block) name place
-    whole last = by_test (is_some place && is_some (named items name)) both either
+    whole last = by_test (is_some place && is_some (named_place items name)) both either
       where
         same : items_in f block ≡ items
         same = items_are f block items (all_read f block left items tail r last)
 
-        both : (is_some place && is_some (named items name)) ≡ true → nodes_for (length changed) ≡ written_nodes (items_in f block) name place
-        both is = let t = both_true (is_some place) (is_some (named items name)) is in part t.0 t.1
+        both : (is_some place && is_some (named_place items name)) ≡ true → nodes_for (length changed) ≡ written_nodes (items_in f block) name place
+        both is = let t = both_true (is_some place) (is_some (named_place items name)) is in part t.0 t.1
 
-        either : (is_some place && is_some (named items name)) ≡ false → nodes_for (length changed) ≡ written_nodes (items_in f block) name place
+        either : (is_some place && is_some (named_place items name)) ≡ false → nodes_for (length changed) ≡ written_nodes (items_in f block) name place
         either is = ap nodes_for edited.counted ∙ rw (same, is) refl
 
 count_most : (was place : Option Place) (count : ℕ) → edited_count was place count ≤ count + cond (is_some place && is_none was) 1 0
@@ -252,11 +252,11 @@ count_most (Some was) (Some place) count = omega arith
 
 -- at most the greater number of nodes before and after
 pub written_most : (items : List Item) (name : Name) (place : Option Place) → written_nodes items name place ≤ edit_nodes items name (is_some place)
-written_most items name place = on (is_some place && is_some (named items name))
+written_most items name place = on (is_some place && is_some (named_place items name))
   where
-    on : (b : Bool) → cond b (nodes_for (entries_to items name)) (nodes_for (edited_count (named items name) place (length items))) ≤ edit_nodes items name (is_some place)
+    on : (b : Bool) → cond b (nodes_for (entries_to items name)) (nodes_for (edited_count (named_place items name) place (length items))) ≤ edit_nodes items name (is_some place)
     on true = omega (arith, entries_to-most items name)
-    on false = omega (arith, count_most (named items name) place (length items))
+    on false = omega (arith, count_most (named_place items name) place (length items))
 
 -- ---- two edits of one list
 
@@ -268,8 +268,8 @@ second_written old new kept kept' block left items changed tail to name gone oth
       (
         changed ++ p.more,
         p.now,
-        λ m. ap (λ (xs : List Item). named (changed ++ xs) m) (nothing p) ∙ ap (λ (xs : List Item). named xs m) (append-nil changed) ∙ edited.leads m
-            ∙ ap (λ (xs : List Item). cond (same_name other m) here (cond (same_name name m) gone (named xs m))) (sym same),
+        λ m. ap (λ (xs : List Item). named_place (changed ++ xs) m) (nothing p) ∙ ap (λ (xs : List Item). named_place xs m) (append-nil changed) ∙ edited.leads m
+            ∙ ap (λ (xs : List Item). cond (same_name other m) here (cond (same_name name m) gone (named_place xs m))) (sym same),
       ),
       p.nodes,
     )

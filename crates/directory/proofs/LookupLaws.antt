@@ -7,7 +7,7 @@ use Rattle.fs_types.specs.Names.{Name, Path}
 use Rattle.plain_trees.specs.Contents.{Contents, parent_of, under, way_refusal, lookup_refusal}
 use Rattle.fs_types.specs.declared.fault.Fault.{Fault}
 use Rattle.fs_types.specs.declared.fault.Fault.TheVariants.{NoEntry, NotDirectory}
-use Rattle.node_format.specs.Items.{Item, named}
+use Rattle.node_format.specs.Items.{Item, named_place}
 use Rattle.node_format.specs.declared.place.Place.{Place}
 use Rattle.node_format.specs.declared.place.Place.TheVariants.{Dir, File}
 use Rattle.block_trees.specs.Bodies.{Blocks}
@@ -16,7 +16,7 @@ use Rattle.block_trees.proofs.RootMaps.{leads-append}
 use Rattle.directory.specs.declared.lookups.Found.{Found}
 use Rattle.directory.specs.declared.lookups.Found.TheVariants as variant
 use Rattle.directory.specs.Seeking.{chain_items}
-use Rattle.directory.specs.Lookups.{directory_at, below_in, found_of, found_in, look_up, place_of, entry_of, LeadsToDirectories, ◌>>=◌}
+use Rattle.directory.specs.Lookups.{directory_at, below_in, found_of, found_in, look_up, place_of, found_entry, LeadsToDirectories, ◌>>=◌}
 use Rattle.directory.proofs.Directories.{along_chain, place_named, child_below}
 
 abbrev ok_found : Found → Result Found Fault
@@ -31,15 +31,15 @@ fault_same x y e = cc
 -- ---- the place that was found
 
 -- what is found in a directory, by its entries
-pub found_items : (f : Blocks) (block : ℕ) (name : Name) (items : List Item) → entries_in f block ≡ Some items → found_in f name block ≡ Ok (found_of (named items name) (nat_le MAX_ENTRIES (length items)))
+pub found_items : (f : Blocks) (block : ℕ) (name : Name) (items : List Item) → entries_in f block ≡ Some items → found_in f name block ≡ Ok (found_of (named_place items name) (nat_le MAX_ENTRIES (length items)))
 found_items f block name items spelled =
     ap (λ (r : Result (Option Place) Fault). r >>= (λ place. Ok (found_of place (nat_le MAX_ENTRIES (length (chain_items f block)))))) (place_named f block name items spelled)
-    ∙ ap (λ (all : List Item). Ok (found_of (named items name) (nat_le MAX_ENTRIES (length all)))) (along_chain f block items spelled)
+    ∙ ap (λ (all : List Item). Ok (found_of (named_place items name) (nat_le MAX_ENTRIES (length all)))) (along_chain f block items spelled)
 
-place_found : (f : Blocks) (block : ℕ) (name : Name) (found : Found) (items : List Item) → entries_in f block ≡ Some items → found_in f name block ≡ Ok found → named (items_in f block) name ≡ place_of found
+place_found : (f : Blocks) (block : ℕ) (name : Name) (found : Found) (items : List Item) → entries_in f block ≡ Some items → found_in f name block ≡ Ok found → named_place (items_in f block) name ≡ place_of found
 place_found f block name found items spelled e =
-    ap (λ (o : Option (List Item)). named (unwrap_or o []) name) spelled
-    ∙ on (named items name) ∙ ap place_of (found_same (found_of (named items name) (nat_le MAX_ENTRIES (length items))) found (sym (found_items f block name items spelled) ∙ e))
+    ap (λ (o : Option (List Item)). named_place (unwrap_or o []) name) spelled
+    ∙ on (named_place items name) ∙ ap place_of (found_same (found_of (named_place items name) (nat_le MAX_ENTRIES (length items))) found (sym (found_items f block name items spelled) ∙ e))
   where
     on : (place : Option Place) → place ≡ place_of (found_of place (nat_le MAX_ENTRIES (length items)))
     on None = refl
@@ -55,8 +55,8 @@ and_then_same : {A : Type 0} (o : Option A) → option_and_then (λ x. Some x) o
 and_then_same None = refl
 and_then_same (Some x) = refl
 
-leads_one : (f : Blocks) (block : ℕ) (name : Name) → leads f (Dir block) (name ∷ []) ≡ named (items_in f block) name
-leads_one f block name = and_then_same (named (items_in f block) name)
+leads_one : (f : Blocks) (block : ℕ) (name : Name) → leads f (Dir block) (name ∷ []) ≡ named_place (items_in f block) name
+leads_one f block name = and_then_same (named_place (items_in f block) name)
 
 leads_below : (f : Blocks) (block below : ℕ) (name : Name) (path : Path) → child f (Dir block) name ≡ Some (Dir below) → leads f (Dir block) (name ∷ path) ≡ leads f (Dir below) path
 leads_below f block below name path led = ap (λ (o : Option Place). option_and_then (λ next. leads f next path) o) led
@@ -97,13 +97,13 @@ found_leads f root path block whole e = found_place f root path (variant.Dir blo
 pub found_leads_file : (f : Blocks) (root : ℕ) (path : Path) (head size : ℕ) → LeadsToDirectories f root → look_up f root path ≡ Ok (variant.File head size) → leads f (Dir root) path ≡ Some (File head size)
 found_leads_file f root path head size whole e = found_place f root path (variant.File head size) whole e
 
-entry_found : (capacity : ℕ) (f : Blocks) (found : Found) → option_map (entry_at capacity f) (place_of found) ≡ entry_of capacity f found
+entry_found : (capacity : ℕ) (f : Blocks) (found : Found) → option_map (entry_at capacity f) (place_of found) ≡ found_entry capacity f found
 entry_found capacity f (variant.Missing is_full) = refl
 entry_found capacity f (variant.File head size) = refl
 entry_found capacity f (variant.Dir block) = refl
 
 -- what stands at the path is what a look up finds
-pub found_stands : (capacity : ℕ) (f : Blocks) (root : ℕ) (path : Path) (found : Found) → LeadsToDirectories f root → look_up f root path ≡ Ok found → tree capacity f root path ≡ entry_of capacity f found
+pub found_stands : (capacity : ℕ) (f : Blocks) (root : ℕ) (path : Path) (found : Found) → LeadsToDirectories f root → look_up f root path ≡ Ok found → tree capacity f root path ≡ found_entry capacity f found
 found_stands capacity f root path found whole e = ap (λ (o : Option Place). option_map (entry_at capacity f) o) (found_place f root path found whole e) ∙ entry_found capacity f found
 
 -- the refusal of a path whose first name is a directory
@@ -121,7 +121,7 @@ found_passes capacity f root (n ∷ m ∷ p) found whole e =
     way_below capacity f root step.0 n m p led ∙ found_passes capacity f step.0 (m ∷ p) found (below_leads f root step.0 n led whole) step.2
 
 -- a look up that finds something finds what stands there, and path resolution is not refused
-pub found_is : (capacity : ℕ) (f : Blocks) (root : ℕ) (path : Path) (found : Found) → LeadsToDirectories f root → look_up f root path ≡ Ok found → (lookup_refusal (tree capacity f root) path ≡ None) × (tree capacity f root path ≡ entry_of capacity f found)
+pub found_is : (capacity : ℕ) (f : Blocks) (root : ℕ) (path : Path) (found : Found) → LeadsToDirectories f root → look_up f root path ≡ Ok found → (lookup_refusal (tree capacity f root) path ≡ None) × (tree capacity f root path ≡ found_entry capacity f found)
 found_is capacity f root path found whole e = (found_passes capacity f root path found whole e, found_stands capacity f root path found whole e)
 
 -- ---- the directory that a name is missing from
@@ -131,7 +131,7 @@ parent_cons n m p = let e : length (n ∷ m ∷ p) - 1 ≡ suc (length (m ∷ p)
 
 full_in : (f : Blocks) (block : ℕ) (name : Name) (is_full : Bool) (items : List Item) → entries_in f block ≡ Some items → found_in f name block ≡ Ok (variant.Missing is_full) → is_full ≡ nat_le MAX_ENTRIES (length (items_in f block))
 full_in f block name is_full items spelled e =
-    on (named items name) (sym (found_items f block name items spelled) ∙ e) ∙ ap (λ (o : Option (List Item)). nat_le MAX_ENTRIES (length (unwrap_or o []))) (sym spelled)
+    on (named_place items name) (sym (found_items f block name items spelled) ∙ e) ∙ ap (λ (o : Option (List Item)). nat_le MAX_ENTRIES (length (unwrap_or o []))) (sym spelled)
   where
     on : (place : Option Place) → ok_found (found_of place (nat_le MAX_ENTRIES (length items))) ≡ ok_found (variant.Missing is_full) → is_full ≡ nat_le MAX_ENTRIES (length items)
     on None same = cc
@@ -159,12 +159,12 @@ has_tree_below capacity f depth block below name led has = λ p at leads_to.
     (whole.0, omega (arith, whole.1))
 
 -- a component on the way is refused for what stands there
-way_refused : (capacity : ℕ) (f : Blocks) (block : ℕ) (name next : Name) (path : Path) (items : List Item) (fault : Fault) → entries_in f block ≡ Some items → directory_at (named items name) ≡ Err fault
+way_refused : (capacity : ℕ) (f : Blocks) (block : ℕ) (name next : Name) (path : Path) (items : List Item) (fault : Fault) → entries_in f block ≡ Some items → directory_at (named_place items name) ≡ Err fault
     → lookup_refusal (tree capacity f block) (name ∷ next ∷ path) ≡ Some fault
-way_refused capacity f block name next path items fault spelled e = on (named items name) led e
+way_refused capacity f block name next path items fault spelled e = on (named_place items name) led e
   where
-    led : leads f (Dir block) (name ∷ []) ≡ named items name
-    led = leads_one f block name ∙ ap (λ (entries : Option (List Item)). named (unwrap_or entries []) name) spelled
+    led : leads f (Dir block) (name ∷ []) ≡ named_place items name
+    led = leads_one f block name ∙ ap (λ (entries : Option (List Item)). named_place (unwrap_or entries []) name) spelled
 
     rest : Option Fault
     rest = lookup_refusal (under (tree capacity f block) (name ∷ [])) (next ∷ path)
@@ -187,7 +187,7 @@ refused_at capacity f depth root (n ∷ []) fault has e =
     let whole = (has [] (Dir root) refl).0 in
     let spelled = whole.1 in
     let found = found_items f root n whole.0 spelled in
-    let wrong : (let r : Result Found Fault = Ok (found_of (named whole.0 n) (nat_le MAX_ENTRIES (length whole.0))) in r) ≡ Err fault = sym found ∙ e in
+    let wrong : (let r : Result Found Fault = Ok (found_of (named_place whole.0 n) (nat_le MAX_ENTRIES (length whole.0))) in r) ≡ Err fault = sym found ∙ e in
     absurd cc
 refused_at capacity f depth root (n ∷ m ∷ p) fault has e =
     let whole = (has [] (Dir root) refl).0 in

@@ -15,7 +15,7 @@ use Rattle.block_trees.specs.Chains.{chain}
 use Rattle.directory.specs.declared.lookups.Found.{Found}
 use Rattle.directory.specs.declared.lookups.Found.TheVariants as found
 use Rattle.directory.specs.Seeking.{chain_items}
-use Rattle.directory.specs.Lookups.{directory_at, below_in, found_of, found_in, place_in, look_up, nodes_from, way_nodes, is_path_fault, IsLookupFault, ◌>>=◌}
+use Rattle.directory.specs.Lookups.{directory_at, below_in, found_of, found_in, place_in, look_up, nodes_on_way, way_nodes, is_path_fault, IsLookupFault, ◌>>=◌}
 
 -- ---- refusals
 
@@ -108,7 +108,7 @@ whole_found f whole block i path last looked = sym looked ∙ ap (look_up f bloc
 pub way_on : (f : Blocks) (block below i : ℕ) (path : Path) → i < length path → below_in f (get_or path i []) block ≡ Ok below → way_nodes f block (drop i path) ≡ length (chain f block) + way_nodes f below (drop (i + 1) path)
 way_on f block below i path less is =
     let next : suc i ≡ i + 1 = omega arith in
-    ap (way_nodes f block) (drop-cons path i [] less) ∙ ap (λ (r : Result ℕ Fault). length (chain f block) + nodes_from (λ below. way_nodes f below (drop (suc i) path)) r) is
+    ap (way_nodes f block) (drop-cons path i [] less) ∙ ap (λ (r : Result ℕ Fault). length (chain f block) + nodes_on_way (λ below. way_nodes f below (drop (suc i) path)) r) is
     ∙ ap (λ (k : ℕ). length (chain f block) + way_nodes f below (drop k path)) next
 
 -- a directory on the way has its nodes

@@ -3,7 +3,7 @@ use Rattle.std.proofs.Common.{◌≡◌, ℕ, inl, inr, Bool, false, cond, Optio
 use Rattle.std.specs.Prelude.{unwrap_or, Contains}
 use Rattle.fs_types.specs.Names.{Name, Path, same_name}
 use Rattle.fs_types.specs.declared.fault.Fault.{Fault}
-use Rattle.node_format.specs.Items.{Item, named}
+use Rattle.node_format.specs.Items.{Item, named_place}
 use Rattle.node_format.specs.declared.place.Place.{Place}
 use Rattle.node_format.specs.declared.place.Place.TheVariants.{Dir}
 use Rattle.block_trees.specs.Bodies.{Blocks}
@@ -26,7 +26,7 @@ on_below (Ok block) after found e = (block, refl, e)
 
 -- a name leads where it did
 pub child_is : (f g : Blocks) (block : ℕ) (name : Name) → entries_in g block ≡ entries_in f block → child g (Dir block) name ≡ child f (Dir block) name
-child_is f g block name same = ap (λ (o : Option (List Item)). named (unwrap_or o []) name) same
+child_is f g block name same = ap (λ (o : Option (List Item)). named_place (unwrap_or o []) name) same
 
 pub edit_before : (f g h : Blocks) (from to : ℕ) (name : Name) (at : Option Place) → entries_in g from ≡ entries_in f from → IsDirectoryEdit g h from to name at → IsDirectoryEdit f h from to name at
 edit_before f g h from to name at same (items, spelled, leads) =

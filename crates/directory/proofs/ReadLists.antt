@@ -7,12 +7,12 @@ use Rattle.std.proofs.lemmas.List.{length-append}
 use Rattle.fs_types.specs.declared.limits.TheConstants.{NODE_ENTRIES}
 use Rattle.fs_types.specs.Names.{Name, same_name}
 use Rattle.plain_trees.specs.Trees.{nodes_for}
-use Rattle.node_format.specs.Items.{Item, named, are_ascending}
+use Rattle.node_format.specs.Items.{Item, named_place, are_ascending}
 use Rattle.node_format.specs.Links.{Link}
 use Rattle.node_format.specs.Order.{both_true, ascending_parts}
 use Rattle.node_format.specs.declared.place.Place.{Place}
 use Rattle.block_trees.specs.Bodies.{Blocks}
-use Rattle.block_trees.specs.Chains.{link_of, after, blocks_after, most_after, is_later, entries_in, items_in}
+use Rattle.block_trees.specs.Chains.{link_of, entries_after, blocks_after, most_after, is_later, entries_in, items_in}
 use Rattle.block_trees.proofs.Chains.{by_test, tail_of, none_after, HasNodeAfter, after_parts, first_parts, listed_after, chain_is}
 use Rattle.block_trees.proofs.ChainCounts.{linked_filled, most_of}
 use Rattle.directory.specs.Counts.{entries_to, read_nodes}
@@ -20,29 +20,29 @@ use Rattle.directory.specs.Reads.{IsReadTo, MayAppend, IsAppended, is_enough, Is
 
 -- ---- names in two lists
 
-pub named_front : (front back : List Item) (name : Name) → IsSome (named front name) → named (front ++ back) name ≡ named front name
+pub named_front : (front back : List Item) (name : Name) → IsSome (named_place front name) → named_place (front ++ back) name ≡ named_place front name
 named_front [] back name some = absurd (true≢false (sym some))
 named_front (item ∷ front) back name some = by_test (same_name item.name name)
     (λ same. rw same refl)
-    (λ differs. rw differs (named_front front back name (sym (ap (λ (t : Bool). is_some (cond t (Some item.place) (named front name))) differs) ∙ some)))
+    (λ differs. rw differs (named_front front back name (sym (ap (λ (t : Bool). is_some (cond t (Some item.place) (named_place front name))) differs) ∙ some)))
 
-pub named_back : (front back : List Item) (name : Name) → named front name ≡ None → named (front ++ back) name ≡ named back name
+pub named_back : (front back : List Item) (name : Name) → named_place front name ≡ None → named_place (front ++ back) name ≡ named_place back name
 named_back [] back name none = refl
 named_back (item ∷ front) back name none = by_test (same_name item.name name)
-    (λ same. absurd (let e : Some item.place ≡ None = sym (ap (λ (t : Bool). cond t (Some item.place) (named front name)) same) ∙ none in cc))
-    (λ differs. rw differs (named_back front back name (sym (ap (λ (t : Bool). cond t (Some item.place) (named front name)) differs) ∙ none)))
+    (λ same. absurd (let e : Some item.place ≡ None = sym (ap (λ (t : Bool). cond t (Some item.place) (named_place front name)) same) ∙ none in cc))
+    (λ differs. rw differs (named_back front back name (sym (ap (λ (t : Bool). cond t (Some item.place) (named_place front name)) differs) ∙ none)))
 
-pub entries_to-front : (front back : List Item) (name : Name) → IsSome (named front name) → entries_to (front ++ back) name ≡ entries_to front name
+pub entries_to-front : (front back : List Item) (name : Name) → IsSome (named_place front name) → entries_to (front ++ back) name ≡ entries_to front name
 entries_to-front [] back name some = absurd (true≢false (sym some))
 entries_to-front (item ∷ front) back name some = by_test (same_name item.name name)
     (λ same. rw same refl)
-    (λ differs. rw differs (ap suc (entries_to-front front back name (sym (ap (λ (t : Bool). is_some (cond t (Some item.place) (named front name))) differs) ∙ some))))
+    (λ differs. rw differs (ap suc (entries_to-front front back name (sym (ap (λ (t : Bool). is_some (cond t (Some item.place) (named_place front name))) differs) ∙ some))))
 
-pub entries_to-back : (front back : List Item) (name : Name) → named front name ≡ None → entries_to (front ++ back) name ≡ length front + entries_to back name
+pub entries_to-back : (front back : List Item) (name : Name) → named_place front name ≡ None → entries_to (front ++ back) name ≡ length front + entries_to back name
 entries_to-back [] back name none = omega arith
 entries_to-back (item ∷ front) back name none = by_test (same_name item.name name)
-    (λ same. absurd (let e : Some item.place ≡ None = sym (ap (λ (t : Bool). cond t (Some item.place) (named front name)) same) ∙ none in cc))
-    (λ differs. rw differs (let rest = entries_to-back front back name (sym (ap (λ (t : Bool). cond t (Some item.place) (named front name)) differs) ∙ none) in omega (arith, rest)))
+    (λ same. absurd (let e : Some item.place ≡ None = sym (ap (λ (t : Bool). cond t (Some item.place) (named_place front name)) same) ∙ none in cc))
+    (λ differs. rw differs (let rest = entries_to-back front back name (sym (ap (λ (t : Bool). cond t (Some item.place) (named_place front name)) differs) ∙ none) in omega (arith, rest)))
 
 pub entries_to-most : (items : List Item) (name : Name) → entries_to items name ≤ length items
 entries_to-most [] name = omega arith
@@ -73,9 +73,9 @@ pub record GoesOn (f : Blocks) (block left nodes : ℕ) (items : List Item) (tai
   pub read : IsReadTo f block left items tail
   pub counted : nodes_for (length items) ≡ nodes
   pub needed : puts ≡ true → nodes_for (length items) ≡ nodes_for (entries_to items name)
-  pub seen : puts ≡ true → has_name ≡ is_some (named items name)
+  pub seen : puts ≡ true → has_name ≡ is_some (named_place items name)
 
-appended_some : (o : Option Link) (l : Link) (name : Name) (old new : List Item) (has_name : Bool) (next : ℕ) → o ≡ Some l → IsAppended o name old new has_name next → (new ≡ old ++ l.items) × (has_name ≡ is_some (named l.items name)) × (next ≡ l.next)
+appended_some : (o : Option Link) (l : Link) (name : Name) (old new : List Item) (has_name : Bool) (next : ℕ) → o ≡ Some l → IsAppended o name old new has_name next → (new ≡ old ++ l.items) × (has_name ≡ is_some (named_place l.items name)) × (next ≡ l.next)
 appended_some o l name old new has_name next is added = subst (λ (o : Option Link). IsAppended o name old new has_name next) is added
 
 pub begins : (f : Blocks) (block : ℕ) (old new : List Item) (tail : ℕ) (name : Name) (puts has_name : Bool) → old ≡ [] → IsSome (entries_in f block) → IsAppended (link_of (f block)) name old new has_name tail → GoesOn f block most_after 1 new tail name puts has_name
@@ -93,14 +93,14 @@ begins f block old new tail name puts has_name none some added = on (entries_in 
           read = record {
             more = p.more;
             all = is ∙ ap (λ (xs : List Item). Some xs) (p.parts ∙ ap (λ (xs : List Item). xs ++ p.more) (sym new_is));
-            rest = ap (after most_after f) a.2 ∙ p.rest;
+            rest = ap (entries_after most_after f) a.2 ∙ p.rest;
             within = λ b inside. subst (λ (bs : List ℕ). Contains bs b) (sym (chain_is f block p.l p.is)) (tail_of block b (blocks_after most_after f p.l.next) (subst (λ (next : ℕ). Contains (blocks_after most_after f next) b) a.2 inside));
             full = elim filled.full [ inl last ↦ inl (a.2 ∙ last) | inr full ↦ inr (omega (arith, size, full)) ];
             few = omega (arith, size, filled.few);
           };
           counted = omega (arith, size, filled.few);
           needed = λ puts. omega (arith, size, filled.few, entries_to-most new name);
-          seen = λ puts. a.1 ∙ ap (λ (xs : List Item). is_some (named xs name)) (sym new_is);
+          seen = λ puts. a.1 ∙ ap (λ (xs : List Item). is_some (named_place xs name)) (sym new_is);
         }
 
 -- ---- whether more is wanted
@@ -123,8 +123,8 @@ none_of : {A : Type 0} (o : Option A) → is_some o ≡ false → o ≡ None
 none_of None e = refl
 none_of (Some x) e = absurd (true≢false e)
 
-missing : (puts has_name : Bool) (next : ℕ) (items : List Item) (name : Name) → is_enough puts has_name next ≡ false → (puts ≡ true → has_name ≡ is_some (named items name)) → puts ≡ true → named items name ≡ None
-missing puts has_name next items name more seen is = none_of (named items name) (sym (seen is) ∙ not_found puts has_name next more is)
+missing : (puts has_name : Bool) (next : ℕ) (items : List Item) (name : Name) → is_enough puts has_name next ≡ false → (puts ≡ true → has_name ≡ is_some (named_place items name)) → puts ≡ true → named_place items name ≡ None
+missing puts has_name next items name more seen is = none_of (named_place items name) (sym (seen is) ∙ not_found puts has_name next more is)
 
 -- the node after those that were read
 abbrev pub HasMore : Blocks → ℕ → ℕ → List Item → ℕ → Type 0
@@ -168,7 +168,7 @@ goes_on f block left nodes items tail name puts has_name new next has_name' goes
       read = record {
         more = p.more;
         all = m.3 ∙ ap (λ (xs : List Item). Some xs) (ap (λ (xs : List Item). items ++ xs) p.parts ∙ sym (append_assoc items p.l.items p.more) ∙ ap (λ (xs : List Item). xs ++ p.more) (sym a.0));
-        rest = ap (after n f) a.2 ∙ p.rest;
+        rest = ap (entries_after n f) a.2 ∙ p.rest;
         within = λ b inside. goes.read.within b (subst (λ (k : ℕ). Contains (blocks_after k f tail) b) (sym m.2)
             (subst (λ (bs : List ℕ). Contains bs b) (sym (listed_after f n tail p.some p.l p.is)) (tail_of tail b (blocks_after n f p.l.next) (subst (λ (k : ℕ). Contains (blocks_after n f k) b) a.2 inside))));
         full = elim filled.full [ inl last ↦ inl (a.2 ∙ last) | inr full ↦ inr (omega (arith, size, full, before)) ];
@@ -179,7 +179,7 @@ goes_on f block left nodes items tail name puts has_name new next has_name' goes
           let none = missing puts has_name tail items name more goes.seen is in
           let to : entries_to new name ≡ length items + entries_to p.l.items name = ap (λ (xs : List Item). entries_to xs name) a.0 ∙ entries_to-back items p.l.items name none in
           omega (arith, size, filled.few, before, some, to, entries_to-most p.l.items name, entries_to-some p.l.items name some);
-      seen = λ is. a.1 ∙ ap (λ (o : Option Place). is_some o) (sym (named_back items p.l.items name (missing puts has_name tail items name more goes.seen is)) ∙ ap (λ (xs : List Item). named xs name) (sym a.0));
+      seen = λ is. a.1 ∙ ap (λ (o : Option Place). is_some o) (sym (named_back items p.l.items name (missing puts has_name tail items name more goes.seen is)) ∙ ap (λ (xs : List Item). named_place xs name) (sym a.0));
     })
   where
     full_before : length items ≡ NODE_ENTRIES * nodes_for (length items)
@@ -200,22 +200,22 @@ ends_enough f block left nodes items tail name puts has_name goes enough = recor
     both true h e = (refl, e)
     both false h e = absurd (true≢false (sym e))
 
-    on : (t : Bool) → eqb tail 0 ≡ t → (t || (puts && has_name)) ≡ true → (tail ≡ 0) ⊎ ((puts ≡ true) × IsSome (named items name))
+    on : (t : Bool) → eqb tail 0 ≡ t → (t || (puts && has_name)) ≡ true → (tail ≡ 0) ⊎ ((puts ≡ true) × IsSome (named_place items name))
     on true is e = inl (eqb-true tail 0 is)
     on false is e = let b = both puts has_name e in inr (b.0, sym (goes.seen b.0) ∙ b.1)
 
 pub ends_last : (f : Blocks) (block left nodes : ℕ) (items : List Item) (tail : ℕ) (name : Name) (puts has_name : Bool) → GoesOn f block left nodes items tail name puts has_name → left ≡ 0 → IsEnough items tail name puts
 ends_last f block left nodes items tail name puts has_name goes none = record {
-  ends = inl (eqb-true tail 0 (none_after f tail goes.read.more (subst (λ (k : ℕ). after k f tail ≡ Some goes.read.more) none goes.read.rest)).0);
+  ends = inl (eqb-true tail 0 (none_after f tail goes.read.more (subst (λ (k : ℕ). entries_after k f tail ≡ Some goes.read.more) none goes.read.rest)).0);
   needed = goes.needed;
 }
 
 -- ---- how many nodes are read
 
-rest_none : (f : Blocks) (left tail : ℕ) (more : List Item) → tail ≡ 0 → after left f tail ≡ Some more → more ≡ []
-rest_none f left tail more none is = on left (subst (λ (b : ℕ). after left f b ≡ Some more) none is)
+rest_none : (f : Blocks) (left tail : ℕ) (more : List Item) → tail ≡ 0 → entries_after left f tail ≡ Some more → more ≡ []
+rest_none f left tail more none is = on left (subst (λ (b : ℕ). entries_after left f b ≡ Some more) none is)
   where
-    on : (left : ℕ) → after left f 0 ≡ Some more → more ≡ []
+    on : (left : ℕ) → entries_after left f 0 ≡ Some more → more ≡ []
     on zero is = (none_after f 0 more is).1
     on (suc n) is = cc
 
@@ -225,7 +225,7 @@ all_read f block left items tail r none =
     r.all ∙ ap (λ (xs : List Item). Some xs) (ap (λ (xs : List Item). items ++ xs) (rest_none f left tail r.more none r.rest) ∙ append-nil items)
 
 -- the entries up to the name are among those that were read, or none has the name
-pub entries_to-read : (f : Blocks) (block left : ℕ) (items : List Item) (tail : ℕ) (name : Name) → IsReadTo f block left items tail → (tail ≡ 0) ⊎ IsSome (named items name) → entries_to (items_in f block) name ≡ entries_to items name
+pub entries_to-read : (f : Blocks) (block left : ℕ) (items : List Item) (tail : ℕ) (name : Name) → IsReadTo f block left items tail → (tail ≡ 0) ⊎ IsSome (named_place items name) → entries_to (items_in f block) name ≡ entries_to items name
 entries_to-read f block left items tail name r (inl none) = ap (λ (xs : List Item). entries_to xs name) (whole_entries f block items (all_read f block left items tail r none))
 entries_to-read f block left items tail name r (inr some) = ap (λ (xs : List Item). entries_to xs name) (whole_entries f block (items ++ r.more) r.all) ∙ entries_to-front items r.more name some
 

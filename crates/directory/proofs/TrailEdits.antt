@@ -13,7 +13,7 @@ use Rattle.fs_types.specs.declared.fault.Fault.TheVariants.{FlashFull, ReadOnly,
 use Rattle.node_store.specs.Faults.{IsWriteFault}
 use Rattle.plain_trees.specs.Trees.{nodes_for}
 use Rattle.plain_trees.proofs.Needs.{nodes_for-le, sum_below-le}
-use Rattle.node_format.specs.Items.{Item, named}
+use Rattle.node_format.specs.Items.{Item, named_place}
 use Rattle.node_format.specs.declared.place.Place.{Place}
 use Rattle.node_format.specs.declared.place.Place.TheVariants.{Dir, File}
 use Rattle.block_trees.specs.Bodies.{Blocks}
@@ -26,7 +26,7 @@ use Rattle.block_trees.proofs.Reaching.{held_child, held_leads, reached_via}
 use Rattle.directory.specs.Counts.{nodes_in, edit_nodes, read_nodes, path_nodes}
 use Rattle.directory.specs.Lookups.{directory_at, below_in, found_of, found_in, look_up, ◌>>=◌}
 use Rattle.directory.specs.Seeking.{place_in, chain_items}
-use Rattle.directory.specs.Trails.{IsTrail, IsHeldTrail, IsTaken, has_room, takes, IsChangeFault}
+use Rattle.directory.specs.Trails.{IsTrail, IsHeldTrail, TakesName, has_room, takes, IsChangeFault}
 use Rattle.directory.proofs.Directories.{place_named, along_chain}
 use Rattle.directory.proofs.Framed.{place_same, items_same, below_reached}
 use Rattle.directory.proofs.Held.{held_later, same_held, same_held_items}
@@ -81,7 +81,7 @@ level_held_later f g k l path trail i way less keeps = held_later f g k l keeps 
 pub level_child : (f : Blocks) (root : ℕ) (path : Path) (trail : List ℕ) (i : ℕ) → IsTrail f root path trail → i + 1 < length path → child f (Dir (slice_index trail i)) (get_or path i []) ≡ Some (Dir (slice_index trail (i + 1)))
 level_child f root path trail i way more = sym (leads_more f root (slice_index trail i) i path (omega arith) (way.through i (omega arith))) ∙ way.through (i + 1) more
 
-pub takes_named : (entries : Option (List Item)) (name : Name) (there here : Place) → named (unwrap_or entries []) name ≡ Some there → takes entries name (Some here) ≡ true
+pub takes_named : (entries : Option (List Item)) (name : Name) (there here : Place) → named_place (unwrap_or entries []) name ≡ Some there → takes entries name (Some here) ≡ true
 takes_named None name there here is = absurd cc
 takes_named (Some items) name there here is = ap (λ (o : Option Place). is_some o || not (nat_le MAX_ENTRIES (length items))) is
 
@@ -113,8 +113,8 @@ rewritten_last f0 f1 k0 k1 path i from to at last edit fresh = subst (λ (q : Pa
 -- ---- how many nodes
 
 -- of a name that is there, an edit asks no more nodes than there are
-pub edit_nodes-there : (items : List Item) (name : Name) (puts : Bool) → IsSome (named items name) → edit_nodes items name puts ≡ nodes_for (length items)
-edit_nodes-there items name puts some = on puts (named items name) some
+pub edit_nodes-there : (items : List Item) (name : Name) (puts : Bool) → IsSome (named_place items name) → edit_nodes items name puts ≡ nodes_for (length items)
+edit_nodes-there items name puts some = on puts (named_place items name) some
   where
     on : (p : Bool) (o : Option Place) → IsSome o → nodes_for (length items + (if p && is_none o then 1 else 0)) ≡ nodes_for (length items)
     on p None none = absurd (true≢false (sym none))
@@ -139,7 +139,7 @@ path_nodes-last f trail path puts i last =
 pub path_nodes-linked : (f : Blocks) (root : ℕ) (trail : List ℕ) (path : Path) (puts other : Bool) (i : ℕ) → IsTrail f root path trail → i + 1 < length path
     → path_nodes f trail path puts i ≡ edit_nodes (items_in f (slice_index trail i)) (get_or path i []) other + path_nodes f trail path puts (i + 1)
 path_nodes-linked f root trail path puts other i way more =
-    let there : IsSome (named (items_in f (slice_index trail i)) (get_or path i [])) = ap is_some (level_child f root path trail i way more) in
+    let there : IsSome (named_place (items_in f (slice_index trail i)) (get_or path i [])) = ap is_some (level_child f root path trail i way more) in
     let one = edit_nodes-there (items_in f (slice_index trail i)) (get_or path i []) puts there in
     let same = edit_nodes-there (items_in f (slice_index trail i)) (get_or path i []) other there in
     omega (arith, path_nodes-level f trail path puts i (omega arith), one, same)
@@ -185,7 +185,7 @@ path_nodes-least f path trail puts level =
   where
     least : (items : List Item) (name : Name) (puts : Bool) → edit_nodes items name false ≤ edit_nodes items name puts
     least items name false = omega arith
-    least items name true = nodes_for-le (length items + 0) (length items + (if is_none (named items name) then 1 else 0)) (omega arith)
+    least items name true = nodes_for-le (length items + 0) (length items + (if is_none (named_place items name) then 1 else 0)) (omega arith)
 
 -- no more nodes are read than there are
 pub read_nodes-most : (items : List Item) (name : Name) (puts : Bool) → read_nodes items name puts ≤ edit_nodes items name false
@@ -216,9 +216,9 @@ below_named : (f : Blocks) (block : ℕ) (name : Name) (below : ℕ) → child f
 below_named f block name below leads = on (entries_in f block) refl
   where
     on : (o : Option (List Item)) → entries_in f block ≡ o → below_in f name block ≡ Ok below
-    on None is = absurd (let e : named [] name ≡ Some (Dir below) = sym (ap (λ (o : Option (List Item)). named (unwrap_or o []) name) is) ∙ leads in cc)
+    on None is = absurd (let e : named_place [] name ≡ Some (Dir below) = sym (ap (λ (o : Option (List Item)). named_place (unwrap_or o []) name) is) ∙ leads in cc)
     on (Some items) is =
-        let led : named items name ≡ Some (Dir below) = sym (ap (λ (o : Option (List Item)). named (unwrap_or o []) name) is) ∙ leads in
+        let led : named_place items name ≡ Some (Dir below) = sym (ap (λ (o : Option (List Item)). named_place (unwrap_or o []) name) is) ∙ leads in
         ap (λ (r : Result (Option Place) Fault). r >>= directory_at) (place_named f block name items is) ∙ ap directory_at led
 
 -- a look up comes to each directory of the trail
@@ -231,14 +231,14 @@ looks_to f root path trail (suc i) way less =
     ∙ ap (λ (k : ℕ). look_up f (slice_index trail k) (drop k path)) e
 
 -- what a look up finds of a name in a directory
-found_is : (f : Blocks) (block : ℕ) (name : Name) (items : List Item) → entries_in f block ≡ Some items → found_in f name block ≡ Ok (found_of (named items name) (nat_le MAX_ENTRIES (length items)))
+found_is : (f : Blocks) (block : ℕ) (name : Name) (items : List Item) → entries_in f block ≡ Some items → found_in f name block ≡ Ok (found_of (named_place items name) (nat_le MAX_ENTRIES (length items)))
 found_is f block name items is =
     ap (λ (r : Result (Option Place) Fault). r >>= (λ place. Ok (found_of place (nat_le MAX_ENTRIES (length (chain_items f block)))))) (place_named f block name items is)
-    ∙ ap (λ (all : List Item). Ok (found_of (named items name) (nat_le MAX_ENTRIES (length all)))) (along_chain f block items is)
+    ∙ ap (λ (all : List Item). Ok (found_of (named_place items name) (nat_le MAX_ENTRIES (length all)))) (along_chain f block items is)
 
-room_takes : (items : List Item) (name : Name) (at : Option Place) → has_room (Ok (found_of (named items name) (nat_le MAX_ENTRIES (length items)))) ≡ true → takes (Some items) name at ≡ true
+room_takes : (items : List Item) (name : Name) (at : Option Place) → has_room (Ok (found_of (named_place items name) (nat_le MAX_ENTRIES (length items)))) ≡ true → takes (Some items) name at ≡ true
 room_takes items name None room = refl
-room_takes items name (Some place) room = on (named items name) (nat_le MAX_ENTRIES (length items)) room
+room_takes items name (Some place) room = on (named_place items name) (nat_le MAX_ENTRIES (length items)) room
   where
     on : (there : Option Place) (is_full : Bool) → has_room (Ok (found_of there is_full)) ≡ true → (is_some there || not is_full) ≡ true
     on None is_full room = room
@@ -246,7 +246,7 @@ room_takes items name (Some place) room = on (named items name) (nat_le MAX_ENTR
     on (Some (Dir block)) is_full room = refl
 
 -- where a look up found room, the last directory takes any edit of the last name
-pub room_taken : (f : Blocks) (root : ℕ) (path : Path) (trail : List ℕ) (at : Option Place) → IsTrail f root path trail → 0 < length path → has_room (look_up f root path) ≡ true → IsTaken f trail path at
+pub room_taken : (f : Blocks) (root : ℕ) (path : Path) (trail : List ℕ) (at : Option Place) → IsTrail f root path trail → 0 < length path → has_room (look_up f root path) ≡ true → TakesName f trail path at
 room_taken f root path trail at way some room =
     let i = length path - 1 in
     let last : i + 1 ≡ length path = omega arith in
@@ -255,12 +255,12 @@ room_taken f root path trail at way some room =
     ap (λ (entries : Option (List Item)). takes entries (get_or path i []) at) there.1
     ∙ room_takes there.0 (get_or path i []) at (sym (ap has_room (looked ∙ found_is f (slice_index trail i) (get_or path i []) there.0 there.1)) ∙ room)
 
-stands_takes : (entries : Option (List Item)) (name : Name) → IsSome (named (unwrap_or entries []) name) → takes entries name None ≡ true
+stands_takes : (entries : Option (List Item)) (name : Name) → IsSome (named_place (unwrap_or entries []) name) → takes entries name None ≡ true
 stands_takes None name stands = absurd cc
 stands_takes (Some items) name stands = refl
 
 -- where something stands, it can be taken out
-pub stands_taken : (f : Blocks) (root : ℕ) (path : Path) (trail : List ℕ) → IsTrail f root path trail → 0 < length path → IsSome (leads f (Dir root) path) → IsTaken f trail path None
+pub stands_taken : (f : Blocks) (root : ℕ) (path : Path) (trail : List ℕ) → IsTrail f root path trail → 0 < length path → IsSome (leads f (Dir root) path) → TakesName f trail path None
 stands_taken f root path trail way some stands =
     let i = length path - 1 in
     stands_takes (entries_in f (slice_index trail i)) (get_or path i []) (subst (λ (o : Option Place). IsSome o) (leads_last f root path trail i way (omega arith)) stands)
@@ -271,7 +271,7 @@ pub leads_later : (f g : Blocks) (k l : ℕ → Bool) → Keeps k f l g → (pat
 leads_later f g k l keeps [] at held = refl
 leads_later f g k l keeps (n ∷ path) (File head size) held = refl
 leads_later f g k l keeps (n ∷ path) (Dir block) held =
-    ap (λ (items : List Item). option_and_then (λ next. leads g next path) (named items n)) (same_held_items f g k l keeps block held)
+    ap (λ (items : List Item). option_and_then (λ next. leads g next path) (named_place items n)) (same_held_items f g k l keeps block held)
     ∙ on (child f (Dir block) n) refl (leads_later f g k l keeps path)
   where
     on : (o : Option Place) → child f (Dir block) n ≡ o → ((at : Place) → IsHeld f k at → leads g at path ≡ leads f at path) → option_and_then (λ next. leads g next path) o ≡ option_and_then (λ next. leads f next path) o
@@ -312,7 +312,7 @@ way_later f g k l path trail keeps way = record {
   held = held_later f g k l keeps way.root way.held;
 }
 
-pub taken_later : (f g : Blocks) (k l : ℕ → Bool) (path : Path) (trail : List ℕ) (at : Option Place) → Keeps k f l g → IsHeldTrail f k path trail → 0 < length path → IsTaken f trail path at → IsTaken g trail path at
+pub taken_later : (f g : Blocks) (k l : ℕ → Bool) (path : Path) (trail : List ℕ) (at : Option Place) → Keeps k f l g → IsHeldTrail f k path trail → 0 < length path → TakesName f trail path at → TakesName g trail path at
 taken_later f g k l path trail at keeps way some taken =
     let i = length path - 1 in
     ap (λ (entries : Option (List Item)). takes entries (get_or path i []) at) (level_same f g k l path trail i way (omega arith) keeps) ∙ taken

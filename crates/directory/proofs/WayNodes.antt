@@ -18,7 +18,7 @@ use Rattle.block_trees.specs.Trees.{child, leads, root_tree, names_of}
 use Rattle.block_trees.proofs.ChainCounts.{count_law}
 use Rattle.block_trees.proofs.Chains.{by_test}
 use Rattle.block_trees.proofs.RootMaps.{leads-append, map_law}
-use Rattle.directory.specs.Lookups.{below_in, nodes_from, way_nodes, LeadsToDirectories, MostNodesLaw, TreeNodesLaw}
+use Rattle.directory.specs.Lookups.{below_in, nodes_on_way, way_nodes, LeadsToDirectories, MostNodesLaw, TreeNodesLaw}
 use Rattle.directory.proofs.LookupLaws.{rooted_leads}
 use Rattle.directory.proofs.Directories.{child_below}
 
@@ -37,7 +37,7 @@ pub most_nodes : MostNodesLaw
 most_nodes f root [] = omega arith
 most_nodes f root (n ∷ path) = omega (arith, few_nodes f root, below (below_in f n root) (λ block. most_nodes f block path))
   where
-    below : (r : Result ℕ Fault) → ((block : ℕ) → way_nodes f block path ≤ CHAIN_NODES * length path) → nodes_from (λ block. way_nodes f block path) r ≤ CHAIN_NODES * length path
+    below : (r : Result ℕ Fault) → ((block : ℕ) → way_nodes f block path ≤ CHAIN_NODES * length path) → nodes_on_way (λ block. way_nodes f block path) r ≤ CHAIN_NODES * length path
     below (Err fault) few = omega arith
     below (Ok block) few = few block
 
@@ -82,7 +82,7 @@ module _ (f : Blocks) (root : ℕ) (t : Tree) (whole : LeadsToDirectories f root
           subst (λ (k : ℕ). way_nodes f to rest ≤ sum_by (λ i. directory_need t t (take i path)) (range_with_len k (length rest))) size (again to (leads_more front block to n led child_is))
 
       below : ((to : ℕ) → leads f (Dir root) (front ++ n ∷ []) ≡ Some (Dir to) → way_nodes f to rest ≤ sum_by (λ i. directory_need t t (take i path)) (range_with_len (length (front ++ n ∷ [])) (length rest))) → (r : Result ℕ Fault) → below_in f n block ≡ r
-          → nodes_from (λ to. way_nodes f to rest) r ≤ sum_by (λ i. directory_need t t (take i path)) (range_with_len (length front + 1) (length rest))
+          → nodes_on_way (λ to. way_nodes f to rest) r ≤ sum_by (λ i. directory_need t t (take i path)) (range_with_len (length front + 1) (length rest))
       below again (Err fault) e = omega arith
       below again (Ok to) e = next again to e
 

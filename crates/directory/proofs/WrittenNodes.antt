@@ -10,9 +10,9 @@ use Rattle.fs_types.specs.declared.fault.Fault.{Fault}
 use Rattle.node_format.specs.Items.{Item, are_ascending}
 use Rattle.node_format.specs.Links.{Link, link, link_at}
 use Rattle.block_trees.specs.Bodies.{Blocks}
-use Rattle.block_trees.specs.Chains.{link_of, next_of, is_later, after, blocks_after, most_after, entries_in, chain}
+use Rattle.block_trees.specs.Chains.{link_of, next_of, is_later, entries_after, blocks_after, most_after, entries_in, chain}
 use Rattle.block_trees.proofs.Chains.{after_same, step_law, first_law, none_after, AfterParts, after_parts, listed_after, chain_is, after_raise}
-use Rattle.directory.specs.Written.{IsOneMore, IsKeptAfter, IsPut, Puts, IsDirectoryPut, PutsDirectory}
+use Rattle.directory.specs.Written.{IsOneMore, IsKeptAfter, IsPut, PutsBefore, IsDirectoryPut, PutsDirectory}
 
 none_some : (bytes : List ℕ) (found : Option (List ℕ)) → found ≡ None → found ≡ Some bytes → ⊥
 none_some bytes found none some = let e : None ≡ Some bytes = sym none ∙ some in cc
@@ -100,24 +100,24 @@ one_group f0 f1 f2 k0 k1 k2 groups group n tail next to items more same stays wa
     among b (zero, lt, e) = inl (ap k0 (sym e) ∙ was_free to one.fresh)
     among b (suc k, lt, e) = was.fresh b (k, omega (arith, lt), e)
 
-pub all_groups : (f0 f1 : Blocks) (k0 k1 : ℕ → Bool) (groups group tail to : ℕ) (items : List Item) → group ≡ 0 → Puts f0 k0 f1 k1 (groups - group) tail to (drop (NODE_ENTRIES * group) items) → Puts f0 k0 f1 k1 groups tail to items
+pub all_groups : (f0 f1 : Blocks) (k0 k1 : ℕ → Bool) (groups group tail to : ℕ) (items : List Item) → group ≡ 0 → PutsBefore f0 k0 f1 k1 (groups - group) tail to (drop (NODE_ENTRIES * group) items) → PutsBefore f0 k0 f1 k1 groups tail to items
 all_groups f0 f1 k0 k1 groups group tail to items none put =
     let none' : NODE_ENTRIES * group ≡ 0 = omega arith in
     let all : groups - group ≡ groups = omega arith in
-    subst (λ (k : ℕ). Puts f0 k0 f1 k1 k tail to items) all (subst (λ (k : ℕ). Puts f0 k0 f1 k1 (groups - group) tail to (drop k items)) none' put)
+    subst (λ (k : ℕ). PutsBefore f0 k0 f1 k1 k tail to items) all (subst (λ (k : ℕ). PutsBefore f0 k0 f1 k1 (groups - group) tail to (drop k items)) none' put)
 
 -- ---- nodes as a directory
 
 -- more nodes than there are may be allowed
-blocks_more : (f : Blocks) (n next : ℕ) (items : List Item) → after n f next ≡ Some items → blocks_after (suc n) f next ≡ blocks_after n f next
+blocks_more : (f : Blocks) (n next : ℕ) (items : List Item) → entries_after n f next ≡ Some items → blocks_after (suc n) f next ≡ blocks_after n f next
 blocks_more f zero next items e = rw (none_after f next items e).0 refl
 blocks_more f (suc n) next items e = on (after_parts f n next items e) (blocks_more f n)
   where
-    on : AfterParts f n next items → ((c : ℕ) (more : List Item) → after n f c ≡ Some more → blocks_after (suc n) f c ≡ blocks_after n f c) → blocks_after (suc (suc n)) f next ≡ blocks_after (suc n) f next
+    on : AfterParts f n next items → ((c : ℕ) (more : List Item) → entries_after n f c ≡ Some more → blocks_after (suc n) f c ≡ blocks_after n f c) → blocks_after (suc (suc n)) f next ≡ blocks_after (suc n) f next
     on (inl none) again = rw none.0 refl
     on (inr p) again = listed_after f (suc n) next p.some p.l p.is ∙ ap (λ (bs : List ℕ). next ∷ bs) (again p.l.next p.more p.rest) ∙ sym (listed_after f n next p.some p.l p.is)
 
-blocks_raise : (f : Blocks) (n k next : ℕ) (items : List Item) → after n f next ≡ Some items → blocks_after (k + n) f next ≡ blocks_after n f next
+blocks_raise : (f : Blocks) (n k next : ℕ) (items : List Item) → entries_after n f next ≡ Some items → blocks_after (k + n) f next ≡ blocks_after n f next
 blocks_raise f n zero next items is = let e : 0 + n ≡ n = omega arith in ap (λ (j : ℕ). blocks_after j f next) e
 blocks_raise f n (suc k) next items is =
     let e : suc k + n ≡ suc (k + n) = omega arith in
@@ -146,7 +146,7 @@ last_tail tail count (inl last) none = last
 last_tail tail count (inr (some, whole)) none = absurd (omega (arith, some, none))
 
 -- entries, one or more, as a directory
-pub puts_directory : (old new : Blocks) (kept kept' : ℕ → Bool) (tail to : ℕ) (items : List Item) → 0 < length items → Puts old kept new kept' (div_ceil (length items) NODE_ENTRIES) tail to items → PutsDirectory old kept new kept' tail to items
+pub puts_directory : (old new : Blocks) (kept kept' : ℕ → Bool) (tail to : ℕ) (items : List Item) → 0 < length items → PutsBefore old kept new kept' (div_ceil (length items) NODE_ENTRIES) tail to items → PutsDirectory old kept new kept' tail to items
 puts_directory old new kept kept' tail to items some put n more few order was =
     let groups = div_ceil (length items) NODE_ENTRIES in
     let nodes : div_ceil (length items) NODE_ENTRIES + n ≡ suc (div_ceil (length items) NODE_ENTRIES - 1 + n) = omega arith in
@@ -173,10 +173,10 @@ puts_empty old new kept kept' tail to items last none one n more few order was =
     end zero = refl
     end (suc n) = refl
 
-    nothing : (n : ℕ) → after n old tail ≡ Some more → more ≡ []
-    nothing n is = last_one n (subst (λ (b : ℕ). after n old b ≡ Some more) last is)
+    nothing : (n : ℕ) → entries_after n old tail ≡ Some more → more ≡ []
+    nothing n is = last_one n (subst (λ (b : ℕ). entries_after n old b ≡ Some more) last is)
       where
-        last_one : (n : ℕ) → after n old 0 ≡ Some more → more ≡ []
+        last_one : (n : ℕ) → entries_after n old 0 ≡ Some more → more ≡ []
         last_one zero is = (none_after old 0 more is).1
         last_one (suc n) is = cc
 

@@ -4,7 +4,7 @@ use Rattle.std.specs.List.{sum_by, range_with_len}
 use Rattle.std.specs.Option.{is_some, is_none}
 use Rattle.fs_types.specs.Names.{Name, Path, same_name}
 use Rattle.plain_trees.specs.Trees.{nodes_for}
-use Rattle.node_format.specs.Items.{Item, named}
+use Rattle.node_format.specs.Items.{Item, named_place}
 use Rattle.node_format.specs.Edits.{edited_count}
 use Rattle.node_format.specs.declared.place.Place.{Place}
 use Rattle.block_trees.specs.Bodies.{Blocks}
@@ -17,7 +17,7 @@ nodes_in f block = nodes_for (length (items_in f block))
 
 -- the greater number of nodes before and after an edit: where a name is put that is missing, there is one entry more
 abbrev pub edit_nodes : List Item → Name → Bool → ℕ
-edit_nodes items name puts = nodes_for (length items + (if puts && is_none (named items name) then 1 else 0))
+edit_nodes items name puts = nodes_for (length items + (if puts && is_none (named_place items name) then 1 else 0))
 
 -- the same of the directories that a path goes through, from one level down; where something is put at the path, the names
 -- before the last stand already
@@ -47,5 +47,5 @@ read_nodes items name puts = nodes_for (if puts then entries_to items name else 
 -- how many nodes an edit writes: where a name that is there leads to another place, none after the one with the name; else all that there are then
 abbrev pub written_nodes : List Item → Name → Option Place → ℕ
 written_nodes items name place =
-    if is_some place && is_some (named items name) then nodes_for (entries_to items name)
-    else nodes_for (edited_count (named items name) place (length items))
+    if is_some place && is_some (named_place items name) then nodes_for (entries_to items name)
+    else nodes_for (edited_count (named_place items name) place (length items))

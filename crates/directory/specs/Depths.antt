@@ -40,7 +40,7 @@ abbrev pub IsSeen : Blocks → FinSet nat_cmp → ℕ → Type 0
 IsSeen f seen block = (f block ≡ None) ⊎ (contains seen block ≡ true)
 
 -- the nodes that were seen were read: the directories that they name were found, of so many blocks, and the nodes after them seen
-pub record IsRead (f : Blocks) (blocks : ℕ) (seen found : FinSet nat_cmp) : Type 0 where
+pub record AreFoundBelow (f : Blocks) (blocks : ℕ) (seen found : FinSet nat_cmp) : Type 0 where
   pub on : (b : ℕ) → contains seen b ≡ true → IsSeen f seen (next_of (f b))
   pub named : (parent b : ℕ) → contains seen parent ≡ true → b < blocks → names_directory (link_items (f parent)) b ≡ true → contains found b ≡ true
 

@@ -7,7 +7,7 @@ use Rattle.plain_trees.specs.Trees.{path_need}
 use Rattle.fs_types.specs.declared.fault.Fault.{Fault}
 use Rattle.fs_types.specs.declared.fault.Fault.TheVariants.{NoEntry, NotDirectory, Damaged}
 use Rattle.node_store.specs.Faults.{is_read_fault}
-use Rattle.node_format.specs.Items.{Item, named}
+use Rattle.node_format.specs.Items.{Item, named_place}
 use Rattle.node_format.specs.declared.place.Place.{Place}
 use Rattle.node_format.specs.declared.place.Place.TheVariants.{Dir, File}
 use Rattle.block_trees.specs.Bodies.{Blocks, body}
@@ -51,13 +51,13 @@ look_up f block (name ∷ []) = found_in f name block
 look_up f block (name ∷ next ∷ path) = below_in f name block >>= λ below. look_up f below (next ∷ path)
 
 -- how many nodes the directories have that a look up goes through
-abbrev pub nodes_from : (ℕ → ℕ) → Result ℕ Fault → ℕ
-nodes_from nodes (Err fault) = 0
-nodes_from nodes (Ok below) = nodes below
+abbrev pub nodes_on_way : (ℕ → ℕ) → Result ℕ Fault → ℕ
+nodes_on_way nodes (Err fault) = 0
+nodes_on_way nodes (Ok below) = nodes below
 
 abbrev pub way_nodes : Blocks → ℕ → Path → ℕ
 way_nodes f block [] = 0
-way_nodes f block (name ∷ path) = length (chain f block) + nodes_from (λ below. way_nodes f below path) (below_in f name block)
+way_nodes f block (name ∷ path) = length (chain f block) + nodes_on_way (λ below. way_nodes f below path) (below_in f name block)
 
 -- each directory that paths below a root lead to begins in its block, as in a tree
 abbrev pub LeadsToDirectories : Blocks → ℕ → Type 0
@@ -70,23 +70,23 @@ place_of (found.File head size) = Some (File head size)
 place_of (found.Dir block) = Some (Dir block)
 
 -- what was found, as what stands at the path
-abbrev pub entry_of : ℕ → Blocks → Found → Option Entry
-entry_of capacity f (found.Missing is_full) = None
-entry_of capacity f (found.File head size) = Some (Entry.File (body capacity f head size))
-entry_of capacity f (found.Dir block) = Some Entry.Dir
+abbrev pub found_entry : ℕ → Blocks → Found → Option Entry
+found_entry capacity f (found.Missing is_full) = None
+found_entry capacity f (found.File head size) = Some (Entry.File (body capacity f head size))
+found_entry capacity f (found.Dir block) = Some Entry.Dir
 
 -- what a look up tells of a path in a tree: what stands there, or the refusal of the path
-abbrev pub Tells : ℕ → Blocks → Contents → Path → Result Found Fault → Type 0
-Tells capacity f t path (Ok found) = (lookup_refusal t path ≡ None) × (t path ≡ entry_of capacity f found)
-Tells capacity f t path (Err fault) = lookup_refusal t path ≡ Some fault
+abbrev pub TellsLookup : ℕ → Blocks → Contents → Path → Result Found Fault → Type 0
+TellsLookup capacity f t path (Ok found) = (lookup_refusal t path ≡ None) × (t path ≡ found_entry capacity f found)
+TellsLookup capacity f t path (Err fault) = lookup_refusal t path ≡ Some fault
 
 -- a look up tells of each path in the tree of a root
-abbrev pub LookupLaw : Type 0
-LookupLaw = (capacity : ℕ) (f : Blocks) (root : ℕ) (path : Path) → IsRoot capacity f root → Tells capacity f (tree capacity f root) path (look_up f root path)
+abbrev pub FindLaw : Type 0
+FindLaw = (capacity : ℕ) (f : Blocks) (root : ℕ) (path : Path) → IsRoot capacity f root → TellsLookup capacity f (tree capacity f root) path (look_up f root path)
 
 -- a name found node by node is the one of the whole directory
 abbrev pub SeekLaw : Type 0
-SeekLaw = (f : Blocks) (block : ℕ) (name : Name) (items : List Item) → entries_in f block ≡ Some items → (place_in f name block ≡ Ok (named items name)) × (chain_items f block ≡ items)
+SeekLaw = (f : Blocks) (block : ℕ) (name : Name) (items : List Item) → entries_in f block ≡ Some items → (place_in f name block ≡ Ok (named_place items name)) × (chain_items f block ≡ items)
 
 -- a look up of a path goes through at most 32 nodes for each name; in a tree through no more than its directories have for their entries
 abbrev pub MostNodesLaw : Type 0

@@ -7,7 +7,7 @@ use Rattle.block_trees.specs.Trees.{entries_in}
 use Rattle.block_trees.specs.Rewritten.{IsRewritten}
 
 -- the path leads to a new empty directory, kept in a block that was not kept, and each directory along it was written anew
-pub record IsMade (old new : Blocks) (kept kept' : ℕ → Bool) (from to : ℕ) (path : Path) : Type 0 where
+pub record IsNewDirectory (old new : Blocks) (kept kept' : ℕ → Bool) (from to : ℕ) (path : Path) : Type 0 where
   pub block : ℕ
   pub empty : entries_in new block ≡ Some []
   pub was_free : kept block ≡ false

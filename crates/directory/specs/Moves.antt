@@ -2,7 +2,7 @@
 use Rattle.std.specs.Prelude.{◌≡◌, ℕ, suc, ◌+◌, ◌-◌, ◌<◌, Bool, true, false, Option, Some, None, IsSome, IfSome, List, [], ◌∷◌, length, slice_index, slice_index_or, if◌then◌else◌}
 use Rattle.fs_types.specs.Names.{Name, Path, same_name, same_path}
 use Rattle.plain_trees.specs.Contents.{Apart, parent_of}
-use Rattle.node_format.specs.Items.{Item, are_entries, named, is_place}
+use Rattle.node_format.specs.Items.{Item, are_entries, named_place, is_place}
 use Rattle.node_format.specs.Edits.{edited_count}
 use Rattle.node_format.specs.declared.place.Place.{Place}
 use Rattle.node_format.specs.declared.place.Place.TheVariants.{Dir}
@@ -10,7 +10,7 @@ use Rattle.block_trees.specs.Bodies.{Blocks}
 use Rattle.block_trees.specs.Reached.{IsHeld}
 use Rattle.block_trees.specs.Trees.{child, leads, entries_in}
 use Rattle.directory.specs.Lookups.{look_up}
-use Rattle.directory.specs.Trails.{IsTrail, IsHeldTrail, IsTaken, has_room, takes}
+use Rattle.directory.specs.Trails.{IsTrail, IsHeldTrail, TakesName, has_room, takes}
 
 -- how many names two paths begin with in common
 abbrev pub common : Path → Path → ℕ
@@ -24,13 +24,13 @@ directories_along old new = length old + length new - (common old new + 1)
 
 -- how many entries there are once one name leads to one place, or to nothing, and then another name to another
 abbrev pub edited_twice_count : List Item → Name → Option Place → Name → Option Place → ℕ
-edited_twice_count items name gone other here = edited_count (named items other) here (edited_count (named items name) gone (length items))
+edited_twice_count items name gone other here = edited_count (named_place items other) here (edited_count (named_place items name) gone (length items))
 
 -- the new entries are a directory's; one name leads to one place and another to another, or to nothing, and all others lead where they did
 pub record IsEditedTwice (old : List Item) (name : Name) (gone : Option Place) (other : Name) (here : Option Place) (new : List Item) : Type 0 where
   pub lawful : are_entries new ≡ true
   pub counted : length new ≡ edited_twice_count old name gone other here
-  pub leads : (k : Name) → named new k ≡ (if same_name other k then here else if same_name name k then gone else named old k)
+  pub leads : (k : Name) → named_place new k ≡ (if same_name other k then here else if same_name name k then gone else named_place old k)
 
 -- the directory where two paths part, `fork` names down, and what can be done there and below: what stands at the
 -- first is taken out, this place is put at the second
@@ -42,8 +42,8 @@ pub record IsFork (f : Blocks) (kept : ℕ → Bool) (old : Path) (old_trail : L
   pub same : slice_index new_trail fork ≡ slice_index old_trail fork
   pub differs : same_name (slice_index_or old fork []) (slice_index_or new fork []) ≡ false
   pub stands : IsSome (child f (Dir (slice_index old_trail fork)) (slice_index_or old fork []))
-  pub gone : fork + 1 < length old → IsTaken f old_trail old None
-  pub here : 0 < (length old - (fork + 1)) + (length new - (fork + 1)) → IsTaken f new_trail new (Some place)
+  pub gone : fork + 1 < length old → TakesName f old_trail old None
+  pub here : 0 < (length old - (fork + 1)) + (length new - (fork + 1)) → TakesName f new_trail new (Some place)
 
 -- the directory that begins in a block takes two edits: one of its names leads to one place, or to nothing, and another
 -- name to another place, for which there is room

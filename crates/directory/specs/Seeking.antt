@@ -5,7 +5,7 @@ use Rattle.std.specs.List.{flat_map}
 use Rattle.fs_types.specs.Names.{Name}
 use Rattle.fs_types.specs.declared.fault.Fault.{Fault}
 use Rattle.fs_types.specs.declared.fault.Fault.TheVariants.{Damaged}
-use Rattle.node_format.specs.Items.{Item, named}
+use Rattle.node_format.specs.Items.{Item, named_place}
 use Rattle.node_format.specs.declared.place.Place.{Place}
 use Rattle.node_format.specs.Links.{Link}
 use Rattle.block_trees.specs.Bodies.{Blocks}
@@ -17,7 +17,7 @@ here_or None rest = rest
 here_or (Some place) rest = Ok (Some place)
 
 abbrev pub seek_link : (ℕ → Result (Option Place) Fault) → Name → Link → Result (Option Place) Fault
-seek_link rest name link = here_or (named link.items name) (rest link.next)
+seek_link rest name link = here_or (named_place link.items name) (rest link.next)
 
 abbrev pub seek_later : (ℕ → Result (Option Place) Fault) → Name → Option Link → Result (Option Place) Fault
 seek_later rest name None = Err Damaged
@@ -48,7 +48,7 @@ chain_items f block = entries_along f (chain f block)
 -- has, and the block of the node after it
 abbrev pub Sees : Option Link → Name → Bool → Option Place → ℕ → ℕ → Type 0
 Sees None name later place count next = ⊥
-Sees (Some link) name later place count next = (later ≡ is_later link) × (place ≡ named link.items name) × (count ≡ length link.items) × (next ≡ link.next)
+Sees (Some link) name later place count next = (later ≡ is_later link) × (place ≡ named_place link.items name) × (count ≡ length link.items) × (next ≡ link.next)
 
 -- no node is left to be read: the name was found, or none comes after
 abbrev pub is_over : Option Place → ℕ → Bool

@@ -6,7 +6,7 @@ use Rattle.fs_types.specs.Names.{Name, Path}
 use Rattle.fs_types.specs.declared.fault.Fault.{Fault}
 use Rattle.fs_types.specs.declared.fault.Fault.TheVariants.{Damaged}
 use Rattle.node_store.specs.Faults.{is_read_fault, is_write_fault}
-use Rattle.node_format.specs.Items.{Item, named}
+use Rattle.node_format.specs.Items.{Item, named_place}
 use Rattle.node_format.specs.declared.place.Place.{Place}
 use Rattle.node_format.specs.declared.place.Place.TheVariants.{Dir}
 use Rattle.block_trees.specs.Bodies.{Blocks}
@@ -39,11 +39,11 @@ has_room (Err fault) = false
 abbrev pub takes : Option (List Item) → Name → Option Place → Bool
 takes None name place = false
 takes (Some items) name None = true
-takes (Some items) name (Some place) = is_some (named items name) || not (nat_le MAX_ENTRIES (length items))
+takes (Some items) name (Some place) = is_some (named_place items name) || not (nat_le MAX_ENTRIES (length items))
 
 -- so does the last directory of a trail, with the last name of its path
-abbrev pub IsTaken : Blocks → List ℕ → Path → Option Place → Type 0
-IsTaken f trail path place = takes (entries_in f (slice_index trail (length path - 1))) (slice_index_or path (length path - 1) []) place ≡ true
+abbrev pub TakesName : Blocks → List ℕ → Path → Option Place → Type 0
+TakesName f trail path place = takes (entries_in f (slice_index trail (length path - 1))) (slice_index_or path (length path - 1) []) place ≡ true
 
 -- the trail of a path below a root of which all is kept
 pub record IsHeldTrail (f : Blocks) (kept : ℕ → Bool) (path : Path) (trail : List ℕ) : Type 0 where

@@ -4,12 +4,12 @@ use Rattle.fs_types.specs.declared.limits.TheConstants.{CHAIN_NODES}
 use Rattle.node_format.specs.Items.{Item, are_ascending}
 use Rattle.node_format.specs.Links.{link}
 use Rattle.block_trees.specs.Bodies.{Blocks}
-use Rattle.block_trees.specs.Chains.{link_of, after, blocks_after, entries_in, chain}
+use Rattle.block_trees.specs.Chains.{link_of, entries_after, blocks_after, entries_in, chain}
 use Rattle.plain_trees.specs.Trees.{nodes_for}
 
 -- the nodes from a block on, at most so many, have these entries, and are kept
 pub record IsKeptAfter (f : Blocks) (kept : ℕ → Bool) (n next : ℕ) (items : List Item) : Type 0 where
-  pub entries : after n f next ≡ Some items
+  pub entries : entries_after n f next ≡ Some items
   pub held : (b : ℕ) → Contains (blocks_after n f next) b → kept b ≡ true
 
 -- the entries are in one node more, before those that stand from a block on, in a block that was not kept and is now
@@ -25,8 +25,8 @@ pub record IsPut (old : Blocks) (kept : ℕ → Bool) (n tail : ℕ) (new : Bloc
   pub fresh : (b : ℕ) → Contains (blocks_after all new to) b → (kept b ≡ false) ⊎ Contains (blocks_after n old tail) b
 
 -- entries in so many nodes from a block on, before those that stand after them, which were there before and are kept
-abbrev pub Puts : Blocks → (ℕ → Bool) → Blocks → (ℕ → Bool) → ℕ → ℕ → ℕ → List Item → Type 0
-Puts old kept new kept' nodes tail to items = (n : ℕ) (more : List Item) → IsKeptAfter old kept n tail more → IsPut old kept n tail new kept' (nodes + n) to (items ++ more)
+abbrev pub PutsBefore : Blocks → (ℕ → Bool) → Blocks → (ℕ → Bool) → ℕ → ℕ → ℕ → List Item → Type 0
+PutsBefore old kept new kept' nodes tail to items = (n : ℕ) (more : List Item) → IsKeptAfter old kept n tail more → IsPut old kept n tail new kept' (nodes + n) to (items ++ more)
 
 -- the directory that begins in a block has these entries; each of its nodes is kept, in a block that was not kept, or is one of the old nodes from a block on
 pub record IsDirectoryPut (old : Blocks) (kept : ℕ → Bool) (n tail : ℕ) (new : Blocks) (kept' : ℕ → Bool) (to : ℕ) (items : List Item) : Type 0 where

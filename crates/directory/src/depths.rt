@@ -35,10 +35,14 @@ fn add_directories(list: EntryList<'_>, found: &mut BlockSet)
 /// directory node names none.
 fn add_named<N: Nodes>(nodes: &mut N, block: u32, found: &mut BlockSet) -> Result<u32, Fault>
     requires { N.is_sound nodes.old }
+
+    // What is added, and the block of the next node.
     ensures added { OnOk result ((b : ℕ) → set.contains found.new.members b ≡ (set.contains found.old.members b || (nat_lt b found.old.blocks && spec.names_directory (link_items (N.node nodes.old block)) b))) }
     ensures next { IfOk result (λ next. next_of (N.node nodes.old block) ≡ next) }
     ensures same { OnErr result (found.new ≡ found.old) }
     ensures size { found.new.blocks ≡ found.old.blocks }
+
+    // Why not, and what is read.
     ensures why { IfErr result (λ fault. N.causes nodes.old nodes.new fault) }
     ensures faults { IfErr result IsLookFault }
     ensures looks { OnlyLooks N.node N.kept N.writes N.follows N.is_sound N.limit N.blocks nodes.old nodes.new }
@@ -73,7 +77,7 @@ fn add_chain<N: Nodes>(
 ) -> Result<(), Fault>
     requires sound { N.is_sound nodes.old }
     requires size { (seen.old.blocks ≡ N.blocks nodes.old) × (found.old.blocks ≡ N.blocks nodes.old) }
-    ensures read { OnOk result (spec.IsRead (N.node nodes.old) (N.blocks nodes.old) seen.old.members found.old.members → spec.IsRead (N.node nodes.old) (N.blocks nodes.old) seen.new.members found.new.members) }
+    ensures read { OnOk result (spec.AreFoundBelow (N.node nodes.old) (N.blocks nodes.old) seen.old.members found.old.members → spec.AreFoundBelow (N.node nodes.old) (N.blocks nodes.old) seen.new.members found.new.members) }
     ensures here { OnOk result (spec.IsSeen (N.node nodes.old) seen.new.members block) }
     ensures named { OnOk result (spec.AreOf (N.node nodes.old) (N.blocks nodes.old) block found.old.members found.new.members) }
 
@@ -145,8 +149,12 @@ fn next_level<N: Nodes>(alloc: Global, nodes: &mut N, level: &BlockSet) -> Resul
 fn any_has_entries<N: Nodes>(nodes: &mut N, level: &BlockSet) -> Result<bool, Fault>
     requires sound { N.is_sound nodes.old }
     requires within { (b : ℕ) → set.contains level.now.members b ≡ true → b < level.now.blocks }
+
+    // What is answered.
     ensures some { IfOk result (λ some. some ≡ true → (b : ℕ) × (set.contains level.now.members b ≡ true) × (0 < length (link_items (N.node nodes.old b)))) }
     ensures none { IfOk result (λ some. some ≡ false → (b : ℕ) → set.contains level.now.members b ≡ true → length (link_items (N.node nodes.old b)) ≡ 0) }
+
+    // Why not, and what is read.
     ensures why { IfErr result (λ fault. N.causes nodes.old nodes.new fault) }
     ensures faults { IfErr result IsLookFault }
     ensures looks { OnlyLooks N.node N.kept N.writes N.follows N.is_sound N.limit N.blocks nodes.old nodes.new }
@@ -222,8 +230,12 @@ pub fn is_deeper<N: Nodes>(
 ) -> Result<bool, Fault>
     requires sound { N.is_sound nodes.old }
     requires most { most ≤ MAX_NAMES }
+
+    // What is answered.
     ensures deeper { LeadsToDirectories (N.node nodes.old) block → IfOk result (λ deep. deep ≡ true → spec.IsDeeper (N.node nodes.old) (Dir block) most) }
     ensures shallow { IfOk result (λ deep. deep ≡ false → IsShallow (N.node nodes.old) (Dir block) most) }
+
+    // Why not, and what is read.
     ensures why { IfErr result (λ fault. N.causes nodes.old nodes.new fault) }
     ensures faults { IfErr result IsLookFault }
     ensures looks { OnlyLooks N.node N.kept N.writes N.follows N.is_sound N.limit N.blocks nodes.old nodes.new }

@@ -11,7 +11,7 @@ ghost use Rattle.directory.specs.Counts.{edit_nodes, read_nodes, written_nodes, 
 ghost use Rattle.directory.specs.Lookups.{look_up};
 ghost use Rattle.directory.specs.declared.lookups.Found.TheVariants.{Missing};
 ghost use Rattle.directory.specs.Edits.{OnlyReaches};
-ghost use Rattle.directory.specs.Making.{IsMade};
+ghost use Rattle.directory.specs.Making.{IsNewDirectory};
 ghost use Rattle.directory.specs.Trails as spec;
 ghost use Rattle.node_store.specs.Frames.{Works};
 
@@ -69,7 +69,7 @@ pub(crate) fn rewrite_from<N: Nodes>(
     requires level { level < length names.now }
     requires place { IfSome place (λ p. is_place p ≡ true) }
     requires way { spec.IsHeldTrail (N.node nodes.old) (N.kept nodes.old) names.now trail.now }
-    requires taken { spec.IsTaken (N.node nodes.old) trail.now names.now place }
+    requires taken { spec.TakesName (N.node nodes.old) trail.now names.now place }
 
     // The new directories.
     ensures rewritten { IfOk result (λ to. IsRewritten (N.node nodes.old) (N.node nodes.new) (N.kept nodes.old) (N.kept nodes.new) (slice_index trail.now level) to (drop level names.now) place) }
@@ -179,7 +179,7 @@ pub fn put_directory<N: Nodes>(
     requires missing { look_up (N.node nodes.old) root path.now ≡ Ok (Missing false) }
 
     // The new tree, and that the old one stays.
-    ensures made { IfOk result (λ to. IsMade (N.node nodes.old) (N.node nodes.new) (N.kept nodes.old) (N.kept nodes.new) root to path.now) }
+    ensures made { IfOk result (λ to. IsNewDirectory (N.node nodes.old) (N.node nodes.new) (N.kept nodes.old) (N.kept nodes.new) root to path.now) }
     ensures reaches { IfOk result (λ to. OnlyReaches (N.node nodes.old) (N.node nodes.new) (N.kept nodes.old) root to None) }
     ensures keeps { Keeps (N.kept nodes.old) (N.node nodes.old) (N.kept nodes.new) (N.node nodes.new) }
 

@@ -101,7 +101,7 @@ fn write_after<N: Nodes>(
     requires full { (tail ≡ 0) ⊎ (length list.now % NODE_ENTRIES ≡ 0) }
 
     // What was written.
-    ensures put { IfOk result (λ to. spec.Puts (N.node nodes.old) (N.kept nodes.old) (N.node nodes.new) (N.kept nodes.new) (div_ceil (length list.now) NODE_ENTRIES) tail to list.now) }
+    ensures put { IfOk result (λ to. spec.PutsBefore (N.node nodes.old) (N.kept nodes.old) (N.node nodes.new) (N.kept nodes.new) (div_ceil (length list.now) NODE_ENTRIES) tail to list.now) }
 
     // What it is refused with, and what it asks for.
     ensures why { IfErr result (λ fault. N.causes nodes.old nodes.new fault) }

@@ -65,14 +65,13 @@ fn look_at<N: Nodes>(nodes: &mut N, block: u32, name: &Name) -> Result<Sight, Fa
     ensures reads { N.reads nodes.new ≡ N.reads nodes.old + 1 }
 {
     nodes.read(block)?;
-    let Some(node) = Entries::of(nodes.lent()) else {
+    let Some((node, split)) = Entries::split(nodes.lent(), name.as_bytes()) else {
         return Err(Fault::Damaged);
     };
-    let list = node.list();
-    let count = list.len();
+    let count = node.list().len();
     Ok(Sight {
         is_later: node.is_chained() && count > 0,
-        place: list.find(name.as_bytes()),
+        place: split.found,
         count,
         next: node.next(),
     })
@@ -209,7 +208,7 @@ pub fn lookup<N: Nodes>(nodes: &mut N, root: u32, path: &Path) -> Result<Found, 
 /// path; a name found node by node is that of the whole directory; and how many nodes it goes through
 /// at most. The function does nothing: its contract is the law.
 pub fn lookup_laws()
-    ensures told { spec.LookupLaw }
+    ensures told { spec.FindLaw }
     ensures sought { spec.SeekLaw }
     ensures most { spec.MostNodesLaw }
     ensures nodes { spec.TreeNodesLaw }

@@ -12,7 +12,7 @@ ghost use Rattle.block_trees.specs.Rewritten.{IsSecondEdit, IsFreshChain, IsBran
 ghost use Rattle.directory.specs.Counts.{nodes_in, edit_nodes, path_nodes, fork_nodes, move_nodes};
 ghost use Rattle.directory.specs.Lookups.{look_up};
 ghost use Rattle.directory.specs.Edits.{OnlyReaches};
-ghost use Rattle.directory.specs.Trails.{IsTrail, IsHeldTrail, IsTaken, IsChangeFault, has_room, takes};
+ghost use Rattle.directory.specs.Trails.{IsTrail, IsHeldTrail, TakesName, IsChangeFault, has_room, takes};
 ghost use Rattle.directory.specs.Moves as spec;
 ghost use Rattle.node_store.specs.Frames.{Works};
 
@@ -85,7 +85,7 @@ fn rewrite_branch<N: Nodes>(
     requires fork { fork < length names.now }
     requires place { IfSome place (λ p. is_place p ≡ true) }
     requires way { IsHeldTrail (N.node nodes.old) (N.kept nodes.old) names.now trail.now }
-    requires taken { fork + 1 < length names.now → IsTaken (N.node nodes.old) trail.now names.now place }
+    requires taken { fork + 1 < length names.now → TakesName (N.node nodes.old) trail.now names.now place }
 
     // What the name leads to then.
     ensures branch { IfOk result (λ now. IsBranch (N.node nodes.old) (N.node nodes.new) (N.kept nodes.old) (N.kept nodes.new) (slice_index trail.now fork) (slice_index_or names.now fork []) (drop (fork + 1) names.now) place now) }

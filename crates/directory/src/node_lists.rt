@@ -4,7 +4,7 @@ ghost use Rattle.std.specs.Option.{is_some};
 ghost use Rattle.fs_types.specs.declared.limits.TheConstants.{MAX_ENTRIES};
 ghost use Rattle.fs_types.specs.Names.{same_name};
 ghost use Rattle.node_store.specs.Frames.{OnlyLooks};
-ghost use Rattle.node_format.specs.Items.{is_place, named, are_ascending};
+ghost use Rattle.node_format.specs.Items.{is_place, named_place, are_ascending};
 ghost use Rattle.node_format.specs.Links.{Link};
 ghost use Rattle.node_format.specs.Edits.{IsEdited};
 ghost use Rattle.block_trees.specs.Chains.{entries_in, items_in, link_of};
@@ -42,13 +42,12 @@ fn append_node<N: Nodes>(
     ensures reads { N.reads nodes.new ≡ N.reads nodes.old + 1 }
 {
     nodes.read(block)?;
-    let Some(entries) = Entries::of(nodes.lent()) else {
+    let Some((node, split)) = Entries::split(nodes.lent(), name.as_bytes()) else {
         unreachable!()
     };
-    let more = entries.list();
-    let has_name = more.find(name.as_bytes()).is_some();
-    list.extend(&more)?;
-    let next = entries.next();
+    let has_name = split.found.is_some();
+    list.extend(&node.list())?;
+    let next = node.next();
     nodes.supersede(block);
     Ok(Seen { has_name, next })
 }
@@ -127,7 +126,7 @@ pub(crate) fn edit_list_twice(
     requires here { IfSome here (λ p. is_place p ≡ true) }
     requires apart { same_name name.now other.now ≡ false }
     requires few { length list.now ≤ MAX_ENTRIES }
-    requires named { IsSome (named list.now name.now) }
+    requires named { IsSome (named_place list.now name.now) }
     requires room { IsSome gone → takes (Some list.now) other.now here ≡ true }
     ensures { IfOk result (λ new. IsEditedTwice list.now name.now gone other.now here new) }
 {

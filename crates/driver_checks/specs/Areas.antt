@@ -5,7 +5,7 @@ use Rattle.flash_model.specs.Geometry.{page_count}
 use Rattle.driver_checks.specs.declared.area.Area.{Area}
 
 -- there are three blocks or more, and the flash has them
-pub record HasRoom (sizes : Geometry) (first count : ℕ) : Type 0 where
+pub record HasAreaBlocks (sizes : Geometry) (first count : ℕ) : Type 0 where
   pub enough : 3 ≤ count
   pub in_flash : first + count ≤ sizes.blocks
 
@@ -15,8 +15,8 @@ pub record GivesBlock (g : Area) (b : ℕ) : Type 0 where
   pub below : b < g.first + g.count
 
 -- the page at a place of a block
-abbrev pub page_of : Area → ℕ → ℕ → ℕ
-page_of g b place = b * g.sizes.pages + place
+abbrev pub area_page : Area → ℕ → ℕ → ℕ
+area_page g b place = b * g.sizes.pages + place
 
 -- a page of a block that may be used up
 pub record GivesPage (g : Area) (p : ℕ) : Type 0 where

@@ -8,19 +8,19 @@ use Rattle.driver_checks.specs.declared.expected.Expected.TheVariants.{Erased, F
 use Rattle.driver_checks.specs.Driver.{Driver}
 use Rattle.driver_checks.specs.Scenes.{IsShown}
 
-abbrev pub word_of : Case → List ℕ
-word_of Sizes = codes "sizes"
-word_of Fresh = codes "fresh"
-word_of ReadBack = codes "read-back"
-word_of InOrder = codes "in-order"
-word_of OneBlock = codes "one-block"
-word_of FailedProgram = codes "failed-program"
-word_of FailedErase = codes "failed-erase"
-word_of CutProgram = codes "cut-program"
-word_of CutErase = codes "cut-erase"
-word_of Restart = codes "restart"
-word_of Ends = codes "ends"
-word_of Neighbours = codes "neighbours"
+abbrev pub case_word : Case → List ℕ
+case_word Sizes = codes "sizes"
+case_word Fresh = codes "fresh"
+case_word ReadBack = codes "read-back"
+case_word InOrder = codes "in-order"
+case_word OneBlock = codes "one-block"
+case_word FailedProgram = codes "failed-program"
+case_word FailedErase = codes "failed-erase"
+case_word CutProgram = codes "cut-program"
+case_word CutErase = codes "cut-erase"
+case_word Restart = codes "restart"
+case_word Ends = codes "ends"
+case_word Neighbours = codes "neighbours"
 
 -- each case has bytes of its own
 abbrev pub round_of : Case → ℕ

@@ -12,12 +12,12 @@ pub record Driver : Type 0 where
   pub operations : ℕ
 
 -- at most so many reads, programs and erases; of what they did to pages nothing is said
-pub record Works (old new : Driver) (most : ℕ) : Type 0 where
+pub record AsksAtMost (old new : Driver) (most : ℕ) : Type 0 where
   pub area : new.area ≡ old.area
   pub operations : new.operations ≤ old.operations + most
 
 -- at most so many reads, which change nothing
-pub record OnlyLooks (old new : Driver) (most : ℕ) : Type 0 where
+pub record OnlyAsks (old new : Driver) (most : ℕ) : Type 0 where
   pub area : new.area ≡ old.area
   pub told : new.told ≡ old.told
   pub pages : (p : ℕ) → new.pages p ≡ old.pages p

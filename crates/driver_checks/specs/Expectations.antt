@@ -4,20 +4,20 @@ use Rattle.flash_model.specs.Device.{Page, erased, unreadable}
 use Rattle.driver_checks.specs.declared.area.Area.{Area}
 use Rattle.driver_checks.specs.declared.expected.Expected.{Expected}
 use Rattle.driver_checks.specs.declared.expected.Expected.TheVariants.{Erased, Filled, Spoilt, Left}
-use Rattle.driver_checks.specs.Areas.{page_of}
+use Rattle.driver_checks.specs.Areas.{area_page}
 use Rattle.driver_checks.specs.Patterns.{Holds}
 
 -- a page of so many bytes shows what is expected
-abbrev pub Meets : Expected → ℕ → ℕ → Page → Type 0
-Meets Erased size page held = held ≡ erased
-Meets (Filled round) size page held = Holds size page round held
-Meets Spoilt size page held = held ≡ unreadable
-Meets (Left round) size page held = (held ≡ erased) ⊎ ((held ≡ unreadable) ⊎ Holds size page round held)
+abbrev pub MeetsExpectation : Expected → ℕ → ℕ → Page → Type 0
+MeetsExpectation Erased size page held = held ≡ erased
+MeetsExpectation (Filled round) size page held = Holds size page round held
+MeetsExpectation Spoilt size page held = held ≡ unreadable
+MeetsExpectation (Left round) size page held = (held ≡ erased) ⊎ ((held ≡ unreadable) ⊎ Holds size page round held)
 
 -- a page of the area shows it
 abbrev pub PageMeets : Expected → Area → (ℕ → Page) → ℕ → Type 0
-PageMeets expected g pages p = Meets expected g.sizes.page p (pages p)
+PageMeets expected g pages p = MeetsExpectation expected g.sizes.page p (pages p)
 
 -- the pages of a block show it, from a place on
 pub record BlockMeets (expected : Expected) (g : Area) (pages : ℕ → Page) (b from : ℕ) : Type 0 where
-  pub each : (place : ℕ) → from ≤ place → place < g.sizes.pages → PageMeets expected g pages (page_of g b place)
+  pub each : (place : ℕ) → from ≤ place → place < g.sizes.pages → PageMeets expected g pages (area_page g b place)

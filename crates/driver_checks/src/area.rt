@@ -22,7 +22,7 @@ pub struct Area {
 
 impl Area {
     ghost use Rattle.std.specs.Prelude.{◌*◌, ◌↔◌, IfOk};
-    ghost use Rattle.driver_checks.specs.Areas.{GivesBlock, GivesPage, page_of, HasRoom};
+    ghost use Rattle.driver_checks.specs.Areas.{GivesBlock, GivesPage, area_page, HasAreaBlocks};
 
     /// `BadGeometry` for sizes out of range, and `Invalid` for fewer than three blocks or for blocks
     /// that the flash does not have.
@@ -31,7 +31,7 @@ impl Area {
         ensures first { IfOk result (λ area. area.first ≡ first) }
         ensures count { IfOk result (λ area. area.count ≡ count) }
         ensures geometry { (result ≡ Err Fault.BadGeometry) ↔ ¬ IsGeometry sizes }
-        ensures invalid { (result ≡ Err Fault.Invalid) ↔ (IsGeometry sizes × ¬ HasRoom sizes first count) }
+        ensures invalid { (result ≡ Err Fault.Invalid) ↔ (IsGeometry sizes × ¬ HasAreaBlocks sizes first count) }
     {
         if !sizes.is_lawful() {
             return Err(Fault::BadGeometry);
@@ -50,7 +50,7 @@ impl Area {
     pub(crate) fn page(self, block: u32, place: u32) -> u32
         requires given { GivesBlock self block }
         requires in_block { place < self.sizes.pages }
-        ensures value { result ≡ page_of self block place }
+        ensures value { result ≡ area_page self block place }
         ensures given { GivesPage self result }
     {
         self.sizes.page_number(block, place)

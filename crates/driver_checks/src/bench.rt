@@ -1,8 +1,8 @@
 //! The trait of a driver on a bench.
 ghost use Rattle.std.specs.Prelude.{◌≡◌, length};
-ghost use Rattle.flash_model.specs.Device.{erased, Shows};
+ghost use Rattle.flash_model.specs.Device.{erased, ReportsPage};
 ghost use Rattle.driver_checks.specs.Areas.{GivesBlock, GivesPage};
-ghost use Rattle.driver_checks.specs.Driver.{Driver, Works, OnlyLooks};
+ghost use Rattle.driver_checks.specs.Driver.{Driver, AsksAtMost, OnlyAsks};
 
 use crate::area::Area;
 use flash_model::{DevFault, Geometry, Operation, PageState};
@@ -31,29 +31,29 @@ pub trait Bench {
     fn read(&mut self, page: u32, buffer: &mut [u8]) -> Result<PageState, DevFault>
         requires given { GivesPage (driver self.old).area page }
         requires whole { length buffer.old ≡ (driver self.old).area.sizes.page }
-        ensures shows { Shows ((driver self.old).pages page) buffer.old buffer.new result }
-        ensures looks { OnlyLooks (driver self.old) (driver self.new) 1 };
+        ensures shows { ReportsPage ((driver self.old).pages page) buffer.old buffer.new result }
+        ensures looks { OnlyAsks (driver self.old) (driver self.new) 1 };
 
     /// Lets the driver program a whole page that it shows as erased.
     fn program(&mut self, page: u32, bytes: &[u8]) -> Result<(), DevFault>
         requires given { GivesPage (driver self.old).area page }
         requires whole { length bytes.now ≡ (driver self.old).area.sizes.page }
         requires blank { (driver self.old).pages page ≡ erased }
-        ensures { Works (driver self.old) (driver self.new) 1 };
+        ensures { AsksAtMost (driver self.old) (driver self.new) 1 };
 
     /// Lets the driver erase a block.
     fn erase(&mut self, block: u32) -> Result<(), DevFault>
         requires { GivesBlock (driver self.old).area block }
-        ensures { Works (driver self.old) (driver self.new) 1 };
+        ensures { AsksAtMost (driver self.old) (driver self.new) 1 };
 
     /// Plans this fault for the next operation, which is of this class, at this moment of it: the
     /// operation fails, or power goes in it. At moment 0 it comes for certain; at a later one the
     /// operation may have been done before.
     fn plan(&mut self, class: Operation, fault: DevFault, moment: u8)
-        ensures { OnlyLooks (driver self.old) (driver self.new) 0 };
+        ensures { OnlyAsks (driver self.old) (driver self.new) 0 };
 
     /// Takes back what is planned, puts the power off and on again, and makes the driver anew, with
     /// nothing left of what it had in memory.
     fn restart(&mut self)
-        ensures { Works (driver self.old) (driver self.new) 0 };
+        ensures { AsksAtMost (driver self.old) (driver self.new) 0 };
 }

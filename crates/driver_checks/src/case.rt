@@ -1,6 +1,6 @@
 //! The cases of a checklist.
 ghost use Rattle.std.specs.Prelude.{◌≡◌};
-ghost use Rattle.driver_checks.specs.Cases.{word_of, round_of, scene_of};
+ghost use Rattle.driver_checks.specs.Cases.{case_word, round_of, scene_of};
 
 use crate::expected::Expected;
 use crate::scene::Scene;
@@ -55,7 +55,7 @@ impl Case {
 
     /// The word, in lower-case ASCII letters.
     pub fn word(self) -> &'static str
-        ensures { result.now ≡ word_of self }
+        ensures { result.now ≡ case_word self }
     {
         match self {
             Case::Sizes => "sizes",

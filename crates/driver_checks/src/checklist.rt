@@ -1,6 +1,6 @@
 //! The checklist.
 ghost use Rattle.std.specs.Prelude.{◌≡◌, ◌+◌, ◌*◌, [], OnOk, IfOk, length};
-ghost use Rattle.driver_checks.specs.Driver.{Works};
+ghost use Rattle.driver_checks.specs.Driver.{AsksAtMost};
 ghost use Rattle.driver_checks.specs.Cases.{Passes, most_asked};
 ghost use Rattle.driver_checks.specs.Checklists.{Checks, IsNoted};
 
@@ -21,7 +21,7 @@ use std::alloc::{AllocError, Global};
 /// case is passed where each operation answered as it is to and each page was shown as expected.
 pub fn check_driver<B: Bench>(alloc: Global, bench: &mut B) -> Result<Vec<Case>, AllocError>
     ensures checks { IfOk result (λ failed. Checks (B.driver bench.old).area (B.driver bench.old) Case.ALL failed.items (B.driver bench.new)) }
-    ensures works { Works (B.driver bench.old) (B.driver bench.new) (12 * most_asked (B.driver bench.old).area.sizes.pages) }
+    ensures works { AsksAtMost (B.driver bench.old) (B.driver bench.new) (12 * most_asked (B.driver bench.old).area.sizes.pages) }
 {
     let area = bench.area();
     let mut buffer = vec![in alloc; 0; area.sizes.page as usize]?;
@@ -43,7 +43,7 @@ fn check_cases<B: Bench>(
     requires whole { length buffer.old ≡ area.sizes.page }
     requires new { failed.old.items ≡ [] }
     ensures checks { OnOk result (Checks area (B.driver bench.old) cases.now failed.new.items (B.driver bench.new)) }
-    ensures works { Works (B.driver bench.old) (B.driver bench.new) (length cases.now * most_asked area.sizes.pages) }
+    ensures works { AsksAtMost (B.driver bench.old) (B.driver bench.new) (length cases.now * most_asked area.sizes.pages) }
 {
     for case in cases {
         note_case(bench, area, *case, failed, buffer)?;
@@ -62,7 +62,7 @@ fn note_case<B: Bench>(
     requires area { (B.driver bench.old).area ≡ area }
     requires whole { length buffer.old ≡ area.sizes.page }
     ensures noted { OnOk result (IsNoted case failed.old.items failed.new.items (B.driver bench.new)) }
-    ensures works { Works (B.driver bench.old) (B.driver bench.new) (most_asked area.sizes.pages) }
+    ensures works { AsksAtMost (B.driver bench.old) (B.driver bench.new) (most_asked area.sizes.pages) }
 {
     match check_case(bench, area, case, buffer) {
         Ok(()) => Ok(()),
@@ -83,7 +83,7 @@ fn check_case<B: Bench>(
     requires area { (B.driver bench.old).area ≡ area }
     requires whole { length buffer.old ≡ area.sizes.page }
     ensures passes { OnOk result (Passes case (B.driver bench.new)) }
-    ensures works { Works (B.driver bench.old) (B.driver bench.new) (most_asked area.sizes.pages) }
+    ensures works { AsksAtMost (B.driver bench.old) (B.driver bench.new) (most_asked area.sizes.pages) }
 {
     bench.restart();
     let site = match case {
@@ -100,7 +100,7 @@ fn check_case<B: Bench>(
 fn tell_sizes<B: Bench>(bench: &mut B, area: Area) -> Result<(), Wrong>
     requires area { (B.driver bench.old).area ≡ area }
     ensures told { OnOk result ((B.driver bench.new).told ≡ area.sizes) }
-    ensures works { Works (B.driver bench.old) (B.driver bench.new) 0 }
+    ensures works { AsksAtMost (B.driver bench.old) (B.driver bench.new) 0 }
 {
     if bench.geometry() == area.sizes {
         Ok(())
@@ -113,7 +113,7 @@ fn tell_sizes<B: Bench>(bench: &mut B, area: Area) -> Result<(), Wrong>
 fn work<B: Bench>(bench: &mut B, site: Site, case: Case, buffer: &mut [u8]) -> Result<(), Wrong>
     requires area { (B.driver bench.old).area ≡ site.area }
     requires whole { length buffer.old ≡ site.area.sizes.page }
-    ensures works { Works (B.driver bench.old) (B.driver bench.new) (255 * (6 * site.area.sizes.pages + 5) + 4 * site.area.sizes.pages) }
+    ensures works { AsksAtMost (B.driver bench.old) (B.driver bench.new) (255 * (6 * site.area.sizes.pages + 5) + 4 * site.area.sizes.pages) }
 {
     let round = case.round();
     match case {
@@ -140,7 +140,7 @@ fn fill_and_erase<B: Bench>(
 ) -> Result<(), Wrong>
     requires area { (B.driver bench.old).area ≡ site.area }
     requires whole { length buffer.old ≡ site.area.sizes.page }
-    ensures works { Works (B.driver bench.old) (B.driver bench.new) (2 * site.area.sizes.pages + 1) }
+    ensures works { AsksAtMost (B.driver bench.old) (B.driver bench.new) (2 * site.area.sizes.pages + 1) }
 {
     fill_block(bench, site.area, site.own, round, buffer)?;
     bench.erase(site.own)?;
@@ -156,7 +156,7 @@ fn erase_between<B: Bench>(
 ) -> Result<(), Wrong>
     requires area { (B.driver bench.old).area ≡ site.area }
     requires whole { length buffer.old ≡ site.area.sizes.page }
-    ensures works { Works (B.driver bench.old) (B.driver bench.new) (6 * site.area.sizes.pages + 1) }
+    ensures works { AsksAtMost (B.driver bench.old) (B.driver bench.new) (6 * site.area.sizes.pages + 1) }
 {
     fill_sides(bench, site, round, buffer)?;
     fill_and_erase(bench, site, round, buffer)
@@ -171,7 +171,7 @@ fn restart_between<B: Bench>(
 ) -> Result<(), Wrong>
     requires area { (B.driver bench.old).area ≡ site.area }
     requires whole { length buffer.old ≡ site.area.sizes.page }
-    ensures works { Works (B.driver bench.old) (B.driver bench.new) (4 * site.area.sizes.pages + 2) }
+    ensures works { AsksAtMost (B.driver bench.old) (B.driver bench.new) (4 * site.area.sizes.pages + 2) }
 {
     fill_sides(bench, site, round, buffer)?;
     begin_block(bench, site.area, site.own, round, buffer)?;
@@ -189,7 +189,7 @@ fn trouble_programs<B: Bench>(
 ) -> Result<(), Wrong>
     requires area { (B.driver bench.old).area ≡ site.area }
     requires whole { length buffer.old ≡ site.area.sizes.page }
-    ensures works { Works (B.driver bench.old) (B.driver bench.new) (255 * (3 * site.area.sizes.pages + 5) + 4 * site.area.sizes.pages) }
+    ensures works { AsksAtMost (B.driver bench.old) (B.driver bench.new) (255 * (3 * site.area.sizes.pages + 5) + 4 * site.area.sizes.pages) }
 {
     let round = case.round();
     let scene = case.scene();
@@ -212,7 +212,7 @@ fn trouble_erases<B: Bench>(
 ) -> Result<(), Wrong>
     requires area { (B.driver bench.old).area ≡ site.area }
     requires whole { length buffer.old ≡ site.area.sizes.page }
-    ensures works { Works (B.driver bench.old) (B.driver bench.new) (255 * (6 * site.area.sizes.pages + 3) + 4 * site.area.sizes.pages) }
+    ensures works { AsksAtMost (B.driver bench.old) (B.driver bench.new) (255 * (6 * site.area.sizes.pages + 3) + 4 * site.area.sizes.pages) }
 {
     let round = case.round();
     let scene = case.scene();

@@ -1,7 +1,7 @@
 //! What a page is to show.
 ghost use Rattle.std.specs.Prelude.{◌≡◌, ◌^◌, ◌<◌, length, IsTrue};
 ghost use Rattle.flash_model.specs.Stored.{page_of};
-ghost use Rattle.driver_checks.specs.Expectations.{Meets};
+ghost use Rattle.driver_checks.specs.Expectations.{MeetsExpectation};
 
 use crate::pattern::Pattern;
 use flash_model::PageState;
@@ -23,7 +23,7 @@ impl Expected {
     // Whether a page that was read so shows it.
     pub(crate) fn is_met(self, state: PageState, page: u32, bytes: &[u8]) -> bool
         requires { length bytes.now < 2 ^ 32 }
-        ensures { IsTrue result → Meets self (length bytes.now) page (page_of state bytes.now) }
+        ensures { IsTrue result → MeetsExpectation self (length bytes.now) page (page_of state bytes.now) }
     {
         match state {
             PageState::Erased => matches!(self, Expected::Erased | Expected::Left(_)),

@@ -1,7 +1,7 @@
 //! Looks at pages.
 ghost use Rattle.std.specs.Prelude.{◌≡◌, ◌≤◌, OnOk, length};
 ghost use Rattle.driver_checks.specs.Areas.{GivesBlock, GivesPage};
-ghost use Rattle.driver_checks.specs.Driver.{OnlyLooks};
+ghost use Rattle.driver_checks.specs.Driver.{OnlyAsks};
 ghost use Rattle.driver_checks.specs.Expectations.{PageMeets, BlockMeets};
 
 use crate::area::Area;
@@ -22,7 +22,7 @@ pub(crate) fn page_shows<B: Bench>(
     requires given { GivesPage area page }
     requires whole { length buffer.old ≡ area.sizes.page }
     ensures meets { OnOk result (PageMeets expected area (B.driver bench.new).pages page) }
-    ensures looks { OnlyLooks (B.driver bench.old) (B.driver bench.new) 1 }
+    ensures looks { OnlyAsks (B.driver bench.old) (B.driver bench.new) 1 }
 {
     let state = bench.read(page, buffer)?;
     if expected.is_met(state, page, buffer) {
@@ -46,7 +46,7 @@ pub(crate) fn block_shows<B: Bench>(
     requires in_block { from ≤ area.sizes.pages }
     requires whole { length buffer.old ≡ area.sizes.page }
     ensures meets { OnOk result (BlockMeets expected area (B.driver bench.new).pages block from) }
-    ensures looks { OnlyLooks (B.driver bench.old) (B.driver bench.new) area.sizes.pages }
+    ensures looks { OnlyAsks (B.driver bench.old) (B.driver bench.new) area.sizes.pages }
 {
     for place in from..area.sizes.pages {
         page_shows(bench, area, area.page(block, place), expected, buffer)?;
@@ -64,7 +64,7 @@ pub(crate) fn power_is_off<B: Bench>(
     requires area { (B.driver bench.old).area ≡ area }
     requires given { GivesPage area page }
     requires whole { length buffer.old ≡ area.sizes.page }
-    ensures looks { OnlyLooks (B.driver bench.old) (B.driver bench.new) 1 }
+    ensures looks { OnlyAsks (B.driver bench.old) (B.driver bench.new) 1 }
 {
     match bench.read(page, buffer) {
         Err(DevFault::PowerCut) => Ok(()),

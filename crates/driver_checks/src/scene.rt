@@ -1,6 +1,6 @@
 //! What three blocks are to show.
 ghost use Rattle.std.specs.Prelude.{◌≡◌, ◌+◌, ◌*◌, OnOk, length};
-ghost use Rattle.driver_checks.specs.Driver.{OnlyLooks};
+ghost use Rattle.driver_checks.specs.Driver.{OnlyAsks};
 ghost use Rattle.driver_checks.specs.Scenes.{IsShown};
 
 use crate::bench::Bench;
@@ -31,7 +31,7 @@ impl Scene {
         requires area { (B.driver bench.old).area ≡ site.area }
         requires whole { length buffer.old ≡ site.area.sizes.page }
         ensures shown { OnOk result (IsShown self site.area site.lower site.own site.upper (B.driver bench.new).pages) }
-        ensures looks { OnlyLooks (B.driver bench.old) (B.driver bench.new) (3 * site.area.sizes.pages + 1) }
+        ensures looks { OnlyAsks (B.driver bench.old) (B.driver bench.new) (3 * site.area.sizes.pages + 1) }
     {
         let area = site.area;
         page_shows(bench, area, area.page(site.own, 0), self.page, buffer)?;

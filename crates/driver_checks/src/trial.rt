@@ -1,6 +1,6 @@
 //! Programs and erases in which a fault is planned, at each of its moments.
 ghost use Rattle.std.specs.Prelude.{◌≡◌, ◌+◌, ◌*◌, length};
-ghost use Rattle.driver_checks.specs.Driver.{Works};
+ghost use Rattle.driver_checks.specs.Driver.{AsksAtMost};
 
 use crate::bench::Bench;
 use crate::expected::Expected;
@@ -33,7 +33,7 @@ impl Trial {
     ) -> Result<(), Wrong>
         requires area { (B.driver bench.old).area ≡ site.area }
         requires whole { length buffer.old ≡ site.area.sizes.page }
-        ensures works { Works (B.driver bench.old) (B.driver bench.new) (255 * (3 * site.area.sizes.pages + 5)) }
+        ensures works { AsksAtMost (B.driver bench.old) (B.driver bench.new) (255 * (3 * site.area.sizes.pages + 5)) }
     {
         let moments = bench.moments(Operation::Program, self.fault);
         if moments == 0 {
@@ -54,7 +54,7 @@ impl Trial {
     ) -> Result<(), Wrong>
         requires area { (B.driver bench.old).area ≡ site.area }
         requires whole { length buffer.old ≡ site.area.sizes.page }
-        ensures works { Works (B.driver bench.old) (B.driver bench.new) (255 * (6 * site.area.sizes.pages + 3)) }
+        ensures works { AsksAtMost (B.driver bench.old) (B.driver bench.new) (255 * (6 * site.area.sizes.pages + 3)) }
     {
         let moments = bench.moments(Operation::Erase, self.fault);
         if moments == 0 {
@@ -75,7 +75,7 @@ impl Trial {
     ) -> Result<(), Wrong>
         requires area { (B.driver bench.old).area ≡ site.area }
         requires whole { length buffer.old ≡ site.area.sizes.page }
-        ensures works { Works (B.driver bench.old) (B.driver bench.new) (3 * site.area.sizes.pages + 5) }
+        ensures works { AsksAtMost (B.driver bench.old) (B.driver bench.new) (3 * site.area.sizes.pages + 5) }
     {
         let page = site.area.page(site.own, 0);
         bench.erase(site.own)?;
@@ -102,7 +102,7 @@ impl Trial {
     ) -> Result<(), Wrong>
         requires area { (B.driver bench.old).area ≡ site.area }
         requires whole { length buffer.old ≡ site.area.sizes.page }
-        ensures works { Works (B.driver bench.old) (B.driver bench.new) (6 * site.area.sizes.pages + 3) }
+        ensures works { AsksAtMost (B.driver bench.old) (B.driver bench.new) (6 * site.area.sizes.pages + 3) }
     {
         let page = site.area.page(site.own, 0);
         bench.erase(site.own)?;

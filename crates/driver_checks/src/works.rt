@@ -1,7 +1,7 @@
 //! Work on blocks: erases, and programs of pages that are erased.
 ghost use Rattle.std.specs.Prelude.{◌≡◌, ◌+◌, ◌*◌, length};
 ghost use Rattle.driver_checks.specs.Areas.{GivesBlock, GivesPage};
-ghost use Rattle.driver_checks.specs.Driver.{Works};
+ghost use Rattle.driver_checks.specs.Driver.{AsksAtMost};
 
 use crate::area::Area;
 use crate::bench::Bench;
@@ -24,7 +24,7 @@ pub(crate) fn program<B: Bench>(
     requires area { (B.driver bench.old).area ≡ area }
     requires given { GivesPage area page }
     requires whole { length buffer.old ≡ area.sizes.page }
-    ensures works { Works (B.driver bench.old) (B.driver bench.new) 2 }
+    ensures works { AsksAtMost (B.driver bench.old) (B.driver bench.new) 2 }
 {
     page_shows(bench, area, page, Expected::Erased, buffer)?;
     Pattern { page, round }.fill(buffer);
@@ -42,7 +42,7 @@ pub(crate) fn begin_block<B: Bench>(
     requires area { (B.driver bench.old).area ≡ area }
     requires given { GivesBlock area block }
     requires whole { length buffer.old ≡ area.sizes.page }
-    ensures works { Works (B.driver bench.old) (B.driver bench.new) 2 }
+    ensures works { AsksAtMost (B.driver bench.old) (B.driver bench.new) 2 }
 {
     program(bench, area, area.page(block, 0), round, buffer)??;
     Ok(())
@@ -59,7 +59,7 @@ pub(crate) fn fill_block<B: Bench>(
     requires area { (B.driver bench.old).area ≡ area }
     requires given { GivesBlock area block }
     requires whole { length buffer.old ≡ area.sizes.page }
-    ensures works { Works (B.driver bench.old) (B.driver bench.new) (2 * area.sizes.pages) }
+    ensures works { AsksAtMost (B.driver bench.old) (B.driver bench.new) (2 * area.sizes.pages) }
 {
     for place in 0..area.sizes.pages {
         program(bench, area, area.page(block, place), round, buffer)??;
@@ -70,7 +70,7 @@ pub(crate) fn fill_block<B: Bench>(
 // Erases the three blocks.
 pub(crate) fn clear<B: Bench>(bench: &mut B, site: Site) -> Result<(), Wrong>
     requires area { (B.driver bench.old).area ≡ site.area }
-    ensures works { Works (B.driver bench.old) (B.driver bench.new) 3 }
+    ensures works { AsksAtMost (B.driver bench.old) (B.driver bench.new) 3 }
 {
     bench.erase(site.lower)?;
     bench.erase(site.own)?;
@@ -87,7 +87,7 @@ pub(crate) fn fill_sides<B: Bench>(
 ) -> Result<(), Wrong>
     requires area { (B.driver bench.old).area ≡ site.area }
     requires whole { length buffer.old ≡ site.area.sizes.page }
-    ensures works { Works (B.driver bench.old) (B.driver bench.new) (4 * site.area.sizes.pages) }
+    ensures works { AsksAtMost (B.driver bench.old) (B.driver bench.new) (4 * site.area.sizes.pages) }
 {
     fill_block(bench, site.area, site.lower, round, buffer)?;
     fill_block(bench, site.area, site.upper, round, buffer)
@@ -102,7 +102,7 @@ pub(crate) fn fill_in_turn<B: Bench>(
 ) -> Result<(), Wrong>
     requires area { (B.driver bench.old).area ≡ site.area }
     requires whole { length buffer.old ≡ site.area.sizes.page }
-    ensures works { Works (B.driver bench.old) (B.driver bench.new) (6 * site.area.sizes.pages) }
+    ensures works { AsksAtMost (B.driver bench.old) (B.driver bench.new) (6 * site.area.sizes.pages) }
 {
     let area = site.area;
     for place in 0..area.sizes.pages {

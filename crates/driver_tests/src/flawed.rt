@@ -1,6 +1,6 @@
 //! Drivers that break the rule of one case.
 ghost use Rattle.std.specs.Prelude.{◌≡◌};
-ghost use Rattle.driver_checks.specs.Driver.{Works};
+ghost use Rattle.driver_checks.specs.Driver.{AsksAtMost};
 
 use counts::Count;
 use driver_checks::{Area, Bench, Case};
@@ -31,7 +31,7 @@ impl<B: Bench + Drop> Flawed<B> {
 
     // Loses what the first block holds.
     fn lose_first_block(&mut self)
-        ensures works { Works (B.driver self.old.bench) (B.driver self.new.bench) 1 }
+        ensures works { AsksAtMost (B.driver self.old.bench) (B.driver self.new.bench) 1 }
         ensures asked { self.new.asked ≡ self.old.asked }
     {
         let first = self.bench.area().first;

@@ -9,13 +9,13 @@ pub(crate) struct MemoryPart {
 }
 
 impl Flash for MemoryPart {
-    ghost use Rattle.nor_part.specs.Flashes.{device_of, part_of};
+    ghost use Rattle.nor_part.specs.Flashes.{nor_device, nor_of};
     ghost use Rattle.nor_part.specs.MemoryParts.{held_of, whole_of};
-    ghost use Rattle.nor_part.specs.WholePages.{whole_pages_of};
+    ghost use Rattle.nor_part.specs.WholePages.{whole_part_pages_of};
 
-    ghost device = { λ part. device_of part.flash };
+    ghost device = { λ part. nor_device part.flash };
 
-    ghost whole_pages = { λ part p bytes same. whole_pages_of (held_of (part_of part.flash)) (whole_of (part_of part.flash)) p bytes same };
+    ghost whole_pages = { λ part p bytes same. whole_part_pages_of (held_of (nor_of part.flash)) (whole_of (nor_of part.flash)) p bytes same };
 
     fn geometry(&self) -> Geometry {
         self.flash.geometry()

@@ -8,7 +8,7 @@ use Rattle.flash_model.specs.Geometry.{IsGeometry}
 use Rattle.flash_model.specs.Device.{Device, Page, erased, bytes_of, unreadable}
 use Rattle.flash_image.specs.declared.image_fault.ImageFault.{ImageFault}
 use Rattle.flash_image.specs.declared.image_fault.ImageFault.TheVariants.{NotImage, BadGeometry, BadState, Truncated, Trailing, Memory}
-use Rattle.flash_image.specs.Images.{magic, header, parts, page_text, worn_text, place_text, block_text, blocks_text, image_of, before_block, before_page, AreSizes, HasImage, HasOtherMagic, HasOtherSizes, IsPartOf, EndsInside, HasOtherWorn, HasOtherPage, GoesOn, IsFault, HoldsTheSame}
+use Rattle.flash_image.specs.Images.{magic, header, parts, page_text, worn_text, place_text, block_text, blocks_text, image_of, before_block, before_page, AreSizes, HasImage, HasOtherMagic, HasOtherSizes, IsPartOf, EndsInside, HasOtherWorn, HasOtherPage, IsLongerImage, IsFault, HoldsTheSame}
 use Rattle.flash_image.proofs.Texts.{length-header, header-then, header-cancel}
 use Rattle.flash_image.proofs.Stops.{before_block-splits, before_page-splits}
 use Rattle.flash_image.proofs.Once.{sizes-fit, image-once, before_block-cancel, before_page-cancel}
@@ -79,7 +79,7 @@ header-long bytes rest g whole = omega (arith, ap length whole, length-append (h
 image-header : (d : Device) (bytes : List ℕ) → HasImage d → bytes ≡ image_of d → HasHeader bytes
 image-header d bytes image is = record { sizes = d.geometry; lawful = image.lawful; rest = blocks_text d; whole = is }
 
-more-header : (bytes : List ℕ) → GoesOn bytes → HasHeader bytes
+more-header : (bytes : List ℕ) → IsLongerImage bytes → HasHeader bytes
 more-header bytes g = record {
   sizes = g.flash.geometry;
   lawful = g.image.lawful;
@@ -128,7 +128,7 @@ part-image d e bytes rest image part image' is =
     absurd (omega (arith, len, length-append rest part.more))
 
 -- an image, and more behind an image
-image-more : (d : Device) (bytes : List ℕ) → HasImage d → bytes ≡ image_of d → GoesOn bytes → ⊥
+image-more : (d : Device) (bytes : List ℕ) → HasImage d → bytes ≡ image_of d → IsLongerImage bytes → ⊥
 image-more d bytes image is g =
     let both : image_of g.flash ++ g.more ≡ image_of d ++ [] = sym g.spelled ∙ is ∙ sym (append-nil (image_of d)) in
     g.some (image-once g.flash d _ _ g.image image both).1
@@ -209,11 +209,11 @@ part-state : (bytes : List ℕ) → EndsInside bytes → HasOtherWorn bytes ⊎ 
 part-state bytes (inl p) s = let h = state-header bytes s in absurd (omega (arith, part-short p.0 bytes p.2, header-long bytes h.rest h.sizes h.whole))
 part-state bytes (inr p) s = state-image p.0 bytes p.2.more [] s p.1 (p.2.whole ∙ sym (append-nil (image_of p.0)))
 
-part-more : (bytes : List ℕ) → EndsInside bytes → GoesOn bytes → ⊥
+part-more : (bytes : List ℕ) → EndsInside bytes → IsLongerImage bytes → ⊥
 part-more bytes (inl p) g = let h = more-header bytes g in absurd (omega (arith, part-short p.0 bytes p.2, header-long bytes h.rest h.sizes h.whole))
 part-more bytes (inr p) g = part-image p.0 g.flash bytes g.more p.1 p.2 g.image g.spelled
 
-more-state : (bytes : List ℕ) → GoesOn bytes → HasOtherWorn bytes ⊎ HasOtherPage bytes → ⊥
+more-state : (bytes : List ℕ) → IsLongerImage bytes → HasOtherWorn bytes ⊎ HasOtherPage bytes → ⊥
 more-state bytes g s = state-image g.flash bytes [] g.more s g.image (append-nil bytes ∙ g.spelled)
 
 -- bytes have one fault at most

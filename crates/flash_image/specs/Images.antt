@@ -117,7 +117,7 @@ pub record HasOtherPage (bytes : List ℕ) : Type 0 where
   pub spelled : bytes ≡ before_page flash block place ++ byte ∷ rest
 
 -- the bytes are the image of a flash, and more
-pub record GoesOn (bytes : List ℕ) : Type 0 where
+pub record IsLongerImage (bytes : List ℕ) : Type 0 where
   pub flash : Device
   pub image : HasImage flash
   pub more : List ℕ
@@ -130,7 +130,7 @@ IsFault NotImage bytes = HasOtherMagic bytes
 IsFault BadGeometry bytes = HasOtherSizes bytes
 IsFault BadState bytes = HasOtherWorn bytes ⊎ HasOtherPage bytes
 IsFault Truncated bytes = EndsInside bytes
-IsFault Trailing bytes = GoesOn bytes
+IsFault Trailing bytes = IsLongerImage bytes
 IsFault Memory bytes = ⊥
 
 -- one flash holds what another does: the same sizes, pages and worn blocks
@@ -140,7 +140,7 @@ pub record HoldsTheSame (d e : Device) : Type 0 where
   pub worn : (b : ℕ) → b < d.geometry.blocks → e.worn b ≡ d.worn b
 
 -- power is on, and nothing has happened yet
-pub record IsReady (d : Device) : Type 0 where
+pub record IsFresh (d : Device) : Type 0 where
   pub powered : d.powered ≡ true
   pub failed_reads : d.failed_reads ≡ 0
   pub failures : d.failures ≡ 0

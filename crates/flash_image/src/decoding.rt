@@ -3,10 +3,10 @@ ghost use Rattle.std.specs.Prelude.{◌≡◌, ◌⊎◌, ◌*◌, ◌<◌, ◌+
 ghost use Rattle.flash_model.specs.Geometry.{IsGeometry};
 ghost use Rattle.flash_model.specs.Device.{Device};
 ghost use Rattle.flash_model.specs.Contents.{IsWhole};
-ghost use Rattle.flash_model.specs.Stored.{shown};
+ghost use Rattle.flash_model.specs.Stored.{shown_page};
 ghost use Rattle.flash_model.specs.Simulation.{IsNew, device_of, plan_of};
 ghost use Rattle.flash_model.specs.Plan.{plan_of_entries};
-ghost use Rattle.flash_image.specs.Images.{magic, header, parts, page_text, worn_text, place_text, block_text, blocks_text, image_of, AreSizes, HasImage, IsFault, HoldsTheSame, IsReady};
+ghost use Rattle.flash_image.specs.Images.{magic, header, parts, page_text, worn_text, place_text, block_text, blocks_text, image_of, AreSizes, HasImage, IsFault, HoldsTheSame, IsFresh};
 ghost use Rattle.flash_image.specs.declared.image_fault.ImageFault.{ImageFault};
 ghost use Rattle.flash_image.specs.Reading.{WornFault, PageFault, PagesFault, BlockFault, BlocksFault, FillsPages, FillsBlocks};
 
@@ -77,8 +77,8 @@ fn worn_at(bytes: &[u8]) -> Result<(bool, &[u8]), ImageFault>
 
 /// A page of so many bytes, and the bytes after it.
 fn page_at(size: usize, bytes: &[u8]) -> Result<(PageView<'_>, &[u8]), ImageFault>
-    ensures ok { IfOk result (λ x. bytes.now ≡ page_text (shown x.0) ++ x.1.now) }
-    ensures whole { IfOk result (λ x. IsWhole size (shown x.0)) }
+    ensures ok { IfOk result (λ x. bytes.now ≡ page_text (shown_page x.0) ++ x.1.now) }
+    ensures whole { IfOk result (λ x. IsWhole size (shown_page x.0)) }
     ensures err { IfErr result (λ fault. PageFault size fault bytes.now) }
 {
     match bytes {
@@ -144,7 +144,7 @@ fn read_blocks<'a>(flash: &mut SimFlash, bytes: &'a [u8]) -> Result<&'a [u8], Im
 /// The flash that the bytes spell, or what is wrong with them.
 fn read_image(alloc: Global, bytes: &[u8]) -> Result<SimFlash, ImageFault>
     ensures spelled { IfOk result (λ flash. bytes.now ≡ image_of (device_of flash)) }
-    ensures ready { IfOk result (λ flash. IsReady (device_of flash)) }
+    ensures ready { IfOk result (λ flash. IsFresh (device_of flash)) }
     ensures plan { IfOk result (λ flash. plan_of flash ≡ plan_of_entries []) }
     ensures fault { IfErr result (λ fault. (fault ≡ ImageFault.Memory) ⊎ IsFault fault bytes.now) }
 {
@@ -171,7 +171,7 @@ pub fn decode(alloc: Global, bytes: &[u8]) -> Result<SimFlash, ImageFault>
     // What is spelled so is read, unless memory could not be had.
     ensures read { (d : Device) → HasImage d → bytes.now ≡ image_of d
         → MatchResult result (λ flash. HoldsTheSame d (device_of flash)) (λ fault. fault ≡ ImageFault.Memory) }
-    ensures ready { IfOk result (λ flash. IsReady (device_of flash)) }
+    ensures ready { IfOk result (λ flash. IsFresh (device_of flash)) }
     ensures plan { IfOk result (λ flash. plan_of flash ≡ plan_of_entries []) }
     // Which fault it is.
     ensures fault { IfErr result (λ fault. (fault ≡ ImageFault.Memory) ⊎ IsFault fault bytes.now) }

@@ -1,6 +1,6 @@
 //! The image of a flash.
 ghost use Rattle.std.specs.Prelude.{◌≡◌, ◌≤◌, ◌<◌, [], ◌∷◌, ◌++◌, length, IfOk, IfErr, OnOk};
-ghost use Rattle.flash_model.specs.Stored.{shown};
+ghost use Rattle.flash_model.specs.Stored.{shown_page};
 ghost use Rattle.flash_model.specs.Simulation.{device_of};
 ghost use Rattle.flash_image.specs.Images.{header, page_text, worn_text, block_text, image_of};
 
@@ -60,7 +60,7 @@ fn worn_byte(is_worn: bool) -> u8
 }
 
 fn push_page(image: &mut Vec<u8>, page: PageView<'_>) -> Result<(), AllocError>
-    ensures { OnOk result (image.new.items ≡ image.old.items ++ page_text (shown page.entry)) }
+    ensures { OnOk result (image.new.items ≡ image.old.items ++ page_text (shown_page page.entry)) }
 {
     match page {
         PageView::Erased => image.push(0)?,
@@ -98,7 +98,7 @@ fn block_len(flash: &SimFlash, block: u32) -> usize
 }
 
 fn page_len(page: PageView<'_>) -> usize
-    ensures { result ≡ length (page_text (shown page.entry)) }
+    ensures { result ≡ length (page_text (shown_page page.entry)) }
 {
     match page {
         PageView::Data(bytes) => 1 + bytes.len(),

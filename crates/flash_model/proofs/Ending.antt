@@ -7,11 +7,11 @@ use Rattle.flash_model.specs.declared.fault_kind.FaultKind.{FaultKind}
 use Rattle.flash_model.specs.declared.fault_kind.FaultKind.TheVariants.{ReadFail, ReadCut, ProgramFail, ProgramCutNone, ProgramCutWhole, ProgramCutTorn, EraseFail, EraseCutNone, EraseCutWhole, EraseCutTorn}
 use Rattle.flash_model.specs.declared.sim_flash.SimFlash.{SimFlash}
 use Rattle.flash_model.specs.Device.{Device, Page, unreadable, Operates, power_after, failed, cut, AfterProgram, AfterErase, Programs, Erases, Wears, block_of}
-use Rattle.flash_model.specs.Plan.{Schedule, answer_of}
+use Rattle.flash_model.specs.Plan.{Schedule, kind_answer}
 use Rattle.flash_model.specs.Stored.{programmed, erased_to}
-use Rattle.flash_model.specs.Simulation.{Ends, device_of}
+use Rattle.flash_model.specs.Simulation.{LeavesBeside, device_of}
 
-befallen_program : (kind : FaultKind) (was : Page) (bytes : List ℕ) → AfterProgram was bytes (programmed (Some kind) was bytes) (Err (answer_of kind))
+befallen_program : (kind : FaultKind) (was : Page) (bytes : List ℕ) → AfterProgram was bytes (programmed (Some kind) was bytes) (Err (kind_answer kind))
 befallen_program ReadFail was bytes = refl
 befallen_program ReadCut was bytes = inr (inr refl)
 befallen_program ProgramFail was bytes = refl
@@ -25,12 +25,12 @@ befallen_program EraseCutTorn was bytes = inr (inr refl)
 
 -- the programmed page, by what befell the program
 pub after_program : (due : Option FaultKind) (was : Page) (bytes : List ℕ) (result : Result (Unit {0}) DevFault)
-    → result_err result ≡ option_map answer_of due → AfterProgram was bytes (programmed due was bytes) result
+    → result_err result ≡ option_map kind_answer due → AfterProgram was bytes (programmed due was bytes) result
 after_program None was bytes (Ok u) h = refl
 after_program None was bytes (Err e) h = absurd cc
 after_program (Some kind) was bytes (Ok u) h = absurd cc
 after_program (Some kind) was bytes (Err e) h =
-    let same : answer_of kind ≡ e = cc in
+    let same : kind_answer kind ≡ e = cc in
     subst (λ fault. AfterProgram was bytes (programmed (Some kind) was bytes) (Err fault)) same (befallen_program kind was bytes)
 
 -- a page that is spoilt or left
@@ -56,7 +56,7 @@ befallen_erase EraseCutTorn place was fault = outcome (spoilt (place % 2 == 0) w
 
 -- a page of the erased block, by what befell the erase
 pub after_erase : (due : Option FaultKind) (place : ℕ) (was : Page) (result : Result (Unit {0}) DevFault)
-    → result_err result ≡ option_map answer_of due → AfterErase was (erased_to due place was) result
+    → result_err result ≡ option_map kind_answer due → AfterErase was (erased_to due place was) result
 after_erase None place was (Ok u) h = refl
 after_erase None place was (Err e) h = absurd cc
 after_erase (Some kind) place was (Ok u) h = absurd cc
@@ -92,7 +92,7 @@ begins old mid plan pages on begun counted = record {
       ∙ ap (λ (n : ℕ). record (device_of old) { pages = pages; operations = n }) counted;
 }
 
-operates : (old mid new : Device) (b : ℕ) (result : Result (Unit {0}) DevFault) → Begins old mid → Ends mid b new result
+operates : (old mid new : Device) (b : ℕ) (result : Result (Unit {0}) DevFault) → Begins old mid → LeavesBeside mid b new result
     → Operates old new result 0 (failed result)
 operates old mid new b result begins ends =
     let failed_reads : new.failed_reads ≡ old.failed_reads =
@@ -111,7 +111,7 @@ wears old mid new b result same worn = subst (λ before. Wears (record old { wor
 
 -- a program that begins, changes its page by what befalls it and ends
 pub program_done : (old mid new : Device) (p b : ℕ) (bytes : List ℕ) (due : Option FaultKind) (result : Result (Unit {0}) DevFault)
-    → b ≡ block_of old p → Begins old mid → Ends mid b new result → result_err result ≡ option_map answer_of due
+    → b ≡ block_of old p → Begins old mid → LeavesBeside mid b new result → result_err result ≡ option_map kind_answer due
     → ((q : ℕ) → q ≢ p → mid.pages q ≡ old.pages q) → mid.pages p ≡ programmed due (old.pages p) bytes
     → Programs old p bytes new result
 program_done old mid new p b bytes due result block begins ends answer others own =
@@ -130,7 +130,7 @@ pub record ErasesPages (old : ℕ → Page) (count b : ℕ) (due : Option FaultK
 
 -- an erase that begins, changes the pages of its block by what befalls it and ends
 pub erase_done : (old mid new : Device) (b : ℕ) (due : Option FaultKind) (result : Result (Unit {0}) DevFault)
-    → Begins old mid → Ends mid b new result → result_err result ≡ option_map answer_of due
+    → Begins old mid → LeavesBeside mid b new result → result_err result ≡ option_map kind_answer due
     → ErasesPages old.pages old.geometry.pages b due mid.pages → Erases old b new result
 erase_done old mid new b due result begins ends answer erases =
     let pages : new.pages ≡ mid.pages = ap (λ (d : Device). d.pages) ends.rest in

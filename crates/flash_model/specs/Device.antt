@@ -57,18 +57,18 @@ pub record Operates {T : Type 0} (old new : Device) (result : Result T DevFault)
   pub operations : new.operations ≡ old.operations + (if old.powered then 1 else 0)
 
 -- the state that a read reports, and the buffer after it
-abbrev pub Shows : Page → List ℕ → List ℕ → Result PageState DevFault → Type 0
-Shows held was now (Err _) = now ≡ was
-Shows held was now (Ok Erased) = (held ≡ erased) × (now ≡ was)
-Shows held was now (Ok Data) = held ≡ bytes_of now
-Shows held was now (Ok Unreadable) = (held ≡ unreadable) × (now ≡ was)
+abbrev pub ReportsPage : Page → List ℕ → List ℕ → Result PageState DevFault → Type 0
+ReportsPage held was now (Err _) = now ≡ was
+ReportsPage held was now (Ok Erased) = (held ≡ erased) × (now ≡ was)
+ReportsPage held was now (Ok Data) = held ≡ bytes_of now
+ReportsPage held was now (Ok Unreadable) = (held ≡ unreadable) × (now ≡ was)
 
 -- a read changes no page
 pub record Reads (old : Device) (p : ℕ) (was : List ℕ) (new : Device) (now : List ℕ) (result : Result PageState DevFault) : Type 0 where
   pub operates : Operates old new result (failed result) 0
   pub pages : (q : ℕ) → new.pages q ≡ old.pages q
   pub worn : (b : ℕ) → new.worn b ≡ old.worn b
-  pub shows : Shows (old.pages p) was now result
+  pub shows : ReportsPage (old.pages p) was now result
 
 -- a block is worn from a failure on
 abbrev pub Wears : Device → Device → ℕ → Result (Unit {0}) DevFault → Type 0

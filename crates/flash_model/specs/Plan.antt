@@ -24,17 +24,17 @@ operation_of EraseCutWhole = Erase
 operation_of EraseCutTorn = Erase
 
 -- the answer of an operation that a fault befalls
-abbrev pub answer_of : FaultKind → DevFault
-answer_of ReadFail = Failed
-answer_of ReadCut = PowerCut
-answer_of ProgramFail = Failed
-answer_of ProgramCutNone = PowerCut
-answer_of ProgramCutWhole = PowerCut
-answer_of ProgramCutTorn = PowerCut
-answer_of EraseFail = Failed
-answer_of EraseCutNone = PowerCut
-answer_of EraseCutWhole = PowerCut
-answer_of EraseCutTorn = PowerCut
+abbrev pub kind_answer : FaultKind → DevFault
+kind_answer ReadFail = Failed
+kind_answer ReadCut = PowerCut
+kind_answer ProgramFail = Failed
+kind_answer ProgramCutNone = PowerCut
+kind_answer ProgramCutWhole = PowerCut
+kind_answer ProgramCutTorn = PowerCut
+kind_answer EraseFail = Failed
+kind_answer EraseCutNone = PowerCut
+kind_answer EraseCutWhole = PowerCut
+kind_answer EraseCutTorn = PowerCut
 
 -- one and the same class
 abbrev pub is_same : Operation → Operation → Bool
@@ -96,6 +96,10 @@ begun s class = record {
   waiting = filter (is_ahead class (counted (count_of s.counters class))) s.waiting;
 }
 
+-- the plan after the next operation of a class: it counts where power is on
+abbrev pub schedule_after : Bool → Schedule → Operation → Schedule
+schedule_after powered s class = if powered then begun s class else s
+
 -- a plan before any operation: an entry of number 0 has passed
 abbrev pub plan_of_entries : List PlannedFault → Schedule
 plan_of_entries entries = record {
@@ -104,14 +108,14 @@ plan_of_entries entries = record {
 }
 
 -- the number of the k-th operation after now of a kind's class
-abbrev pub number_of : Schedule → ℕ → FaultKind → ℕ
-number_of s k kind = count_of s.counters (operation_of kind) + k
+abbrev pub operation_number : Schedule → ℕ → FaultKind → ℕ
+operation_number s k kind = count_of s.counters (operation_of kind) + k
 
 -- the plan with one entry more, in the place of those of its class and number
 abbrev pub planned : Schedule → ℕ → FaultKind → Schedule
 planned s k kind = record s {
-  waiting = filter (λ entry. not (is_for (operation_of kind) (number_of s k kind) entry)) s.waiting
-      ++ record { number = number_of s k kind; kind = kind } ∷ [];
+  waiting = filter (λ entry. not (is_for (operation_of kind) (operation_number s k kind) entry)) s.waiting
+      ++ record { number = operation_number s k kind; kind = kind } ∷ [];
 }
 
 -- where so many entries wait there is no room for another
@@ -119,6 +123,6 @@ abbrev pub most_waiting : ℕ
 most_waiting = 64
 
 -- 64 entries wait, and none of them is of this class and number
-pub record IsFull (s : Schedule) (k : ℕ) (kind : FaultKind) : Type 0 where
+pub record IsPlanFull (s : Schedule) (k : ℕ) (kind : FaultKind) : Type 0 where
   pub many : most_waiting ≤ length s.waiting
-  pub new : list_any (is_for (operation_of kind) (number_of s k kind)) s.waiting ≡ false
+  pub new : list_any (is_for (operation_of kind) (operation_number s k kind)) s.waiting ≡ false

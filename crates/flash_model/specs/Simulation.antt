@@ -8,7 +8,7 @@ use Rattle.flash_model.specs.declared.fault_kind.Counters.{Counters}
 use Rattle.flash_model.specs.declared.sim_flash.SimFlash.{SimFlash}
 use Rattle.flash_model.specs.Device.{Device, erased, failed, cut, power_after, Wears}
 use Rattle.flash_model.specs.Stored.{page_at}
-use Rattle.flash_model.specs.Plan.{Schedule, kind_due, begun, answer_of, count_more}
+use Rattle.flash_model.specs.Plan.{Schedule, kind_due, begun, kind_answer, count_more}
 
 -- the device
 abbrev pub device_of : SimFlash → Device
@@ -37,7 +37,7 @@ counts_after flash class = if flash.powered then count_more (counts_of flash) cl
 
 -- why the next operation of a class is not done: with the power off for want of it, else by what is due
 abbrev pub refusal_due : SimFlash → Operation → Option DevFault
-refusal_due flash class = if flash.powered then option_map answer_of (kind_due flash.plan class) else Some PowerCut
+refusal_due flash class = if flash.powered then option_map kind_answer (kind_due flash.plan class) else Some PowerCut
 
 -- the plan after the next operation of a class: it counts with the power on
 abbrev pub plan_after : SimFlash → Operation → Schedule
@@ -55,6 +55,6 @@ pub record IsNew (sizes : Geometry) (d : Device) : Type 0 where
   pub operations : d.operations ≡ 0
 
 -- what a program or an erase in a block leaves beside the pages, by its answer, where power was on
-pub record Ends (old : Device) (b : ℕ) (new : Device) (result : Result (Unit {0}) DevFault) : Type 0 where
+pub record LeavesBeside (old : Device) (b : ℕ) (new : Device) (result : Result (Unit {0}) DevFault) : Type 0 where
   pub rest : new ≡ record old { powered = power_after result; worn = new.worn; failures = old.failures + failed result; cuts = old.cuts + cut result }
   pub worn : Wears old new b result

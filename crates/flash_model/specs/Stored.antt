@@ -43,7 +43,7 @@ erased_to (Some EraseCutWhole) place was = erased
 erased_to (Some _) place was = if place % 2 == 0 then unreadable else was
 
 -- what a view of a page shows
-abbrev pub shown : PageView → Page
-shown view.Erased = erased
-shown (view.Data bytes) = bytes_of bytes.now
-shown view.Unreadable = unreadable
+abbrev pub shown_page : PageView → Page
+shown_page view.Erased = erased
+shown_page (view.Data bytes) = bytes_of bytes.now
+shown_page view.Unreadable = unreadable

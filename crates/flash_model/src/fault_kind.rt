@@ -1,6 +1,6 @@
 //! Plans of device faults: which operations fail, and how.
 ghost use Rattle.std.specs.Prelude.{◌≡◌};
-ghost use Rattle.flash_model.specs.Plan.{operation_of, answer_of, is_same, is_for, is_ahead, count_of, count_more, counted};
+ghost use Rattle.flash_model.specs.Plan.{operation_of, kind_answer, is_same, is_for, is_ahead, count_of, count_more, counted};
 
 use crate::flash::DevFault;
 
@@ -73,7 +73,7 @@ impl FaultKind {
 
     // What an operation that it befalls answers.
     pub(crate) fn answer(self) -> DevFault
-        ensures { result ≡ answer_of self }
+        ensures { result ≡ kind_answer self }
     {
         match self {
             FaultKind::ReadFail | FaultKind::ProgramFail | FaultKind::EraseFail => DevFault::Failed,

@@ -1,7 +1,7 @@
 //! A plan at work: it counts the operations, and tells which fault is due.
 ghost use Rattle.std.specs.Prelude.{◌≡◌, ◌≤◌, ◌<◌, ◌+◌, ◌↔◌, IfOk, OnOk, OnErr, IfErr, Bool, true, not, nat_lt, filter, vec_len, vec_capacity};
 ghost use Rattle.std.specs.List.{list_any};
-ghost use Rattle.flash_model.specs.Plan.{is_for, is_ahead, kind_at, kind_due, begun, plan_of_entries, planned, IsFull};
+ghost use Rattle.flash_model.specs.Plan.{is_for, is_ahead, kind_at, kind_due, begun, plan_of_entries, planned, IsPlanFull};
 
 use crate::fault_kind::{Counters, FaultKind, Operation, PlannedFault};
 use fs_types::Fault;
@@ -74,7 +74,7 @@ impl Plan {
     pub(crate) fn add(&mut self, k: u64, kind: FaultKind) -> Result<(), Fault>
         ensures ok { OnOk result (self.new ≡ planned self.old k kind) }
         ensures err { OnErr result (self.new ≡ self.old) }
-        ensures full { (result ≡ Err Fault.Invalid) ↔ IsFull self.old k kind }
+        ensures full { (result ≡ Err Fault.Invalid) ↔ IsPlanFull self.old k kind }
         ensures only { IfErr result (λ fault. fault ≡ Fault.Invalid) }
     {
         let class = kind.operation();

@@ -43,10 +43,10 @@ pub struct SimFlash {
 impl SimFlash {
     ghost use Rattle.std.specs.Prelude.{IfOk, OnOk, IfErr, OnErr, ◌+◌, ◌↔◌, ◌⊎◌, true, false, option_map};
     ghost use Rattle.std.specs.Result.{result_err};
-    ghost use Rattle.flash_model.specs.Simulation.{IsNew, Ends, device_of, plan_of, counts_of};
-    ghost use Rattle.flash_model.specs.Plan.{kind_due, begun, plan_of_entries, answer_of, no_counts};
+    ghost use Rattle.flash_model.specs.Simulation.{IsNew, LeavesBeside, device_of, plan_of, counts_of};
+    ghost use Rattle.flash_model.specs.Plan.{kind_due, begun, plan_of_entries, kind_answer, no_counts};
     ghost use Rattle.flash_model.specs.Geometry.{page_count};
-    ghost use Rattle.flash_model.specs.Stored.{shown};
+    ghost use Rattle.flash_model.specs.Stored.{shown_page};
 
     /// A new flash: all pages are erased, power is on, no block is worn.
     ///
@@ -83,7 +83,7 @@ impl SimFlash {
     /// too, and nothing counts.
     pub fn page(&self, number: u32) -> PageView<'_>
         requires { number < page_count (device_of self.now).geometry }
-        ensures { shown result ≡ (device_of self.now).pages number }
+        ensures { shown_page result ≡ (device_of self.now).pages number }
     {
         self.pages[number as usize].view()
     }
@@ -135,8 +135,8 @@ impl SimFlash {
     fn end(&mut self, block: u32, due: Option<FaultKind>) -> Result<(), DevFault>
         requires in_range { block < (device_of self.old).geometry.blocks }
         requires on { (device_of self.old).powered ≡ true }
-        ensures answer { result_err result ≡ option_map answer_of due }
-        ensures ends { Ends (device_of self.old) block (device_of self.new) result }
+        ensures answer { result_err result ≡ option_map kind_answer due }
+        ensures ends { LeavesBeside (device_of self.old) block (device_of self.new) result }
         ensures plan { plan_of self.new ≡ plan_of self.old }
     {
         match due.map(FaultKind::answer) {
@@ -197,10 +197,14 @@ impl Flash for SimFlash {
         requires in_range { page < page_count (device_of self.old).geometry }
         requires whole { length bytes.now ≡ (device_of self.old).geometry.page }
         requires blank { (device_of self.old).pages page ≡ erased }
+
+        // What is programmed, and what is answered.
         ensures programs { Programs (device_of self.old) page bytes.now (device_of self.new) result }
         ensures answer { result_err result ≡ refusal_due self.old Operation.Program }
         ensures page { (device_of self.old).powered ≡ true → (device_of self.new).pages page
             ≡ programmed (kind_due (plan_of self.old) Operation.Program) ((device_of self.old).pages page) bytes.now }
+
+        // What is left of the plan, and the counts.
         ensures plan { plan_of self.new ≡ plan_after self.old Operation.Program }
         ensures counts { counts_of self.new ≡ counts_after self.old Operation.Program }
     {
@@ -245,5 +249,21 @@ impl Planned for SimFlash {
 
     fn plan_fault(&mut self, k: u64, kind: FaultKind) -> Result<(), Fault> {
         self.plan.add(k, kind)
+    }
+
+    fn read_as_planned(&mut self, page: u32, buffer: &mut [u8]) -> Result<PageState, DevFault> {
+        self.read(page, buffer)
+    }
+
+    fn program_as_planned(&mut self, page: u32, bytes: &[u8]) -> Result<(), DevFault> {
+        self.program(page, bytes)
+    }
+
+    fn erase_as_planned(&mut self, block: u32) -> Result<(), DevFault> {
+        self.erase(block)
+    }
+
+    fn power_on_as_planned(&mut self) {
+        self.power_on();
     }
 }

@@ -1,7 +1,7 @@
 //! The pages of a flash in memory.
 ghost use Rattle.std.specs.Prelude.{◌≡◌, ◌≢◌, ℕ, ◌+◌, ◌*◌, ◌/◌, ◌%◌, ◌<◌, ◌≤◌, IfOk, length, vec_len, slice_index_or, true, false};
-ghost use Rattle.flash_model.specs.Device.{erased, Shows};
-ghost use Rattle.flash_model.specs.Stored.{seen, shown, page_at, HaveRoom, programmed, erased_to};
+ghost use Rattle.flash_model.specs.Device.{erased, ReportsPage};
+ghost use Rattle.flash_model.specs.Stored.{seen, shown_page, page_at, HaveRoom, programmed, erased_to};
 
 use crate::fault_kind::FaultKind;
 use crate::flash::PageState;
@@ -37,7 +37,7 @@ impl SimPage {
     }
 
     pub(crate) fn view(&self) -> PageView<'_>
-        ensures { shown result ≡ seen self.now }
+        ensures { shown_page result ≡ seen self.now }
     {
         match self.state {
             PageState::Erased => PageView::Erased,
@@ -78,7 +78,7 @@ impl SimPage {
 pub(crate) fn read_page(pages: &[SimPage], number: usize, buffer: &mut [u8]) -> PageState
     requires in_flash { number < length pages.now }
     requires whole { HaveRoom pages.now (length buffer.old) }
-    ensures { Shows (page_at pages.now number) buffer.old buffer.new (Ok result) }
+    ensures { ReportsPage (page_at pages.now number) buffer.old buffer.new (Ok result) }
 {
     let page = &pages[number];
     if page.state == PageState::Data {

@@ -3,6 +3,6 @@ use Rattle.std.specs.Prelude.{Option, Some, None, Result, Ok, Err}
 use Rattle.fs_types.specs.declared.fault.Fault.{Fault}
 
 -- a refusal, or success with nothing to tell
-abbrev pub answer : Option Fault → Result (Unit {0}) Fault
-answer None = Ok tt
-answer (Some fault) = Err fault
+abbrev pub told_nothing : Option Fault → Result (Unit {0}) Fault
+told_nothing None = Ok tt
+told_nothing (Some fault) = Err fault

@@ -1,7 +1,7 @@
 //! A bounded list of versions with a cursor, and checkpoints by name.
 ghost use Rattle.std.specs.Prelude.{◌≡◌, ◌+◌, ◌<◌, ◌≤◌, Some, None, drop, length, vec_len, vec_capacity, unwrap_or, IfOk, IfErr, OnOk, OnErr};
 ghost use Rattle.history_machine.specs.History.{fresh, changed, undo_refusal, undone, redo_refusal, redone, serial_refusal, gone_to, forget_refusal, forgotten, present_root, checkpoint_refusal, with_checkpoint, name_refusal, without_checkpoint};
-ghost use Rattle.history.specs.Answers.{answer};
+ghost use Rattle.history.specs.Answers.{told_nothing};
 ghost use Rattle.history.specs.Kept.{IsKept};
 ghost use Rattle.fs_types.specs.declared.limits.TheConstants.{MIN_VERSIONS, MAX_VERSIONS};
 
@@ -84,7 +84,7 @@ impl<R: Drop> History<R> {
     /// The oldest `count` versions are dropped; [`Fault::Invalid`] where there are not as many before
     /// the present one.
     pub fn forget(&mut self, count: u64) -> Result<(), Fault>
-        ensures answer { result ≡ answer (forget_refusal self.old count) }
+        ensures answer { result ≡ told_nothing (forget_refusal self.old count) }
         ensures ok { OnOk result (self.new ≡ forgotten self.old count) }
         ensures err { OnErr result (self.new ≡ self.old) }
     {
@@ -113,7 +113,7 @@ impl<R: Drop> History<R> {
 
     /// The checkpoint of this name is given up; [`Fault::NoSuchVersion`] where there is none.
     pub fn remove_checkpoint(&mut self, name: &CpName) -> Result<(), Fault>
-        ensures answer { result ≡ answer (name_refusal self.old name.now) }
+        ensures answer { result ≡ told_nothing (name_refusal self.old name.now) }
         ensures ok { OnOk result (self.new ≡ without_checkpoint self.old name.now) }
         ensures err { OnErr result (self.new ≡ self.old) }
     {
@@ -152,7 +152,7 @@ impl<R> History<R> {
     /// The version before becomes the present one. Where there is none: [`Fault::TooOld`] if versions
     /// were dropped, else [`Fault::NothingToUndo`].
     pub fn undo(&mut self) -> Result<(), Fault>
-        ensures answer { result ≡ answer (undo_refusal self.old) }
+        ensures answer { result ≡ told_nothing (undo_refusal self.old) }
         ensures ok { OnOk result (self.new ≡ undone self.old) }
         ensures err { OnErr result (self.new ≡ self.old) }
     {
@@ -163,7 +163,7 @@ impl<R> History<R> {
 
     /// The version after becomes the present one; [`Fault::NothingToRedo`] where there is none.
     pub fn redo(&mut self) -> Result<(), Fault>
-        ensures answer { result ≡ answer (redo_refusal self.old) }
+        ensures answer { result ≡ told_nothing (redo_refusal self.old) }
         ensures ok { OnOk result (self.new ≡ redone self.old) }
         ensures err { OnErr result (self.new ≡ self.old) }
     {
@@ -176,7 +176,7 @@ impl<R> History<R> {
     /// kept ones, [`Fault::NoSuchVersion`] for one that was not given yet, and [`Fault::Discarded`] for
     /// one that a change gave up.
     pub fn goto(&mut self, serial: u64) -> Result<(), Fault>
-        ensures answer { result ≡ answer (serial_refusal self.old serial) }
+        ensures answer { result ≡ told_nothing (serial_refusal self.old serial) }
         ensures ok { OnOk result (self.new ≡ gone_to self.old serial) }
         ensures err { OnErr result (self.new ≡ self.old) }
     {

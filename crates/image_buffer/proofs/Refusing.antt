@@ -13,8 +13,8 @@ use Rattle.shell.specs.Memory.{IsNewFlash}
 use Rattle.shell.specs.Scripts.{IsUnmounted}
 use Rattle.shell.specs.Tools.{IsDecoded, AreLawful}
 use Rattle.shell.specs.declared.scripts.ScriptFault.{ScriptFault}
-use Rattle.image_buffer.specs.Faults.{of_image, of_system, of_script}
-use Rattle.image_buffer.specs.Buffers.{MakeRefusal, FormatRefusal, DecodeRefusal, CheckRefusal, Plays, PlayRefusal, RunRefusal}
+use Rattle.image_buffer.specs.Faults.{buffer_fault_of_image, buffer_fault_of_system, buffer_fault_of_script}
+use Rattle.image_buffer.specs.Buffers.{MakeRefusal, FormatRefusal, DecodeRefusal, CheckRefusal, BufferPlays, PlayRefusal, RunRefusal}
 use Rattle.image_buffer.specs.declared.buffer_fault.BufferFault.{BufferFault}
 
 -- a limit that is not refused
@@ -23,12 +23,12 @@ lawful_limit sizes limit lawful low high = record { geometry = lawful; least = o
 
 -- a format that is refused
 pub format_refused : (sizes : Geometry) (limit : ℕ) (start end : SimFlash) (fault : Fault) → IsNewFlash sizes start → FormatCause (device_of start) limit fault (device_of end)
-    → MakeRefusal sizes limit (of_system fault)
+    → MakeRefusal sizes limit (buffer_fault_of_system fault)
 format_refused sizes limit start end Fault.NoMemory new cause = tt
 format_refused sizes limit start end fault new cause = inr (start, end, new, cause)
 
 -- sizes that are refused
-pub sizes_refused : (sizes : Geometry) (limit : ℕ) → (IsGeometry sizes → ⊥) → MakeRefusal sizes limit (of_system Fault.BadGeometry)
+pub sizes_refused : (sizes : Geometry) (limit : ℕ) → (IsGeometry sizes → ⊥) → MakeRefusal sizes limit (buffer_fault_of_system Fault.BadGeometry)
 sizes_refused sizes limit unlawful = inl (refl, unlawful)
 
 pub make_refused : (sizes : Geometry) (limit room : ℕ) (fault : BufferFault) → MakeRefusal sizes limit fault → FormatRefusal sizes limit room fault
@@ -36,7 +36,7 @@ make_refused sizes limit room BufferFault.ImageRoom cause = absurd cause
 make_refused sizes limit room fault cause = cause
 
 -- bytes that are no image
-pub bytes_refused : (bytes : List ℕ) (fault : ImageFault) → (fault ≡ ImageFault.Memory) ⊎ IsFault fault bytes → DecodeRefusal bytes (of_image fault)
+pub bytes_refused : (bytes : List ℕ) (fault : ImageFault) → (fault ≡ ImageFault.Memory) ⊎ IsFault fault bytes → DecodeRefusal bytes (buffer_fault_of_image fault)
 bytes_refused bytes ImageFault.Memory cause = tt
 bytes_refused bytes ImageFault.NotImage (inl is) = absurd cc
 bytes_refused bytes ImageFault.NotImage (inr cause) = cause
@@ -55,7 +55,7 @@ decode_refused bytes (BufferFault.System fault) cause = absurd cause
 decode_refused bytes fault cause = cause
 
 -- a mount that is refused
-pub mount_refused : (bytes : List ℕ) (start end : SimFlash) (fault : Fault) → IsDecoded bytes start → IsUnmounted start end fault → CheckRefusal bytes (of_system fault)
+pub mount_refused : (bytes : List ℕ) (start end : SimFlash) (fault : Fault) → IsDecoded bytes start → IsUnmounted start end fault → CheckRefusal bytes (buffer_fault_of_system fault)
 mount_refused bytes start end Fault.NoMemory decoded cause = tt
 mount_refused bytes start end fault decoded cause = (start, end, decoded, cause)
 
@@ -66,7 +66,7 @@ unplayed bytes script BufferFault.Input cause = absurd cause
 unplayed bytes script fault cause = cause
 
 -- a script that is not run to its end
-pub broken_off : (bytes script replies : List ℕ) (end : SimFlash) (why : ScriptFault) → Plays bytes script (Err why) end replies → PlayRefusal bytes script (of_script why)
+pub broken_off : (bytes script replies : List ℕ) (end : SimFlash) (why : ScriptFault) → BufferPlays bytes script (Err why) end replies → PlayRefusal bytes script (buffer_fault_of_script why)
 broken_off bytes script replies end (ScriptFault.Mount Fault.NoMemory) plays = tt
 broken_off bytes script replies end (ScriptFault.Mount fault) plays = (end, replies, ScriptFault.Mount fault, plays, refl)
 broken_off bytes script replies end ScriptFault.Read plays = (end, replies, ScriptFault.Read, plays, refl)

@@ -10,10 +10,10 @@ use Rattle.mounting.specs.Formats.{FormatCause}
 use Rattle.system.specs.Mounts.{IsMountOf}
 use Rattle.system.specs.declared.systems.System.{System}
 use Rattle.shell.specs.Memory.{IsNewFlash}
-use Rattle.shell.specs.Scripts.{Ends, IsUnmounted}
+use Rattle.shell.specs.Scripts.{EndsOnSimFlash, IsUnmounted}
 use Rattle.shell.specs.Tools.{IsDecoded, IsMade}
 use Rattle.shell.specs.declared.scripts.ScriptFault.{ScriptFault}
-use Rattle.image_buffer.specs.Faults.{of_script}
+use Rattle.image_buffer.specs.Faults.{buffer_fault_of_script}
 use Rattle.image_buffer.specs.declared.buffer_fault.BufferFault.{BufferFault}
 use Rattle.image_buffer.specs.declared.buffers.Played.{Played}
 use Rattle.image_buffer.specs.declared.buffers.Written.{Written}
@@ -42,9 +42,9 @@ FormatRefusal sizes limit room fault = MakeRefusal sizes limit fault
 
 -- the image of a new flash of these sizes that was formatted stands at the front of a buffer; or the buffer is as it was, for
 -- a cause
-abbrev pub FormatEnds : Geometry → ℕ → List ℕ → Result ℕ BufferFault → List ℕ → Type 0
-FormatEnds sizes limit old (Ok count) new = (flash : SimFlash) × IsMade sizes limit flash × HoldsImage old flash count new
-FormatEnds sizes limit old (Err fault) new = FormatRefusal sizes limit (length old) fault × (new ≡ old)
+abbrev pub BufferFormatEnds : Geometry → ℕ → List ℕ → Result ℕ BufferFault → List ℕ → Type 0
+BufferFormatEnds sizes limit old (Ok count) new = (flash : SimFlash) × IsMade sizes limit flash × HoldsImage old flash count new
+BufferFormatEnds sizes limit old (Err fault) new = FormatRefusal sizes limit (length old) fault × (new ≡ old)
 
 -- why bytes spell no flash: for want of memory, or by their fault
 abbrev pub DecodeRefusal : List ℕ → BufferFault → Type 0
@@ -58,31 +58,31 @@ CheckRefusal image (BufferFault.System fault) = (start : SimFlash) × (end : Sim
 CheckRefusal image fault = DecodeRefusal image fault
 
 -- the flash that bytes spell is mounted; or it is not, for a cause
-abbrev pub CheckEnds : List ℕ → Result (Unit {0}) BufferFault → Type 0
-CheckEnds image (Ok done) = (start : SimFlash) × (end : SimFlash) × (system : System) × IsDecoded image start × IsMountOf (device_of start) (device_of end) system
-CheckEnds image (Err fault) = CheckRefusal image fault
+abbrev pub BufferCheckEnds : List ℕ → Result (Unit {0}) BufferFault → Type 0
+BufferCheckEnds image (Ok done) = (start : SimFlash) × (end : SimFlash) × (system : System) × IsDecoded image start × IsMountOf (device_of start) (device_of end) system
+BufferCheckEnds image (Err fault) = CheckRefusal image fault
 
 -- a script was run on the flash that bytes spell, and so ended, with the flash that is left and the replies
-abbrev pub Plays : List ℕ → List ℕ → Result (Unit {0}) ScriptFault → SimFlash → List ℕ → Type 0
-Plays image script result end replies = (start : SimFlash) × (left : Option (List ℕ)) × IsDecoded image start × Ends start end (Some script) left result (Some []) (Some replies)
+abbrev pub BufferPlays : List ℕ → List ℕ → Result (Unit {0}) ScriptFault → SimFlash → List ℕ → Type 0
+BufferPlays image script result end replies = (start : SimFlash) × (left : Option (List ℕ)) × IsDecoded image start × EndsOnSimFlash start end (Some script) left result (Some []) (Some replies)
 
 -- what a script leaves that ran to its end: the image of the flash, and the replies
 abbrev pub IsPlayed : List ℕ → List ℕ → Played → Type 0
-IsPlayed image script played = (end : SimFlash) × Plays image script (Ok tt) end played.replies.items × (played.image.items ≡ image_of (device_of end))
+IsPlayed image script played = (end : SimFlash) × BufferPlays image script (Ok tt) end played.replies.items × (played.image.items ≡ image_of (device_of end))
 
 -- it was not run to its end, for this
-abbrev pub BreaksOff : List ℕ → List ℕ → BufferFault → Type 0
-BreaksOff image script fault = (end : SimFlash) × (replies : List ℕ) × (why : ScriptFault) × Plays image script (Err why) end replies × (of_script why ≡ fault)
+abbrev pub BufferBreaksOff : List ℕ → List ℕ → BufferFault → Type 0
+BufferBreaksOff image script fault = (end : SimFlash) × (replies : List ℕ) × (why : ScriptFault) × BufferPlays image script (Err why) end replies × (buffer_fault_of_script why ≡ fault)
 
 -- why a script was not run to its end on the flash that bytes spell: they spell none, there is no system, or the input failed
 abbrev pub PlayRefusal : List ℕ → List ℕ → BufferFault → Type 0
-PlayRefusal image script (BufferFault.System fault) = BreaksOff image script (BufferFault.System fault)
-PlayRefusal image script BufferFault.Input = BreaksOff image script BufferFault.Input
+PlayRefusal image script (BufferFault.System fault) = BufferBreaksOff image script (BufferFault.System fault)
+PlayRefusal image script BufferFault.Input = BufferBreaksOff image script BufferFault.Input
 PlayRefusal image script fault = DecodeRefusal image fault
 
 -- it was, and the image of the flash that is left and the replies fail to fit so
 abbrev pub Overflows : List ℕ → List ℕ → (ℕ → ℕ → Type 0) → Type 0
-Overflows image script Fails = (end : SimFlash) × (replies : List ℕ) × Plays image script (Ok tt) end replies × Fails (length (image_of (device_of end))) (length replies)
+Overflows image script Fails = (end : SimFlash) × (replies : List ℕ) × BufferPlays image script (Ok tt) end replies × Fails (length (image_of (device_of end))) (length replies)
 
 -- why a script on the image at the front of a buffer has no effect: the image is told to be longer than the buffer; or the
 -- script is not run to its end; or the new image is longer than the buffer, or it is not and the replies are longer than theirs
@@ -103,7 +103,7 @@ buffers image replies = record { image = image; replies = replies }
 
 -- a script was run to its end on the image of so many bytes at the front of a buffer: the image of the flash that is left stands
 -- there, and the replies stand at the front of theirs; or both buffers are as they were, for a cause
-abbrev pub RunEnds : Buffers → ℕ → List ℕ → Result Written BufferFault → Buffers → Type 0
-RunEnds old count script (Ok written) new = (count ≤ length old.image) × ((end : SimFlash) × (replies : List ℕ) × Plays (take count old.image) script (Ok tt) end replies
+abbrev pub BufferRunEnds : Buffers → ℕ → List ℕ → Result Written BufferFault → Buffers → Type 0
+BufferRunEnds old count script (Ok written) new = (count ≤ length old.image) × ((end : SimFlash) × (replies : List ℕ) × BufferPlays (take count old.image) script (Ok tt) end replies
     × HoldsImage old.image end written.image new.image × HoldsAtFront old.replies replies written.replies new.replies)
-RunEnds old count script (Err fault) new = RunRefusal old.image count script (length old.replies) fault × (new ≡ old)
+BufferRunEnds old count script (Err fault) new = RunRefusal old.image count script (length old.replies) fault × (new ≡ old)

@@ -7,21 +7,21 @@ use Rattle.shell.specs.declared.scripts.ScriptFault.{ScriptFault}
 use Rattle.image_buffer.specs.declared.buffer_fault.BufferFault.{BufferFault}
 
 -- bytes that are no image; want of memory is told alike wherever it comes
-abbrev pub of_image : ImageFault → BufferFault
-of_image ImageFault.Memory = BufferFault.Memory
-of_image fault = BufferFault.Image fault
+abbrev pub buffer_fault_of_image : ImageFault → BufferFault
+buffer_fault_of_image ImageFault.Memory = BufferFault.Memory
+buffer_fault_of_image fault = BufferFault.Image fault
 
 -- a refused system
-abbrev pub of_system : Fault → BufferFault
-of_system Fault.NoMemory = BufferFault.Memory
-of_system fault = BufferFault.System fault
+abbrev pub buffer_fault_of_system : Fault → BufferFault
+buffer_fault_of_system Fault.NoMemory = BufferFault.Memory
+buffer_fault_of_system fault = BufferFault.System fault
 
 -- a script that did not run to its end: its replies are written into memory
-abbrev pub of_script : ScriptFault → BufferFault
-of_script (ScriptFault.Mount fault) = of_system fault
-of_script ScriptFault.Read = BufferFault.Input
-of_script ScriptFault.Write = BufferFault.Memory
-of_script ScriptFault.Memory = BufferFault.Memory
+abbrev pub buffer_fault_of_script : ScriptFault → BufferFault
+buffer_fault_of_script (ScriptFault.Mount fault) = buffer_fault_of_system fault
+buffer_fault_of_script ScriptFault.Read = BufferFault.Input
+buffer_fault_of_script ScriptFault.Write = BufferFault.Memory
+buffer_fault_of_script ScriptFault.Memory = BufferFault.Memory
 
 -- the number of what is wrong with the bytes of an image
 abbrev pub image_number_of : ImageFault → ℕ
@@ -33,11 +33,11 @@ image_number_of ImageFault.Trailing = 105
 image_number_of ImageFault.Memory = 25
 
 -- the number
-abbrev pub number_of : BufferFault → ℕ
-number_of (BufferFault.System fault) = faults.number_of fault
-number_of BufferFault.Memory = 25
-number_of (BufferFault.Image fault) = image_number_of fault
-number_of BufferFault.Length = 110
-number_of BufferFault.ImageRoom = 111
-number_of BufferFault.ReplyRoom = 112
-number_of BufferFault.Input = 113
+abbrev pub buffer_fault_number : BufferFault → ℕ
+buffer_fault_number (BufferFault.System fault) = faults.number_of fault
+buffer_fault_number BufferFault.Memory = 25
+buffer_fault_number (BufferFault.Image fault) = image_number_of fault
+buffer_fault_number BufferFault.Length = 110
+buffer_fault_number BufferFault.ImageRoom = 111
+buffer_fault_number BufferFault.ReplyRoom = 112
+buffer_fault_number BufferFault.Input = 113

@@ -35,11 +35,11 @@ pub enum BufferFault {
 
 impl BufferFault {
     ghost use Rattle.std.specs.Prelude.{◌≡◌};
-    ghost use Rattle.image_buffer.specs.Faults.{of_image, of_system, of_script, number_of};
+    ghost use Rattle.image_buffer.specs.Faults.{buffer_fault_of_image, buffer_fault_of_system, buffer_fault_of_script, buffer_fault_number};
 
     /// By why bytes are no image.
     pub(crate) fn of_image(fault: ImageFault) -> BufferFault
-        ensures { result ≡ of_image fault }
+        ensures { result ≡ buffer_fault_of_image fault }
     {
         match fault {
             ImageFault::Memory => BufferFault::Memory,
@@ -49,7 +49,7 @@ impl BufferFault {
 
     /// By why there is no system.
     pub(crate) fn of_system(fault: Fault) -> BufferFault
-        ensures { result ≡ of_system fault }
+        ensures { result ≡ buffer_fault_of_system fault }
     {
         match fault {
             Fault::NoMemory => BufferFault::Memory,
@@ -60,7 +60,7 @@ impl BufferFault {
     /// By why a script did not run to its end. Its replies are written into memory, which alone can
     /// refuse them.
     pub(crate) fn of_script(fault: ScriptFault) -> BufferFault
-        ensures { result ≡ of_script fault }
+        ensures { result ≡ buffer_fault_of_script fault }
     {
         match fault {
             ScriptFault::Mount(fault) => BufferFault::of_system(fault),
@@ -72,7 +72,7 @@ impl BufferFault {
     /// The number: of a refused system and of want of memory that of the refusal, 1 to 31; 101 to 105
     /// of what is wrong with the bytes of an image; and 110 to 113.
     pub fn number(self) -> u32
-        ensures { result ≡ number_of self }
+        ensures { result ≡ buffer_fault_number self }
     {
         match self {
             BufferFault::System(fault) => u32::from(fault.number()),

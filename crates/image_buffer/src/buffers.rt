@@ -4,7 +4,7 @@ ghost use Rattle.flash_model.specs.Simulation.{device_of};
 ghost use Rattle.flash_model.specs.declared.sim_flash.SimFlash.{SimFlash};
 ghost use Rattle.flash_image.specs.Images.{image_of};
 ghost use Rattle.shell.specs.Tools.{IsDecoded, IsMade};
-ghost use Rattle.image_buffer.specs.Buffers.{FormatEnds, CheckEnds, RunEnds, MakeRefusal, DecodeRefusal, PlayRefusal, IsPlayed, buffers};
+ghost use Rattle.image_buffer.specs.Buffers.{BufferFormatEnds, BufferCheckEnds, BufferRunEnds, MakeRefusal, DecodeRefusal, PlayRefusal, IsPlayed, buffers};
 ghost use Rattle.image_buffer.specs.declared.buffer_fault.BufferFault.{BufferFault};
 
 use crate::buffer_fault::BufferFault;
@@ -44,7 +44,7 @@ pub fn format_buffer(
     history: u32,
     buffer: &mut [u8],
 ) -> Result<usize, BufferFault>
-    ensures { FormatEnds sizes history buffer.old result buffer.new }
+    ensures { BufferFormatEnds sizes history buffer.old result buffer.new }
 {
     let flash = make_flash(alloc, sizes, history)?;
     let image = spell_flash(alloc, &flash)?;
@@ -59,7 +59,7 @@ pub fn format_buffer(
 /// `Image` where they are no image, `System` where the mount is refused, `Memory` where memory could
 /// not be had.
 pub fn check_buffer(alloc: Global, image: &[u8]) -> Result<(), BufferFault>
-    ensures { CheckEnds image.now result }
+    ensures { BufferCheckEnds image.now result }
 {
     let mut flash = read_flash(alloc, image)?;
     match mount(alloc, &mut flash) {
@@ -83,7 +83,7 @@ pub fn run_buffer(
     script: &[u8],
     replies: &mut [u8],
 ) -> Result<Written, BufferFault>
-    ensures { RunEnds (buffers buffer.old replies.old) count script.now result (buffers buffer.new replies.new) }
+    ensures { BufferRunEnds (buffers buffer.old replies.old) count script.now result (buffers buffer.new replies.new) }
 {
     if count > buffer.len() {
         return Err(BufferFault::Length);

@@ -14,14 +14,14 @@ use Rattle.fs_types.specs.declared.call.Call.{Call}
 use Rattle.fs_types.specs.declared.call.Version.{Version}
 use Rattle.fs_types.specs.declared.call.Stat.{Stat}
 use Rattle.fs_types.specs.declared.call.View.{View}
-use Rattle.fs_types.specs.declared.fault.Fault.TheVariants.{NoEntry, NotDirectory}
+use Rattle.fs_types.specs.declared.fault.Fault.TheVariants.{NoEntry, NotDirectory, IsDirectory}
 use Rattle.plain_trees.specs.Contents.{Entry, is_dir, IsTree, lookup_refusal}
 use Rattle.plain_trees.specs.Trees.{Tree, bare, children, IsFileTree}
 use Rattle.plain_trees.proofs.Beneath.{None≢Some, same_Some}
 use Rattle.plain_trees.proofs.Listings.{listing_law}
 use Rattle.plain_trees.proofs.Lookups.{lookup_law, some-is}
 use Rattle.plain_trees.proofs.Shapes.{last_name}
-use Rattle.history_machine.specs.History.{view_refusal, place_of}
+use Rattle.history_machine.specs.History.{view_refusal, version_place}
 use Rattle.history_machine.specs.Machine.{Machine, IsMachine, refusal, view_tree, stat_of}
 use Rattle.history_machine.proofs.Kept.{bare-file_tree, working-file_tree}
 use Rattle.inquiries.specs.Items.{item_at, items_below, IsDirectoryOf}
@@ -48,7 +48,7 @@ at_name test (f ∷ es) all = go (test f.0) (at_name test es (All-tail (λ (e : 
 -- it is a lawful one, whatever the view
 pub view-file_tree : (m : Machine) (view : View) → IsMachine m → IsFileTree (view_tree m view)
 view-file_tree m View.Present is = working-file_tree m is
-view-file_tree m (View.Serial serial) is = at_place m.history.versions (place_of m.history serial) is.trees
+view-file_tree m (View.Serial serial) is = at_place m.history.versions (version_place m.history serial) is.trees
 view-file_tree m (View.Checkpoint name) is = at_name (is_at (name_cmp name)) m.history.checkpoints is.kept
 
 -- ---- what stands there
@@ -95,6 +95,11 @@ module _ (m : Machine) (view : View) (is : IsMachine m) (seen : view_refusal m.h
   list_accepted p there =
       ap₂ option_or seen (ap₂ option_or (lookup_there (view_tree m view) p good.shape (some-is (get (view_tree m view) p) Entry.Dir there))
       (ap (λ o. option_map_or (λ (entry : Entry). if is_dir entry then None else Some NotDirectory) o (Some NoEntry)) there))
+
+  pub file_accepted : (p : Path) (bytes : List ℕ) (offset count : ℕ) → get (view_tree m view) p ≡ Some (Entry.File bytes) → refusal m (Call.ReadAt view p offset count) ≡ None
+  file_accepted p bytes offset count there =
+      ap₂ option_or seen (ap₂ option_or (lookup_there (view_tree m view) p good.shape (some-is (get (view_tree m view) p) (Entry.File bytes) there))
+      (ap (λ o. option_map_or (λ (entry : Entry). if is_dir entry then Some IsDirectory else None) o (Some NoEntry)) there))
 
   -- the root is there
   pub root_there : IsDirectoryOf m view []

@@ -2,7 +2,7 @@
 use Rattle.std.proofs.Common.{◌≡◌, ◌∙◌, ◌⊎◌, inl, inr, ◌≤◌, ℕ, Bool, true, false, Option, Some, None, Result, Ok, Err, refl, sym, ap, subst, arith}
 use Rattle.std.proofs.lemmas.Bool.{true≢false}
 use Rattle.std.proofs.lemmas.List.{take_all}
-use Rattle.std.specs.Prelude.{◌&&◌, if◌then◌else◌, IfOk, IfErr, List, length}
+use Rattle.std.specs.Prelude.{◌&&◌, if◌then◌else◌, IfOk, IfErr, List, length, map}
 use Rattle.std.specs.FinMap.{get}
 use Rattle.std.specs.Option.{option_or, option_map_or}
 use Rattle.fs_types.specs.Names.{Path}
@@ -13,9 +13,9 @@ use Rattle.fs_types.specs.declared.fault.Fault.{Fault}
 use Rattle.fs_types.specs.declared.fault.Fault.TheVariants.{NoEntry, IsDirectory, FlashFull, ReadOnly, Overflow, ReadFailed, PowerCut, NoMemory}
 use Rattle.fs_types.specs.declared.limits.TheConstants.{MAX_FILE_BYTES}
 use Rattle.plain_trees.specs.Contents.{Entry, is_dir, lookup_refusal, read_from}
-use Rattle.plain_trees.specs.Trees.{bytes_at, bytes_of, IsFileTree}
-use Rattle.history_machine.specs.History.{view_refusal}
-use Rattle.history_machine.specs.Machine.{Machine, view_tree, refusal, machine_of, reply_of, is_accepted, changes_tree, change_need, need}
+use Rattle.plain_trees.specs.Trees.{Tree, bytes_of_file, bytes_of, IsFileTree}
+use Rattle.history_machine.specs.History.{Past, view_refusal}
+use Rattle.history_machine.specs.Machine.{Machine, view_tree, refusal, machine_of, reply_of, log_of, is_accepted, changes_tree, change_need, need}
 use Rattle.flash_model.specs.Device.{Device}
 use Rattle.working_state.specs.Seen.{Seen, seen_on, machine_on}
 use Rattle.working_state.specs.Steps.{is_writing, is_sync, tells_space, replied, IsDone, MayRefuse}
@@ -135,6 +135,24 @@ module _ {T : Type 0} (f : T → Reply) (d e : Device) (m n : System) (call : Ca
   refused_of (Ok x) s step = tt
   refused_of (Err fault) s step = why_refused d e m n call (Err fault) is step fault s refl
 
+-- ---- the log
+
+-- what it tells
+pub log_told : (d : Device) (m : System) (reply : Reply) → SystemStep d m Call.Log (Ok reply) d m → reply ≡ log_of (machine_on d m.state).history
+log_told d m reply step = (accepted_reply d d m m Call.Log (Ok reply) log_reads step reply refl).1
+
+-- the parts of a log
+pub log_parts : (h : Past Tree) (next cursor : ℕ) (dropped : Bool) (serials : List ℕ) (names : List (List ℕ)) → Reply.Log next dropped serials cursor names ≡ log_of h
+    → (serials ≡ map (λ v. v.serial) h.versions) × (cursor ≡ h.cursor) × (names ≡ map (λ e. e.0) h.checkpoints)
+log_parts h next cursor dropped serials names is = (cc, cc, cc)
+
+-- and by what it is refused
+pub log_met : (d : Device) (m : System) (fault : Fault) → IsSystem d m → SystemStep d m Call.Log (Err fault) d m → Meets d d fault
+log_met d m fault s step = elim (why_refused d d m m Call.Log (Err fault) log_reads step fault s refl) [
+  | inl own ↦ let wrong : None ≡ Some fault = own in absurd cc
+  | inr met ↦ met
+]
+
 -- ---- the bytes of a file
 
 or_none : {A : Type 0} (a b : Option A) → option_or a b ≡ None → b ≡ None
@@ -143,7 +161,7 @@ or_none (Some x) b e = absurd cc
 
 -- a file that is read whole
 pub whole_file : (m : Machine) (view : View) (path : Path) (bytes : List ℕ) → IsFileTree (view_tree m view) → refusal m (Call.ReadAt view path 0 MAX_FILE_BYTES) ≡ None
-    → bytes ≡ read_from (bytes_at (view_tree m view) path) 0 MAX_FILE_BYTES → get (view_tree m view) path ≡ Some (Entry.File bytes)
+    → bytes ≡ read_from (bytes_of_file (view_tree m view) path) 0 MAX_FILE_BYTES → get (view_tree m view) path ≡ Some (Entry.File bytes)
 whole_file m view path bytes good ok is =
     go (get (view_tree m view) path) refl (or_none (lookup_refusal (get (view_tree m view)) path) _ (or_none (view_refusal m.history view) _ ok)) is
   where
@@ -162,7 +180,7 @@ file_of d e m n view path (Ok bytes) s step =
     let call = Call.ReadAt view path 0 MAX_FILE_BYTES in
     let a = accepted_reply d e m n call (Ok (Reply.Bytes bytes)) (file_reads view path 0 MAX_FILE_BYTES) step (Reply.Bytes bytes) refl in
     let told = a.1 in
-    let same : bytes ≡ read_from (bytes_at (view_tree (machine_on d m.state) view) path) 0 MAX_FILE_BYTES = cc in
+    let same : bytes ≡ read_from (bytes_of_file (view_tree (machine_on d m.state) view) path) 0 MAX_FILE_BYTES = cc in
     whole_file (machine_on d m.state) view path bytes (view-file_tree (machine_on d m.state) view s.mounted.machine) a.0 same
 file_of d e m n view path (Err fault) s step = tt
 

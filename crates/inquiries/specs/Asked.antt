@@ -6,7 +6,7 @@ use Rattle.working_state.specs.Seen.{machine_on}
 use Rattle.system.specs.Mounts.{IsMountOf}
 use Rattle.system.specs.declared.systems.System.{System}
 use Rattle.undofs.specs.Refusals.{RefusesMount}
-use Rattle.inquiries.specs.Inquiries.{refusal_of, told}
+use Rattle.inquiries.specs.Inquiries.{inquiry_refusal, told}
 use Rattle.inquiries.specs.Readings.{Meets}
 use Rattle.inquiries.specs.declared.asking.AskFault.{AskFault}
 use Rattle.inquiries.specs.declared.inquiry.Inquiry.{Inquiry}
@@ -16,7 +16,7 @@ pub record Tells (d : Device) (inquiry : Inquiry) (bytes : List ℕ) : Type 0 wh
   pub device : Device
   pub system : System
   pub mounted : IsMountOf d device system
-  pub accepted : refusal_of (machine_on device system.state) inquiry ≡ None
+  pub accepted : inquiry_refusal (machine_on device system.state) inquiry ≡ None
   pub told : bytes ≡ told (machine_on device system.state) inquiry
 
 -- it is mounted, and what is asked is refused: by the refusal that is its own, or by what the work met
@@ -25,7 +25,7 @@ pub record RefusesInquiry (d : Device) (inquiry : Inquiry) (fault : Fault) : Typ
   pub system : System
   pub left : Device
   pub mounted : IsMountOf d device system
-  pub why : (refusal_of (machine_on device system.state) inquiry ≡ Some fault) ⊎ Meets device left fault
+  pub why : (inquiry_refusal (machine_on device system.state) inquiry ≡ Some fault) ⊎ Meets device left fault
 
 -- why nothing is told: no system is mounted, or what is asked is refused
 abbrev pub AskCause : Device → Inquiry → AskFault → Type 0

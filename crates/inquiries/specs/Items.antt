@@ -1,12 +1,12 @@
 -- All that stands in a tree.
-use Rattle.std.specs.Prelude.{◌≡◌, ◌++◌, zero, suc, ℕ, Some, None, List, [], ◌∷◌, if◌then◌else◌}
+use Rattle.std.specs.Prelude.{◌≡◌, ◌++◌, zero, suc, ℕ, Some, None, IsSome, List, [], ◌∷◌, if◌then◌else◌}
 use Rattle.std.specs.FinMap.{get}
 use Rattle.std.specs.List.{flat_map}
 use Rattle.fs_types.specs.Names.{Path}
 use Rattle.fs_types.specs.declared.call.View.{View}
 use Rattle.fs_types.specs.declared.limits.TheConstants.{MAX_NAMES}
 use Rattle.plain_trees.specs.Contents.{Entry}
-use Rattle.plain_trees.specs.Trees.{Tree, children}
+use Rattle.plain_trees.specs.Trees.{Tree, children, bytes_of_file}
 use Rattle.history_machine.specs.History.{view_refusal}
 use Rattle.history_machine.specs.Machine.{Machine, view_tree, stat_of}
 use Rattle.inquiries.specs.declared.items.Item.{Item}
@@ -24,7 +24,17 @@ items_below t (suc levels) directory = flat_map (λ entry. item_at t (directory 
 abbrev pub items_of : Tree → List Item
 items_of t = items_below t MAX_NAMES []
 
+-- an item is what stands in a tree
+pub record IsItemOf (t : Tree) (item : Item) : Type 0 where
+  pub there : IsSome (get t item.path)
+  pub stat : item.stat ≡ stat_of t item.path (get t item.path)
+
 -- a view is there, and a directory of its tree stands at the path
 pub record IsDirectoryOf (m : Machine) (view : View) (path : Path) : Type 0 where
   pub accepted : view_refusal m.history view ≡ None
   pub there : get (view_tree m view) path ≡ Some Entry.Dir
+
+-- a view is there, and a file of its tree stands at the path
+pub record IsFileOf (m : Machine) (view : View) (path : Path) : Type 0 where
+  pub accepted : view_refusal m.history view ≡ None
+  pub there : get (view_tree m view) path ≡ Some (Entry.File (bytes_of_file (view_tree m view) path))

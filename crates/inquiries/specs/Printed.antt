@@ -1,5 +1,5 @@
--- What is printed of a tree.
-use Rattle.std.specs.Prelude.{ℕ, List, ◌++◌, decimal, codes}
+-- What is printed of trees.
+use Rattle.std.specs.Prelude.{ℕ, List, ◌++◌, length, sum_by, decimal, codes}
 use Rattle.std.specs.List.{flat_map}
 use Rattle.fs_types.specs.Names.{Name, Path}
 use Rattle.fs_types.specs.declared.call.Stat.{Stat}
@@ -22,6 +22,18 @@ stat_mark (Stat.File bytes) = codes " " ++ decimal bytes
 
 abbrev pub item_line : Item → List ℕ
 item_line item = path_text item.path ++ stat_mark item.stat ++ codes "\n"
+
+-- how many bytes a file has; none for a directory
+abbrev pub stat_bytes : Stat → ℕ
+stat_bytes (Stat.Dir entries) = 0
+stat_bytes (Stat.File bytes) = bytes
+
+abbrev pub file_bytes : Item → ℕ
+file_bytes item = stat_bytes item.stat
+
+-- how many directories and files these are, and how many bytes the files have
+abbrev pub sizes_text : List Item → List ℕ
+sizes_text items = codes " entries " ++ decimal (length items) ++ codes " bytes " ++ decimal (sum_by file_bytes items)
 
 -- a line for each directory and each file
 abbrev pub tree_lines : Tree → List ℕ

@@ -6,7 +6,7 @@ ghost use Rattle.history_machine.specs.Machine.{view_tree};
 ghost use Rattle.inquiries.specs.Items.{items_below, items_of, IsDirectoryOf};
 ghost use Rattle.inquiries.specs.Readings.{shown, IsUnchanged, Fails, Meets};
 
-use crate::reading::{list_at, stat_at};
+use crate::reading::{check_view, list_at, stat_at};
 use flash_model::Flash;
 use fs_types::{Fault, MAX_NAMES, Name, Path, Stat, View};
 use std::alloc::{AllocError, Global};
@@ -33,8 +33,8 @@ pub(crate) fn items_of<F: Flash>(
     ensures ok { IfOk result (λ items. items.items ≡ items_of (view_tree (shown fs.old) view.now)) }
     ensures err { IfErr result (Fails (view_refusal (shown fs.old).history view.now) fs.old fs.new) }
 {
+    check_view(alloc, fs, view)?;
     let root = Path::root(alloc);
-    stat_at(fs, view, &root)?;
     let mut items = Vec::new(alloc);
     add_items(alloc, fs, view, &root, MAX_NAMES, &mut items)?;
     Ok(items)

@@ -1,12 +1,15 @@
-//! What is asked of a mounted file system by its user, and only read: files, trees, and what differs
-//! between two of them.
+//! What is asked of a mounted file system by its user, and only read: files, trees, what differs
+//! between two of them, and how much each kept one holds.
 #![tactic(auto)]
 
 mod asking;
+mod counterpart;
+mod differences;
 mod inquiry;
 mod items;
 mod printing;
 mod reading;
+mod versions;
 
 pub use asking::{AskFault, ask};
 pub use inquiry::{Inquiry, tell};

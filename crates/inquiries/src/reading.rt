@@ -1,14 +1,16 @@
 //! Calls that only read a mounted file system.
-ghost use Rattle.std.specs.Prelude.{◌≡◌, Some, None, IfOk, IfErr};
+ghost use Rattle.std.specs.Prelude.{◌≡◌, Some, None, IfOk, OnOk, IfErr};
 ghost use Rattle.std.specs.FinMap.{get};
 ghost use Rattle.plain_trees.specs.Contents.{Entry};
 ghost use Rattle.plain_trees.specs.Trees.{children};
+ghost use Rattle.history_machine.specs.History.{view_refusal};
 ghost use Rattle.history_machine.specs.Machine.{refusal, view_tree, stat_of};
 ghost use Rattle.fs_types.specs.declared.call.Call.{Call};
-ghost use Rattle.inquiries.specs.Readings.{shown, IsUnchanged, Fails};
+ghost use Rattle.inquiries.specs.Readings.{shown, IsUnchanged, Fails, Meets};
+ghost use Rattle.inquiries.specs.Versions.{kept_serials, kept_names};
 
 use flash_model::Flash;
-use fs_types::{Bytes, Fault, MAX_FILE_BYTES, Name, Path, Sequence, Stat, View};
+use fs_types::{Bytes, CpName, Fault, MAX_FILE_BYTES, Name, Path, Reply, Sequence, Stat, View};
 use std::alloc::Global;
 use undofs::Fs;
 
@@ -37,6 +39,52 @@ pub(crate) fn list_at<F: Flash>(
     ensures err { IfErr result (Fails (refusal (shown fs.old) (Call.List view.now path.now)) fs.old fs.new) }
 {
     fs.list(alloc, view, path)
+}
+
+/// Looks whether a view is there.
+pub(crate) fn check_view<F: Flash>(
+    alloc: Global,
+    fs: &mut Fs<'_, F>,
+    view: &View,
+) -> Result<(), Fault>
+    ensures same { IsUnchanged fs.old fs.new }
+    ensures accepted { OnOk result (view_refusal (shown fs.old).history view.now ≡ None) }
+    ensures err { IfErr result (Fails (view_refusal (shown fs.old).history view.now) fs.old fs.new) }
+{
+    stat_at(fs, view, &Path::root(alloc))?;
+    Ok(())
+}
+
+/// The trees that are kept: the serials of the versions, the oldest first, the place of the present
+/// one among them, and the names of the checkpoints in byte order.
+#[derive(Debug, Drop)]
+pub(crate) struct KeptTrees {
+    pub(crate) serials: Sequence<u64>,
+    pub(crate) cursor: u64,
+    pub(crate) checkpoints: Sequence<CpName>,
+}
+
+/// The trees that are kept.
+pub(crate) fn kept_trees<F: Flash>(alloc: Global, fs: &Fs<'_, F>) -> Result<KeptTrees, Fault>
+    ensures serials { IfOk result (λ kept. kept.serials ≡ kept_serials (shown fs.now)) }
+    ensures cursor { IfOk result (λ kept. kept.cursor ≡ (shown fs.now).history.cursor) }
+    ensures checkpoints { IfOk result (λ kept. kept.checkpoints ≡ kept_names (shown fs.now)) }
+    ensures err { IfErr result (Meets (F.device fs.now.flash.now) (F.device fs.now.flash.now)) }
+{
+    match fs.log(alloc)? {
+        Reply::Log {
+            next: _,
+            dropped: _,
+            versions,
+            cursor,
+            checkpoints,
+        } => Ok(KeptTrees {
+            serials: versions,
+            cursor,
+            checkpoints,
+        }),
+        _ => unreachable!(),
+    }
 }
 
 /// All bytes of a file of a view.

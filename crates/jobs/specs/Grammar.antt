@@ -43,6 +43,9 @@ get_app = with_rule (with_rule (with_rule (image_app (codes "get")) (word_rule (
 abbrev pub tree_app : App
 tree_app = with_rule (image_app (codes "tree")) (optional_rule (codes "VIEW"))
 
+abbrev pub diff_app : App
+diff_app = with_rule (with_rule (image_app (codes "diff")) (word_rule (codes "VIEW"))) (optional_rule (codes "OTHER"))
+
 abbrev pub explain_app : App
 explain_app = with_rule (new_app (codes "explain")) refusal_rule
 
@@ -59,12 +62,12 @@ changing_app = with_subcommand (with_subcommand (with_subcommand bare_app format
 
 -- a program with the subcommands more that read what stands in an image
 abbrev pub with_reading_apps : App → App
-with_reading_apps app = with_subcommand (with_subcommand app get_app.top) tree_app.top
+with_reading_apps app = with_subcommand (with_subcommand (with_subcommand app get_app.top) tree_app.top) diff_app.top
 
 -- a program with the subcommands more that take an image alone
 abbrev pub with_image_apps : App → App
-with_image_apps app = with_subcommand (with_subcommand (with_subcommand app
-    (image_app (codes "check")).top) (image_app (codes "log")).top) (image_app (codes "df")).top
+with_image_apps app = with_subcommand (with_subcommand (with_subcommand (with_subcommand app
+    (image_app (codes "versions")).top) (image_app (codes "check")).top) (image_app (codes "log")).top) (image_app (codes "df")).top
 
 -- the program
 abbrev pub uffs : App

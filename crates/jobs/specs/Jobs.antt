@@ -20,6 +20,8 @@ task_named name = if bytes_eq name (codes "format") then Some Task.Format
     else if bytes_eq name (codes "put") then Some Task.Put
     else if bytes_eq name (codes "get") then Some Task.Get
     else if bytes_eq name (codes "tree") then Some Task.Tree
+    else if bytes_eq name (codes "diff") then Some Task.Diff
+    else if bytes_eq name (codes "versions") then Some Task.Versions
     else if bytes_eq name (codes "check") then Some Task.Check
     else if bytes_eq name (codes "log") then Some Task.Log
     else if bytes_eq name (codes "df") then Some Task.Df
@@ -61,23 +63,24 @@ flag_of (Some word) = bytes_eq word (codes "true")
 flag_of None = false
 
 -- the text of a word, if there is one
-abbrev pub text_of : Option (Bor (List ℕ)) → Option Text
-text_of = option_map (λ (s : Bor (List ℕ)). s.now)
+abbrev pub word_text : Option (Bor (List ℕ)) → Option Text
+word_text = option_map (λ (s : Bor (List ℕ)). s.now)
 
 -- the job is what a subcommand with its arguments says: numbers that no word gives are 256, 16, 32, 8 and 0, and other words
 -- are as given
 pub record IsJobOf (name : Text) (rows : List Row) (job : Job) : Type 0 where
   pub command : task_named name ≡ Some job.command
-  pub image : IsImageOf job.command (first_of (codes "IMAGE") rows) (text_of job.image)
+  pub image : IsImageOf job.command (first_of (codes "IMAGE") rows) (word_text job.image)
   pub page : IsNumberOf (one_of (codes "page") rows) 256 job.page
   pub pages : IsNumberOf (one_of (codes "pages") rows) 16 job.pages
   pub blocks : IsNumberOf (one_of (codes "blocks") rows) 32 job.blocks
   pub history : IsNumberOf (one_of (codes "history") rows) 8 job.history
   pub refusal : IsNumberOf (one_of (codes "NO") rows) 0 job.refusal
   pub stop : job.stop ≡ flag_of (first_of (codes "stop") rows)
-  pub path : text_of job.path ≡ first_of (codes "PATH") rows
-  pub file : text_of job.file ≡ first_of (codes "FILE") rows
-  pub view : text_of job.view ≡ first_of (codes "VIEW") rows
+  pub path : word_text job.path ≡ first_of (codes "PATH") rows
+  pub file : word_text job.file ≡ first_of (codes "FILE") rows
+  pub view : word_text job.view ≡ first_of (codes "VIEW") rows
+  pub other : word_text job.other ≡ first_of (codes "OTHER") rows
   pub progress : job.progress ≡ flag_of (first_of (codes "progress") rows)
 
 -- the job is what a subcommand says, where one was named

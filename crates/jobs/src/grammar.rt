@@ -2,7 +2,7 @@
 ghost use Rattle.std.specs.Prelude.{◌≡◌, IfOk, codes, false};
 ghost use Rattle.clap.specs.Words.{app_of, rule_of, new_app, with_rule, with_subcommand};
 ghost use Rattle.clap.specs.declared.builder.command.Command.TheViews.{out-Command};
-ghost use Rattle.jobs.specs.Grammar.{uffs, bare_app, changing_app, format_app, run_app, put_app, get_app, tree_app, explain_app, image_app};
+ghost use Rattle.jobs.specs.Grammar.{uffs, bare_app, changing_app, format_app, run_app, put_app, get_app, tree_app, diff_app, explain_app, image_app};
 ghost use Rattle.jobs.specs.Grammar.{with_reading_apps, with_image_apps, flag_rule, number_rule, refusal_rule, word_rule, optional_rule};
 
 use clap::{Arg, ArgAction, Command, value_parser};
@@ -19,6 +19,9 @@ pub(crate) const FILE: &str = "FILE";
 
 /// The name of the argument that is a view.
 pub(crate) const VIEW: &str = "VIEW";
+
+/// The name of the argument that is the view which another is compared with.
+pub(crate) const OTHER: &str = "OTHER";
 
 /// The name of the argument that is the number of a refusal.
 pub(crate) const REFUSAL: &str = "NO";
@@ -89,6 +92,27 @@ holds no image, or its mount was refused; 4 it was refused, told as uffs: NOSUCH
 
 Example: uffs tree disk.image =before";
 
+const DIFF_HELP: &str =
+    "Prints a line for each path at which the tree of VIEW and that of OTHER differ: - before what went,
+~ before a file with other bytes, and then + before what came. What went and what came are told as
+tree tells them. Without OTHER it is the present version; @5 is the version of serial 5, and =name a
+checkpoint. Nothing is written to IMAGE.
+
+Status: 0 it is printed, whatever differs; 1 IMAGE cannot be read, the output failed, or memory; 2
+the words; 3 IMAGE holds no image, or its mount was refused; 4 it was refused, told as
+uffs: NOSUCHVERSION 20.
+
+Example: uffs diff disk.image =before @5";
+
+const VERSIONS_HELP: &str =
+    "Prints a line for each kept version, the oldest first, and for each checkpoint: @ and its serial or =
+and its name, how many directories and files stand in its tree, and the bytes of these files. The
+present version is told as such. Nothing is written to IMAGE.
+
+Status: as of check.
+
+Example: uffs versions disk.image";
+
 const CHECK_HELP: &str =
     "The newest record is read, and every tree that it names. Nothing is written to IMAGE.
 
@@ -153,13 +177,21 @@ fn with_reading_commands<'a>(alloc: Global, program: Command<'a>) -> Result<Comm
     ensures { IfOk result (λ command. app_of command ≡ with_reading_apps (app_of program.entry)) }
 {
     let program = program.subcommand(get_command(alloc)?)?;
-    program.subcommand(tree_command(alloc)?)
+    let program = program.subcommand(tree_command(alloc)?)?;
+    program.subcommand(diff_command(alloc)?)
 }
 
 /// The program with the subcommands more that take an image alone.
 fn with_image_commands<'a>(alloc: Global, program: Command<'a>) -> Result<Command<'a>, AllocError>
     ensures { IfOk result (λ command. app_of command ≡ with_image_apps (app_of program.entry)) }
 {
+    let program = with_image_command(
+        alloc,
+        program,
+        "versions",
+        "Prints the versions and checkpoints of an image, with their sizes",
+        VERSIONS_HELP,
+    )?;
     let program = with_image_command(
         alloc,
         program,
@@ -325,6 +357,30 @@ fn tree_command<'a>(alloc: Global) -> Result<Command<'a>, AllocError>
         command,
         VIEW,
         "The version, as @5, or the checkpoint, as =name",
+    )
+}
+
+fn diff_command<'a>(alloc: Global) -> Result<Command<'a>, AllocError>
+    ensures app { IfOk result (λ command. app_of command ≡ diff_app) }
+    ensures local { IfOk result (λ command. (out-Command command).has_globals ≡ false) }
+{
+    let command = image_command(
+        alloc,
+        "diff",
+        "Prints what differs between two trees of an image",
+        DIFF_HELP,
+    )?;
+    let command = with_word(
+        alloc,
+        command,
+        VIEW,
+        "The version, as @5, or the checkpoint, as =name",
+    )?;
+    with_optional_word(
+        alloc,
+        command,
+        OTHER,
+        "The version or the checkpoint that it is compared with",
     )
 }
 

@@ -13,6 +13,10 @@ pub enum Task {
     Get,
     /// All that stands in an image is told.
     Tree,
+    /// What differs between two trees of an image is told.
+    Diff,
+    /// The versions and the checkpoints of an image are told, with their sizes.
+    Versions,
     /// An image is mounted.
     Check,
     /// The line `log` is run on an image.
@@ -50,6 +54,8 @@ pub struct Job<'a> {
     pub file: Option<&'a str>,
     /// The view of the image; none where none is named.
     pub view: Option<&'a str>,
+    /// The view that it is compared with; none where none is named.
+    pub other: Option<&'a str>,
     /// Whether progress is told.
     pub progress: bool,
 }

@@ -7,7 +7,7 @@ ghost use Rattle.jobs.specs.Jobs.{AreNumbersOf, AsksFor, SaysJob, IsNumberOf, Is
 ghost use Rattle.jobs.specs.declared.tasks.Job.{Job};
 ghost use Rattle.jobs.specs.declared.words.Numbers.{Numbers};
 
-use crate::grammar::{FILE, IMAGE, PATH, REFUSAL, VIEW, program};
+use crate::grammar::{FILE, IMAGE, OTHER, PATH, REFUSAL, VIEW, program};
 use crate::tasks::{Job, Task};
 use clap::error::ErrorKind;
 use clap::{ArgMatches, Command, Error};
@@ -92,6 +92,7 @@ fn said<'a>(matches: &ArgMatches<'a>) -> Option<Job<'a>>
         path: word(given, PATH),
         file: word(given, FILE),
         view: word(given, VIEW),
+        other: word(given, OTHER),
         progress: has_flag(given, "progress"),
     })
 }
@@ -119,6 +120,8 @@ fn task_named(name: &str) -> Option<Task>
         "put" => Some(Task::Put),
         "get" => Some(Task::Get),
         "tree" => Some(Task::Tree),
+        "diff" => Some(Task::Diff),
+        "versions" => Some(Task::Versions),
         "check" => Some(Task::Check),
         "log" => Some(Task::Log),
         "df" => Some(Task::Df),

@@ -40,6 +40,8 @@ impl<N: Nodes> Nodes for Counted<N> {
 
     ghost lends_front = { λ s. N.lends_front s.nodes };
 
+    ghost partly = { λ s. N.partly s.nodes };
+
     ghost reads = { λ s. N.reads s.nodes };
 
     ghost writes = { λ s. N.writes s.nodes };
@@ -82,6 +84,11 @@ impl<N: Nodes> Nodes for Counted<N> {
 
     fn fronted(&self) -> &[u8] {
         self.nodes.fronted()
+    }
+
+    fn read_at(&mut self, block: u32, offset: u32, out: &mut [u8]) -> Result<(), Fault> {
+        self.asked = self.asked.saturating_add(1);
+        self.nodes.read_at(block, offset, out)
     }
 
     fn supersede(&mut self, block: u32) {

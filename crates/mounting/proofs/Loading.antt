@@ -41,7 +41,7 @@ use Rattle.working_state.specs.Seen.{capacity_of, tree_on, machine_on}
 use Rattle.working_state.specs.Mounted.{IsStanding, IsMounted}
 use Rattle.working_state.specs.Roots.{HasRoot}
 use Rattle.working_state.specs.declared.state.State.{State}
-use Rattle.mounting.specs.Records.{history_of, roots_of, is_plain, HaveTrees, HasTrees, IsLoaded, RootsCause}
+use Rattle.mounting.specs.Records.{history_of, roots_of, knows_plain_only, HaveTrees, HasTrees, IsLoaded, RootsCause}
 
 pub roots_why : {F : Type 0} (device : F → Device) (s t : Store F) (plain : Bool) (roots : List ℕ) (fault : Fault) → IsReadFault fault
     → (fault ≡ Damaged → HaveTrees plain (device s.flash.now) roots → ⊥) → (fault ≢ Damaged → Causes device s t fault)
@@ -188,7 +188,7 @@ module _ (d e : Device) (r : Record) (s : State) (built : IsBuilt d e r s) where
     bad = built.bad;
     last = built.last;
     used = used_there;
-    trees = later_trees d e (is_plain r) (roots_of (history_of r)) same_sizes same_nodes built.trees;
+    trees = later_trees d e (knows_plain_only r) (roots_of (history_of r)) same_sizes same_nodes built.trees;
   }
 
 -- why trees of roots are not found, by another name of the roots and of the answer

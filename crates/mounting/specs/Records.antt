@@ -52,12 +52,12 @@ abbrev pub HaveTrees : Bool → Device → List ℕ → Type 0
 HaveTrees plain d roots = AreRoots (block_bytes d.geometry) (node_of d) roots × (plain ≡ true → IsPlain (node_of d) roots)
 
 -- the format of a record knows no other directories
-abbrev pub is_plain : Record → Bool
-is_plain r = r.format == OLD_FORMAT
+abbrev pub knows_plain_only : Record → Bool
+knows_plain_only r = r.format == OLD_FORMAT
 
 -- each version and checkpoint of a record has a tree of linked bodies, with directories of its format
 abbrev pub HasTrees : Device → Record → Type 0
-HasTrees d r = HaveTrees (is_plain r) d (roots_of (history_of r))
+HasTrees d r = HaveTrees (knows_plain_only r) d (roots_of (history_of r))
 
 -- a working state is what a record holds: its history, with no file open, its bad blocks, and the last block that was
 -- taken. Used are exactly the blocks that its roots reach

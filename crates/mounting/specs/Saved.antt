@@ -22,5 +22,5 @@ abbrev pub saved_trees : Device → Option (Past Tree)
 saved_trees d = option_map (trees_of d) (saved_on d)
 
 -- each version and checkpoint that it holds has a tree of linked bodies
-abbrev pub IsWhole : Device → Type 0
-IsWhole d = (r : Record) → saved_on d ≡ Some r → HasTrees d r
+abbrev pub IsWholeRecord : Device → Type 0
+IsWholeRecord d = (r : Record) → saved_on d ≡ Some r → HasTrees d r

@@ -5,7 +5,7 @@ ghost use Rattle.flash_model.specs.Geometry.{IsGeometry};
 ghost use Rattle.flash_model.specs.Reading.{OnlyReads};
 ghost use Rattle.record_format.specs.Payloads.{is_record};
 ghost use Rattle.mounting.specs.Costs.{AsksToVerify};
-ghost use Rattle.mounting.specs.Records.{history_of, roots_of, is_plain, IsLoaded, RootsCause};
+ghost use Rattle.mounting.specs.Records.{history_of, roots_of, knows_plain_only, IsLoaded, RootsCause};
 
 use crate::reached::use_reached;
 use crate::restored::{list_bad, list_roots, restore_history};
@@ -40,7 +40,7 @@ pub fn load<F: Flash>(
     // By reads alone, and how many.
     ensures only_reads { OnlyReads (F.device flash.old) (F.device flash.new) }
     ensures asks { AsksToVerify (F.device flash.old) (roots_of (history_of saved.now)) (F.device flash.new) }
-    ensures why { IfErr result (RootsCause (is_plain saved.now) (F.device flash.old) (roots_of (history_of saved.now)) (F.device flash.new)) }
+    ensures why { IfErr result (RootsCause (knows_plain_only saved.now) (F.device flash.old) (roots_of (history_of saved.now)) (F.device flash.new)) }
 {
     let history = restore_history(alloc, saved)?;
     let roots = list_roots(alloc, &history)?;

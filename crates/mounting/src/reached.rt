@@ -6,7 +6,7 @@ ghost use Rattle.flash_model.specs.Reading.{OnlyReads};
 ghost use Rattle.node_store.specs.Fitting.{Fits, StillFits};
 ghost use Rattle.node_store.specs.NodePages.{node_of};
 ghost use Rattle.node_store.specs.Storage as parts;
-ghost use Rattle.node_store.specs.Stores.{IsSound, Follows};
+ghost use Rattle.node_store.specs.Stores.{IsSoundStore, Follows};
 ghost use Rattle.block_trees.specs.Reached.{Reached};
 ghost use Rattle.reclaim.specs.Verified.{AreRoots, HasCost};
 ghost use Rattle.working_state.specs.Leaves.{HasLooked};
@@ -30,7 +30,7 @@ fn reached_in<F: Flash>(
     roots: &[u32],
     plain: bool,
 ) -> Result<Marks, Fault>
-    requires { IsSound F.device store.old }
+    requires { IsSoundStore F.device store.old }
     ensures follows { Follows F.device store.old store.new }
 
     // The blocks.
@@ -82,7 +82,7 @@ fn marked_in<F: Flash>(
     store: &mut Store<'_, F>,
     roots: &[u32],
 ) -> Result<Marks, Fault>
-    requires sound { IsSound F.device store.old }
+    requires sound { IsSoundStore F.device store.old }
     requires trees { AreRoots (block_bytes (F.device store.old.flash.now).geometry) (node_of (F.device store.old.flash.now)) roots.now }
     ensures follows { Follows F.device store.old store.new }
 

@@ -9,25 +9,25 @@ use Rattle.std.proofs.lemmas.Bool.{cases_Bool, cond-true, cond-false, eqb-true, 
 use Rattle.std.proofs.lemmas.Map.Made.{lookup-map_values}
 use Rattle.lru.specs.LruCache.{LruCache, IsValid, put_entries, promoted}
 use Rattle.lru.proofs.CallerLemmas.{Contains-lookup_entry}
-use Rattle.node_cache.specs.Cache.{NodeCache, plain, node_in, with_first, with_blocks, first_bytes, IsBounded}
+use Rattle.node_cache.specs.Cache.{NodeCache, entries_as_bytes, node_in, with_first, with_blocks, first_bytes, IsBounded}
 
 abbrev pub Node : Type 0
 Node = Vec ℕ Global
 
 abbrev pub view : LruCache ℕ Node → NodeCache
-view c = record { entries = plain c.entries; room = c.cap }
+view c = record { entries = entries_as_bytes c.entries; room = c.cap }
 
-take_plain : (n : ℕ) (es : List (ℕ × Node)) → plain (take n es) ≡ take n (plain es)
+take_plain : (n : ℕ) (es : List (ℕ × Node)) → entries_as_bytes (take n es) ≡ take n (entries_as_bytes es)
 take_plain zero es = refl
 take_plain (suc n) [] = refl
 take_plain (suc n) (e ∷ es) = ap (λ l. (e.0, e.1.items) ∷ l) (take_plain n es)
 
 module _ (b : ℕ) where
-  remove_plain : (es : List (ℕ × Node)) → plain (remove_entry (nat_eq b) es) ≡ remove_entry (nat_eq b) (plain es)
+  remove_plain : (es : List (ℕ × Node)) → entries_as_bytes (remove_entry (nat_eq b) es) ≡ remove_entry (nat_eq b) (entries_as_bytes es)
   remove_plain [] = refl
   remove_plain (e ∷ es) = elim (cases_Bool (nat_eq b e.0)) [
-    | inl is ↦ ap plain (cond-true _ _ _ is) ∙ sym (cond-true _ _ _ is)
-    | inr is_not ↦ ap plain (cond-false _ _ _ is_not) ∙ ap (λ l. (e.0, e.1.items) ∷ l) (remove_plain es) ∙ sym (cond-false _ _ _ is_not)
+    | inl is ↦ ap entries_as_bytes (cond-true _ _ _ is) ∙ sym (cond-true _ _ _ is)
+    | inr is_not ↦ ap entries_as_bytes (cond-false _ _ _ is_not) ∙ ap (λ l. (e.0, e.1.items) ∷ l) (remove_plain es) ∙ sym (cond-false _ _ _ is_not)
   ]
 
   -- where no entry is found, none is taken out
@@ -60,7 +60,7 @@ take_whole zero (x ∷ xs) fits = absurd (omega arith)
 take_whole (suc n) [] fits = refl
 take_whole (suc n) (x ∷ xs) fits = ap (λ l. x ∷ l) (take_whole n xs (omega arith))
 
-length_plain : (es : List (ℕ × Node)) → length (plain es) ≡ length es
+length_plain : (es : List (ℕ × Node)) → length (entries_as_bytes es) ≡ length es
 length_plain [] = refl
 length_plain (e ∷ es) = ap suc (length_plain es)
 
@@ -69,26 +69,26 @@ module _ (c : LruCache ℕ Node) (b : ℕ) where
   put v o = option_map_or (λ e. (e.0, v) ∷ remove_entry (nat_eq b) c.entries) o ((b, v) ∷ take (c.cap - 1) c.entries)
 
   abbrev taken : List ℕ → ℕ → List (ℕ × List ℕ)
-  taken bytes n = take n ((b, bytes) ∷ remove_entry (nat_eq b) (plain c.entries))
+  taken bytes n = take n ((b, bytes) ∷ remove_entry (nat_eq b) (entries_as_bytes c.entries))
 
-  put_new : (v : Node) (n : ℕ) → c.cap ≡ n → 0 < n → lookup_entry (nat_eq b) c.entries ≡ None → plain ((b, v) ∷ take (n - 1) c.entries) ≡ taken v.items n
+  put_new : (v : Node) (n : ℕ) → c.cap ≡ n → 0 < n → lookup_entry (nat_eq b) c.entries ≡ None → entries_as_bytes ((b, v) ∷ take (n - 1) c.entries) ≡ taken v.items n
   put_new v zero is some none = absurd (omega arith)
   put_new v (suc n) is some none =
       let less : suc n - 1 ≡ n = omega arith in
-      ap (λ k. plain ((b, v) ∷ take k c.entries)) less
-      ∙ ap (λ l. (b, v.items) ∷ l) (take_plain n c.entries ∙ ap (take n) (sym (ap plain (none_out b c.entries none)) ∙ remove_plain b c.entries))
+      ap (λ k. entries_as_bytes ((b, v) ∷ take k c.entries)) less
+      ∙ ap (λ l. (b, v.items) ∷ l) (take_plain n c.entries ∙ ap (take n) (sym (ap entries_as_bytes (none_out b c.entries none)) ∙ remove_plain b c.entries))
 
   put_old : (v : Node) (e : ℕ × Node) → length c.entries ≤ c.cap → lookup_entry (nat_eq b) c.entries ≡ Some e
-      → plain ((e.0, v) ∷ remove_entry (nat_eq b) c.entries) ≡ taken v.items c.cap
+      → entries_as_bytes ((e.0, v) ∷ remove_entry (nat_eq b) c.entries) ≡ taken v.items c.cap
   put_old v e most has =
       let key : b ≡ e.0 = eqb-true b e.0 (Contains-lookup_entry (nat_eq b) c.entries e has).1 in
       let out = one_out b c.entries e has in
-      let size : length (remove_entry (nat_eq b) (plain c.entries)) ≡ length (remove_entry (nat_eq b) c.entries) = ap length (sym (remove_plain b c.entries)) ∙ length_plain (remove_entry (nat_eq b) c.entries) in
-      let fits : suc (length (remove_entry (nat_eq b) (plain c.entries))) ≤ c.cap = omega (arith, out, size) in
-      ap (λ k. (k, v.items) ∷ plain (remove_entry (nat_eq b) c.entries)) (sym key) ∙ ap (λ l. (b, v.items) ∷ l) (remove_plain b c.entries)
-      ∙ sym (take_whole c.cap ((b, v.items) ∷ remove_entry (nat_eq b) (plain c.entries)) fits)
+      let size : length (remove_entry (nat_eq b) (entries_as_bytes c.entries)) ≡ length (remove_entry (nat_eq b) c.entries) = ap length (sym (remove_plain b c.entries)) ∙ length_plain (remove_entry (nat_eq b) c.entries) in
+      let fits : suc (length (remove_entry (nat_eq b) (entries_as_bytes c.entries))) ≤ c.cap = omega (arith, out, size) in
+      ap (λ k. (k, v.items) ∷ entries_as_bytes (remove_entry (nat_eq b) c.entries)) (sym key) ∙ ap (λ l. (b, v.items) ∷ l) (remove_plain b c.entries)
+      ∙ sym (take_whole c.cap ((b, v.items) ∷ remove_entry (nat_eq b) (entries_as_bytes c.entries)) fits)
 
-  put_by : (v : Node) (o : Option (ℕ × Node)) → 0 < c.cap → length c.entries ≤ c.cap → lookup_entry (nat_eq b) c.entries ≡ o → plain (put v o) ≡ taken v.items c.cap
+  put_by : (v : Node) (o : Option (ℕ × Node)) → 0 < c.cap → length c.entries ≤ c.cap → lookup_entry (nat_eq b) c.entries ≡ o → entries_as_bytes (put v o) ≡ taken v.items c.cap
   put_by v None some most is = put_new v c.cap refl some is
   put_by v (Some e) some most is = put_old v e most is
 
@@ -97,7 +97,7 @@ module _ (c : LruCache ℕ Node) (b : ℕ) where
   put_first v some most = ap (λ l. record { entries = l; room = c.cap }) (put_by v (lookup_entry (nat_eq b) c.entries) some most refl)
 
   moved_by : (bytes : List ℕ) (o : Option (ℕ × Node)) → length c.entries ≤ c.cap → lookup_entry (nat_eq b) c.entries ≡ o → option_map (λ (v : Node). v.items) (option_map (λ e. e.1) o) ≡ Some bytes
-      → plain (option_map_or (λ e. e ∷ remove_entry (nat_eq b) c.entries) o c.entries) ≡ taken bytes c.cap
+      → entries_as_bytes (option_map_or (λ e. e ∷ remove_entry (nat_eq b) c.entries) o c.entries) ≡ taken bytes c.cap
   moved_by bytes None most is has = cc
   moved_by bytes (Some e) most is has =
       let same : e.1.items ≡ bytes = cc in
@@ -117,7 +117,7 @@ module _ (c : LruCache ℕ Node) (b : ℕ) where
 
   -- one that is not listed is not moved
   pub promoted_none : is_some (lookup (nat_eq b) c.entries) ≡ false → view (record { entries = promoted (nat_eq b) c.entries; cap = c.cap }) ≡ view c
-  promoted_none none = ap (λ es. record { entries = plain es; room = c.cap }) (stays_by (lookup_entry (nat_eq b) c.entries) (node_of_entry b c.entries) none)
+  promoted_none none = ap (λ es. record { entries = entries_as_bytes es; room = c.cap }) (stays_by (lookup_entry (nat_eq b) c.entries) (node_of_entry b c.entries) none)
 
   some_items : (o : Option Node) → is_some o ≡ is_some (option_map (λ (v : Node). v.items) o)
   some_items None = refl
@@ -128,10 +128,10 @@ module _ (c : LruCache ℕ Node) (b : ℕ) where
   listed_plain = some_items (lookup (nat_eq b) c.entries) ∙ ap is_some (sym (lookup-map_values (λ (v : Node). v.items) (nat_eq b) c.entries))
 
   -- a block is taken out
-  pub out_plain : view (record { entries = remove_entry (nat_eq b) c.entries; cap = c.cap }) ≡ record { entries = remove_entry (nat_eq b) (plain c.entries); room = c.cap }
+  pub out_plain : view (record { entries = remove_entry (nat_eq b) c.entries; cap = c.cap }) ≡ record { entries = remove_entry (nat_eq b) (entries_as_bytes c.entries); room = c.cap }
   out_plain = ap (λ l. record { entries = l; room = c.cap }) (remove_plain b c.entries)
 
-keys_plain : (es : List (ℕ × Node)) → keys_of (plain es) ≡ keys_of es
+keys_plain : (es : List (ℕ × Node)) → keys_of (entries_as_bytes es) ≡ keys_of es
 keys_plain [] = refl
 keys_plain (e ∷ es) = ap (λ l. e.0 ∷ l) (keys_plain es)
 
@@ -143,16 +143,16 @@ bounded_plain c valid = record {
 }
 
 -- the bytes of the first entry
-pub first_plain : (es : List (ℕ × Node)) (e : ℕ × Node) → Some e ≡ slice_get es 0 → e.1.items ≡ first_bytes (plain es)
+pub first_plain : (es : List (ℕ × Node)) (e : ℕ × Node) → Some e ≡ slice_get es 0 → e.1.items ≡ first_bytes (entries_as_bytes es)
 first_plain [] e is = cc
 first_plain (f ∷ es) e is = cc
 
-pub none_first : (es : List (ℕ × Node)) → ◌≡◌ {A = Option (ℕ × Node)} None (slice_get es 0) → ◌≡◌ {A = List ℕ} [] (first_bytes (plain es))
+pub none_first : (es : List (ℕ × Node)) → ◌≡◌ {A = Option (ℕ × Node)} None (slice_get es 0) → ◌≡◌ {A = List ℕ} [] (first_bytes (entries_as_bytes es))
 none_first [] is = refl
 none_first (f ∷ es) is = cc
 
 -- the first block that passes a test
-pub found_plain : (t : ℕ → Bool) (es : List (ℕ × Node)) → option_map (λ (e : ℕ × Node). e.0) (find (λ (e : ℕ × Node). t e.0) es) ≡ find t (keys_of (plain es))
+pub found_plain : (t : ℕ → Bool) (es : List (ℕ × Node)) → option_map (λ (e : ℕ × Node). e.0) (find (λ (e : ℕ × Node). t e.0) es) ≡ find t (keys_of (entries_as_bytes es))
 found_plain t [] = refl
 found_plain t (e ∷ es) = elim (cases_Bool (t e.0)) [
   | inl is ↦ ap (option_map (λ (e : ℕ × Node). e.0)) (cond-true _ (Some e) _ is) ∙ sym (cond-true _ (Some e.0) _ is)

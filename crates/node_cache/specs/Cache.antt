@@ -17,8 +17,8 @@ cache_code =
     (λ p. record { entries = p.0; room = p.1 }) (λ _. refl)
 
 -- nodes as the bytes that they hold
-abbrev pub plain : List (ℕ × Vec ℕ Global) → List (ℕ × List ℕ)
-plain es = map (λ e. (e.0, e.1.items)) es
+abbrev pub entries_as_bytes : List (ℕ × Vec ℕ Global) → List (ℕ × List ℕ)
+entries_as_bytes es = map (λ e. (e.0, e.1.items)) es
 
 -- the bytes that the cache has of a block
 abbrev pub node_in : NodeCache → ℕ → Option (List ℕ)

@@ -22,13 +22,13 @@ pub struct NodeCache {
 }
 
 impl Model for NodeCache {
-    ghost use Rattle.node_cache.specs.Cache.{NodeCache as Cache, cache_code, plain};
+    ghost use Rattle.node_cache.specs.Cache.{NodeCache as Cache, cache_code, entries_as_bytes};
 
     ghost Value = { Cache };
 
     ghost coded = { cache_code };
 
-    ghost view = { λ c. record { entries = plain c.nodes.entries; room = c.nodes.cap } };
+    ghost view = { λ c. record { entries = entries_as_bytes c.nodes.entries; room = c.nodes.cap } };
 }
 
 impl NodeCache {

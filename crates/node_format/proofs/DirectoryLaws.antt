@@ -127,14 +127,17 @@ filled_again before (item ∷ items) each after ascending =
     ∙ rw (item_again item (items_bytes items) parts.0, first.0, filled_again item.name items parts.1 order.0 order.1) refl
 
 -- entries that fill the bytes, at most as many as a node has, are those of a directory
-pub are_spelled : (count : ℕ) (bytes : List ℕ) → IsBytes bytes → count ≤ NODE_ENTRIES → are_filled count [] bytes ≡ true → AreSpelled count bytes (items_at count bytes)
-are_spelled count bytes fits few filled =
-    let h = filled_takes count [] bytes fits filled in
+pub filled_spelled : (count : ℕ) (before : Name) (bytes : List ℕ) → IsBytes bytes → count ≤ NODE_ENTRIES → are_filled count before bytes ≡ true → AreSpelled count bytes (items_at count bytes)
+filled_spelled count before bytes fits few filled =
+    let h = filled_takes count before bytes fits filled in
     record {
       lawful = and_true _ _ (le-leb (length (items_at count bytes)) MAX_ENTRIES (omega (arith, h.counted))) (and_true _ _ h.each h.ascending);
       counted = h.counted;
       spelled = h.spelled;
     }
+
+pub are_spelled : (count : ℕ) (bytes : List ℕ) → IsBytes bytes → count ≤ NODE_ENTRIES → are_filled count [] bytes ≡ true → AreSpelled count bytes (items_at count bytes)
+are_spelled count = filled_spelled count []
 
 -- what is known of the entries of a directory
 pub record AreLawful (items : List Item) : Type 0 where

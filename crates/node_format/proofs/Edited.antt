@@ -8,7 +8,7 @@ use Rattle.std.proofs.lemmas.List.Concat.{flat_map-append}
 use Rattle.fs_types.specs.declared.limits.TheConstants.{MAX_ENTRIES}
 use Rattle.fs_types.specs.Names.{Name, same_name, is_name}
 use Rattle.node_format.specs.declared.place.Place.{Place}
-use Rattle.node_format.specs.Items.{Item, is_item, is_place, is_before, are_ascending, are_entries, named}
+use Rattle.node_format.specs.Items.{Item, is_item, is_place, is_before, are_ascending, are_entries, named_place}
 use Rattle.node_format.specs.Directories.{item_bytes, items_bytes, items_at, AreSpelled}
 use Rattle.node_format.specs.Edits.{IsSplit, IsEdited, entry_to, edited_count}
 use Rattle.node_format.specs.EntryLaws.{same_name-true, same_name-self, before-differs, after-differs}
@@ -18,13 +18,13 @@ use Rattle.node_format.proofs.Parts.{extended}
 
 -- ---- what names lead to
 
-named_skips : (front back : List Item) (name : Name) → list_all (λ item. is_before item.name name) front ≡ true → named (front ++ back) name ≡ named back name
+named_skips : (front back : List Item) (name : Name) → list_all (λ item. is_before item.name name) front ≡ true → named_place (front ++ back) name ≡ named_place back name
 named_skips [] back name before = refl
 named_skips (item ∷ front) back name before =
     let parts = both_true (is_before item.name name) (list_all (λ other. is_before other.name name) front) before in
     rw (before-differs item.name name parts.0) (named_skips front back name parts.1)
 
-named_none : (back : List Item) (name : Name) → list_all (λ item. is_before name item.name) back ≡ true → named back name ≡ None
+named_none : (back : List Item) (name : Name) → list_all (λ item. is_before name item.name) back ≡ true → named_place back name ≡ None
 named_none [] name after = refl
 named_none (item ∷ back) name after =
     let parts = both_true (is_before name item.name) (list_all (λ other. is_before name other.name) back) after in
@@ -32,12 +32,12 @@ named_none (item ∷ back) name after =
 
 -- a name leads where its entry says
 pub named_own : (front back : List Item) (name : Name) (place : Option Place) → list_all (λ item. is_before item.name name) front ≡ true → list_all (λ item. is_before name item.name) back ≡ true
-    → named (front ++ (entry_to name place ++ back)) name ≡ place
+    → named_place (front ++ (entry_to name place ++ back)) name ≡ place
 named_own front back name None before after = named_skips front back name before ∙ named_none back name after
 named_own front back name (Some place) before after = named_skips front ((record { name = name; place = place }) ∷ back) name before ∙ rw (same_name-self name) refl
 
 -- another name leads where it does without the entry
-named_other : (front back : List Item) (name other : Name) (place : Option Place) → same_name name other ≡ false → named (front ++ (entry_to name place ++ back)) other ≡ named (front ++ back) other
+named_other : (front back : List Item) (name other : Name) (place : Option Place) → same_name name other ≡ false → named_place (front ++ (entry_to name place ++ back)) other ≡ named_place (front ++ back) other
 named_other [] back name other None differs = refl
 named_other [] back name other (Some place) differs = rw differs refl
 named_other (item ∷ front) back name other place differs =
@@ -48,14 +48,14 @@ bool_cases true t f = t refl
 bool_cases false t f = f refl
 
 pub named_around : (front back : List Item) (name : Name) (place was : Option Place) → list_all (λ item. is_before item.name name) front ≡ true → list_all (λ item. is_before name item.name) back ≡ true
-    → (other : Name) → named (front ++ (entry_to name place ++ back)) other ≡ cond (same_name name other) place (named (front ++ (entry_to name was ++ back)) other)
+    → (other : Name) → named_place (front ++ (entry_to name place ++ back)) other ≡ cond (same_name name other) place (named_place (front ++ (entry_to name was ++ back)) other)
 named_around front back name place was before after other = bool_cases (same_name name other)
-    (λ same. subst (λ (n : Name). named (front ++ (entry_to name place ++ back)) n ≡ place) (same_name-true name other same) (named_own front back name place before after)
+    (λ same. subst (λ (n : Name). named_place (front ++ (entry_to name place ++ back)) n ≡ place) (same_name-true name other same) (named_own front back name place before after)
     ∙ rw same refl)
     (λ differs. named_other front back name other place differs ∙ sym (named_other front back name other was differs) ∙ rw differs refl)
 
-pub split_named : (items front back : List Item) (name : Name) (found : Option Place) → IsSplit items name front found back → named items name ≡ found
-split_named items front back name found split = ap (λ (x : List Item). named x name) split.parts ∙ named_own front back name found split.before split.after
+pub split_named : (items front back : List Item) (name : Name) (found : Option Place) → IsSplit items name front found back → named_place items name ≡ found
+split_named items front back name found split = ap (λ (x : List Item). named_place x name) split.parts ∙ named_own front back name found split.before split.after
 
 -- ---- the changed entries
 
@@ -160,12 +160,12 @@ written items front back name place found fc bc fb mb bb bytes split f b lawful 
       lawful = entries;
       counted = count_around items front back name place found split ∙ ap (λ (o : Option Place). edited_count o place (length items)) (sym (split_named items front back name found split));
       leads = λ other. named_around front back name place found split.before split.after other
-          ∙ ap (λ (x : List Item). cond (same_name name other) place (named x other)) (sym split.parts);
+          ∙ ap (λ (x : List Item). cond (same_name name other) place (named_place x other)) (sym split.parts);
     } in
     record { spelled = e.spelled; edit = subst (IsEdited items name place) (sym e.read) edit }
 
 pub written_with : (items front back : List Item) (name : Name) (place : Place) (found : Option Place) (fc bc : ℕ) (fb mb bb bytes : List ℕ) → IsSplit items name front found back
-    → length items ≤ MAX_ENTRIES → (named items name ≡ None → length items < MAX_ENTRIES) → is_name name ≡ true → is_place place ≡ true
+    → length items ≤ MAX_ENTRIES → (named_place items name ≡ None → length items < MAX_ENTRIES) → is_name name ≡ true → is_place place ≡ true
     → AreSpelled fc fb front → AreSpelled bc bb back → mb ≡ item_bytes (record { name = name; place = place })
     → bytes ≡ fb ++ (mb ++ bb) → IsWritten items name (Some place) (fc + (1 + bc)) bytes
 written_with items front back name place found fc bc fb mb bb bytes split few capacity lawful place_lawful f b middle is =

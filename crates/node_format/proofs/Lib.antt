@@ -8,3 +8,5 @@ pub mod Parts
 pub mod Edited
 pub mod BodyFields
 pub mod LinkLaws
+pub mod Known
+pub mod OnePass

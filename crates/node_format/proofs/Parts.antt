@@ -22,11 +22,11 @@ skipped_again (item ∷ front) back each =
     ap (skipped (suc (length front))) regrouped ∙ rw (item_again item (items_bytes front ++ back) parts.0) (skipped_again front back parts.1)
 
 -- the spelling of the first entries and of the others
-cut_bytes : (k : ℕ) (items : List Item) → items_bytes items ≡ items_bytes (take k items) ++ items_bytes (drop k items)
+pub cut_bytes : (k : ℕ) (items : List Item) → items_bytes items ≡ items_bytes (take k items) ++ items_bytes (drop k items)
 cut_bytes k items = ap items_bytes (sym (take-append-drop k items)) ∙ flat_map-append item_bytes (take k items) (drop k items)
 
 -- after the first entries the others are left
-skipped_others : (k : ℕ) (bytes : List ℕ) (items : List Item) → are_entries items ≡ true → k ≤ length items → bytes ≡ items_bytes items → skipped k bytes ≡ items_bytes (drop k items)
+pub skipped_others : (k : ℕ) (bytes : List ℕ) (items : List Item) → are_entries items ≡ true → k ≤ length items → bytes ≡ items_bytes items → skipped k bytes ≡ items_bytes (drop k items)
 skipped_others k bytes items lawful le spelled =
     let front = take k items in
     let entries = front_entries front (drop k items) (ap are_entries (take-append-drop k items) ∙ lawful) in

@@ -21,7 +21,7 @@ pub record IsStep (count left : ℕ) (bytes : List ℕ) (item : Item) (after : L
   pub first : items_at count bytes ≡ item ∷ items_at left after
   pub others : AreSpelled left after (items_at left after)
 
-first_of_items : (count left : ℕ) (bytes : List ℕ) (item : Item) (after : List ℕ) → count ≡ suc left → Some (item, after) ≡ item_at bytes → items_at count bytes ≡ item ∷ items_at left after
+pub first_of_items : (count left : ℕ) (bytes : List ℕ) (item : Item) (after : List ℕ) → count ≡ suc left → Some (item, after) ≡ item_at bytes → items_at count bytes ≡ item ∷ items_at left after
 unfolding items_at
 first_of_items count left bytes item after k read = rw (k, sym read) refl
 

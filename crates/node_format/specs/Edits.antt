@@ -2,7 +2,7 @@
 use Rattle.std.specs.Prelude.{◌≡◌, ℕ, ◌+◌, ◌-◌, true, length, take, Option, Some, None, List, [], ◌∷◌, ◌++◌, if◌then◌else◌}
 use Rattle.std.specs.List.{list_all}
 use Rattle.fs_types.specs.Names.{Name, same_name}
-use Rattle.node_format.specs.Items.{Item, is_before, are_entries, named}
+use Rattle.node_format.specs.Items.{Item, is_before, are_entries, named_place}
 use Rattle.node_format.specs.Directories.{items_at, AreSpelled}
 use Rattle.node_format.specs.declared.place.Place.{Place}
 
@@ -31,5 +31,5 @@ edited_count (Some was) (Some place) count = count
 -- the new entries are a directory's; the name leads to the place, or nowhere, and all others lead where they did
 pub record IsEdited (old : List Item) (name : Name) (place : Option Place) (new : List Item) : Type 0 where
   pub lawful : are_entries new ≡ true
-  pub counted : length new ≡ edited_count (named old name) place (length old)
-  pub leads : (other : Name) → named new other ≡ (if same_name name other then place else named old other)
+  pub counted : length new ≡ edited_count (named_place old name) place (length old)
+  pub leads : (other : Name) → named_place new other ≡ (if same_name name other then place else named_place old other)

@@ -6,7 +6,7 @@ use Rattle.std.specs.Ordering.{is_lt}
 use Rattle.std.proofs.lemmas.Bool.{eqb-true, eq-eqb}
 use Rattle.std.proofs.lemmas.Cmp.{nat_list_cmp_total, tied_itself}
 use Rattle.fs_types.specs.Names.{Name, same_name}
-use Rattle.node_format.specs.Items.{Item, is_before, are_ascending, named}
+use Rattle.node_format.specs.Items.{Item, is_before, are_ascending, named_place}
 use Rattle.node_format.specs.Order.{both_true, and_true}
 use Rattle.node_format.specs.declared.place.Place.{Place}
 
@@ -49,25 +49,25 @@ pub after-differs : (a b : Name) → is_before a b ≡ true → same_name b a �
 after-differs a b e = false_by (same_name b a) (λ same. not_before_itself a (subst (λ (n : Name). is_before a n ≡ true) (same_name-true b a same) e))
 
 -- a name that leads to a place has an entry
-pub named-contained : (items : List Item) (name : Name) (place : Place) → named items name ≡ Some place → (item : Item) × Contains items item × (item.place ≡ place)
+pub named-contained : (items : List Item) (name : Name) (place : Place) → named_place items name ≡ Some place → (item : Item) × Contains items item × (item.place ≡ place)
 named-contained [] name place e = absurd cc
 named-contained (item ∷ items) name place e =
-    elim (chosen (same_name item.name name) (Some item.place) (named items name) (Some place) e) [
+    elim (chosen (same_name item.name name) (Some item.place) (named_place items name) (Some place) e) [
       | inl here ↦ (item, (0, omega arith, refl), place_is item.place place here.1)
       | inr later ↦ let found = named-contained items name place later.1 in (found.0, (suc found.1.0, omega (arith, found.1.1), found.1.2), found.2)
     ]
 
 -- an entry among entries that ascend is led to by its name
-pub contained-named : (items : List Item) (item : Item) → are_ascending items ≡ true → Contains items item → named items item.name ≡ Some item.place
-contained-named [] item order (k, lt, e) = absurd (omega arith)
-contained-named (first ∷ items) item order (zero, lt, e) =
+pub contained-named_place : (items : List Item) (item : Item) → are_ascending items ≡ true → Contains items item → named_place items item.name ≡ Some item.place
+contained-named_place [] item order (k, lt, e) = absurd (omega arith)
+contained-named_place (first ∷ items) item order (zero, lt, e) =
     let same : same_name first.name item.name ≡ true = ap (λ (x : Item). same_name x.name item.name) e ∙ same_name-self item.name in
     rw same (ap (λ (x : Item). Some x.place) e)
-contained-named (first ∷ items) item order (suc k, lt, e) =
+contained-named_place (first ∷ items) item order (suc k, lt, e) =
     let parts = both_true (list_all (λ other. is_before first.name other.name) items) (are_ascending items) order in
     let less : k < length items = omega arith in
     let differs = before-differs first.name item.name (all_at items item first.name k less e parts.0) in
-    rw differs (contained-named items item parts.1 (k, less, e))
+    rw differs (contained-named_place items item parts.1 (k, less, e))
   where
     all_at : (xs : List Item) (x : Item) (before : Name) (j : ℕ) → j < length xs → slice_index_or xs j x ≡ x → list_all (λ other. is_before before other.name) xs ≡ true → is_before before x.name ≡ true
     all_at [] x before j lt e all = absurd (omega arith)

@@ -39,6 +39,6 @@ abbrev pub are_entries : List Item → Bool
 are_entries items = nat_le (length items) MAX_ENTRIES && (list_all is_item items && are_ascending items)
 
 -- the place that a name leads to
-abbrev pub named : List Item → Name → Option Place
-named [] name = None
-named (item ∷ items) name = if same_name item.name name then Some item.place else named items name
+abbrev pub named_place : List Item → Name → Option Place
+named_place [] name = None
+named_place (item ∷ items) name = if same_name item.name name then Some item.place else named_place items name

@@ -1,12 +1,17 @@
 //! One node of a directory: its entries, and the block of the node after it.
-ghost use Rattle.std.specs.Prelude.{◌≡◌, ℕ, ◌≤◌, ◌⊎◌, [], length, true, Some, IfOk, IfSome};
+ghost use Rattle.std.specs.Prelude.{◌≡◌, ℕ, ◌≤◌, ◌⊎◌, [], length, drop, true, Some, IfOk, IfSome};
+ghost use Rattle.std.specs.Option.{option_map, option_and_then};
 ghost use Rattle.fs_types.specs.declared.limits.TheConstants.{NODE_ENTRIES};
-ghost use Rattle.node_format.specs.Headers.{IsNode};
+ghost use Rattle.node_format.specs.Headers.{IsNode, directory_header};
+ghost use Rattle.node_format.specs.Items.{named_place};
+ghost use Rattle.node_format.specs.Directories.{entries_at};
+ghost use Rattle.node_format.specs.Edits.{IsSplit};
 ghost use Rattle.node_format.specs.Links.{Link, IsLink, link, link_at, chain_bytes};
 ghost use Rattle.node_format.specs.Links as spec;
 
 use crate::entry_list::{EntryList, entries_of};
 use crate::headers::{CHAIN_MAGIC, DIRECTORY_MAGIC, MOST_ENTRIES};
+use crate::split::{Split, split_entries};
 use fields::{push_u32, u32_at};
 use std::alloc::{AllocError, Global};
 use std::marker::Model;
@@ -38,6 +43,23 @@ impl<'a> Entries<'a> {
         ensures only { (l : Link) → IsLink bytes.now l → result ≡ Some l }
     {
         read(bytes)
+    }
+
+    /// What the bytes say, as a node of a directory, with its entries split at a name, or None where
+    /// they are none. The entries are gone over once.
+    pub fn split(bytes: &'a [u8], name: &[u8]) -> Option<(Self, Split<'a>)>
+        ensures exact { option_map (λ r. r.0) result ≡ link_at bytes.now }
+        ensures split { IfSome result (λ r. IsSplit r.0.items name.now r.1.front r.1.found r.1.back) }
+        ensures found { IfSome result (λ r. r.1.found ≡ named_place r.0.items name.now) }
+    {
+        let header = header_of(bytes)?;
+        let (list, split) = split_entries(header.count, header.used, &bytes[16..], name)?;
+        let node = Entries {
+            chained: header.chained,
+            list,
+            next: header.next,
+        };
+        Some((node, split))
     }
 
     /// The block of the node after this one, 0 where none comes.
@@ -72,9 +94,20 @@ fn may_go_on(next: u32, count: u32) -> bool
     next == 0 || count == MOST_ENTRIES
 }
 
+/// What a header says of a node of a directory.
+#[derive(Clone, Copy)]
+struct Header {
+    chained: bool,
+    count: u32,
+    used: u32,
+    next: u32,
+}
+
+/// The header of a node of a directory, or None where the bytes do not begin with one.
 #[tactic(auto, unfolding(crate::specs::Links::link_at))]
-fn read(bytes: &[u8]) -> Option<Entries<'_>>
-    ensures { result ≡ link_at bytes.now }
+fn header_of(bytes: &[u8]) -> Option<Header>
+    ensures read { option_and_then (λ h. option_map (link h.chained h.next) (entries_at h.count h.used (drop directory_header bytes.now))) result ≡ link_at bytes.now }
+    ensures whole { IfSome result (λ _. directory_header ≤ length bytes.now) }
 {
     if bytes.len() < 16 {
         return None;
@@ -84,10 +117,10 @@ fn read(bytes: &[u8]) -> Option<Entries<'_>>
     let used = u32_at(bytes, 8);
     let next = u32_at(bytes, 12);
     if magic == DIRECTORY_MAGIC {
-        let list = entries_of(count, used, &bytes[16..])?;
-        return Some(Entries {
+        return Some(Header {
             chained: false,
-            list,
+            count,
+            used,
             next: 0,
         });
     }
@@ -95,14 +128,26 @@ fn read(bytes: &[u8]) -> Option<Entries<'_>>
         if !may_go_on(next, count) {
             return None;
         }
-        let list = entries_of(count, used, &bytes[16..])?;
-        return Some(Entries {
+        return Some(Header {
             chained: true,
-            list,
+            count,
+            used,
             next,
         });
     }
     None
+}
+
+fn read(bytes: &[u8]) -> Option<Entries<'_>>
+    ensures { result ≡ link_at bytes.now }
+{
+    let header = header_of(bytes)?;
+    let list = entries_of(header.count, header.used, &bytes[16..])?;
+    Some(Entries {
+        chained: header.chained,
+        list,
+        next: header.next,
+    })
 }
 
 /// The bytes of a directory without entries: the only node of a chain.

@@ -1,5 +1,5 @@
 //! An entry of a directory, read from its bytes.
-ghost use Rattle.std.specs.Prelude.{◌≡◌, true, IfSome};
+ghost use Rattle.std.specs.Prelude.{◌≡◌, true, Some, IsSome, IfSome};
 ghost use Rattle.std.specs.Option.{option_map};
 ghost use Rattle.fs_types.specs.Names.{is_name};
 ghost use Rattle.node_format.specs.Directories.{name_at, place_at, item_at};
@@ -64,6 +64,15 @@ fn name_of(size: u8, bytes: &[u8]) -> Option<(&[u8], &[u8])>
     }
 }
 
+/// The name of so many bytes that is known to be lawful, and the bytes after it.
+fn known_name(size: u8, bytes: &[u8]) -> (&[u8], &[u8])
+    requires { IsSome (name_at size bytes.now) }
+    ensures name { Some (result.0.now, result.1.now) ≡ name_at size bytes.now }
+    ensures lawful { is_name result.0.now ≡ true }
+{
+    bytes.split_at(size as usize)
+}
+
 fn place_of(kind: u8, head: u32, length: u32) -> Option<Place>
     ensures { result ≡ place_at kind head length }
 {
@@ -85,4 +94,29 @@ pub(crate) fn entry_of(bytes: &[u8]) -> Option<(Entry<'_>, &[u8])>
     let (length, rest) = read_u32(rest)?;
     let place = place_of(kind, head, length)?;
     Some((Entry { name, place }, rest))
+}
+
+/// The entry that the bytes are known to begin with, and the bytes after it: its name is not checked
+/// again.
+#[tactic(auto, unfolding(crate::specs::Directories::item_at))]
+pub(crate) fn known_entry(bytes: &[u8]) -> Option<(Entry<'_>, &[u8])>
+    requires { IsSome (item_at bytes.now) }
+    ensures { option_map (λ x. (x.0, x.1.now)) result ≡ item_at bytes.now }
+{
+    let (kind, rest) = read_u8(bytes)?;
+    let (size, rest) = read_u8(rest)?;
+    let (name, rest) = known_name(size, rest);
+    let (head, rest) = read_u32(rest)?;
+    let (length, rest) = read_u32(rest)?;
+    let place = place_of(kind, head, length)?;
+    Some((Entry { name, place }, rest))
+}
+
+/// The bytes after the entry that the bytes are known to begin with: a step over it by its length.
+pub(crate) fn after_known(bytes: &[u8]) -> &[u8]
+    requires { IsSome (item_at bytes.now) }
+    ensures { option_map (λ x. x.1) (item_at bytes.now) ≡ Some result.now }
+{
+    let size = bytes[1] as usize;
+    &bytes[10 + size..]
 }

@@ -1,23 +1,26 @@
 //! The entries of a directory, as a list that is lent from bytes that spell it.
-ghost use Rattle.std.specs.Prelude.{◌≡◌, ◌≤◌, ◌+◌, ◌==◌, [], ◌-◌, length, take, drop};
+ghost use Rattle.std.specs.Prelude.{◌≡◌, ◌≤◌, ◌+◌, ◌==◌, [], ◌-◌, length, take, drop, IfSome};
+ghost use Rattle.std.specs.Option.{is_some};
 ghost use Rattle.std.specs.Iterator.{YieldsFirst, item_count};
-ghost use Rattle.fs_types.specs.declared.limits.TheConstants.{MAX_ENTRIES};
-ghost use Rattle.node_format.specs.Items.{named};
+ghost use Rattle.fs_types.specs.declared.limits.TheConstants.{MAX_ENTRIES, NODE_ENTRIES};
+ghost use Rattle.node_format.specs.Items.{named_place};
 ghost use Rattle.node_format.specs.Directories.{are_filled, items_at, entries_at};
 ghost use Rattle.node_format.specs.Edits.{IsSplit, AreFront};
 ghost use Rattle.node_format.specs.Links.{skipped};
 
-use crate::entry::{Entry, entry_of};
+use crate::entry::{Entry, after_known, entry_of, known_entry};
 use crate::headers::MOST_ENTRIES;
 use crate::place::Place;
+use crate::split::Split;
 use std::cmp::Ordering;
 use std::marker::Model;
 
+/// Whether so many entries fill the bytes, in byte order and all after a name.
 #[tactic(auto, unfolding(crate::specs::Directories::are_filled))]
-fn is_filled(count: u32, bytes: &[u8]) -> bool
-    ensures { result ≡ are_filled count [] bytes.now }
+pub(crate) fn is_filled(count: u32, first: &[u8], bytes: &[u8]) -> bool
+    ensures { result ≡ are_filled count first.now bytes.now }
 {
-    let mut before: &[u8] = &[];
+    let mut before = first;
     let mut rest = bytes;
     for _ in 0..count {
         let Some((entry, after)) = entry_of(rest) else {
@@ -31,6 +34,19 @@ fn is_filled(count: u32, bytes: &[u8]) -> bool
         rest = after;
     }
     rest.is_empty()
+}
+
+/// So many entries, or None where they do not fill the bytes, in byte order and all after a name.
+pub(crate) fn filled_list<'a>(count: u32, first: &[u8], bytes: &'a [u8]) -> Option<EntryList<'a>>
+    requires { count ≤ NODE_ENTRIES }
+    ensures filled { is_some result ≡ are_filled count first.now bytes.now }
+    ensures list { IfSome result (λ list. list ≡ items_at count bytes.now) }
+{
+    if is_filled(count, first, bytes) {
+        Some(EntryList { count, bytes })
+    } else {
+        None
+    }
 }
 
 /// Entries of a directory, at most 1,024, in byte order of their names, lent from bytes that spell
@@ -55,16 +71,8 @@ impl<'a> Model for EntryList<'a> {
     ghost invariant = { λ e. AreSpelled e.count e.bytes.now (items_at e.count e.bytes.now) };
 }
 
-/// The entries before a name, what the name leads to, and the entries after it.
-#[derive(Drop)]
-pub(crate) struct Split<'a> {
-    pub(crate) front: EntryList<'a>,
-    pub(crate) found: Option<Place>,
-    pub(crate) back: EntryList<'a>,
-}
-
 /// The first entries, so many, in the bytes before the others.
-fn front_of<'a>(count: u32, bytes: &'a [u8], others: &[u8]) -> EntryList<'a>
+pub(crate) fn front_of<'a>(count: u32, bytes: &'a [u8], others: &[u8]) -> EntryList<'a>
     requires within { length others.now ≤ length bytes.now }
     requires spelled { AreFront count bytes.now others.now }
     ensures { result ≡ items_at count (take (length bytes.now - length others.now) bytes.now) }
@@ -86,7 +94,7 @@ impl<'a> Iterator for EntryList<'a> {
         if self.count == 0 {
             return None;
         }
-        let Some((entry, rest)) = entry_of(self.bytes) else {
+        let Some((entry, rest)) = known_entry(self.bytes) else {
             return None;
         };
         self.count -= 1;
@@ -98,7 +106,7 @@ impl<'a> Iterator for EntryList<'a> {
 impl<'a> EntryList<'a> {
     /// What a name leads to.
     pub fn find(&self, name: &[u8]) -> Option<Place>
-        ensures { result ≡ named self.now name.now }
+        ensures { result ≡ named_place self.now name.now }
     {
         self.split(name).found
     }
@@ -112,7 +120,7 @@ impl<'a> EntryList<'a> {
         let bytes = self.bytes;
         let mut rest = bytes;
         for done in 0..count {
-            let Some((entry, after)) = entry_of(rest) else {
+            let Some((entry, after)) = known_entry(rest) else {
                 unreachable!()
             };
             match entry.name.cmp(name) {
@@ -174,17 +182,15 @@ impl<'a> EntryList<'a> {
     }
 }
 
-/// What is left of the bytes after so many entries.
+/// What is left of the bytes after so many entries that they are known to begin with.
 #[tactic(auto, unfolding(crate::specs::Links::skipped))]
-pub(crate) fn skip_entries(count: u32, bytes: &[u8]) -> &[u8]
+fn skip_entries(count: u32, bytes: &[u8]) -> &[u8]
+    requires { length (items_at count bytes.now) ≡ count }
     ensures { result.now ≡ skipped count bytes.now }
 {
     let mut rest = bytes;
     for _ in 0..count {
-        let Some((_entry, after)) = entry_of(rest) else {
-            return &[];
-        };
-        rest = after;
+        rest = after_known(rest);
     }
     rest
 }
@@ -200,9 +206,5 @@ pub(crate) fn entries_of(count: u32, used: u32, bytes: &[u8]) -> Option<EntryLis
     if used as usize != bytes.len() {
         return None;
     }
-    if is_filled(count, bytes) {
-        Some(EntryList { count, bytes })
-    } else {
-        None
-    }
+    filled_list(count, &[], bytes)
 }

@@ -8,6 +8,7 @@ mod entry_list;
 mod headers;
 mod place;
 mod spelled;
+mod split;
 
 pub use body_nodes::{BodyNode, body_node, body_room};
 pub use entries::{Entries, chain_node, empty_directory};
@@ -16,3 +17,4 @@ pub use entry_list::EntryList;
 pub use headers::{BODY_HEADER, SLOTS, node_size};
 pub use place::Place;
 pub use spelled::Spelled;
+pub use split::Split;

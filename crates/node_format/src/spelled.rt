@@ -2,12 +2,13 @@
 ghost use Rattle.std.specs.Prelude.{◌≡◌, ◌+◌, ◌^◌, ◌<◌, ◌≤◌, [], ◌++◌, length, true, Some, None, OnOk, OnErr, IfOk};
 ghost use Rattle.fs_types.specs.declared.limits.TheConstants.{MAX_ENTRIES};
 ghost use Rattle.fs_types.specs.Names.{is_name};
-ghost use Rattle.node_format.specs.Items.{is_place, are_ascending, named};
+ghost use Rattle.node_format.specs.Items.{is_place, are_ascending, named_place};
 ghost use Rattle.node_format.specs.Directories.{item_bytes, kind_of, head_of, size_of};
 ghost use Rattle.node_format.specs.Edits.{IsEdited};
 
-use crate::entry_list::{EntryList, Split};
+use crate::entry_list::EntryList;
 use crate::place::Place;
+use crate::split::Split;
 use fields::push_u32;
 use std::alloc::{AllocError, Global};
 use std::marker::Model;
@@ -77,7 +78,7 @@ impl<'a> EntryList<'a> {
     ) -> Result<Spelled, AllocError>
         requires name { is_name name.now ≡ true }
         requires place { is_place place ≡ true }
-        requires capacity { named self.now name.now ≡ None → length self.now < MAX_ENTRIES }
+        requires capacity { named_place self.now name.now ≡ None → length self.now < MAX_ENTRIES }
         ensures { IfOk result (λ new. IsEdited self.now name.now (Some place) new) }
     {
         let Split {

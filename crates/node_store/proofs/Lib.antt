@@ -1,2 +1,4 @@
 pub mod Attempts
 pub mod Padding
+pub mod PartBytes
+pub mod PartFaults

@@ -15,7 +15,7 @@ use Rattle.node_cache.specs.Cache.{NodeCache, node_in, with_first, first_bytes, 
 use Rattle.node_cache.specs.CacheLaws.{first_shown}
 use Rattle.node_format.specs.Headers.{node_size}
 use Rattle.node_store.specs.NodePages.{and_page, joined, pages_for, bytes_at, node_of}
-use Rattle.node_store.specs.NodeLaws.{AreWhole, has_node, has_room, joined-front, joined-length, pages_for-some, size_in-within, size_in-tells, node_size-take, first_joined, node_of-first, if_some}
+use Rattle.node_store.specs.NodeLaws.{AreWhole, has_node, lawful_has_room, joined-front, joined-length, pages_for-some, size_in-within, size_in-tells, node_size-take, first_joined, node_of-first, if_some}
 use Rattle.node_store.specs.Reading.{Brings}
 use Rattle.node_store.specs.Caching.{IsTruthful}
 use Rattle.node_store.specs.Fronts.{IsFront, first_page, Fronts}
@@ -96,7 +96,7 @@ pub page_front : (d : Device) (b : ℕ) (front bytes : List ℕ) → IsGeometry 
     → first_page d b ≡ Some front → node_of d b ≡ Some bytes → IsFront d.geometry.page front bytes
 page_front d b front bytes lawful whole page node =
     let g = d.geometry in
-    let room = has_room g lawful in
+    let room = lawful_has_room g lawful in
     let has = has_node d b bytes node in
     let begins = page_of d b front page in
     let within = size_in-within (block_bytes g) (d.pages (b * g.pages)) has.size has.tells in

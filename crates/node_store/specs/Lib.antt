@@ -10,6 +10,7 @@ pub mod Caching
 pub mod CachingLaws
 pub mod Fronts
 pub mod FrontLaws
+pub mod Parts
 pub mod Fitting
 pub mod FittingLaws
 pub mod Storage

@@ -1,11 +1,11 @@
 -- What a block's node depends on, and that it has the bytes of one node.
 use Rattle.std.specs.Prelude.{◌≡◌, ℕ, zero, suc, ◌+◌, ◌*◌, ◌<◌, ◌≤◌, ◌&&◌, ◌==◌, Bool, true, false, IsTrue, nat_le, nat_lt, if◌then◌else◌, List, [], ◌++◌, length, take, drop, replicate, slice_index, Option, Some, None, option_map, option_and_then, refl}
-use Rattle.std.proofs.Common.{sym, ◌∙◌, ap, subst, arith, add-zero, get_or-take}
-use Rattle.std.proofs.lemmas.List.{append_assoc, append-nil, length-append, length-take-le, take-take, drop-append-le}
+use Rattle.std.proofs.Common.{sym, ◌∙◌, ap, subst, inl, inr, arith, add-zero, get_or-take}
+use Rattle.std.proofs.lemmas.List.{append_assoc, append-nil, length-append, length-take-le, length-drop, take_all, take-take, take-append-le, drop_at, drop-append-le}
 use Rattle.std.proofs.lemmas.Nat.{mul-le}
 use Rattle.std.proofs.Math.Seq.{take-append_seam, take-add}
 use Rattle.std.proofs.Math.Nat.{lt_of_mul-lt-mul_right}
-use Rattle.std.proofs.lemmas.Bool.{leb-true, ltb-true, and_parts, and_from, and_left, and_right, cond-true, cond-false, le-leb, lt-leb, lt-ltb, le-ltb}
+use Rattle.std.proofs.lemmas.Bool.{cases_eq, leb-true, ltb-true, and_parts, and_from, and_left, and_right, cond-true, cond-false, le-leb, lt-leb, lt-ltb, le-ltb}
 use Rattle.std.proofs.lemmas.Bool.Decides.{nat_tests}
 use Rattle.std.proofs.lemmas.Grind.{div_ceil_times}
 use Rattle.fs_types.specs.declared.limits.TheConstants.{ANCHORS, NODE_ENTRIES}
@@ -179,6 +179,31 @@ joined-length pages page first (suc n) all whole h =
     let is : length (parts.front ++ parts.more) ≡ length all = ap length parts.is in
     omega arith
 
+-- joined bytes have those of each page at its place
+pub joined-page : (pages : ℕ → Page) (page first n place : ℕ) (all shown : List ℕ) → AreWhole page pages → place < n
+    → pages (first + place) ≡ bytes_of shown → joined pages first n ≡ Some all → shown ≡ take (length shown) (drop (place * page) all)
+joined-page pages page first zero place all shown whole below is h = absurd (omega arith)
+joined-page pages page first (suc n) place all shown whole below is h =
+    let parts = and_page-some (joined pages first n) (pages (first + n)) all h in
+    let front = joined-length pages page first n parts.front whole parts.so_far in
+    let size = whole (first + place) shown is in
+    elim (cases_eq place n) [
+      | inl same ↦
+          let more : bytes_of parts.more ≡ bytes_of shown = sym parts.has ∙ ap (λ (k : ℕ). pages (first + k)) (sym same) ∙ is in
+          let last : parts.more ≡ shown = cc in
+          let at : n * page ≡ place * page = ap (λ (k : ℕ). k * page) (sym same) in
+          sym last ∙ sym (take_all (length shown) parts.more (omega (arith, ap length last)))
+          ∙ ap (take (length shown)) (sym (drop_at parts.front parts.more (place * page) (front ∙ at)))
+          ∙ ap (λ (l : List ℕ). take (length shown) (drop (place * page) l)) parts.is
+      | inr apart ↦
+          let before = joined-page pages page first n place parts.front shown whole (omega arith) is parts.so_far in
+          let fits : suc place * page ≤ n * page = mul-le (suc place) page n page (omega arith) (omega arith) in
+          before
+          ∙ sym (take-append-le (length shown) (drop (place * page) parts.front) parts.more (omega (arith, length-drop (place * page) parts.front)))
+          ∙ ap (take (length shown)) (sym (drop-append-le (place * page) parts.front parts.more (omega arith)))
+          ∙ ap (λ (l : List ℕ). take (length shown) (drop (place * page) l)) parts.is
+    ]
+
 -- joined bytes begin with those of the first page
 pub record BeginsWith (head all : List ℕ) : Type 0 where
   pub rest : List ℕ
@@ -243,12 +268,12 @@ has_node d b bytes h =
     }
 
 -- the bytes of a page that tells a size
-pub record Tells (limit : ℕ) (page : Page) (size : ℕ) : Type 0 where
+pub record TellsSize (limit : ℕ) (page : Page) (size : ℕ) : Type 0 where
   pub head : List ℕ
   pub has : page ≡ bytes_of head
   pub size_is : node_size limit head ≡ Some size
 
-pub size_in-tells : (limit : ℕ) (page : Page) (size : ℕ) → size_in limit page ≡ Some size → Tells limit page size
+pub size_in-tells : (limit : ℕ) (page : Page) (size : ℕ) → size_in limit page ≡ Some size → TellsSize limit page size
 size_in-tells limit erased size h = cc
 size_in-tells limit (bytes_of bytes) size h = record { head = bytes; has = refl; size_is = h }
 size_in-tells limit unreadable size h = cc
@@ -258,14 +283,14 @@ pub record HasRoom (g : Geometry) : Type 0 where
   pub page : 256 ≤ g.page
   pub pages : 1 ≤ g.pages
 
-pub has_room : (g : Geometry) → IsGeometry g → HasRoom g
-has_room g lawful = record { page = page_size-some g.page lawful.page_size; pages = lawful.some_pages }
+pub lawful_has_room : (g : Geometry) → IsGeometry g → HasRoom g
+lawful_has_room g lawful = record { page = page_size-some g.page lawful.page_size; pages = lawful.some_pages }
 
 -- joined pages that begin with a header are as many bytes as the node needs, and more
 cut_whole : (d : Device) (b : ℕ) (bytes : List ℕ) → IsGeometry d.geometry → AreWhole d.geometry.page d.pages
     → HasNode d b bytes → IsNode (block_bytes d.geometry) bytes
 cut_whole d b bytes lawful whole has =
-    let room = has_room d.geometry lawful in
+    let room = lawful_has_room d.geometry lawful in
     let g = d.geometry in
     let within = size_in-within (block_bytes g) (d.pages (b * g.pages)) has.size has.tells in
     let tells = size_in-tells (block_bytes g) (d.pages (b * g.pages)) has.size has.tells in
@@ -341,7 +366,7 @@ node_at-pages : (g : Geometry) (pages : ℕ → Page) (first : ℕ) (bytes : Lis
     → ((j : ℕ) → j < pages_for g.page (length bytes) → pages (first + j) ≡ bytes_of (page_bytes g.page j bytes))
     → node_at g pages first ≡ Some bytes
 node_at-pages g pages first bytes lawful node each =
-    let room = has_room g lawful in
+    let room = lawful_has_room g lawful in
     let within = size_within (block_bytes g) (length bytes) bytes node in
     let some = pages_for-some g.page (length bytes) (omega arith) (omega arith) in
     let start : pages first ≡ bytes_of (page_bytes g.page 0 bytes) = ap pages (sym (add-zero first)) ∙ each 0 some in

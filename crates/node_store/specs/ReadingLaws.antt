@@ -13,7 +13,7 @@ use Rattle.flash_model.specs.declared.geometry.Geometry.{Geometry}
 use Rattle.flash_model.specs.Geometry.{IsGeometry, block_bytes, page_count}
 use Rattle.node_format.specs.Headers.{node_size}
 use Rattle.node_store.specs.NodePages.{and_page, joined, pages_for, bytes_at, node_of}
-use Rattle.node_store.specs.NodeLaws.{node_of-same, node_of-first, has_room, size_within, pages_for-most, pages_for-some, first_joined, map_some}
+use Rattle.node_store.specs.NodeLaws.{node_of-same, node_of-first, lawful_has_room, size_within, pages_for-most, pages_for-some, first_joined, map_some}
 use Rattle.flash_model.specs.Reading.{OnlyReads}
 use Rattle.node_store.specs.Caching.{BringsOrWants}
 use Rattle.node_store.specs.Reading.{Brings}
@@ -110,7 +110,7 @@ Brings_from old mid new part whole shown (Err fault) r same b =
 pub rest_in_range : (g h : Geometry) (b first size : ℕ) (head : List ℕ) → IsGeometry g → h ≡ g → b < g.blocks → first ≡ b * g.pages + 0
     → node_size (block_bytes g) head ≡ Some size → first + pages_for h.page size ≤ page_count h
 rest_in_range g h b first size head lawful same below at tells =
-    let room = has_room g lawful in
+    let room = lawful_has_room g lawful in
     let within = size_within (block_bytes g) size head tells in
     let most = pages_for-most g.page g.pages size (omega arith) within.most in
     let block : suc b * g.pages ≤ g.blocks * g.pages = mul-le (suc b) g.pages g.blocks g.pages below (omega arith) in
@@ -120,7 +120,7 @@ rest_in_range g h b first size head lawful same below at tells =
 -- and it needs some
 pub some_rest : (g h : Geometry) (size : ℕ) (head : List ℕ) → IsGeometry g → h ≡ g → node_size (block_bytes g) head ≡ Some size → 0 < pages_for h.page size
 some_rest g h size head lawful same tells =
-    let room = has_room g lawful in
+    let room = lawful_has_room g lawful in
     let within = size_within (block_bytes g) size head tells in
     subst (λ (k : Geometry). 0 < pages_for k.page size) (sym same) (pages_for-some g.page size (omega arith) (omega arith))
 
@@ -142,7 +142,7 @@ some_pages (suc k) page size least fits = omega arith
 pub block_once : (g h : Geometry) (size a b c : ℕ) (head : List ℕ) → IsGeometry g → h ≡ g → node_size (block_bytes g) head ≡ Some size
     → b ≤ a + 1 → c ≤ b + (pages_for h.page size - 1) → c ≤ a + g.pages
 block_once g h size a b c head lawful same tells first rest =
-    let room = has_room g lawful in
+    let room = lawful_has_room g lawful in
     let within = size_within (block_bytes g) size head tells in
     let most = pages_for-most g.page g.pages size (omega arith) within.most in
     let last : c ≤ b + (pages_for g.page size - 1) = subst (λ (k : Geometry). c ≤ b + (pages_for k.page size - 1)) same rest in
@@ -155,7 +155,7 @@ pub each_once : (g h : Geometry) (size len a b c : ℕ) (head : List ℕ) (resul
     → OnOk result (c ≤ a + pages_for g.page len)
 each_once g h size len a b c head (Err fault) lawful same tells first rest is = tt
 each_once g h size len a b c head (Ok x) lawful same tells first rest is =
-    let room = has_room g lawful in
+    let room = lawful_has_room g lawful in
     let within = size_within (block_bytes g) size head tells in
     let some = some_pages (pages_for g.page size) g.page size within.least (div_ceil_times size g.page (omega arith)).0 in
     let last : c ≤ b + (pages_for g.page size - 1) = subst (λ (k : Geometry). c ≤ b + (pages_for k.page size - 1)) same rest in

@@ -20,7 +20,7 @@ use Rattle.node_store.specs.NodePages.{HasPages, HoldsNode}
 use Rattle.node_format.specs.Headers.{IsNode}
 use Rattle.node_store.specs.NodeLaws.{node_of-pages, HoldsNode_same}
 use Rattle.flash_model.specs.Reading.{OnlyReads_itself, OnlyReads_on}
-use Rattle.node_store.specs.Writing.{Ends, IsFilledInOrder, WritesBlock}
+use Rattle.node_store.specs.Writing.{IsBlockWritten, IsFilledInOrder, WritesBlock}
 use Rattle.node_store.specs.WritingLaws.{order_on, order_from}
 use Rattle.node_store.specs.Storage.{Storage, storage, is_kept, IsTaken, Evolved, IsUntouched, IsAdded, Pays, IsNextBlock, PassesBad}
 use Rattle.fs_types.specs.declared.limits.TheConstants.{ANCHORS, MAX_BAD_BLOCKS}
@@ -176,7 +176,7 @@ apart_then : (old : Ring) (bad : set.FinSet nat_cmp) (b : ℕ) (new : Ring) (c :
 apart_then old bad b new c take free same = both_ways (set.contains new.used c) free (ap (set.contains new.used) same ∙ take.used)
 
 -- where power stays on and no operation failed, the bytes were written
-written_on : (d : Device) (b : ℕ) (bytes : List ℕ) (result : Result (Unit {0}) DevFault) → Ends d b bytes result → failed result ≡ 0 → d.powered ≡ true
+written_on : (d : Device) (b : ℕ) (bytes : List ℕ) (result : Result (Unit {0}) DevFault) → IsBlockWritten d b bytes result → failed result ≡ 0 → d.powered ≡ true
     → HasPages d b bytes
 written_on d b bytes (Ok u) ends none on = ends
 written_on d b bytes (Err Failed) ends none on = cc

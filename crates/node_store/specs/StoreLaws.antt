@@ -15,7 +15,7 @@ use Rattle.node_store.specs.Storage.{Storage, is_kept, Evolved}
 use Rattle.node_store.specs.StorageLaws.{Untouched_itself, Untouched_on, Evolved_itself, Evolved_on}
 use Rattle.node_store.specs.Faults.{IsReadFault}
 use Rattle.node_store.specs.Reading.{Brings}
-use Rattle.node_store.specs.Stores.{parts, IsSound, Follows, Causes}
+use Rattle.node_store.specs.Stores.{parts, IsSoundStore, Follows, Causes}
 
 -- a kept block keeps its node
 pub Evolved_node : (s t : Storage) (b : ℕ) → IsGeometry s.device.geometry → Evolved s t → is_kept s b ≡ true
@@ -90,7 +90,7 @@ module _ {F : Type 0} (device : F → Device) where
   brings_causes s t there shown Damaged b apart = absurd (apart refl)
   brings_causes s t there shown _ b apart = absurd b
 
-  pub Sound_on : (s t : Store F) → Follows device s t → IsSound device s → IsSound device t
+  pub Sound_on : (s t : Store F) → Follows device s t → IsSoundStore device s → IsSoundStore device t
   Sound_on s t f sound =
       let same = f.evolved.geometry in
       record {

@@ -22,7 +22,7 @@ module _ {F : Type 0} (device : F → Device) where
   parts s = storage_on (device s.flash.now) s.storage.now
 
   -- what calls ask of the store, and leave
-  pub record IsSound (s : Store F) : Type 0 where
+  pub record IsSoundStore (s : Store F) : Type 0 where
     pub lawful : IsGeometry (device s.flash.now).geometry
     pub ring_blocks : s.storage.now.ring.blocks ≡ (device s.flash.now).geometry.blocks
     pub fits : Fits (device s.flash.now) s.storage.now
@@ -43,14 +43,14 @@ module _ {F : Type 0} (device : F → Device) where
     pub asks : t.writes.n ≡ s.writes.n → (device t.flash.now).operations + s.reads.n * (device s.flash.now).geometry.pages ≤ (device s.flash.now).operations + t.reads.n * (device s.flash.now).geometry.pages
 
   -- no block is free, and those that were free were fewer than the writes asked and the blocks that went bad
-  pub record IsFull (s t : Store F) : Type 0 where
+  pub record IsStoreFull (s t : Store F) : Type 0 where
     pub none_free : free_count t.storage.now.ring t.storage.now.bad ≡ 0
     pub few_free : free_count s.storage.now.ring s.storage.now.bad + set.len s.storage.now.bad + s.writes.n < set.len t.storage.now.bad + t.writes.n
     pub room : set.len t.storage.now.bad < MAX_BAD_BLOCKS
 
   -- why a refusal may come between two states
   abbrev pub Reasons : Store F → Store F → Fault → Type 0
-  Reasons s t FlashFull = IsFull s t
+  Reasons s t FlashFull = IsStoreFull s t
   Reasons s t ReadOnly = set.len t.storage.now.bad ≡ MAX_BAD_BLOCKS
   Reasons s t ReadFailed = (device s.flash.now).failed_reads < (device t.flash.now).failed_reads
   Reasons s t PowerCut = (device t.flash.now).powered ≡ false

@@ -24,10 +24,10 @@ abbrev pub IsFilledInOrder : Device → ℕ → Device → Type 0
 IsFilledInOrder old b new = IsUnerased old b new ⊎ IsInOrder new b
 
 -- the block has the bytes, or is worn, or power is off
-abbrev pub Ends : Device → ℕ → List ℕ → Result (Unit {0}) DevFault → Type 0
-Ends new b bytes (Ok _) = HasPages new b bytes
-Ends new b bytes (Err Failed) = new.worn b ≡ true
-Ends new b bytes (Err PowerCut) = new.powered ≡ false
+abbrev pub IsBlockWritten : Device → ℕ → List ℕ → Result (Unit {0}) DevFault → Type 0
+IsBlockWritten new b bytes (Ok _) = HasPages new b bytes
+IsBlockWritten new b bytes (Err Failed) = new.worn b ≡ true
+IsBlockWritten new b bytes (Err PowerCut) = new.powered ≡ false
 
 -- the pages of one block alone changed, and at most one operation failed, the last one
 pub record WritesBlock (old : Device) (b : ℕ) (bytes : List ℕ) (new : Device) (result : Result (Unit {0}) DevFault) : Type 0 where
@@ -40,7 +40,7 @@ pub record WritesBlock (old : Device) (b : ℕ) (bytes : List ℕ) (new : Device
   pub was_on : new.powered ≡ true → old.powered ≡ true
   pub stays_off : old.powered ≡ false → new ≡ old
   pub order : IsFilledInOrder old b new
-  pub ends : Ends new b bytes result
+  pub ends : IsBlockWritten new b bytes result
 
 -- the pages before a place have their bytes, those from it on are erased, and no operation failed so far
 pub record IsWriting (old : Device) (b : ℕ) (bytes : List ℕ) (place : ℕ) (new : Device) : Type 0 where

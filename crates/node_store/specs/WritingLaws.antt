@@ -9,7 +9,7 @@ use Rattle.flash_model.specs.Device.{Device, Page, bytes_of, erased, unreadable,
 use Rattle.flash_model.specs.Geometry.{IsGeometry, block_bytes}
 use Rattle.flash_model.specs.Blocks.{block_of-at}
 use Rattle.node_store.specs.NodePages.{page_bytes, pages_for}
-use Rattle.node_store.specs.NodeLaws.{has_room, pages_for-most}
+use Rattle.node_store.specs.NodeLaws.{lawful_has_room, pages_for-most}
 use Rattle.node_store.specs.Writing.{has_data, IsInOrder, IsFilledInOrder, WritesBlock, IsWriting}
 
 -- before the first program
@@ -239,15 +239,15 @@ erase_then old mid new b bytes u result erases w = record {
 -- a page that the bytes need is in the block
 pub place_below : (g h : Geometry) (place size : ℕ) → h ≡ g → IsGeometry g → size ≤ block_bytes g → place < pages_for h.page size → place < g.pages
 place_below g h place size same lawful fits below =
-    let room = has_room g lawful in
+    let room = lawful_has_room g lawful in
     let most = pages_for-most g.page g.pages size (omega arith) fits in
     let count : pages_for h.page size ≡ pages_for g.page size = ap (λ (k : Geometry). pages_for k.page size) same in
     omega arith
 
 -- an operation counts once, where power is on
-pub one_more : (on : Bool) (before after : ℕ) → after ≡ before + (if on then 1 else 0) → after ≤ before + 1
-one_more true before after e = omega (arith, e)
-one_more false before after e = omega (arith, e)
+pub counts_once : (on : Bool) (before after : ℕ) → after ≡ before + (if on then 1 else 0) → after ≤ before + 1
+counts_once true before after e = omega (arith, e)
+counts_once false before after e = omega (arith, e)
 
 -- blocks that are filled in order stay so while their pages do
 in_order_same : (d e : Device) (b : ℕ) → e.geometry ≡ d.geometry → ((p : ℕ) → block_of d p ≡ b → e.pages p ≡ d.pages p) → IsInOrder d b → IsInOrder e b

@@ -13,7 +13,7 @@ use flash_model::Flash;
 use fs_types::Fault;
 
 /// Reads the node of a block that is not listed, and lists it first.
-fn fetch_node<F: Flash>(flash: &mut F, storage: &mut Storage, block: u32) -> Result<(), Fault>
+pub fn fetch_node<F: Flash>(flash: &mut F, storage: &mut Storage, block: u32) -> Result<(), Fault>
     requires lawful { IsGeometry (F.device flash.old).geometry }
     requires fits { Fits (F.device flash.old) storage.old }
     requires unlisted { node_in storage.old.cache block ≡ None }
@@ -26,6 +26,7 @@ fn fetch_node<F: Flash>(flash: &mut F, storage: &mut Storage, block: u32) -> Res
     ensures only_reads { OnlyReads (F.device flash.old) (F.device flash.new) }
     ensures bad { storage.new.bad ≡ storage.old.bad }
     ensures ring { storage.new.ring ≡ storage.old.ring }
+    ensures partly { storage.new.partly ≡ storage.old.partly }
 
     // Each page of the node is read once, and no more than a block has, whatever is answered.
     ensures operations { OnOk result ((F.device flash.new).operations ≤ (F.device flash.old).operations + pages_for (F.device flash.old).geometry.page (length (first_bytes storage.new.cache.entries))) }

@@ -29,6 +29,7 @@ pub fn bring_front<F: Flash>(
     ensures only_reads { OnlyReads (F.device flash.old) (F.device flash.new) }
     ensures bad { storage.new.bad ≡ storage.old.bad }
     ensures ring { storage.new.ring ≡ storage.old.ring }
+    ensures partly { storage.new.partly ≡ storage.old.partly }
     ensures operations { (F.device flash.new).operations ≤ (F.device flash.old).operations + 1 }
 {
     if storage.cache.promote(block) {

@@ -4,6 +4,7 @@
 mod cached_reads;
 mod fronts;
 mod new_nodes;
+mod node_parts;
 mod node_reads;
 mod node_writes;
 mod nodes;

@@ -120,6 +120,7 @@ fn write_next<F: Flash>(
         ring,
         page,
         cache,
+        ..
     } = storage;
     let block = next_block(ring, bad)?;
     let empty = Vec::new(*node.allocator());

@@ -13,7 +13,7 @@ use node_format::node_size;
 use std::alloc::Global;
 
 /// Reads a page that has data.
-fn read_page<F: Flash>(flash: &mut F, number: u32, page: &mut Vec<u8>) -> Result<(), Fault>
+pub fn read_page<F: Flash>(flash: &mut F, number: u32, page: &mut Vec<u8>) -> Result<(), Fault>
     requires in_range { number < page_count (F.device flash.old).geometry }
     requires whole { vec_len page.old ≡ (F.device flash.old).geometry.page }
     ensures brings { Brings (F.device flash.old) (F.device flash.new) (and_page (Some []) ((F.device flash.old).pages number)) page.new.items result }

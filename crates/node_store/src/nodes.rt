@@ -8,6 +8,7 @@ ghost use Rattle.node_store.specs.Faults.{IsLookFault, IsReadFault, IsWriteFault
 ghost use Rattle.node_store.specs.Frames.{OnlyLooks, Works};
 ghost use Rattle.node_store.specs.Fronts.{IsFront};
 ghost use Rattle.node_store.specs.NodePages.{pages_for};
+ghost use Rattle.node_store.specs.Parts.{HasPart, LacksPart, pages_of_range};
 
 use fs_types::Fault;
 
@@ -32,6 +33,9 @@ pub trait Nodes {
     ghost beginning: { Self → List ℕ };
 
     ghost lends_front: { Self → Type 0 };
+
+    // the block of which a part was read last, which is read whole next; 0 where there is none
+    ghost partly: { Self → ℕ };
 
     // how many reads and writes were asked, refused ones too; a front is a read
     ghost reads: { Self → ℕ };
@@ -100,6 +104,7 @@ pub trait Nodes {
         requires { is_sound self.old }
         ensures begins { OnOk result ((bytes : List ℕ) → node self.old block ≡ Some bytes → IsFront (page self.old) (beginning self.new) bytes) }
         ensures lends { OnOk result (lends_front self.new) }
+        ensures partly { partly self.new ≡ partly self.old }
 
         // Damaged only where there is no node.
         ensures damaged { IsErrOf result Fault.Damaged → node self.old block ≡ None }
@@ -116,6 +121,29 @@ pub trait Nodes {
     fn fronted(&self) -> &[u8]
         requires { lends_front self.now }
         ensures { result.now ≡ beginning self.now };
+
+    /// Fills `out` with the bytes of the node in a block, from an offset on. Any number may be asked;
+    /// where the node has not so many bytes, or there is none, `out` may then hold anything.
+    ///
+    /// Only the pages that hold these bytes are asked, unless a part of the block was read last: then
+    /// the node is read whole. Nothing may be lent after it.
+    fn read_at(&mut self, block: u32, offset: u32, out: &mut [u8]) -> Result<(), Fault>
+        requires sound { is_sound self.old }
+        requires within { offset + length out.old ≤ limit self.old }
+        ensures copied { OnOk result (HasPart (node self.old block) offset (length out.old) out.new) }
+
+        // Damaged only where the node has not so many bytes, or there is none.
+        ensures damaged { IsErrOf result Fault.Damaged → LacksPart (node self.old block) offset (length out.old) }
+        ensures why { IfErr result (λ fault. fault ≢ Fault.Damaged → causes self.old self.new fault) }
+        ensures faults { IfErr result IsReadFault }
+
+        // Whatever is answered, no block changes.
+        ensures looks { OnlyLooks node kept writes follows is_sound limit blocks self.old self.new }
+        ensures reads { reads self.new ≡ reads self.old + 1 }
+
+        // Each page that holds the bytes is asked once, and no more than a block has, whatever is answered.
+        ensures asks { partly self.old ≢ block → asked self.new ≤ asked self.old + pages_of_range (page self.old) offset (length out.old) }
+        ensures asks_most { asked self.new ≤ asked self.old + pages_for (page self.old) (limit self.old) };
 
     /// Takes a node out of memory whose successor is written next. Nothing may be lent then, and no
     /// block changes.

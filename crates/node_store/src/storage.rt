@@ -26,6 +26,8 @@ pub struct Storage {
     pub page: Vec<u8>,
     /// The nodes that were read or written last, as the flash holds them.
     pub cache: NodeCache,
+    /// The block of which a part was read last, which is read whole next; 0 where there is none.
+    pub partly: u32,
 }
 
 impl Storage {
@@ -50,6 +52,7 @@ impl Storage {
           takes = 0;
         }) }
         ensures cache { IfOk result (λ storage. storage.cache ≡ cache) }
+        ensures partly { IfOk result (λ storage. storage.partly ≡ 0) }
         ensures fits { IfOk result (λ storage. (device : Device) → device.geometry ≡ geometry
             → Fits device storage) }
         ensures err { IfErr result (λ fault. fault ≡ Fault.NoMemory) }
@@ -59,6 +62,7 @@ impl Storage {
             ring: Ring::new(alloc, geometry.blocks, last)?,
             page: vec![in alloc; 0; geometry.page as usize]?,
             cache,
+            partly: 0,
         })
     }
 

@@ -2,6 +2,7 @@
 use crate::cached_reads::read_first;
 use crate::fronts::bring_front;
 use crate::new_nodes::{write_node, write_owned_node};
+use crate::node_parts::bring_part;
 use crate::nodes::Nodes;
 use crate::storage::Storage;
 use counts::Count;
@@ -12,7 +13,9 @@ use fs_types::Fault;
 /// used.
 ///
 /// A node is lent from the cache of those that were used last: a listed block is read without the
-/// device, and one that is read or written goes first.
+/// device, and one that is read or written goes first. Of a node that is not listed a part is read by the
+/// pages that hold it, and whole where a part of it was read last: so no more pages are asked for the
+/// parts of a node one after the other than for the node and a part of it.
 ///
 /// A write takes a block, erases it and programs its pages. A block of which an operation failed
 /// goes into the bad list, and the next one is taken.
@@ -61,9 +64,10 @@ impl<F: Flash> Nodes for Store<'_, F> {
     ghost use Rattle.flash_model.specs.Geometry.{block_bytes as bytes_of_block};
     ghost use Rattle.node_cache.specs.Cache.{first_bytes, without};
     ghost use Rattle.node_store.specs.NodePages.{node_of, pages_for};
-    ghost use Rattle.node_store.specs.NodeLaws.{has_room, node_of-whole, node_of-anchor, node_of-beyond};
+    ghost use Rattle.node_store.specs.NodeLaws.{lawful_has_room, node_of-whole, node_of-anchor, node_of-beyond};
+    ghost use Rattle.node_store.specs.Parts.{HasPart, LacksPart, ReadsPart, pages_of_range};
     ghost use Rattle.node_store.specs.StorageLaws.{Evolved_fresh};
-    ghost use Rattle.node_store.specs.Stores.{parts, IsSound, Follows, Causes};
+    ghost use Rattle.node_store.specs.Stores.{parts, IsSoundStore, Follows, Causes};
     ghost use Rattle.node_store.specs.FrameLaws.{Looks_on, Works_on, Looks_works};
     ghost use Rattle.node_store.specs.StoreLaws.{Evolved_node, Follows_itself, Follows_on, Causes_on, Sound_on};
 
@@ -79,6 +83,8 @@ impl<F: Flash> Nodes for Store<'_, F> {
 
     ghost lends_front = { λ _. Unit {0} };
 
+    ghost partly = { λ s. s.storage.now.partly };
+
     ghost reads = { λ s. s.reads.n };
 
     ghost writes = { λ s. s.writes.n };
@@ -91,7 +97,7 @@ impl<F: Flash> Nodes for Store<'_, F> {
 
     ghost blocks = { λ s. (F.device s.flash.now).geometry.blocks };
 
-    ghost is_sound = { IsSound F.device };
+    ghost is_sound = { IsSoundStore F.device };
 
     ghost follows = { Follows F.device };
 
@@ -106,13 +112,13 @@ impl<F: Flash> Nodes for Store<'_, F> {
     }
 
     fn read(&mut self, block: u32) -> Result<(), Fault>
-        requires { IsSound F.device self.old }
+        requires { IsSoundStore F.device self.old }
         ensures shown { OnOk result (node_of (F.device self.old.flash.now) block ≡ Some (first_bytes self.new.storage.now.cache.entries)) }
         ensures lends { OnOk result (Unit {0}) }
         ensures damaged { IsErrOf result Fault.Damaged → node_of (F.device self.old.flash.now) block ≡ None }
         ensures why { IfErr result (λ fault. fault ≢ Fault.Damaged → Causes F.device self.old self.new fault) }
         ensures faults { IfErr result IsReadFault }
-        ensures looks { OnlyLooks (λ s. node_of (F.device s.flash.now)) (λ s. set.contains s.storage.now.ring.used) (λ s. s.writes.n) (Follows F.device) (IsSound F.device) (λ s. bytes_of_block (F.device s.flash.now).geometry) (λ s. (F.device s.flash.now).geometry.blocks) self.old self.new }
+        ensures looks { OnlyLooks (λ s. node_of (F.device s.flash.now)) (λ s. set.contains s.storage.now.ring.used) (λ s. s.writes.n) (Follows F.device) (IsSoundStore F.device) (λ s. bytes_of_block (F.device s.flash.now).geometry) (λ s. (F.device s.flash.now).geometry.blocks) self.old self.new }
         ensures reads { self.new.reads.n ≡ self.old.reads.n + 1 }
         ensures asks { OnOk result ((F.device self.new.flash.now).operations ≤ (F.device self.old.flash.now).operations + pages_for (F.device self.old.flash.now).geometry.page (length (first_bytes self.new.storage.now.cache.entries))) }
         ensures asks_most { (F.device self.new.flash.now).operations ≤ (F.device self.old.flash.now).operations + pages_for (F.device self.old.flash.now).geometry.page (bytes_of_block (F.device self.old.flash.now).geometry) }
@@ -129,13 +135,14 @@ impl<F: Flash> Nodes for Store<'_, F> {
     }
 
     fn front(&mut self, block: u32) -> Result<(), Fault>
-        requires { IsSound F.device self.old }
+        requires { IsSoundStore F.device self.old }
         ensures begins { OnOk result ((bytes : List ℕ) → node_of (F.device self.old.flash.now) block ≡ Some bytes → IsFront (F.device self.old.flash.now).geometry.page (front_in self.new.in_page self.new.storage.now) bytes) }
         ensures lends { OnOk result (Unit {0}) }
+        ensures partly { self.new.storage.now.partly ≡ self.old.storage.now.partly }
         ensures damaged { IsErrOf result Fault.Damaged → node_of (F.device self.old.flash.now) block ≡ None }
         ensures why { IfErr result (λ fault. fault ≢ Fault.Damaged → Causes F.device self.old self.new fault) }
         ensures faults { IfErr result IsReadFault }
-        ensures looks { OnlyLooks (λ s. node_of (F.device s.flash.now)) (λ s. set.contains s.storage.now.ring.used) (λ s. s.writes.n) (Follows F.device) (IsSound F.device) (λ s. bytes_of_block (F.device s.flash.now).geometry) (λ s. (F.device s.flash.now).geometry.blocks) self.old self.new }
+        ensures looks { OnlyLooks (λ s. node_of (F.device s.flash.now)) (λ s. set.contains s.storage.now.ring.used) (λ s. s.writes.n) (Follows F.device) (IsSoundStore F.device) (λ s. bytes_of_block (F.device s.flash.now).geometry) (λ s. (F.device s.flash.now).geometry.blocks) self.old self.new }
         ensures reads { self.new.reads.n ≡ self.old.reads.n + 1 }
         ensures asks { (F.device self.new.flash.now).operations ≤ (F.device self.old.flash.now).operations + 1 }
 
@@ -154,9 +161,28 @@ impl<F: Flash> Nodes for Store<'_, F> {
         self.storage.cache.first()
     }
 
+    fn read_at(&mut self, block: u32, offset: u32, out: &mut [u8]) -> Result<(), Fault>
+        requires sound { IsSoundStore F.device self.old }
+        requires within { offset + length out.old ≤ bytes_of_block (F.device self.old.flash.now).geometry }
+        ensures copied { OnOk result (HasPart (node_of (F.device self.old.flash.now) block) offset (length out.old) out.new) }
+        ensures damaged { IsErrOf result Fault.Damaged → LacksPart (node_of (F.device self.old.flash.now) block) offset (length out.old) }
+        ensures why { IfErr result (λ fault. fault ≢ Fault.Damaged → Causes F.device self.old self.new fault) }
+        ensures faults { IfErr result IsReadFault }
+        ensures looks { OnlyLooks (λ s. node_of (F.device s.flash.now)) (λ s. set.contains s.storage.now.ring.used) (λ s. s.writes.n) (Follows F.device) (IsSoundStore F.device) (λ s. bytes_of_block (F.device s.flash.now).geometry) (λ s. (F.device s.flash.now).geometry.blocks) self.old self.new }
+        ensures reads { self.new.reads.n ≡ self.old.reads.n + 1 }
+        ensures asks { self.old.storage.now.partly ≢ block → (F.device self.new.flash.now).operations ≤ (F.device self.old.flash.now).operations + pages_of_range (F.device self.old.flash.now).geometry.page offset (length out.old) }
+        ensures asks_most { (F.device self.new.flash.now).operations ≤ (F.device self.old.flash.now).operations + pages_for (F.device self.old.flash.now).geometry.page (bytes_of_block (F.device self.old.flash.now).geometry) }
+
+        // A listed node goes first, one of which a part was read last is listed, and of another only the part is read.
+        ensures part { ReadsPart (F.device self.old.flash.now) self.old.storage.now block (F.device self.new.flash.now) self.new.storage.now result }
+    {
+        self.reads = self.reads.more();
+        bring_part(self.flash, self.storage, block, offset, out)
+    }
+
     fn supersede(&mut self, block: u32)
-        requires { IsSound F.device self.old }
-        ensures looks { OnlyLooks (λ s. node_of (F.device s.flash.now)) (λ s. set.contains s.storage.now.ring.used) (λ s. s.writes.n) (Follows F.device) (IsSound F.device) (λ s. bytes_of_block (F.device s.flash.now).geometry) (λ s. (F.device s.flash.now).geometry.blocks) self.old self.new }
+        requires { IsSoundStore F.device self.old }
+        ensures looks { OnlyLooks (λ s. node_of (F.device s.flash.now)) (λ s. set.contains s.storage.now.ring.used) (λ s. s.writes.n) (Follows F.device) (IsSoundStore F.device) (λ s. bytes_of_block (F.device s.flash.now).geometry) (λ s. (F.device s.flash.now).geometry.blocks) self.old self.new }
         ensures reads { self.new.reads.n ≡ self.old.reads.n }
         ensures asks { (F.device self.new.flash.now).operations ≡ (F.device self.old.flash.now).operations }
 
@@ -195,7 +221,7 @@ impl<F: Flash> Nodes for Store<'_, F> {
 
     ghost same_page = { λ s t f. ap (λ g. g.page) f.evolved.geometry };
 
-    ghost least_page = { λ s sound. (has_room (F.device s.flash.now).geometry sound.lawful).page };
+    ghost least_page = { λ s sound. (lawful_has_room (F.device s.flash.now).geometry sound.lawful).page };
 
     ghost same_limit = { λ s t f. ap bytes_of_block f.evolved.geometry };
 

@@ -2,8 +2,8 @@
 use Rattle.std.proofs.Common.{◌≡◌, ◌≢◌, ℕ, ◌+◌, true, List, Result, Ok, sym, ap, ◌∙◌, subst, arith}
 use Rattle.flash_model.specs.declared.flash.DevFault.{DevFault}
 use Rattle.flash_model.specs.declared.flash.PageState.{PageState}
-use Rattle.flash_model.specs.Device.{Device, Page, Shows, Reads, Operates, failed, cut, AfterProgram, AfterErase, Programs, Erases, Wears, block_of}
-use Rattle.flash_model.specs.Simulation.{Ends}
+use Rattle.flash_model.specs.Device.{Device, Page, ReportsPage, Reads, Operates, failed, cut, AfterProgram, AfterErase, Programs, Erases, Wears, block_of}
+use Rattle.flash_model.specs.Simulation.{LeavesBeside}
 
 -- an operation has begun, with the power on, and changed pages alone
 pub record Begins (old mid : Device) : Type 0 where
@@ -17,7 +17,7 @@ begins old begun pages on same = record {
   rest = ap (λ (d : Device). record d { pages = pages }) same;
 }
 
-operates : (old mid new : Device) (b : ℕ) (result : Result (Unit {0}) DevFault) → Begins old mid → Ends mid b new result
+operates : (old mid new : Device) (b : ℕ) (result : Result (Unit {0}) DevFault) → Begins old mid → LeavesBeside mid b new result
     → Operates old new result 0 (failed result)
 operates old mid new b result begins ends =
     let on : old.powered ≡ true = begins.on in
@@ -44,7 +44,7 @@ wears old mid new b result same worn = subst (λ before. Wears (record old { wor
 
 -- a program of a page
 pub program_done : (old mid new : Device) (p b : ℕ) (bytes : List ℕ) (result : Result (Unit {0}) DevFault)
-    → b ≡ block_of old p → Begins old mid → Ends mid b new result
+    → b ≡ block_of old p → Begins old mid → LeavesBeside mid b new result
     → ((q : ℕ) → q ≢ p → mid.pages q ≡ old.pages q) → AfterProgram (old.pages p) bytes (mid.pages p) result
     → Programs old p bytes new result
 program_done old mid new p b bytes result block begins ends others own =
@@ -57,7 +57,7 @@ program_done old mid new p b bytes result block begins ends others own =
     }
 
 -- an erase of a block
-pub erase_done : (old mid new : Device) (b : ℕ) (result : Result (Unit {0}) DevFault) → Begins old mid → Ends mid b new result
+pub erase_done : (old mid new : Device) (b : ℕ) (result : Result (Unit {0}) DevFault) → Begins old mid → LeavesBeside mid b new result
     → ((p : ℕ) → block_of old p ≢ b → mid.pages p ≡ old.pages p)
     → ((p : ℕ) → block_of old p ≡ b → AfterErase (old.pages p) (mid.pages p) result)
     → Erases old b new result
@@ -72,7 +72,7 @@ erase_done old mid new b result begins ends others own =
 
 -- a read of a page, which is one more operation and nothing else
 pub read_done : (old new : Device) (p : ℕ) (was now : List ℕ) (state : PageState) → old.powered ≡ true
-    → new ≡ record old { operations = old.operations + 1 } → Shows (old.pages p) was now (Ok state) → Reads old p was new now (Ok state)
+    → new ≡ record old { operations = old.operations + 1 } → ReportsPage (old.pages p) was now (Ok state) → Reads old p was new now (Ok state)
 read_done old new p was now state on same shows =
     let failed_reads : new.failed_reads ≡ old.failed_reads = ap (λ (d : Device). d.failed_reads) same in
     let failures : new.failures ≡ old.failures = ap (λ (d : Device). d.failures) same in

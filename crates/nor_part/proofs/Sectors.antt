@@ -5,11 +5,11 @@ use Rattle.flash_model.specs.declared.flash.DevFault.TheVariants.{Failed, PowerC
 use Rattle.nor_part.specs.declared.memory_nor.Trouble.{Trouble}
 use Rattle.nor_part.specs.declared.memory_nor.Trouble.TheVariants.{Fails, CutBefore, CutWithin, CutAfter}
 use Rattle.nor_part.specs.Part.{is_blank, AfterSectorErase, ErasesSector}
-use Rattle.nor_part.specs.Memory.{answer_of}
+use Rattle.nor_part.specs.Memory.{trouble_answer}
 use Rattle.nor_part.proofs.Pages.{torn_from_blank}
 
 -- a page that is blank now
-blank_told : (due : Option Trouble) (old new : List ℕ) → length new ≡ length old → is_blank new ≡ true → AfterSectorErase old new (answer_of due)
+blank_told : (due : Option Trouble) (old new : List ℕ) → length new ≡ length old → is_blank new ≡ true → AfterSectorErase old new (trouble_answer due)
 blank_told None old new same blank = blank
 blank_told (Some Fails) old new same blank = torn_from_blank old new Failed same blank
 blank_told (Some CutBefore) old new same blank = torn_from_blank old new PowerCut same blank
@@ -20,7 +20,7 @@ kept : (old new : List ℕ) → new ≡ old → (i : ℕ) → i < length old →
 kept old new same i below some gone = some (subst (λ (xs : List ℕ). slice_index xs i ≡ 0) same gone)
 
 -- a page that is as it was
-kept_told : (trouble : Trouble) (old new : List ℕ) → new ≡ old → AfterSectorErase old new (answer_of (Some trouble))
+kept_told : (trouble : Trouble) (old new : List ℕ) → new ≡ old → AfterSectorErase old new (trouble_answer (Some trouble))
 kept_told Fails old new same = kept old new same
 kept_told CutBefore old new same = kept old new same
 kept_told CutWithin old new same = kept old new same
@@ -29,7 +29,7 @@ kept_told CutAfter old new same = kept old new same
 -- the whole sector is erased
 pub sector_erased : (old new : ℕ → List ℕ) (s : ℕ) (due : Option Trouble) → ((n : ℕ) → n / 16 ≢ s → new n ≡ old n)
     → ((n : ℕ) → n / 16 ≡ s → is_blank (new n) ≡ true) → ((n : ℕ) → length (old n) ≡ 256) → ((n : ℕ) → length (new n) ≡ 256)
-    → ErasesSector old s new (answer_of due)
+    → ErasesSector old s new (trouble_answer due)
 sector_erased old new s due others own before after = record {
   others = others;
   own = λ m here. blank_told due (old m) (new m) (after m ∙ sym (before m)) (own m here);
@@ -38,7 +38,7 @@ sector_erased old new s due others own before after = record {
 -- its first page alone is
 pub page_erased : (old new : ℕ → List ℕ) (s : ℕ) (trouble : Trouble) → ((n : ℕ) → n ≢ 16 * s → new n ≡ old n)
     → is_blank (new (16 * s)) ≡ true → ((n : ℕ) → length (old n) ≡ 256) → ((n : ℕ) → length (new n) ≡ 256)
-    → ErasesSector old s new (answer_of (Some trouble))
+    → ErasesSector old s new (trouble_answer (Some trouble))
 page_erased old new s trouble others own before after = record {
   others = λ m far. others m (λ same. far (omega (arith, same)));
   own = λ m here. elim (cases_eq m (16 * s)) [

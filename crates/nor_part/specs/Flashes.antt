@@ -3,13 +3,13 @@ use Rattle.std.specs.Prelude.{◌≡◌, ℕ, List, true, false, slice_index_or}
 use Rattle.flash_model.specs.Device.{Device}
 use Rattle.nor_part.specs.declared.nor.Nor.{Ghosts}
 use Rattle.nor_part.specs.declared.nor_flash.NorFlash.{NorFlash}
-use Rattle.nor_part.specs.Layout.{sizes_of, blocks_of, page_in}
+use Rattle.nor_part.specs.Layout.{part_sizes, blocks_of, page_in}
 
 module _ {P : Type 0} {nor : Ghosts P} where
   -- the device: its pages are those that the part holds
-  abbrev pub device_of : NorFlash P nor → Device
-  device_of flash = record {
-    geometry = sizes_of flash.blocks;
+  abbrev pub nor_device : NorFlash P nor → Device
+  nor_device flash = record {
+    geometry = part_sizes flash.blocks;
     pages = page_in (nor.held flash.part);
     powered = flash.powered;
     worn = λ block. slice_index_or flash.worn.items block false;
@@ -20,12 +20,12 @@ module _ {P : Type 0} {nor : Ghosts P} where
   }
 
   -- the part
-  abbrev pub part_of : NorFlash P nor → P
-  part_of flash = flash.part
+  abbrev pub nor_of : NorFlash P nor → P
+  nor_of flash = flash.part
 
 -- a flash that was made over a part which holds these pages: power is on, no block is worn, and nothing happened yet
 pub record IsOver (held : ℕ → List ℕ) (count : ℕ) (d : Device) : Type 0 where
-  pub geometry : d.geometry ≡ sizes_of (blocks_of count)
+  pub geometry : d.geometry ≡ part_sizes (blocks_of count)
   pub pages : d.pages ≡ page_in held
   pub powered : d.powered ≡ true
   pub worn : (b : ℕ) → d.worn b ≡ false

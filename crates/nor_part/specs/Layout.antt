@@ -9,8 +9,8 @@ abbrev pub blocks_of : ℕ → ℕ
 blocks_of count = count / 32
 
 -- pages of 256 bytes, 16 in a block
-abbrev pub sizes_of : ℕ → Geometry
-sizes_of blocks = record { page = 256; pages = 16; blocks = blocks }
+abbrev pub part_sizes : ℕ → Geometry
+part_sizes blocks = record { page = 256; pages = 16; blocks = blocks }
 
 -- the page of the part that has the data
 abbrev pub data_page : ℕ → ℕ

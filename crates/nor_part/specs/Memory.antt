@@ -8,17 +8,17 @@ use Rattle.nor_part.specs.declared.memory_nor.Trouble.{Trouble}
 use Rattle.nor_part.specs.declared.memory_nor.Trouble.TheVariants.{Fails, CutBefore, CutWithin, CutAfter}
 
 -- a page of a part, past the last one a blank one
-abbrev pub page_at : List MemoryPage → ℕ → List ℕ
-page_at pages n = option_map_or (λ page. page.bytes.items) (slice_get pages n) (replicate 256 255)
+abbrev pub memory_page_at : List MemoryPage → ℕ → List ℕ
+memory_page_at pages n = option_map_or (λ page. page.bytes.items) (slice_get pages n) (replicate 256 255)
 
 -- each page has 256 bytes
-abbrev pub AreWhole : List MemoryPage → Type 0
-AreWhole pages = (n : ℕ) → ForSome (slice_get pages n) (λ page. vec_len page.bytes ≡ 256)
+abbrev pub AreFullPages : List MemoryPage → Type 0
+AreFullPages pages = (n : ℕ) → ForSome (slice_get pages n) (λ page. vec_len page.bytes ≡ 256)
 
 -- the answer of an operation that is befallen so
-abbrev pub answer_of : Option Trouble → Result (Unit {0}) DevFault
-answer_of None = Ok tt
-answer_of (Some Fails) = Err Failed
-answer_of (Some CutBefore) = Err PowerCut
-answer_of (Some CutWithin) = Err PowerCut
-answer_of (Some CutAfter) = Err PowerCut
+abbrev pub trouble_answer : Option Trouble → Result (Unit {0}) DevFault
+trouble_answer None = Ok tt
+trouble_answer (Some Fails) = Err Failed
+trouble_answer (Some CutBefore) = Err PowerCut
+trouble_answer (Some CutWithin) = Err PowerCut
+trouble_answer (Some CutAfter) = Err PowerCut

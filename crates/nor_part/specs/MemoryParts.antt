@@ -4,22 +4,22 @@ use Rattle.std.specs.Option.{option_map_or}
 use Rattle.std.proofs.Common.{sym, ◌∙◌, refl}
 use Rattle.nor_part.specs.declared.memory_nor.MemoryPage.{MemoryPage}
 use Rattle.nor_part.specs.declared.memory_nor.MemoryNor.{MemoryNor}
-use Rattle.nor_part.specs.Memory.{page_at, AreWhole}
+use Rattle.nor_part.specs.Memory.{memory_page_at, AreFullPages}
 
 -- how many pages
-abbrev pub count_of : MemoryNor → ℕ
-count_of part = vec_len part.pages
+abbrev pub page_total : MemoryNor → ℕ
+page_total part = vec_len part.pages
 
 -- the bytes of each page
 abbrev pub held_of : MemoryNor → ℕ → List ℕ
-held_of part = page_at part.pages.items
+held_of part = memory_page_at part.pages.items
 
 length-found : (found : Option MemoryPage) → ((page : MemoryPage) → found ≡ Some page → vec_len page.bytes ≡ 256)
     → length (option_map_or (λ (page : MemoryPage). page.bytes.items) found (replicate 256 255)) ≡ 256
 length-found None whole = refl
 length-found (Some page) whole = sym page.bytes.ok.0 ∙ whole page refl
 
-pub page_at-whole : (pages : List MemoryPage) → AreWhole pages → (n : ℕ) → length (page_at pages n) ≡ 256
+pub page_at-whole : (pages : List MemoryPage) → AreFullPages pages → (n : ℕ) → length (memory_page_at pages n) ≡ 256
 page_at-whole pages whole n = length-found (slice_get pages n) (whole n)
 
 pub whole_of : (part : MemoryNor) (n : ℕ) → length (held_of part n) ≡ 256

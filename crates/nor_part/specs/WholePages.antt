@@ -9,5 +9,5 @@ use Rattle.nor_part.specs.Layout.{page_from, page_in, data_page, mark_page}
 page_from-whole : (held : List ℕ) (mark : ℕ) (bytes : List ℕ) → length held ≡ 256 → page_from held mark ≡ bytes_of bytes → length bytes ≡ 256
 page_from-whole held mark bytes whole is = grind (arith, nat_tests, common_steps)
 
-pub whole_pages_of : (held : ℕ → List ℕ) → ((n : ℕ) → length (held n) ≡ 256) → (p : ℕ) (bytes : List ℕ) → page_in held p ≡ bytes_of bytes → length bytes ≡ 256
-whole_pages_of held whole p bytes is = page_from-whole (held (data_page p)) (slice_index (held (mark_page p)) 0) bytes (whole (data_page p)) is
+pub whole_part_pages_of : (held : ℕ → List ℕ) → ((n : ℕ) → length (held n) ≡ 256) → (p : ℕ) (bytes : List ℕ) → page_in held p ≡ bytes_of bytes → length bytes ≡ 256
+whole_part_pages_of held whole p bytes is = page_from-whole (held (data_page p)) (slice_index (held (mark_page p)) 0) bytes (whole (data_page p)) is

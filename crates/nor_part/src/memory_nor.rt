@@ -1,7 +1,7 @@
 //! Pages of a serial NOR part in memory.
 ghost use Rattle.std.specs.Prelude.{◌≡◌, ◌≢◌, ℕ, ◌/◌, ◌*◌, ◌+◌, ◌<◌, ◌≤◌, IfOk, Ok, Err, true, length, vec_len, slice_index};
 ghost use Rattle.nor_part.specs.Part.{HasCleared, HasTorn, LeavesTrace, is_blank, ProgramsPage, ErasesSector};
-ghost use Rattle.nor_part.specs.Memory.{page_at, AreWhole, answer_of};
+ghost use Rattle.nor_part.specs.Memory.{memory_page_at, AreFullPages, trouble_answer};
 
 use crate::cells::{clear, set, tear};
 use crate::nor::Nor;
@@ -51,16 +51,16 @@ pub struct MemoryNor {
     powered: bool,
     good: u64,
     trouble: Option<Trouble>,
-    ghost whole: { AreWhole pages.items },
+    ghost whole: { AreFullPages pages.items },
 }
 
 impl MemoryNor {
     ghost use Rattle.std.specs.Prelude.{◌≡◌, ◌*◌, ◌<◌, IfOk, vec_len};
-    ghost use Rattle.nor_part.specs.MemoryParts.{held_of, count_of};
+    ghost use Rattle.nor_part.specs.MemoryParts.{held_of, page_total};
 
     /// A blank part of so many sectors of 4,096 bytes. No trouble is planned.
     pub fn new(alloc: Global, sectors: u32) -> Result<MemoryNor, AllocError>
-        ensures { IfOk result (λ part. count_of part ≡ 16 * sectors) }
+        ensures { IfOk result (λ part. page_total part ≡ 16 * sectors) }
     {
         Ok(MemoryNor {
             pages: blank_pages(alloc, 16 * sectors as usize)?,
@@ -74,7 +74,7 @@ impl MemoryNor {
     /// was planned before.
     pub fn plan(&mut self, good: u64, trouble: Trouble)
         ensures held { held_of self.new ≡ held_of self.old }
-        ensures count { count_of self.new ≡ count_of self.old }
+        ensures count { page_total self.new ≡ page_total self.old }
     {
         self.good = good;
         self.trouble = Some(trouble);
@@ -83,7 +83,7 @@ impl MemoryNor {
     /// Takes back what was planned.
     pub fn forget_plan(&mut self)
         ensures held { held_of self.new ≡ held_of self.old }
-        ensures count { count_of self.new ≡ count_of self.old }
+        ensures count { page_total self.new ≡ page_total self.old }
     {
         self.trouble = None;
     }
@@ -105,7 +105,7 @@ impl MemoryNor {
     // Tells what befell a program or an erase.
     fn end(&mut self, due: Option<Trouble>) -> Result<(), DevFault>
         ensures pages { self.new.pages ≡ self.old.pages }
-        ensures answer { result ≡ answer_of due }
+        ensures answer { result ≡ trouble_answer due }
     {
         match due {
             None => Ok(()),
@@ -119,11 +119,11 @@ impl MemoryNor {
 }
 
 impl Nor for MemoryNor {
-    ghost use Rattle.nor_part.specs.MemoryParts.{held_of, count_of, whole_of};
+    ghost use Rattle.nor_part.specs.MemoryParts.{held_of, page_total, whole_of};
 
     ghost held = { held_of };
 
-    ghost count = { count_of };
+    ghost count = { page_total };
 
     ghost whole = { whole_of };
 
@@ -156,11 +156,11 @@ impl Nor for MemoryNor {
 // Programs a page, or does to it what befalls it.
 fn program_page(pages: &mut Vec<MemoryPage>, number: usize, bytes: &[u8], due: Option<Trouble>)
     requires in_part { number < vec_len pages.old }
-    requires whole { AreWhole pages.old.items }
+    requires whole { AreFullPages pages.old.items }
     requires short { length bytes.now ≤ 256 }
-    ensures programs { ProgramsPage (page_at pages.old.items) number bytes.now (page_at pages.new.items) (answer_of due) }
+    ensures programs { ProgramsPage (memory_page_at pages.old.items) number bytes.now (memory_page_at pages.new.items) (trouble_answer due) }
     ensures len { vec_len pages.new ≡ vec_len pages.old }
-    ensures whole { AreWhole pages.new.items }
+    ensures whole { AreFullPages pages.new.items }
 {
     match due {
         None | Some(Trouble::CutAfter) => clear_page(pages, number, bytes),
@@ -172,10 +172,10 @@ fn program_page(pages: &mut Vec<MemoryPage>, number: usize, bytes: &[u8], due: O
 // Erases a sector, or does to it what befalls it: a torn erase is one of its first page alone.
 fn erase_sector(pages: &mut Vec<MemoryPage>, sector: usize, due: Option<Trouble>)
     requires in_part { 16 * sector + 16 ≤ vec_len pages.old }
-    requires whole { AreWhole pages.old.items }
-    ensures erases { ErasesSector (page_at pages.old.items) sector (page_at pages.new.items) (answer_of due) }
+    requires whole { AreFullPages pages.old.items }
+    ensures erases { ErasesSector (memory_page_at pages.old.items) sector (memory_page_at pages.new.items) (trouble_answer due) }
     ensures len { vec_len pages.new ≡ vec_len pages.old }
-    ensures whole { AreWhole pages.new.items }
+    ensures whole { AreFullPages pages.new.items }
 {
     match due {
         None | Some(Trouble::CutAfter) => set_sector(pages, sector),
@@ -186,12 +186,12 @@ fn erase_sector(pages: &mut Vec<MemoryPage>, sector: usize, due: Option<Trouble>
 
 fn clear_page(pages: &mut Vec<MemoryPage>, number: usize, bytes: &[u8])
     requires in_part { number < vec_len pages.old }
-    requires whole { AreWhole pages.old.items }
+    requires whole { AreFullPages pages.old.items }
     requires short { length bytes.now ≤ 256 }
-    ensures others { (n : ℕ) → n ≢ number → page_at pages.new.items n ≡ page_at pages.old.items n }
-    ensures own { HasCleared (page_at pages.old.items number) bytes.now (page_at pages.new.items number) }
+    ensures others { (n : ℕ) → n ≢ number → memory_page_at pages.new.items n ≡ memory_page_at pages.old.items n }
+    ensures own { HasCleared (memory_page_at pages.old.items number) bytes.now (memory_page_at pages.new.items number) }
     ensures len { vec_len pages.new ≡ vec_len pages.old }
-    ensures whole { AreWhole pages.new.items }
+    ensures whole { AreFullPages pages.new.items }
 {
     let page = &mut pages[number];
     clear(&mut page.bytes, bytes);
@@ -199,13 +199,17 @@ fn clear_page(pages: &mut Vec<MemoryPage>, number: usize, bytes: &[u8])
 
 fn tear_page(pages: &mut Vec<MemoryPage>, number: usize, bytes: &[u8])
     requires in_part { number < vec_len pages.old }
-    requires whole { AreWhole pages.old.items }
+    requires whole { AreFullPages pages.old.items }
     requires short { length bytes.now ≤ 256 }
-    ensures others { (n : ℕ) → n ≢ number → page_at pages.new.items n ≡ page_at pages.old.items n }
-    ensures torn { HasTorn (page_at pages.old.items number) bytes.now (page_at pages.new.items number) }
-    ensures trace { LeavesTrace (page_at pages.old.items number) bytes.now (page_at pages.new.items number) }
+
+    // The page is torn, and no other changes.
+    ensures others { (n : ℕ) → n ≢ number → memory_page_at pages.new.items n ≡ memory_page_at pages.old.items n }
+    ensures torn { HasTorn (memory_page_at pages.old.items number) bytes.now (memory_page_at pages.new.items number) }
+    ensures trace { LeavesTrace (memory_page_at pages.old.items number) bytes.now (memory_page_at pages.new.items number) }
+
+    // The list stays one of full pages.
     ensures len { vec_len pages.new ≡ vec_len pages.old }
-    ensures whole { AreWhole pages.new.items }
+    ensures whole { AreFullPages pages.new.items }
 {
     let page = &mut pages[number];
     tear(&mut page.bytes, bytes);
@@ -213,11 +217,11 @@ fn tear_page(pages: &mut Vec<MemoryPage>, number: usize, bytes: &[u8])
 
 fn set_page(pages: &mut Vec<MemoryPage>, number: usize)
     requires in_part { number < vec_len pages.old }
-    requires whole { AreWhole pages.old.items }
-    ensures others { (n : ℕ) → n ≢ number → page_at pages.new.items n ≡ page_at pages.old.items n }
-    ensures own { is_blank (page_at pages.new.items number) ≡ true }
+    requires whole { AreFullPages pages.old.items }
+    ensures others { (n : ℕ) → n ≢ number → memory_page_at pages.new.items n ≡ memory_page_at pages.old.items n }
+    ensures own { is_blank (memory_page_at pages.new.items number) ≡ true }
     ensures len { vec_len pages.new ≡ vec_len pages.old }
-    ensures whole { AreWhole pages.new.items }
+    ensures whole { AreFullPages pages.new.items }
 {
     let page = &mut pages[number];
     page.set();
@@ -225,11 +229,11 @@ fn set_page(pages: &mut Vec<MemoryPage>, number: usize)
 
 fn set_sector(pages: &mut Vec<MemoryPage>, sector: usize)
     requires in_part { 16 * sector + 16 ≤ vec_len pages.old }
-    requires whole { AreWhole pages.old.items }
-    ensures others { (n : ℕ) → n / 16 ≢ sector → page_at pages.new.items n ≡ page_at pages.old.items n }
-    ensures own { (n : ℕ) → n / 16 ≡ sector → is_blank (page_at pages.new.items n) ≡ true }
+    requires whole { AreFullPages pages.old.items }
+    ensures others { (n : ℕ) → n / 16 ≢ sector → memory_page_at pages.new.items n ≡ memory_page_at pages.old.items n }
+    ensures own { (n : ℕ) → n / 16 ≡ sector → is_blank (memory_page_at pages.new.items n) ≡ true }
     ensures len { vec_len pages.new ≡ vec_len pages.old }
-    ensures whole { AreWhole pages.new.items }
+    ensures whole { AreFullPages pages.new.items }
 {
     for place in 0..16 {
         set_page(pages, 16 * sector + place);
@@ -238,7 +242,7 @@ fn set_sector(pages: &mut Vec<MemoryPage>, sector: usize)
 
 fn blank_pages(alloc: Global, count: usize) -> Result<Vec<MemoryPage>, AllocError>
     ensures len { IfOk result (λ pages. vec_len pages ≡ count) }
-    ensures whole { IfOk result (λ pages. AreWhole pages.items) }
+    ensures whole { IfOk result (λ pages. AreFullPages pages.items) }
 {
     let mut pages = Vec::with_capacity(alloc, count)?;
     for _ in 0..count {

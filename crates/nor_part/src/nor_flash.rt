@@ -1,7 +1,7 @@
 //! A flash over a serial NOR part.
 ghost use Rattle.std.specs.Prelude.{◌≡◌, vec_len};
 ghost use Rattle.flash_model.specs.Geometry.{IsGeometry};
-ghost use Rattle.nor_part.specs.Layout.{sizes_of, blocks_of};
+ghost use Rattle.nor_part.specs.Layout.{part_sizes, blocks_of};
 
 use crate::memory_nor::{MemoryNor, Trouble};
 use crate::nor::Nor;
@@ -23,22 +23,22 @@ pub struct NorFlash<P: Nor> {
     failures: Count,
     cuts: Count,
     operations: Count,
-    ghost lawful: { IsGeometry (sizes_of blocks) },
+    ghost lawful: { IsGeometry (part_sizes blocks) },
     ghost all_blocks: { vec_len worn ≡ blocks },
     ghost all_pages: { blocks_of (P.count part) ≡ blocks },
 }
 
 impl<P: Nor + Drop> NorFlash<P> {
     ghost use Rattle.std.specs.Prelude.{◌<◌, ◌+◌, ◌↔◌, ◌⊎◌, IfOk, IfErr, OnOk, OnErr, Err, Ok, true, false};
-    ghost use Rattle.flash_model.specs.Simulation.{Ends};
-    ghost use Rattle.nor_part.specs.Flashes.{device_of, part_of, IsOver};
+    ghost use Rattle.flash_model.specs.Simulation.{LeavesBeside};
+    ghost use Rattle.nor_part.specs.Flashes.{nor_device, nor_of, IsOver};
 
     /// A flash over a part with power on. Its pages are those that the part holds. `BadGeometry` for a
     /// part of fewer than 16 blocks or more than 16,384, else `NoMemory`.
     pub fn new(alloc: Global, part: P) -> Result<NorFlash<P>, Fault>
-        ensures over { IfOk result (λ flash. IsOver (P.held part) (P.count part) (device_of flash)) }
-        ensures part { IfOk result (λ flash. part_of flash ≡ part) }
-        ensures geometry { (result ≡ Err Fault.BadGeometry) ↔ ¬ IsGeometry (sizes_of (blocks_of (P.count part))) }
+        ensures over { IfOk result (λ flash. IsOver (P.held part) (P.count part) (nor_device flash)) }
+        ensures part { IfOk result (λ flash. nor_of flash ≡ part) }
+        ensures geometry { (result ≡ Err Fault.BadGeometry) ↔ ¬ IsGeometry (part_sizes (blocks_of (P.count part))) }
         ensures errors { IfErr result (λ fault. (fault ≡ Fault.BadGeometry) ⊎ (fault ≡ Fault.NoMemory)) }
     {
         let count = part.page_count() / 32;
@@ -62,15 +62,15 @@ impl<P: Nor + Drop> NorFlash<P> {
 
     /// Gives the part back.
     pub fn into_part(self) -> P
-        ensures { result ≡ part_of self }
+        ensures { result ≡ nor_of self }
     {
         self.part
     }
 
     /// A flash made anew over the part of this one, as after a restart: it shows the same pages.
     pub fn reopen(self, alloc: Global) -> Result<NorFlash<P>, Fault>
-        ensures pages { IfOk result (λ again. (device_of again).pages ≡ (device_of self).pages) }
-        ensures geometry { IfOk result (λ again. (device_of again).geometry ≡ (device_of self).geometry) }
+        ensures pages { IfOk result (λ again. (nor_device again).pages ≡ (nor_device self).pages) }
+        ensures geometry { IfOk result (λ again. (nor_device again).geometry ≡ (nor_device self).geometry) }
         ensures errors { IfErr result (λ fault. fault ≡ Fault.NoMemory) }
     {
         NorFlash::new(alloc, self.into_part())
@@ -78,11 +78,11 @@ impl<P: Nor + Drop> NorFlash<P> {
 
     // An operation begins. With the power off none does.
     fn begin(&mut self) -> Result<(), DevFault>
-        ensures on { OnOk result ((device_of self.old).powered ≡ true) }
-        ensures begun { OnOk result (device_of self.new ≡ record (device_of self.old) { operations = (device_of self.old).operations + 1 }) }
-        ensures part { part_of self.new ≡ part_of self.old }
+        ensures on { OnOk result ((nor_device self.old).powered ≡ true) }
+        ensures begun { OnOk result (nor_device self.new ≡ record (nor_device self.old) { operations = (nor_device self.old).operations + 1 }) }
+        ensures part { nor_of self.new ≡ nor_of self.old }
         ensures err { IfErr result (λ fault. fault ≡ DevFault.PowerCut) }
-        ensures off { OnErr result ((device_of self.old).powered ≡ false) }
+        ensures off { OnErr result ((nor_device self.old).powered ≡ false) }
         ensures same { OnErr result (self.new ≡ self.old) }
     {
         if !self.powered {
@@ -95,10 +95,10 @@ impl<P: Nor + Drop> NorFlash<P> {
     // Ends a program or an erase in a block by its answer: a failure wears the block, and in a cut
     // power goes.
     fn end(&mut self, block: u32, done: Result<(), DevFault>) -> Result<(), DevFault>
-        requires in_range { block < (device_of self.old).geometry.blocks }
-        requires on { (device_of self.old).powered ≡ true }
+        requires in_range { block < (nor_device self.old).geometry.blocks }
+        requires on { (nor_device self.old).powered ≡ true }
         ensures same { result ≡ done }
-        ensures ends { Ends (device_of self.old) block (device_of self.new) done }
+        ensures ends { LeavesBeside (nor_device self.old) block (nor_device self.new) done }
     {
         match done {
             Ok(()) => {}
@@ -117,31 +117,31 @@ impl<P: Nor + Drop> NorFlash<P> {
 
 impl NorFlash<MemoryNor> {
     ghost use Rattle.std.specs.Prelude.{◌≡◌};
-    ghost use Rattle.nor_part.specs.Flashes.{device_of};
+    ghost use Rattle.nor_part.specs.Flashes.{nor_device};
 
     /// After so many programs and erases of the part more the next one is befallen by this, in the
     /// place of what was planned before.
     pub fn plan(&mut self, good: u64, trouble: Trouble)
-        ensures { device_of self.new ≡ device_of self.old }
+        ensures { nor_device self.new ≡ nor_device self.old }
     {
         self.part.plan(good, trouble);
     }
 
     /// Takes back what was planned.
     pub fn forget_plan(&mut self)
-        ensures { device_of self.new ≡ device_of self.old }
+        ensures { nor_device self.new ≡ nor_device self.old }
     {
         self.part.forget_plan();
     }
 }
 
 impl<P: Nor + Drop> Flash for NorFlash<P> {
-    ghost use Rattle.nor_part.specs.Flashes.{device_of};
-    ghost use Rattle.nor_part.specs.WholePages.{whole_pages_of};
+    ghost use Rattle.nor_part.specs.Flashes.{nor_device};
+    ghost use Rattle.nor_part.specs.WholePages.{whole_part_pages_of};
 
-    ghost device = { device_of };
+    ghost device = { nor_device };
 
-    ghost whole_pages = { λ flash p bytes same. whole_pages_of (P.held flash.part) (P.whole flash.part) p bytes same };
+    ghost whole_pages = { λ flash p bytes same. whole_part_pages_of (P.held flash.part) (P.whole flash.part) p bytes same };
 
     fn geometry(&self) -> Geometry {
         sizes(self.blocks)

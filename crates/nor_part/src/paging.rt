@@ -1,6 +1,6 @@
 //! Pages of a flash on a serial NOR part.
 ghost use Rattle.std.specs.Prelude.{◌≡◌, ◌≢◌, ℕ, ◌+◌, ◌*◌, ◌/◌, ◌^◌, ◌<◌, length, slice_index, Ok};
-ghost use Rattle.flash_model.specs.Device.{erased, Shows, AfterProgram, AfterErase};
+ghost use Rattle.flash_model.specs.Device.{erased, ReportsPage, AfterProgram, AfterErase};
 ghost use Rattle.nor_part.specs.Part as part_specs;
 ghost use Rattle.nor_part.specs.Layout.{data_page, mark_page, page_in};
 
@@ -18,7 +18,7 @@ pub(crate) fn read_page<P: Nor>(part: &mut P, page: usize, buffer: &mut [u8]) ->
     requires in_part { mark_page page < P.count part.old }
     requires small { page < 2 ^ 32 }
     requires whole { length buffer.old ≡ 256 }
-    ensures shows { Shows (page_in (P.held part.old) page) buffer.old buffer.new (Ok result) }
+    ensures shows { ReportsPage (page_in (P.held part.old) page) buffer.old buffer.new (Ok result) }
     ensures held { P.held part.new ≡ P.held part.old }
     ensures count { P.count part.new ≡ P.count part.old }
 {

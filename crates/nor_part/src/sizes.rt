@@ -1,11 +1,11 @@
 //! Sizes and wear of a flash over a part.
 ghost use Rattle.std.specs.Prelude.{◌≡◌, ◌≢◌, ℕ, ◌<◌, vec_len, slice_index_or, true, false};
-ghost use Rattle.nor_part.specs.Layout.{sizes_of};
+ghost use Rattle.nor_part.specs.Layout.{part_sizes};
 
 use flash_model::Geometry;
 
 pub(crate) fn sizes(blocks: u32) -> Geometry
-    ensures { result ≡ sizes_of blocks }
+    ensures { result ≡ part_sizes blocks }
 {
     Geometry {
         page: 256,

@@ -45,6 +45,12 @@ const FILE_IN_PIECES: &[&str] = &["open /f 7", "fill 1048576", "scan 4096"];
 
 const FILE_IN_SMALL_PIECES: &[&str] = &["open /f 7", "fill 1048576", "scan 512"];
 
+const FILE_FORGOTTEN: &[&str] = &["open /f 7", "fill 1048576", "cold"];
+
+const BYTES_READ: &[&str] = &["open /f 7", "fill 1048576", "cold", "gather 1"];
+
+const PIECES_READ: &[&str] = &["open /f 7", "fill 1048576", "cold", "gather 512"];
+
 const FILE_TOLD: &[&str] = &["open /f 7", "fill 1048576", "df"];
 
 /// The calls.
@@ -124,6 +130,20 @@ pub const SERIES: &[Series] = &[
         calls: 2048,
     },
     Series {
+        name: "pread of 1 byte at 64 places",
+        sizes: SMALL_BLOCKS,
+        before: FILE_FORGOTTEN,
+        after: BYTES_READ,
+        calls: 64,
+    },
+    Series {
+        name: "pread of 512 bytes at 64 places",
+        sizes: SMALL_BLOCKS,
+        before: FILE_FORGOTTEN,
+        after: PIECES_READ,
+        calls: 64,
+    },
+    Series {
         name: "mkdir and rmdir at depth 8",
         sizes: LARGE_BLOCKS,
         before: &["deep 7"],
@@ -150,6 +170,20 @@ pub const SERIES: &[Series] = &[
         before: FILE,
         after: FILE_IN_SMALL_PIECES,
         calls: 2048,
+    },
+    Series {
+        name: "pread of 1 byte at 64 places",
+        sizes: LARGE_BLOCKS,
+        before: FILE_FORGOTTEN,
+        after: BYTES_READ,
+        calls: 64,
+    },
+    Series {
+        name: "pread of 512 bytes at 64 places",
+        sizes: LARGE_BLOCKS,
+        before: FILE_FORGOTTEN,
+        after: PIECES_READ,
+        calls: 64,
     },
     Series {
         name: "df with a file of 1 MiB",

@@ -47,7 +47,8 @@ pub fn formatted(alloc: Global, sizes: Geometry, history: u32) -> Result<SimFlas
 /// which makes N directories `a`, each in the one before, `wide N`, which makes N directories in the
 /// root, named by numbers from 1000 on, `scatter N`, which writes a byte at each of the places 8,192 and
 /// 16,384 further on N times of descriptor 0, `scan N`, which reads 1 MiB of descriptor 0 in pieces of N
-/// bytes, or `cold`, which forgets the nodes in memory.
+/// bytes, `gather N`, which reads N bytes at each of 64 places of it, or `cold`, which forgets the nodes
+/// in memory.
 pub fn counts_after(
     alloc: Global,
     flash: &mut SimFlash,
@@ -90,6 +91,9 @@ fn carry_out(
     }
     if let Some(size) = number_after(line, "scan ") {
         return read_pieces(alloc, system, size);
+    }
+    if let Some(size) = number_after(line, "gather ") {
+        return read_places(alloc, system, size);
     }
     let call = call_of(alloc, line, number)?;
     ask(alloc, system, &call)
@@ -189,10 +193,33 @@ fn read_pieces(
     size: usize,
 ) -> Result<(), MeasureError> {
     for number in 0..MIB.div_ceil(size.max(1)) {
-        let offset = number.saturating_mul(size);
-        let line = format!(in alloc; "pread 0 {offset} {size}")?;
-        let call = call_of_script(alloc, line.as_str(), number)?;
-        ask(alloc, system, &call)?;
+        read_at(alloc, system, number.saturating_mul(size), size)?;
     }
     Ok(())
+}
+
+/// Reads so many bytes at each of 64 places of 1 MiB of descriptor 0: at 8,192, and each 405,504 bytes
+/// further on, from the start again past its end.
+fn read_places(
+    alloc: Global,
+    system: &mut Fs<'_, SimFlash>,
+    size: usize,
+) -> Result<(), MeasureError> {
+    for number in 0..64usize {
+        let way = number.saturating_mul(405_504).saturating_add(8_192);
+        read_at(alloc, system, way % MIB, size)?;
+    }
+    Ok(())
+}
+
+/// Reads so many bytes of descriptor 0 from an offset on.
+fn read_at(
+    alloc: Global,
+    system: &mut Fs<'_, SimFlash>,
+    offset: usize,
+    size: usize,
+) -> Result<(), MeasureError> {
+    let line = format!(in alloc; "pread 0 {offset} {size}")?;
+    let call = call_of_script(alloc, line.as_str(), 0)?;
+    ask(alloc, system, &call)
 }

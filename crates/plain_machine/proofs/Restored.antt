@@ -10,7 +10,7 @@ use Rattle.fs_types.specs.declared.call.Version.{Version}
 use Rattle.history.specs.Kept.{IsKept}
 use Rattle.history_machine.specs.History.{Past}
 use Rattle.plain_trees.specs.Trees.{Tree}
-use Rattle.plain_machine.specs.Restoring.{history_with, serials_ascend, has_counts, has_versions, is_history}
+use Rattle.plain_machine.specs.Restoring.{history_of_parts, past_serials_ascend, past_has_counts, past_has_versions, is_history}
 
 both_true : (a b : Bool) → (a && b) ≡ true → (a ≡ true) × (b ≡ true)
 both_true true b e = (refl, e)
@@ -19,10 +19,10 @@ both_true false b e = absurd cc
 abbrev Serials : ℕ → List (Version Tree) → Type 0
 Serials before vs = All (λ (v : Version Tree). before < v.serial) vs × AllPairs (λ (v w : Version Tree). v.serial < w.serial) vs
 
-serials_are : (before : ℕ) (vs : List (Version Tree)) → serials_ascend before vs ≡ true → Serials before vs
+serials_are : (before : ℕ) (vs : List (Version Tree)) → past_serials_ascend before vs ≡ true → Serials before vs
 serials_are before [] h = (All-nil _, λ i j d order within. absurd (omega arith))
 serials_are before (v ∷ vs) h =
-    let parts = both_true (nat_lt before v.serial) (serials_ascend v.serial vs) h in
+    let parts = both_true (nat_lt before v.serial) (past_serials_ascend v.serial vs) h in
     let first : before < v.serial = ltb-true _ _ parts.0 in
     let rest = serials_are v.serial vs parts.1 in (
       All-cons (λ (w : Version Tree). before < w.serial) v vs first (All-weaker (λ (w : Version Tree). v.serial < w.serial) (λ (w : Version Tree). before < w.serial) (λ w more. omega arith) vs rest.0),
@@ -37,8 +37,8 @@ all_below next (v ∷ vs) h =
 
 pub kept_of : (p : Past Tree) → is_history p ≡ true → IsKept p
 kept_of p h =
-    let parts = both_true (has_counts p) (has_versions p) h in
-    let versions = both_true (serials_ascend 0 p.versions) _ parts.1 in
+    let parts = both_true (past_has_counts p) (past_has_versions p) h in
+    let versions = both_true (past_serials_ascend 0 p.versions) _ parts.1 in
     let ascend = serials_are 0 p.versions versions.0 in
     let a = both_true _ (leb (length p.checkpoints) 16) parts.0 in
     let b = both_true _ (nat_lt p.cursor (length p.versions)) a.0 in
@@ -59,6 +59,6 @@ kept_of p h =
 
 -- the same of versions that are these
 pub kept_with : (versions saved : List (Version Tree)) (cursor : ℕ) (dropped : Bool) (next : ℕ) (checkpoints : List (List ℕ × Tree)) (limit : ℕ)
-    → is_history (history_with saved cursor dropped next checkpoints limit) ≡ true → versions ≡ saved → IsKept (history_with versions cursor dropped next checkpoints limit)
+    → is_history (history_of_parts saved cursor dropped next checkpoints limit) ≡ true → versions ≡ saved → IsKept (history_of_parts versions cursor dropped next checkpoints limit)
 kept_with versions saved cursor dropped next checkpoints limit h same =
-    subst (λ (vs : List (Version Tree)). IsKept (history_with vs cursor dropped next checkpoints limit)) (sym same) (kept_of (history_with saved cursor dropped next checkpoints limit) h)
+    subst (λ (vs : List (Version Tree)). IsKept (history_of_parts vs cursor dropped next checkpoints limit)) (sym same) (kept_of (history_of_parts saved cursor dropped next checkpoints limit) h)

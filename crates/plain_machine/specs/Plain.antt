@@ -8,7 +8,7 @@ use Rattle.fs_types.specs.declared.limits.TheConstants.{MAX_NAMES, MAX_FILE_BYTE
 use Rattle.fs_types.specs.Names.{Name, Path, path_cmp}
 use Rattle.plain_trees.specs.Contents.{Entry, beneath}
 use Rattle.plain_trees.specs.Contents.Entry.{Dir, File}
-use Rattle.plain_trees.specs.Trees.{Tree, bare, entry_count, bytes_at}
+use Rattle.plain_trees.specs.Trees.{Tree, bare, entry_count, bytes_of_file}
 use Rattle.history_machine.specs.History.{Past, fresh, changed, present_root, due_root, undo_refusal, redo_refusal, serial_refusal, forget_refusal, checkpoint_refusal, name_refusal}
 use Rattle.history_machine.specs.Descriptors.{Descriptor, Descriptors}
 use Rattle.history_machine.specs.Machine.{Machine, Space, Stepped, step, is_accepted, makes_version, version_after, history_moved, machine_with}
@@ -70,8 +70,8 @@ abbrev pub is_deep : Path → ℕ → Path → Bool
 is_deep old depth p = option_map_or (λ rest. nat_lt MAX_NAMES (depth + length rest)) (beneath old p) false
 
 -- a machine with this present tree
-abbrev pub machine_at : Tree → Descriptors → Machine
-machine_at t descriptors = machine_with (fresh 2 t) None descriptors
+abbrev pub machine_of_tree : Tree → Descriptors → Machine
+machine_of_tree t descriptors = machine_with (fresh 2 t) None descriptors
 
 -- a machine with this group
 abbrev pub machine_in : Option (Group Tree) → Descriptors → Machine
@@ -87,7 +87,7 @@ HasSerial m call = is_some (version_after m call) ≡ true → m.history.next < 
 
 -- an ftruncate to this length changes the file that is open
 abbrev pub ftruncates : Tree → Option Descriptor → ℕ → Bool
-ftruncates t d n = option_map_or (λ d. not (length (bytes_at t d.path) == n)) d false
+ftruncates t d n = option_map_or (λ d. not (length (bytes_of_file t d.path) == n)) d false
 
 -- why a call that makes no version can't be carried out on the history
 abbrev pub moving_refusal : Past Tree → Call → Option Fault

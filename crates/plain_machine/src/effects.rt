@@ -7,7 +7,7 @@ ghost use Rattle.history_machine.specs.History.{checkpoint_root, checkpoint_refu
 ghost use Rattle.history_machine.specs.Machine as machine;
 ghost use Rattle.fs_types.specs.declared.call.Call.{Call};
 ghost use Rattle.fs_types.specs.declared.fault.Fault.{Fault};
-ghost use Rattle.plain_machine.specs.Plain.{machine_at, ftruncates, file_of, moving_refusal, history_still, group_still};
+ghost use Rattle.plain_machine.specs.Plain.{machine_of_tree, ftruncates, file_of, moving_refusal, history_still, group_still};
 ghost use Rattle.history_machine.specs.Machine.{machine_with};
 
 use crate::groups::{begin, end, working_tree};
@@ -153,7 +153,7 @@ fn open_path(
     path: &Path,
     flags: OpenFlags,
 ) -> Result<Option<Tree>, AllocError>
-    ensures { IfOk result (λ next. next ≡ machine.tree_after (machine_at tree.now none_open) (Call.Open path.now flags)) }
+    ensures { IfOk result (λ next. next ≡ machine.tree_after (machine_of_tree tree.now none_open) (Call.Open path.now flags)) }
 {
     if !open_changes(tree, path, flags) {
         return Ok(None);
@@ -169,7 +169,7 @@ fn write_bytes(
     offset: u64,
     bytes: &[u8],
 ) -> Result<Option<Tree>, AllocError>
-    ensures { IfOk result (λ next. next ≡ machine.tree_after (machine_at tree.now files.now) (Call.Pwrite descriptor offset bytes.now)) }
+    ensures { IfOk result (λ next. next ≡ machine.tree_after (machine_of_tree tree.now files.now) (Call.Pwrite descriptor offset bytes.now)) }
 {
     let Some(file) = files.get(descriptor) else {
         return Ok(None);
@@ -189,7 +189,7 @@ fn set_length(
     descriptor: u64,
     length: u64,
 ) -> Result<Option<Tree>, AllocError>
-    ensures { IfOk result (λ next. next ≡ machine.tree_after (machine_at tree.now files.now) (Call.Ftruncate descriptor length)) }
+    ensures { IfOk result (λ next. next ≡ machine.tree_after (machine_of_tree tree.now files.now) (Call.Ftruncate descriptor length)) }
 {
     let Some(file) = files.get(descriptor) else {
         return Ok(None);
@@ -209,8 +209,8 @@ fn move_path(
     old: &Path,
     new: &Path,
 ) -> Result<Option<Tree>, AllocError>
-    requires { machine.refusal (machine_at tree.now files.now) (Call.Rename old.now new.now) ≡ None }
-    ensures { IfOk result (λ next. next ≡ machine.tree_after (machine_at tree.now files.now) (Call.Rename old.now new.now)) }
+    requires { machine.refusal (machine_of_tree tree.now files.now) (Call.Rename old.now new.now) ≡ None }
+    ensures { IfOk result (λ next. next ≡ machine.tree_after (machine_of_tree tree.now files.now) (Call.Rename old.now new.now)) }
 {
     if old == new {
         return Ok(None);
@@ -296,7 +296,7 @@ pub fn opened_file(call: &Call) -> Result<Option<OpenFile>, AllocError>
 /// What a call leaves of the open files.
 pub fn settle_files(files: &mut OpenFiles, call: &Call, file: Option<OpenFile>)
     requires { file ≡ file_of call.now }
-    ensures { files.new ≡ machine.descriptors_after (machine_at bare files.old) call.now }
+    ensures { files.new ≡ machine.descriptors_after (machine_of_tree bare files.old) call.now }
 {
     if let Call::Close { descriptor } = call {
         files.close(*descriptor);

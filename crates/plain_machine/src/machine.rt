@@ -5,7 +5,7 @@ ghost use Rattle.history_machine.specs.History.{fresh};
 ghost use Rattle.history_machine.specs.Machine as machine;
 ghost use Rattle.fs_types.specs.declared.limits.TheConstants.{MAX_VERSIONS};
 ghost use Rattle.fs_types.specs.declared.fault.Fault.{Fault};
-ghost use Rattle.plain_machine.specs.Restoring.{history_with, is_history};
+ghost use Rattle.plain_machine.specs.Restoring.{history_of_parts, is_history};
 ghost use Rattle.plain_machine.specs.Plain.{HasSerial, IsPlainStep};
 ghost use Rattle.plain_machine.specs.Spaces.{space_of};
 ghost use Rattle.history_machine.specs.Machine.{machine_with};
@@ -72,9 +72,9 @@ impl PlainMachine {
         checkpoints: BTreeMap<CpName, Tree>,
         limit: usize,
     ) -> Result<PlainMachine, Fault>
-        ensures machine { IfOk result (λ m. m ≡ machine.mounted (history_with versions.items cursor dropped next checkpoints.entries limit)) }
-        ensures kept { OnOk result (is_history (history_with versions.items cursor dropped next checkpoints.entries limit) ≡ true) }
-        ensures invalid { IsErrOf result Fault.Invalid → is_history (history_with versions.items cursor dropped next checkpoints.entries limit) ≡ false }
+        ensures machine { IfOk result (λ m. m ≡ machine.mounted (history_of_parts versions.items cursor dropped next checkpoints.entries limit)) }
+        ensures kept { OnOk result (is_history (history_of_parts versions.items cursor dropped next checkpoints.entries limit) ≡ true) }
+        ensures invalid { IsErrOf result Fault.Invalid → is_history (history_of_parts versions.items cursor dropped next checkpoints.entries limit) ≡ false }
     {
         Ok(PlainMachine {
             history: history_of(alloc, versions, cursor, dropped, next, checkpoints, limit)?,

@@ -3,7 +3,7 @@ ghost use Rattle.std.specs.Prelude.{◌≡◌, ◌+◌, ◌≤◌, ◌&&◌, tru
 ghost use Rattle.std.specs.List.{list_all};
 ghost use Rattle.fs_types.specs.declared.fault.Fault.{Fault};
 ghost use Rattle.fs_types.specs.declared.limits.TheConstants.{MIN_VERSIONS, MAX_VERSIONS, MAX_CHECKPOINTS};
-ghost use Rattle.plain_machine.specs.Restoring.{history_with, serials_ascend, is_history};
+ghost use Rattle.plain_machine.specs.Restoring.{history_of_parts, past_serials_ascend, is_history};
 
 use crate::tree::Tree;
 use fs_types::{CpName, Fault, MAX_CHECKPOINTS, MAX_VERSIONS, MIN_VERSIONS, Version};
@@ -22,9 +22,9 @@ pub fn history_of(
     checkpoints: BTreeMap<CpName, Tree>,
     limit: usize,
 ) -> Result<History<Tree>, Fault>
-    ensures history { IfOk result (λ history. history ≡ history_with versions.items cursor dropped next checkpoints.entries limit) }
-    ensures kept { OnOk result (is_history (history_with versions.items cursor dropped next checkpoints.entries limit) ≡ true) }
-    ensures invalid { IsErrOf result Fault.Invalid → is_history (history_with versions.items cursor dropped next checkpoints.entries limit) ≡ false }
+    ensures history { IfOk result (λ history. history ≡ history_of_parts versions.items cursor dropped next checkpoints.entries limit) }
+    ensures kept { OnOk result (is_history (history_of_parts versions.items cursor dropped next checkpoints.entries limit) ≡ true) }
+    ensures invalid { IsErrOf result Fault.Invalid → is_history (history_of_parts versions.items cursor dropped next checkpoints.entries limit) ≡ false }
 {
     if !are_parts(&versions, cursor, next, &checkpoints, limit) {
         return Err(Fault::Invalid);
@@ -52,20 +52,20 @@ fn are_parts(
     checkpoints: &BTreeMap<CpName, Tree>,
     limit: usize,
 ) -> bool
-    ensures { result ≡ is_history (history_with versions.now cursor false next checkpoints.now.entries limit) }
+    ensures { result ≡ is_history (history_of_parts versions.now cursor false next checkpoints.now.entries limit) }
 {
     are_counts(versions.len(), cursor, checkpoints.len(), limit) && are_versions(versions, next)
 }
 
 /// Whether the serials ascend from 1 on, below the next one.
 fn are_versions(versions: &[Version<Tree>], next: u64) -> bool
-    ensures { result ≡ (serials_ascend 0 versions.now && list_all (λ version. nat_lt version.serial next) versions.now) }
+    ensures { result ≡ (past_serials_ascend 0 versions.now && list_all (λ version. nat_lt version.serial next) versions.now) }
 {
     serials_ascend(versions) && serials_are_below(versions, next)
 }
 
 fn serials_ascend(versions: &[Version<Tree>]) -> bool
-    ensures { result ≡ serials_ascend 0 versions.now }
+    ensures { result ≡ past_serials_ascend 0 versions.now }
 {
     let mut before = 0;
     for version in versions {

@@ -7,7 +7,7 @@ ghost use Rattle.history_machine.specs.Descriptors as descriptors;
 ghost use Rattle.history_machine.specs.Machine as machine;
 ghost use Rattle.fs_types.specs.declared.call.Call.{Call};
 ghost use Rattle.fs_types.specs.declared.fault.Fault.{Fault};
-ghost use Rattle.plain_machine.specs.Plain.{machine_at, machine_in, size_refusal, emptiness_refusal};
+ghost use Rattle.plain_machine.specs.Plain.{machine_of_tree, machine_in, size_refusal, emptiness_refusal};
 ghost use Rattle.history_machine.specs.Machine.{machine_with};
 
 use crate::groups::{seen_tree, working_tree};
@@ -78,7 +78,7 @@ fn found<'a>(tree: &'a Tree, path: &[Name]) -> Result<&'a Node, Fault>
 }
 
 fn open_refusal(tree: &Tree, files: &OpenFiles, path: &Path, flags: OpenFlags) -> Option<Fault>
-    ensures { result ≡ machine.refusal (machine_at tree.now files.now) (Call.Open path.now flags) }
+    ensures { result ≡ machine.refusal (machine_of_tree tree.now files.now) (Call.Open path.now flags) }
 {
     if !flags.are_lawful() {
         return Some(Fault::Invalid);
@@ -93,7 +93,7 @@ fn open_refusal(tree: &Tree, files: &OpenFiles, path: &Path, flags: OpenFlags) -
 }
 
 fn creation_refusal(tree: &Tree, files: &OpenFiles, path: &Path, flags: OpenFlags) -> Option<Fault>
-    ensures { result ≡ machine.open_refusal (machine_at tree.now files.now) path.now flags None }
+    ensures { result ≡ machine.open_refusal (machine_of_tree tree.now files.now) path.now flags None }
 {
     if !flags.contains(OpenFlags::CREAT) {
         return Some(Fault::NoEntry);
@@ -105,7 +105,7 @@ fn creation_refusal(tree: &Tree, files: &OpenFiles, path: &Path, flags: OpenFlag
 }
 
 fn reopening_refusal(files: &OpenFiles, node: &Node, flags: OpenFlags) -> Option<Fault>
-    ensures { result ≡ machine.open_refusal (machine_at bare files.now) [] flags (Some node.now) }
+    ensures { result ≡ machine.open_refusal (machine_of_tree bare files.now) [] flags (Some node.now) }
 {
     if flags.contains(OpenFlags::CREAT) && flags.contains(OpenFlags::EXCL) {
         return Some(Fault::Exists);
@@ -118,7 +118,7 @@ fn reopening_refusal(files: &OpenFiles, node: &Node, flags: OpenFlags) -> Option
 
 /// Why there is no free descriptor.
 fn full_table_refusal(files: &OpenFiles) -> Option<Fault>
-    ensures { result ≡ machine.full_table_refusal (machine_at bare files.now) }
+    ensures { result ≡ machine.full_table_refusal (machine_of_tree bare files.now) }
 {
     match files.least_free() {
         None => Some(Fault::TooManyOpen),
@@ -127,7 +127,7 @@ fn full_table_refusal(files: &OpenFiles) -> Option<Fault>
 }
 
 fn descriptor_refusal(files: &OpenFiles, descriptor: u64) -> Option<Fault>
-    ensures { result ≡ machine.refusal (machine_at bare files.now) (Call.Close descriptor) }
+    ensures { result ≡ machine.refusal (machine_of_tree bare files.now) (Call.Close descriptor) }
 {
     match files.get(descriptor) {
         None => Some(Fault::BadDescriptor),
@@ -145,7 +145,7 @@ fn fsync_refusal(group: &Option<Group<Tree>>, files: &OpenFiles, descriptor: u64
 }
 
 fn pread_refusal(files: &OpenFiles, descriptor: u64) -> Option<Fault>
-    ensures { result ≡ machine.refusal (machine_at bare files.now) (Call.Pread descriptor 0 0) }
+    ensures { result ≡ machine.refusal (machine_of_tree bare files.now) (Call.Pread descriptor 0 0) }
 {
     match files.get(descriptor) {
         Some(file) if file.flags().contains(OpenFlags::READ) => None,
@@ -154,7 +154,7 @@ fn pread_refusal(files: &OpenFiles, descriptor: u64) -> Option<Fault>
 }
 
 fn pwrite_refusal(files: &OpenFiles, descriptor: u64, offset: u64, bytes: &Bytes) -> Option<Fault>
-    ensures { result ≡ machine.refusal (machine_at bare files.now) (Call.Pwrite descriptor offset bytes.now) }
+    ensures { result ≡ machine.refusal (machine_of_tree bare files.now) (Call.Pwrite descriptor offset bytes.now) }
 {
     match files.get(descriptor) {
         Some(file) if file.flags().contains(OpenFlags::WRITE) => {
@@ -181,7 +181,7 @@ fn size_refusal(offset: u64, bytes: &[u8]) -> Option<Fault>
 const MAX_LENGTH: u64 = MAX_FILE_BYTES as u64;
 
 fn ftruncate_refusal(files: &OpenFiles, descriptor: u64, length: u64) -> Option<Fault>
-    ensures { result ≡ machine.refusal (machine_at bare files.now) (Call.Ftruncate descriptor length) }
+    ensures { result ≡ machine.refusal (machine_of_tree bare files.now) (Call.Ftruncate descriptor length) }
 {
     let Some(file) = files.get(descriptor) else {
         return Some(Fault::BadDescriptor);
@@ -196,7 +196,7 @@ fn ftruncate_refusal(files: &OpenFiles, descriptor: u64, length: u64) -> Option<
 }
 
 fn rename_refusal(tree: &Tree, files: &OpenFiles, old: &Path, new: &Path) -> Option<Fault>
-    ensures { result ≡ machine.refusal (machine_at tree.now files.now) (Call.Rename old.now new.now) }
+    ensures { result ≡ machine.refusal (machine_of_tree tree.now files.now) (Call.Rename old.now new.now) }
 {
     let node = match found(tree, old.names()) {
         Ok(node) => node,
@@ -246,7 +246,7 @@ fn emptiness_refusal(tree: &Tree, path: &Path) -> Option<Fault>
 }
 
 fn move_refusal(tree: &Tree, files: &OpenFiles, old: &Path, new: &Path) -> Option<Fault>
-    ensures { result ≡ machine.move_refusal (machine_at tree.now files.now) old.now new.now }
+    ensures { result ≡ machine.move_refusal (machine_of_tree tree.now files.now) old.now new.now }
 {
     if tree.is_too_deep(old.names(), new.names()) {
         return Some(Fault::NameTooLong);
@@ -267,7 +267,7 @@ fn move_refusal(tree: &Tree, files: &OpenFiles, old: &Path, new: &Path) -> Optio
 }
 
 fn unlink_refusal(tree: &Tree, files: &OpenFiles, path: &Path) -> Option<Fault>
-    ensures { result ≡ machine.refusal (machine_at tree.now files.now) (Call.Unlink path.now) }
+    ensures { result ≡ machine.refusal (machine_of_tree tree.now files.now) (Call.Unlink path.now) }
 {
     let node = match found(tree, path.names()) {
         Ok(node) => node,
@@ -283,7 +283,7 @@ fn unlink_refusal(tree: &Tree, files: &OpenFiles, path: &Path) -> Option<Fault>
 }
 
 fn mkdir_refusal(tree: &Tree, path: &Path) -> Option<Fault>
-    ensures { result ≡ machine.refusal (machine_at tree.now descriptors.none_open) (Call.Mkdir path.now) }
+    ensures { result ≡ machine.refusal (machine_of_tree tree.now descriptors.none_open) (Call.Mkdir path.now) }
 {
     if path.is_root() {
         return Some(Fault::Exists);
@@ -301,7 +301,7 @@ fn mkdir_refusal(tree: &Tree, path: &Path) -> Option<Fault>
 }
 
 fn rmdir_refusal(tree: &Tree, path: &Path) -> Option<Fault>
-    ensures { result ≡ machine.refusal (machine_at tree.now descriptors.none_open) (Call.Rmdir path.now) }
+    ensures { result ≡ machine.refusal (machine_of_tree tree.now descriptors.none_open) (Call.Rmdir path.now) }
 {
     if path.is_root() {
         return Some(Fault::Busy);

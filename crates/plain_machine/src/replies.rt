@@ -8,7 +8,7 @@ ghost use Rattle.plain_trees.specs.Contents as contents;
 ghost use Rattle.plain_trees.specs.Trees as plain;
 ghost use Rattle.fs_types.specs.declared.call.Call.{Call};
 ghost use Rattle.fs_types.specs.declared.call.Reply.{Reply};
-ghost use Rattle.plain_machine.specs.Plain.{machine_at, no_space};
+ghost use Rattle.plain_machine.specs.Plain.{machine_of_tree, no_space};
 ghost use Rattle.plain_machine.specs.Spaces.{space_of};
 ghost use Rattle.history_machine.specs.Machine.{machine_with};
 
@@ -22,7 +22,7 @@ use std::alloc::{AllocError, Global};
 
 /// The bytes of the file at a path; none where no file is.
 pub fn bytes_at<'a>(tree: &'a Tree, path: &Path) -> &'a [u8]
-    ensures { result.now ≡ plain.bytes_at tree.now path.now }
+    ensures { result.now ≡ plain.bytes_of_file tree.now path.now }
 {
     match tree.get(path.names()) {
         Some(node) => node.bytes(),
@@ -104,7 +104,7 @@ fn pread(
     offset: u64,
     count: u64,
 ) -> Result<Reply, AllocError>
-    ensures { IfOk result (λ reply. reply ≡ machine.reply_of no_space (machine_at tree.now files.now) (Call.Pread descriptor offset count)) }
+    ensures { IfOk result (λ reply. reply ≡ machine.reply_of no_space (machine_of_tree tree.now files.now) (Call.Pread descriptor offset count)) }
 {
     match files.get(descriptor) {
         Some(file) => {

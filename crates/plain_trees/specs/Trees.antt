@@ -77,8 +77,8 @@ bytes_of None = []
 bytes_of (Some Entry.Dir) = []
 bytes_of (Some (Entry.File bytes)) = bytes
 
-abbrev pub bytes_at : Tree → Path → List ℕ
-bytes_at t path = bytes_of (map.get t path)
+abbrev pub bytes_of_file : Tree → Path → List ℕ
+bytes_of_file t path = bytes_of (map.get t path)
 
 -- a file stands at the path
 abbrev pub IsFile : Tree → Path → Type 0

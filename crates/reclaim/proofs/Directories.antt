@@ -10,7 +10,7 @@ use Rattle.node_format.specs.Order.{both_true, and_true, all_after, ascending_pa
 use Rattle.node_format.specs.Links.{Link}
 use Rattle.node_format.proofs.LinkLaws.{link_ascending}
 use Rattle.block_trees.specs.Bodies.{Blocks}
-use Rattle.block_trees.specs.Chains.{link_of, is_later, after, most_after}
+use Rattle.block_trees.specs.Chains.{link_of, is_later, entries_after, most_after}
 use Rattle.block_trees.proofs.Chains.{by_test, same_items, first_parts, first_law}
 use Rattle.block_trees.proofs.ChainCounts.{linked_filled}
 use Rattle.reclaim.specs.Looks.{last_name, are_after, may_follow, edge_of, edge_at, edge_after}
@@ -21,21 +21,21 @@ use Rattle.fields.proofs.Found.{some_is}
 
 -- a name before the first of names that ascend is before each
 before_all : (name : Name) (items : List Item) → are_after name items ≡ true → are_ascending items ≡ true → list_all (λ other. is_before name other.name) items ≡ true
-before_all name [] after order = refl
-before_all name (item ∷ items) after order =
+before_all name [] entries_after order = refl
+before_all name (item ∷ items) entries_after order =
     let parts = both_true (list_all (λ other. is_before item.name other.name) items) (are_ascending items) order in
-    and_true _ _ after (all_after name item.name items after parts.0)
+    and_true _ _ entries_after (all_after name item.name items entries_after parts.0)
 
 first_after : (name : Name) (front back : List Item) → are_ascending front ≡ true → list_all (λ other. is_before name other.name) front ≡ true → are_after (last_name name front) back ≡ true → are_after name (front ++ back) ≡ true
-first_after name [] back order all after = after
-first_after name (item ∷ front) back order all after = (both_true (is_before name item.name) (list_all (λ other. is_before name other.name) front) all).0
+first_after name [] back order all entries_after = entries_after
+first_after name (item ∷ front) back order all entries_after = (both_true (is_before name item.name) (list_all (λ other. is_before name other.name) front) all).0
 
 joined : (before : Name) (front back : List Item) → are_ascending front ≡ true → are_ascending back ≡ true → are_after (last_name before front) back ≡ true → are_ascending (front ++ back) ≡ true
-joined before [] back f b after = b
-joined before (item ∷ front) back f b after =
+joined before [] back f b entries_after = b
+joined before (item ∷ front) back f b entries_after =
     let own = both_true (list_all (λ other. is_before item.name other.name) front) (are_ascending front) f in
-    let rest = joined item.name front back own.1 b after in
-    and_true _ _ (before_all item.name (front ++ back) (first_after item.name front back own.1 own.0 after) rest) rest
+    let rest = joined item.name front back own.1 b entries_after in
+    and_true _ _ (before_all item.name (front ++ back) (first_after item.name front back own.1 own.0 entries_after) rest) rest
 
 parted : (before : Name) (item : Item) (front back : List Item) → are_ascending ((item ∷ front) ++ back) ≡ true → are_after (last_name before (item ∷ front)) back ≡ true
 parted before item [] [] order = refl
@@ -65,7 +65,7 @@ goes_on (suc n) f edge = cond (eqb edge.1 0) true (option_map_or (goes_on n f) (
 
 -- their entries come after a name
 abbrev IsEnd : ℕ → Blocks → Name × ℕ → Type 0
-IsEnd n f edge = (more : List Item) × (after n f edge.1 ≡ Some more) × (are_ascending more ≡ true) × (are_after edge.0 more ≡ true)
+IsEnd n f edge = (more : List Item) × (entries_after n f edge.1 ≡ Some more) × (are_ascending more ≡ true) × (are_after edge.0 more ≡ true)
 
 abbrev some_items : List Item → Option (List Item)
 some_items items = Some items
@@ -107,14 +107,14 @@ one_to n f edge l some is may (more, rest, order, comes) =
     )
 
 one_from : (n : ℕ) (f : Blocks) (edge : Name × ℕ) (l : Link) → eqb edge.1 0 ≡ false → link_of (f edge.1) ≡ Some l → IsEnd (suc n) f edge → (may_follow edge.0 (Some l) ≡ true) × IsEnd n f (edge_of l)
-one_from n f edge l some is (items, rest, order, comes) = by_test (is_later l) good (λ bad. absurd (let none : None ≡ some_items items = sym (whole ∙ ap (λ (t : Bool). cond t (option_map (λ more. l.items ++ more) (after n f l.next)) None) bad) ∙ rest in cc))
+one_from n f edge l some is (items, rest, order, comes) = by_test (is_later l) good (λ bad. absurd (let none : None ≡ some_items items = sym (whole ∙ ap (λ (t : Bool). cond t (option_map (λ more. l.items ++ more) (entries_after n f l.next)) None) bad) ∙ rest in cc))
   where
-    whole : after (suc n) f edge.1 ≡ cond (is_later l) (option_map (λ more. l.items ++ more) (after n f l.next)) None
+    whole : entries_after (suc n) f edge.1 ≡ cond (is_later l) (option_map (λ more. l.items ++ more) (entries_after n f l.next)) None
     whole = rw (some, is) refl
 
     good : is_later l ≡ true → (may_follow edge.0 (Some l) ≡ true) × IsEnd n f (edge_of l)
     good has =
-        let own = mapped l.items (after n f l.next) items (sym (whole ∙ ap (λ (t : Bool). cond t (option_map (λ more. l.items ++ more) (after n f l.next)) None) has) ∙ rest) in
+        let own = mapped l.items (entries_after n f l.next) items (sym (whole ∙ ap (λ (t : Bool). cond t (option_map (λ more. l.items ++ more) (entries_after n f l.next)) None) has) ∙ rest) in
         let held = later_some l has in
         let all : are_ascending (l.items ++ own.0) ≡ true = ap are_ascending (sym own.2) ∙ order in (
           and_true (is_later l) (are_after edge.0 l.items) has (sym (after_front edge.0 l.items own.0 held) ∙ ap (are_after edge.0) (sym own.2) ∙ comes),
@@ -157,7 +157,7 @@ end_exact (suc n) f edge = by_test (eqb edge.1 0)
 
 -- ---- the whole directory
 
-none_after : (n : ℕ) (f : Blocks) (more : List Item) → after n f 0 ≡ Some more → more ≡ []
+none_after : (n : ℕ) (f : Blocks) (more : List Item) → entries_after n f 0 ≡ Some more → more ≡ []
 none_after zero f more e = sym (same_items [] more e)
 none_after (suc n) f more e = sym (same_items [] more e)
 
@@ -177,11 +177,11 @@ begun_exact f block l is = (λ t. to ((end_exact most_after f (edge_of l)).0 t),
     from (items, e) =
         let p = first_parts f block items e in
         let same : p.l ≡ l = link_is p.l l (sym p.is ∙ is) in
-        let rest : after most_after f l.next ≡ Some p.more = subst (λ (k : Link). after most_after f k.next ≡ Some p.more) same p.rest in
+        let rest : entries_after most_after f l.next ≡ Some p.more = subst (λ (k : Link). entries_after most_after f k.next ≡ Some p.more) same p.rest in
         let all : are_ascending (l.items ++ p.more) ≡ true = subst (λ (k : Link). are_ascending (k.items ++ p.more) ≡ true) same (ap are_ascending (sym p.parts) ∙ p.order) in
         let filled = linked_filled (f block) l is in
         let held : (0 < length l.items) ⊎ (p.more ≡ []) =
-        elim filled.full [ inl none ↦ inr (none_after most_after f p.more (subst (λ (k : ℕ). after most_after f k ≡ Some p.more) none rest)) | inr full ↦ inl (omega (arith, full)) ] in
+        elim filled.full [ inl none ↦ inr (none_after most_after f p.more (subst (λ (k : ℕ). entries_after most_after f k ≡ Some p.more) none rest)) | inr full ↦ inl (omega (arith, full)) ] in
         (p.more, rest, (ascending_parts l.items p.more all).back_ascends, last l.items p.more held all)
 
 -- ---- one node after the other

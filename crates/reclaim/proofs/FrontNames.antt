@@ -1,30 +1,31 @@
 -- What the first page of a body's node names is what the node names.
-use Rattle.std.proofs.Common.{◌≡◌, ◌↔◌, inl, inr, ℕ, ◌+◌, ◌*◌, ◌<◌, ◌≤◌, Bool, true, false, cond, Option, Some, None, List, length, refl, sym, ap, subst, ◌∙◌, arith}
-use Rattle.std.specs.Prelude.{◌==◌, nat_lt, nat_le, Contains}
+use Rattle.std.proofs.Common.{◌≡◌, ◌≢◌, ◌↔◌, inl, inr, ℕ, ◌+◌, ◌*◌, ◌<◌, ◌≤◌, Bool, true, false, cond, Option, Some, None, List, length, refl, sym, ap, subst, ◌∙◌, arith}
+use Rattle.std.specs.Prelude.{◌==◌, nat_lt, nat_le, is_some, Contains}
+use Rattle.std.proofs.lemmas.Bool.{true≢false}
 use Rattle.node_format.specs.Headers.{field, body_magic, body_header, body_size, directory_magic, chain_magic, directory_size, IsNode}
 use Rattle.node_format.proofs.HeaderLaws.{field-take}
 use Rattle.node_store.specs.Fronts.{IsFront}
-use Rattle.block_trees.specs.Bodies.{index_of, pointer_of}
+use Rattle.block_trees.specs.Bodies.{Blocks, index_of, pointer_of}
 use Rattle.block_trees.specs.Reached.{Names, BodyNames}
-use Rattle.reclaim.specs.Kinds.{NamesBody}
+use Rattle.reclaim.specs.Kinds.{HoldsBodyNode, NamesBody}
 use Rattle.reclaim.proofs.Soundness.{no_entry, no_next}
 
--- the node of a body has its header
-size_long : (block used n : ℕ) → body_size block used ≡ Some n → 80 ≤ n
-size_long block used n is = on (nat_lt 0 used) (nat_le (body_header + used) block) is
+-- the node of a body has its header, and the bytes that it uses
+pub size_is : (block used n : ℕ) → body_size block used ≡ Some n → n ≡ 80 + used
+size_is block used n is = on (nat_lt 0 used) (nat_le (body_header + used) block) is
   where
-    on : (t u : Bool) → cond t (cond u (Some (body_header + used)) None) None ≡ Some n → 80 ≤ n
+    on : (t u : Bool) → cond t (cond u (Some (body_header + used)) None) None ≡ Some n → n ≡ 80 + used
     on true true is = let e : body_header + used ≡ n = cc in omega arith
     on true false is = absurd cc
     on false u is = absurd cc
 
-body_long : (block : ℕ) (bytes : List ℕ) (index : ℕ) → IsNode block bytes → index_of (Some bytes) ≡ Some index → 80 ≤ length bytes
+pub body_long : (block : ℕ) (bytes : List ℕ) (index : ℕ) → IsNode block bytes → index_of (Some bytes) ≡ Some index → 80 ≤ length bytes
 body_long block bytes index node is = on (field bytes 0 == body_magic) is node
   where
     on : (t : Bool) → cond t (Some (field bytes 4)) None ≡ Some index
         → cond t (body_size block (field bytes 8)) (cond (field bytes 0 == directory_magic) (directory_size block (field bytes 4) (field bytes 8)) (cond (field bytes 0 == chain_magic) (directory_size block (field bytes 4) (field bytes 8)) None)) ≡ Some (length bytes)
         → 80 ≤ length bytes
-    on true is size = size_long block (field bytes 8) (length bytes) size
+    on true is size = omega (arith, size_is block (field bytes 8) (length bytes) size)
     on false is size = absurd cc
 
 module _ (page : ℕ) (front bytes : List ℕ) (is : IsFront page front bytes) (room : 256 ≤ page) (long : 80 ≤ length bytes) where
@@ -36,7 +37,7 @@ module _ (page : ℕ) (front bytes : List ℕ) (is : IsFront page front bytes) (
   pub front_index : index_of (Some front) ≡ index_of (Some bytes)
   front_index = λ i. cond (front_field 0 (omega arith) i == body_magic) (Some (front_field 4 (omega arith) i)) None
 
-  front_pointer : (x : ℕ) → x < 16 → pointer_of (Some front) x ≡ pointer_of (Some bytes) x
+  pub front_pointer : (x : ℕ) → x < 16 → pointer_of (Some front) x ≡ pointer_of (Some bytes) x
   front_pointer x less = front_field (16 + 4 * x) (omega arith)
 
   -- the slots of both name the same blocks
@@ -98,3 +99,14 @@ has_front page block index front (Some bytes) room has whole begins =
       names = front_names page front bytes is room long index has;
       bodies = front_bodies page front bytes is room long index has;
     }
+
+-- a node that was read whole, and whether it is one of a body
+pub own_body : (f : Blocks) (block : ℕ) (bytes : List ℕ) (is_body : Bool) → f block ≡ Some bytes → is_body ≡ is_some (index_of (Some bytes)) → (f block ≢ None) × (is_body ≡ true → HoldsBodyNode f block)
+own_body f block bytes is_body is same = (λ none. no_bytes bytes (sym is ∙ none), λ yes. by (index_of (Some bytes)) (ap index_of is) (sym same ∙ yes))
+  where
+    no_bytes : (bytes : List ℕ) → (let o : Option (List ℕ) = Some bytes in o ≡ None) → ⊥
+    no_bytes bytes e = cc
+
+    by : (o : Option ℕ) → index_of (f block) ≡ o → is_some o ≡ true → HoldsBodyNode f block
+    by None own some = absurd (true≢false (sym some))
+    by (Some index) own some = (index, own)

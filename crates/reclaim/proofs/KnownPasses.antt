@@ -9,44 +9,87 @@ use Rattle.std.proofs.lemmas.Bool.{true≢false, cases_Bool, cases_lt, eqb-true,
 use Rattle.std.proofs.lemmas.List.{take-append-le}
 use Rattle.std.proofs.lemmas.List.Elements.{Contains-get_or, Contains-push, Contains-push_cases, Contains-append_left}
 use Rattle.node_format.specs.Headers.{body_header}
+use Rattle.node_format.specs.declared.place.Place.{Place}
+use Rattle.node_format.specs.declared.place.Place.TheVariants.{Dir, File}
 use Rattle.block_trees.specs.Bodies.{Blocks, index_of}
-use Rattle.block_trees.specs.Reached.{Reached, Names}
-use Rattle.reclaim.specs.Kinds.{is_by_fronts, HoldsBody, NamesBody, IsKnown, Knows, read_pages, mark_pages, HasAsked}
+use Rattle.block_trees.specs.Reached.{Reached, Names, PlaceNames, Agrees}
+use Rattle.reclaim.specs.Kinds.{is_by_fronts, HoldsBodyNode, FileNames, NamesBody, IsKnownMarking, Knows, noted_of, read_pages, mark_pages, HasAsked}
 use Rattle.reclaim.specs.Passes.{Pass, Begins, IsMarked, IsPass, AreNoted, Advances}
 use Rattle.reclaim.specs.Verified.{AreRoots}
 use Rattle.reclaim.specs.declared.reading.Reading.{Reading}
 use Rattle.reclaim.specs.declared.reading.Reading.TheVariants.{Whole, Fronts}
 use Rattle.reclaim.proofs.Costs.{sum_more}
-use Rattle.reclaim.proofs.Marking.{begins_at, begins_length}
+use Rattle.reclaim.proofs.Marking.{begins_has, begins_at, begins_length, pass_stays}
 use Rattle.reclaim.proofs.Soundness.{named_body, named_kind, root_kind}
 
--- a block with a front holds a body
-pub front_body : (reading : Reading) (limit : ℕ) (f : Blocks) (p : Pass) (b : ℕ) → Knows reading limit f p → (is_by_fronts reading && set.contains p.bodies b) ≡ true → HoldsBody f b
-front_body Whole limit f p b known is = absurd (true≢false (sym is))
-front_body Fronts limit f p b known is = known.kinds.bodies b is
-
-pub knows_on : (reading : Reading) (limit limit' : ℕ) (f g : Blocks) (p q : Pass) → Knows reading limit f p → (IsKnown limit f p → IsKnown limit' g q) → Knows reading limit' g q
-knows_on Whole limit limit' f g p q known on = tt
-knows_on Fronts limit limit' f g p q known on = on known
-
-holds_some : (f : Blocks) (b : ℕ) → HoldsBody f b → f b ≡ None → ⊥
-holds_some f b holds none = let e = sym holds.1 ∙ ap index_of none in absurd (no_index holds.0 e)
+-- whether a block holds a node of a body can be told
+body_or_not : (f : Blocks) (b : ℕ) → HoldsBodyNode f b ⊎ (index_of (f b) ≡ None)
+body_or_not f b = by (index_of (f b)) refl
   where
-    no_index : (i : ℕ) → (let o : Option ℕ = Some i in o ≡ None) → ⊥
-    no_index i e = cc
+    by : (o : Option ℕ) → index_of (f b) ≡ o → HoldsBodyNode f b ⊎ (index_of (f b) ≡ None)
+    by (Some index) is = inl (index, is)
+    by None is = inr is
+
+no_index : (index : ℕ) → (let o : Option ℕ = Some index in o ≡ None) → ⊥
+no_index index is = cc
+
+-- a block with a front holds a body
+pub front_body : (reading : Reading) (limit : ℕ) (f : Blocks) (p : Pass) (b : ℕ) → Knows reading limit f p → (is_by_fronts reading && set.contains p.bodies b) ≡ true → HoldsBodyNode f b
+front_body Whole limit f p b known is = absurd (true≢false (sym is))
+front_body Fronts limit f p b known is = elim (body_or_not f b) [
+  | inl holds ↦ holds
+  | inr none ↦ absurd (known (λ k. let holds = k.kinds.bodies b is in no_index holds.0 (sym holds.1 ∙ none)))
+]
+
+-- what is known of a marking is known again where one block more was read
+pub knows_next : (reading : Reading) (limit limit' : ℕ) (f g : Blocks) (p q : Pass) (block : ℕ) (is_body : Bool) (bodies : List ℕ) → limit' ≡ limit → g ≡ f
+    → (is_body ≡ true → HoldsBodyNode f block) → AreNoted p.bodies (noted_of reading block is_body bodies) p.blocks q.bodies
+    → (AreNoted p.bodies bodies p.blocks q.bodies → IsKnownMarking limit f p → IsKnownMarking limit f q) → Knows reading limit f p → Knows reading limit' g q
+knows_next Whole limit limit' f g p q block is_body bodies same_limit same own noted on known =
+    λ b has. subst (λ (h : Blocks). HoldsBodyNode h b) (sym same) (by b (noted.only b has))
+  where
+    itself : (b : ℕ) (t : Bool) → (t ≡ true → HoldsBodyNode f block) → Contains (noted_of Whole block t bodies) b → HoldsBodyNode f b
+    itself b true own has = subst (HoldsBodyNode f) (single (Contains-push_cases [] block b has)) (own refl)
+      where
+        single : Contains [] b ⊎ (block ≡ b) → block ≡ b
+        single (inl none) = absurd (omega (arith, none.1))
+        single (inr same) = same
+    itself b false own has = absurd (omega (arith, has.1))
+
+    by : (b : ℕ) → (set.contains p.bodies b ≡ true) ⊎ Contains (noted_of Whole block is_body bodies) b → HoldsBodyNode f b
+    by b (inl before) = known b before
+    by b (inr now) = itself b is_body own now
+knows_next Fronts limit limit' f g p q block is_body bodies same_limit same own noted on known =
+    λ none. known (λ k. none (subst (λ (n : ℕ). IsKnownMarking n g q) (sym same_limit) (subst (λ (h : Blocks). IsKnownMarking limit h q) (sym same) (on noted k))))
+
+-- what a node names as that of a body it names
+names_of_body : (node : Option (List ℕ)) (b : ℕ) → NamesBody node b → Names node b
+names_of_body node b (inl (item, has, names)) = inl (item, has, by item.place names)
+  where
+    by : (at : Place) → FileNames at b → PlaceNames at b
+    by (Dir block) names = absurd names
+    by (File head size) names = names
+names_of_body node b (inr names) = inr (inl names)
+
+holds_some : (f : Blocks) (b : ℕ) → HoldsBodyNode f b → f b ≡ None → ⊥
+holds_some f b holds none = no_index holds.0 (sym holds.1 ∙ ap index_of none)
 
 -- one block more was read
-module _ (limit : ℕ) (f : Blocks) (p q : Pass) (block : ℕ) (names bodies : List ℕ) (known : IsKnown limit f p) (below : p.next < length p.order)
+module _ (limit : ℕ) (f : Blocks) (p q : Pass) (block : ℕ) (names bodies : List ℕ) (known : IsKnownMarking limit f p) (below : p.next < length p.order)
     (at : block ≡ slice_index p.order p.next) (named : (b : ℕ) → Contains names b ↔ Names (f block) b) (of : (b : ℕ) → Contains bodies b ↔ NamesBody (f block) b)
     (marked : IsMarked p.order names q.order) (noted : AreNoted p.bodies bodies p.blocks q.bodies) (past : (b : ℕ) → p.blocks ≤ b → f b ≡ None) where
   own : Reached f p.roots block
   own = subst (Reached f p.roots) (sym at) (known.pass.reached _ (Contains-get_or p.order p.next 0 below))
 
-  body_from : (b : ℕ) → (set.contains p.bodies b ≡ true) ⊎ Contains bodies b → HoldsBody f b
+  body_from : (b : ℕ) → (set.contains p.bodies b ≡ true) ⊎ Contains bodies b → HoldsBodyNode f b
   body_from b (inl before) = known.kinds.bodies b before
   body_from b (inr now) = named_body (limit - body_header) f p.roots known.trees own b ((of b).0 now)
 
-  inside : (b : ℕ) → HoldsBody f b → b < p.blocks
+  marked_from : (b : ℕ) → (set.contains p.bodies b ≡ true) ⊎ Contains bodies b → Contains q.order b
+  marked_from b (inl before) = begins_has p.order q.order b marked.begins (known.kinds.marked b before)
+  marked_from b (inr now) = marked.each b ((named b).1 (names_of_body (f block) b ((of b).0 now)))
+
+  inside : (b : ℕ) → HoldsBodyNode f b → b < p.blocks
   inside b holds = elim (cases_lt b p.blocks) [
     | inl less ↦ less
     | inr more ↦ absurd (holds_some f b holds (past b more))
@@ -65,24 +108,41 @@ module _ (limit : ℕ) (f : Blocks) (p q : Pass) (block : ℕ) (names bodies : L
   ]
   other_from b absent (inr now) = not_noted b absent (named_kind (limit - body_header) f p.roots known.trees own b ((named b).0 now))
 
-  pub known_on : q.roots ≡ p.roots → IsPass f q → IsKnown limit f q
+  pub known_on : q.roots ≡ p.roots → IsPass f q → IsKnownMarking limit f q
   known_on roots pass = record {
     trees = subst (λ (l : List ℕ). AreRoots limit f l) (sym roots) known.trees;
     pass = pass;
     kinds = record {
+      marked = λ b has. marked_from b (noted.only b has);
       bodies = λ b has. body_from b (noted.only b has);
       others = λ b has absent. other_from b absent (marked.only b has);
     };
   }
 
 -- a marking that has marked its roots alone, and noted none
-pub begins_known : (limit : ℕ) (f : Blocks) (p : Pass) → AreRoots limit f p.roots → IsPass f p → ((b : ℕ) → Contains p.order b → Contains p.roots b) → p.bodies ≡ set.empty → IsKnown limit f p
-begins_known limit f p trees pass roots none = record {
+pub begins_known : (limit : ℕ) (f : Blocks) (p : Pass) → AreRoots limit f p.roots → IsPass f p → ((b : ℕ) → Contains p.order b → Contains p.roots b) → p.bodies ≡ set.empty → Knows Fronts limit f p
+begins_known limit f p trees pass roots none unknown = unknown (record {
   trees = trees;
   pass = pass;
   kinds = record {
-    bodies = λ b has. absurd (true≢false (sym has ∙ ap (λ s. set.contains s b) none ∙ set.contains-empty nat_cmp b));
+    marked = λ b has. absurd (unnoted b has);
+    bodies = λ b has. absurd (unnoted b has);
     others = λ b has absent. root_kind (limit - body_header) f b (trees b (roots b has));
+  };
+})
+  where
+    unnoted : (b : ℕ) → set.contains p.bodies b ≡ true → ⊥
+    unnoted b has = true≢false (sym has ∙ ap (λ s. set.contains s b) none ∙ set.contains-empty nat_cmp b)
+
+-- a marking whose roots reach the same nodes, and still have trees, is as well known
+pub known_stays : (limit : ℕ) (f g : Blocks) (p : Pass) → Agrees p.roots f g → (AreRoots limit f p.roots → AreRoots limit g p.roots) → IsKnownMarking limit f p → IsKnownMarking limit g p
+known_stays limit f g p same trees k = record {
+  trees = trees k.trees;
+  pass = pass_stays f g p same k.pass;
+  kinds = record {
+    marked = k.kinds.marked;
+    bodies = λ b has. let holds = k.kinds.bodies b has in (holds.0, ap index_of (same b (k.pass.reached b (k.kinds.marked b has))) ∙ holds.1);
+    others = λ b has absent. ap index_of (same b (k.pass.reached b has)) ∙ k.kinds.others b has absent;
   };
 }
 
@@ -92,11 +152,13 @@ begins_known limit f p trees pass roots none = record {
 pub pages_as_marked : (reading : Reading) (limit page : ℕ) (f : Blocks) (p : Pass) (b : ℕ) → Knows reading limit f p → Contains p.order b
     → read_pages (is_by_fronts reading && set.contains p.bodies b) page (f b) ≡ mark_pages reading page (f b)
 pages_as_marked Whole limit page f p b known has = refl
-pages_as_marked Fronts limit page f p b known has = on (set.contains p.bodies b) refl
+pages_as_marked Fronts limit page f p b known has = on (set.contains p.bodies b) refl (body_or_not f b)
   where
-    on : (t : Bool) → set.contains p.bodies b ≡ t → read_pages t page (f b) ≡ read_pages (is_some (index_of (f b))) page (f b)
-    on true is = let holds = known.kinds.bodies b is in ap (λ (o : Option ℕ). read_pages (is_some o) page (f b)) (sym holds.1)
-    on false is = ap (λ (o : Option ℕ). read_pages (is_some o) page (f b)) (sym (known.kinds.others b has is))
+    on : (t : Bool) → set.contains p.bodies b ≡ t → HoldsBodyNode f b ⊎ (index_of (f b) ≡ None) → read_pages t page (f b) ≡ read_pages (is_some (index_of (f b))) page (f b)
+    on true is (inl holds) = ap (λ (o : Option ℕ). read_pages (is_some o) page (f b)) (sym holds.1)
+    on true is (inr none) = absurd (known (λ k. let holds = k.kinds.bodies b is in no_index holds.0 (sym holds.1 ∙ none)))
+    on false is (inl holds) = absurd (known (λ k. no_index holds.0 (sym holds.1 ∙ k.kinds.others b has is)))
+    on false is (inr none) = ap (λ (o : Option ℕ). read_pages (is_some o) page (f b)) (sym none)
 
 take_same : (xs ys : List ℕ) (k : ℕ) → Begins xs ys → k ≤ length xs → take k ys ≡ take k xs
 take_same xs ys k (rest, is) le = ap (take k) (sym is) ∙ take-append-le k xs rest le

@@ -8,4 +8,5 @@ pub mod Soundness
 pub mod Verifying
 pub mod Costs
 pub mod FrontNames
+pub mod FrontHeads
 pub mod KnownPasses

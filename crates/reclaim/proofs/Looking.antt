@@ -1,9 +1,9 @@
 -- What one look at a block shows.
-use Rattle.std.proofs.Common.{◌≡◌, ◌≢◌, ◌↔◌, ℕ, zero, suc, ◌+◌, ◌-◌, ◌*◌, ◌/◌, ◌%◌, ◌^◌, ◌<◌, ◌≤◌, Bool, true, false, ◌&&◌, Option, Some, None, List, [], ◌∷◌, length, drop, length-drop, refl, sym, ap, subst, ◌∙◌, arith}
+use Rattle.std.proofs.Common.{◌≡◌, ◌≢◌, ◌↔◌, inl, inr, ℕ, zero, suc, ◌+◌, ◌-◌, ◌*◌, ◌/◌, ◌%◌, ◌^◌, ◌<◌, ◌≤◌, Bool, true, false, ◌&&◌, Option, Some, None, List, [], ◌∷◌, length, drop, length-drop, refl, sym, ap, subst, ◌∙◌, arith}
 use Rattle.std.specs.Prelude.{Contains, not, IsTrue, All, is_some, nat_eq, nat_lt, unwrap_or, map, slice_index}
 use Rattle.std.specs.Option.{option_map, option_map_or, option_eq}
 use Rattle.std.proofs.Math.Nat.{div-add-mod'}
-use Rattle.std.proofs.lemmas.Bool.{true≢false, and_parts, and_from, ltb-true, lt-ltb, eqb-true, eq-eqb}
+use Rattle.std.proofs.lemmas.Bool.{true≢false, cases_lt, and_parts, and_from, ltb-true, lt-ltb, eqb-true, eq-eqb}
 use Rattle.std.proofs.lemmas.List.{length-map}
 use Rattle.std.proofs.lemmas.List.Elements.{All-nil, All-cons, All-head, All-tail, All-map, All-contains, All-contains_itself, All-weaker}
 use Rattle.fs_types.specs.declared.fault.Fault.{Fault}
@@ -114,6 +114,14 @@ link_shown f block bytes (Some l) found is same some = (λ t. (l, ap link_of is 
 pub stepped_not : (f : Blocks) (p : ℕ → ℕ) (index x : ℕ) (holds : Bool) → x < 12 → has_slot index (suc x) ≡ true → holds ≡ false
     → (IsTrue holds ↔ HoldsSlot (f (p x)) x (p (suc x))) → IsTrue false ↔ AreSteppedTo f p index 12
 stepped_not f p index x holds below has fails exact = (λ t. absurd (never t), λ all. sym fails ∙ exact.1 (all x below has))
+
+pub stepped_more : (f : Blocks) (p : ℕ → ℕ) (index x : ℕ) → AreSteppedTo f p index x → (has_slot index (suc x) ≡ true → HoldsSlot (f (p x)) x (p (suc x))) → AreSteppedTo f p index (x + 1)
+stepped_more f p index x so_far here y below has = elim (cases_lt y x) [
+  | inl before ↦ so_far y before has
+  | inr past ↦
+      let same : x ≡ y = omega arith in
+      subst (λ (k : ℕ). HoldsSlot (f (p k)) k (p (suc k))) same (here (ap (λ (k : ℕ). has_slot index (suc k)) same ∙ has))
+]
 
 pub body_good : (capacity : ℕ) (f : Blocks) (p : ℕ → ℕ) (index : ℕ) (stepped : Bool) → index < 2 ^ 13 → index ≢ 0 → body_of (f (p 0)) ≡ Some (index - 1, capacity)
     → (IsTrue stepped ↔ AreSteppedTo f p index 12) → IsTrue stepped ↔ IsSoundBody capacity f p index

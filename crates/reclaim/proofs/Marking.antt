@@ -1,5 +1,5 @@
 -- What marking names does to the list of marked blocks.
-use Rattle.std.proofs.Common.{◌≡◌, ◌↔◌, ◌⊎◌, inl, inr, ℕ, suc, ◌+◌, ◌<◌, ◌≤◌, Result, Ok, Bool, true, false, ◌||◌, Option, None, List, [], ◌∷◌, ◌++◌, length, get_or, refl, sym, ap, subst, ◌∙◌, arith}
+use Rattle.std.proofs.Common.{◌≡◌, ◌≢◌, ◌↔◌, ◌⊎◌, inl, inr, ℕ, suc, ◌+◌, ◌<◌, ◌≤◌, Result, Ok, Bool, true, false, ◌||◌, Option, None, List, [], ◌∷◌, ◌++◌, length, get_or, refl, sym, ap, subst, ◌∙◌, arith}
 use Rattle.std.specs.Prelude.{slice_index, Contains, nat_eq}
 use Rattle.std.specs.FinMap.{nat_cmp-IsAntisymmetric}
 use Rattle.std.specs.FinSet as set
@@ -170,8 +170,8 @@ fault_among blocks b names fault there (inr (damaged, (c, within, outside))) =
 -- one block more was read
 pub read_one : (f : Blocks) (p q : Pass) (held : Option (List ℕ)) (names : List ℕ) → IsPass f p → p.next < length p.order
     → f (slice_index p.order p.next) ≡ held → ((b : ℕ) → Contains names b ↔ Names held b) → IsMarked p.order names q.order
-    → q.roots ≡ p.roots → q.next ≡ p.next + 1 → IsPass f q
-read_one f p q held names pass below is named marked roots next = record {
+    → q.roots ≡ p.roots → q.next ≡ p.next + 1 → held ≢ None → IsPass f q
+read_one f p q held names pass below is named marked roots next there = record {
   rooted = λ b h. begins_has p.order q.order b marked.begins (pass.rooted b (subst (λ (l : List ℕ). Contains l b) roots h));
   reached = λ b h. subst (λ (l : List ℕ). Reached f l b) (sym roots) (reached b (marked.only b h));
   named = λ k b lt h. elim (cases_lt k p.next) [
@@ -183,6 +183,14 @@ read_one f p q held names pass below is named marked roots next = record {
         let at : slice_index q.order k ≡ slice_index p.order p.next =
         ap (slice_index q.order) same ∙ begins_at p.order q.order p.next marked.begins below in
         marked.each b ((named b).1 (subst (λ (o : Option (List ℕ)). Names o b) (ap f at ∙ is) h))
+  ];
+  whole = λ k lt none. elim (cases_lt k p.next) [
+    | inl before ↦ pass.whole k before (ap f (sym (begins_at p.order q.order k marked.begins (omega arith))) ∙ none)
+    | inr after ↦
+        let same : k ≡ p.next = omega arith in
+        let at : slice_index q.order k ≡ slice_index p.order p.next =
+        ap (slice_index q.order) same ∙ begins_at p.order q.order p.next marked.begins below in
+        there (sym (ap f at ∙ is) ∙ none)
   ];
   distinct = marked.distinct pass.distinct;
   within = omega (arith, begins_length p.order q.order marked.begins);
@@ -200,6 +208,7 @@ pass_begun f p marked none = record {
   rooted = λ b h. marked.each b h;
   reached = λ b h. IsFirst (first b (marked.only b h));
   named = λ k b lt h. absurd (omega arith);
+  whole = λ k lt. absurd (omega arith);
   distinct = marked.distinct (λ i j less below same. omega arith);
   within = omega arith;
 }
@@ -259,12 +268,12 @@ is_stepped p m n held others noted seen =
 
 pub read_and_marked : (f g : Blocks) (p m n held : Pass) (block : ℕ) (names : List ℕ) → IsPass f p → p.next < length p.order
     → g ≡ f → block ≡ slice_index p.order p.next → ((b : ℕ) → Contains names b ↔ Names (f block) b)
-    → IsMarked p.order names m.order → IsStepped p m n held
+    → IsMarked p.order names m.order → IsStepped p m n held → f block ≢ None
     → IsPass g (stepped held)
-read_and_marked f g p m n held block names pass below same at named marked is =
+read_and_marked f g p m n held block names pass below same at named marked is there =
     subst (λ (f : Blocks). IsPass f (stepped held)) (sym same)
     (read_one f p (stepped held) (f block) names pass below (ap f (sym at)) named
-    (subst (λ (l : List ℕ). IsMarked p.order names l) (sym is.order) marked) is.roots is.next)
+    (subst (λ (l : List ℕ). IsMarked p.order names l) (sym is.order) marked) is.roots is.next there)
 
 -- ---- the laws
 
@@ -287,6 +296,7 @@ pass_stays old new p same pass = record {
   named = λ k b lt h.
       pass.named k b lt
       (subst (λ (o : Option (List ℕ)). Names o b) (same (slice_index p.order k) (pass.reached _ (Contains-get_or p.order k 0 (omega (arith, pass.within))))) h);
+  whole = λ k lt none. pass.whole k lt (sym (same (slice_index p.order k) (pass.reached _ (Contains-get_or p.order k 0 (omega (arith, pass.within))))) ∙ none);
   distinct = pass.distinct;
   within = pass.within;
 }

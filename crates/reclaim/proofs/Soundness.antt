@@ -13,7 +13,7 @@ use Rattle.node_format.specs.declared.place.Place.{Place}
 use Rattle.node_format.specs.declared.place.Place.TheVariants.{Dir, File}
 use Rattle.block_trees.specs.Bodies.{Blocks, index_of, pointer_of, back, head_index, IsChain, IsLinked, IsBody}
 use Rattle.block_trees.specs.Chains.{link_of, next_of, link_items, chain, entries_in, items_in}
-use Rattle.block_trees.specs.Trees.{child, leads, IsWhole, HasTree, IsRoot}
+use Rattle.block_trees.specs.Trees.{child, leads, IsWholePlace, HasTree, IsRoot}
 use Rattle.block_trees.specs.Reached.{PlaceNames, BodyNames, Names, Reached, IsFirst, IsNamed}
 use Rattle.block_trees.proofs.Chains.{tail_law}
 use Rattle.block_trees.proofs.Chained.{entry_named, IsAmong, among_chain, held_chain, reached_chain, child_names}
@@ -22,7 +22,7 @@ use Rattle.block_trees.proofs.Reaching.{before_named, reached_via}
 use Rattle.block_trees.proofs.Bodies.{chain_back, chain_node, linked_back}
 use Rattle.directory.specs.Lookups.{LeadsToDirectories}
 use Rattle.reclaim.specs.Sound.{HoldsLink, IsDirectoryAt, IsHead, IsSoundPlace, HoldsSlot, AreStepped, IsSoundBody, IsSoundNode, SoundHasTrees, TreesAreSound, TreesHoldNodes}
-use Rattle.reclaim.specs.Kinds.{HoldsBody, FileNames, NamesBody}
+use Rattle.reclaim.specs.Kinds.{HoldsBodyNode, FileNames, NamesBody}
 use Rattle.reclaim.proofs.Lengths.{entry_short, head_short, shorter}
 use Rattle.reclaim.proofs.Chains.{data_length, half_slot, divides_least, fewer_slots, some_before, back_twice}
 use Rattle.node_format.specs.BodyNodes.{HasSlot}
@@ -36,7 +36,7 @@ some_items o items is = ap (λ (p : Option (List Item)). unwrap_or p []) is
 slot_more : (f : Blocks) (i block x : ℕ) → IsLinked f i (pointer_of (f block) 0) → HasSlot (suc i) (suc x)
     → pointer_of (f block) x ≡ back f block (2 ^ x) → HoldsSlot (f (pointer_of (f block) x)) x (pointer_of (f block) (suc x))
     → pointer_of (f block) (suc x) ≡ back f block (2 ^ suc x)
-slot_more f i block x linked has so_far (bytes, held, next) = on (2 ^ x) refl (suc i - 2 ^ x) refl
+slot_more f i block x linked has so_far holds = on (2 ^ x) refl (suc i - 2 ^ x) refl
   where
     on : (power : ℕ) → 2 ^ x ≡ power → (j : ℕ) → suc i - 2 ^ x ≡ j → pointer_of (f block) (suc x) ≡ back f block (2 ^ suc x)
     on zero p j e = absurd (omega (arith, pow_pos x))
@@ -50,7 +50,7 @@ slot_more f i block x linked has so_far (bytes, held, next) = on (2 ^ x) refl (s
         (subst (λ (k : ℕ). IsLinked f k (back f (pointer_of (f block) 0) before)) left (linked_back f before i (pointer_of (f block) 0) le linked)) in
         let step : pointer_of (f (back f block (2 ^ x))) x ≡ back f (back f block (2 ^ x)) (2 ^ x) =
         own.0 x (half_slot x (suc i) j e has) in
-        sym next ∙ ap (λ (o : Option (List ℕ)). pointer_of o x) (sym held) ∙ ap (λ (b : ℕ). pointer_of (f b) x) so_far ∙ step ∙ back_twice f x block
+        sym holds.names ∙ ap (λ (b : ℕ). pointer_of (f b) x) so_far ∙ step ∙ back_twice f x block
 
 -- each slot of a node names the node so many before it, where what is before it is linked
 slots_linked : (f : Blocks) (i block : ℕ) → IsLinked f i (pointer_of (f block) 0) → AreStepped f (pointer_of (f block)) (suc i)
@@ -131,7 +131,7 @@ good_leads capacity f roots sound [] from at good is = subst (IsGood capacity f 
 good_leads capacity f roots sound (name ∷ path) from at good is =
     through capacity f roots sound from name at good path (child f from name) refl is (good_leads capacity f roots sound path)
 
-good_whole : (capacity : ℕ) (f : Blocks) (roots : List ℕ) (at : Place) → IsGood capacity f roots at → IsWhole capacity f at
+good_whole : (capacity : ℕ) (f : Blocks) (roots : List ℕ) (at : Place) → IsGood capacity f roots at → IsWholePlace capacity f at
 good_whole capacity f roots (Dir block) good = good.1
 good_whole capacity f roots (File head size) good = good
 
@@ -278,14 +278,8 @@ place_sound : (capacity : ℕ) (f : Blocks) (place : Place) (depth : ℕ) → Ha
 place_sound capacity f (Dir block) depth tree = directory_held f block (tree_directory capacity f block depth tree)
 place_sound capacity f (File head size) depth tree = body_head capacity f head size (tree_body capacity f head size depth tree)
 
-some_node : (node : Option (List ℕ)) (i : ℕ) → index_of node ≡ Some i → (bytes : List ℕ) × (node ≡ Some bytes)
-some_node None i is = absurd (no_number i (sym is))
-some_node (Some bytes) i is = (bytes, refl)
-
 place_held : (node : Option (List ℕ)) (x next i : ℕ) → index_of node ≡ Some i → pointer_of node x ≡ next → HoldsSlot node x next
-place_held node x next i is at =
-    let found = some_node node i is in
-    (found.0, found.1, ap (λ (o : Option (List ℕ)). pointer_of o x) (sym found.1) ∙ at)
+place_held node x next i is at = record { index = i; is_body = is; names = at }
 
 chain_stepped : (capacity : ℕ) (f : Blocks) (i block : ℕ) → IsLinkedChain capacity f (suc i) block → AreStepped f (pointer_of (f block)) (suc i)
 chain_stepped capacity f i block c x has = on (suc i - 2 ^ x) refl
@@ -362,14 +356,14 @@ trees_hold_nodes capacity f roots trees b reached = shape_holds capacity f b (re
 in_tree_no_index : (capacity : ℕ) (f : Blocks) (block : ℕ) → IsInTree capacity f block → index_of (f block) ≡ None
 in_tree_no_index capacity f block t = let a = own_node capacity f block t in directory_no_index (f block) a.l a.is
 
-place_body : (capacity : ℕ) (f : Blocks) (place : Place) (depth next : ℕ) → HasTree capacity f place depth → FileNames place next → HoldsBody f next
+place_body : (capacity : ℕ) (f : Blocks) (place : Place) (depth next : ℕ) → HasTree capacity f place depth → FileNames place next → HoldsBodyNode f next
 place_body capacity f (Dir block) depth next tree names = absurd names
 place_body capacity f (File head zero) depth next tree names = absurd (omega (arith, names.0))
 place_body capacity f (File head (suc n)) depth next tree names =
     let body = tree_body capacity f head (suc n) depth tree in
     (head_index capacity (suc n), ap (λ (b : ℕ). index_of (f b)) (sym names.1) ∙ chain_node capacity (head_index capacity (suc n)) head f body.0)
 
-pointed_body : (capacity : ℕ) (f : Blocks) (i block x next : ℕ) → IsLinkedChain capacity f i block → HasSlot i x → pointer_of (f block) x ≡ next → HoldsBody f next
+pointed_body : (capacity : ℕ) (f : Blocks) (i block x next : ℕ) → IsLinkedChain capacity f i block → HasSlot i x → pointer_of (f block) x ≡ next → HoldsBodyNode f next
 pointed_body capacity f zero block x next c has is = absurd (omega (arith, has.1))
 pointed_body capacity f (suc i) block x next c has is =
     let le : 2 ^ x ≤ suc i = divides_least x (suc i) has.1 has.2 in
@@ -377,7 +371,7 @@ pointed_body capacity f (suc i) block x next c has is =
     let at : back f block (2 ^ x) ≡ next = sym (c.linked.0 x has) ∙ is in
     (suc i - 2 ^ x, ap (λ (b : ℕ). index_of (f b)) (sym at) ∙ chain_node capacity (suc i - 2 ^ x) (back f block (2 ^ x)) f chain)
 
-shape_body : (capacity : ℕ) (f : Blocks) (block next : ℕ) → IsShaped capacity f block → NamesBody (f block) next → HoldsBody f next
+shape_body : (capacity : ℕ) (f : Blocks) (block next : ℕ) → IsShaped capacity f block → NamesBody (f block) next → HoldsBodyNode f next
 shape_body capacity f block next (inl t) (inl (item, within, names)) =
     let own = holds_item (f block) item within in
     place_body capacity f item.place t.depth next (own_tree capacity f block t own.0 item own.1 own.2) names
@@ -388,7 +382,7 @@ shape_body capacity f block next (inr (i, c)) (inr names) =
     let own = subst (λ (o : Option ℕ). BodyNames o (pointer_of (f block)) next) (chain_node capacity i block f c.chain) names in
     pointed_body capacity f i block own.0 next c own.1 own.2
 
-pub named_body : (capacity : ℕ) (f : Blocks) (roots : List ℕ) → ((root : ℕ) → Contains roots root → IsRoot capacity f root) → {b : ℕ} → Reached f roots b → (next : ℕ) → NamesBody (f b) next → HoldsBody f next
+pub named_body : (capacity : ℕ) (f : Blocks) (roots : List ℕ) → ((root : ℕ) → Contains roots root → IsRoot capacity f root) → {b : ℕ} → Reached f roots b → (next : ℕ) → NamesBody (f b) next → HoldsBodyNode f next
 named_body capacity f roots trees {b} reached next names = shape_body capacity f b next (reached_shape capacity f roots trees reached) names
 
 -- a named block is named as a body, or holds no body

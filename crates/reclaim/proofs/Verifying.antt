@@ -1,19 +1,23 @@
 -- Lists of blocks that all pass a test, and what the tests say of roots.
-use Rattle.std.proofs.Common.{◌≡◌, ◌↔◌, ◌⊎◌, inl, inr, ℕ, ◌+◌, ◌-◌, ◌<◌, ◌≤◌, Bool, true, false, None, List, length, take, refl, sym, subst, ◌∙◌, arith}
+use Rattle.std.proofs.Common.{◌≡◌, ◌↔◌, ◌⊎◌, inl, inr, ℕ, ◌+◌, ◌-◌, ◌<◌, ◌≤◌, Bool, true, false, None, List, length, take, refl, sym, ap, subst, ◌∙◌, arith}
+use Rattle.std.specs.FinSet as set
+use Rattle.std.specs.Ordering.{nat_cmp}
 use Rattle.std.specs.Prelude.{Contains, not, IsTrue, All, slice_index}
 use Rattle.std.proofs.lemmas.Bool.{cases_lt}
 use Rattle.std.proofs.lemmas.List.{take_all}
+use Rattle.std.proofs.lemmas.Grind.{get_or_default_zero}
 use Rattle.std.proofs.lemmas.List.Elements.{All-more, All-get_or, All-contains, All-contains_itself, All-weaker}
 use Rattle.fs_types.specs.declared.limits.TheConstants.{ANCHORS}
 use Rattle.node_format.specs.declared.place.Place.TheVariants.{Dir}
 use Rattle.allocator.specs.Ring.{IsDataBlock}
 use Rattle.block_trees.specs.Bodies.{Blocks}
 use Rattle.block_trees.specs.Laws.{IsShallow}
-use Rattle.block_trees.specs.Reached.{Reached, IsFirst}
+use Rattle.block_trees.specs.Reached.{Reached, IsFirst, Names}
 use Rattle.directory.specs.Depths.{IsDeeper}
 use Rattle.directory.specs.Lookups.{LeadsToDirectories}
 use Rattle.reclaim.specs.Sound.{HoldsLink, IsSoundNode, IsPlain}
-use Rattle.reclaim.specs.Looks.{IsAllowed}
+use Rattle.reclaim.specs.Kinds.{HoldsBodyNode, AreKnown}
+use Rattle.reclaim.specs.Looks.{IsAllowed, HoldsNodes}
 use Rattle.reclaim.specs.Passes.{Pass, IsPass, IsFinished}
 use Rattle.reclaim.specs.Verified.{AreRoots}
 use Rattle.reclaim.proofs.Looking.{never}
@@ -122,3 +126,24 @@ roots_directories limit f roots order same trees =
 
 pub directories_roots : (f : Blocks) (roots order : List ℕ) → ((b : ℕ) → Contains order b ↔ Contains roots b) → All (HoldsLink f) order → All (HoldsLink f) roots
 directories_roots f roots order same all = all_of (HoldsLink f) roots (λ b h. All-contains (HoldsLink f) order b all ((same b).1 h))
+
+-- ---- what is known of marked blocks
+
+pub known_holds : (f : Blocks) (list : List ℕ) (kinds : set.FinSet nat_cmp) (b : ℕ) → AreKnown f list kinds → Contains list b → HoldsNodes f b
+known_holds f list kinds b known has = record { own = known.whole b has; named = λ c names. known.whole c (known.named b c has names) }
+
+-- a finished marking that read whole
+at_place : (p : Pass) (b : ℕ) → Contains p.order b → (k : ℕ) × (k < length p.order) × (slice_index p.order k ≡ b)
+at_place p b has = (has.0, has.1, sym (get_or_default_zero p.order has.0 b has.1) ∙ has.2)
+
+pub pass_known : (f : Blocks) (p : Pass) (list : List ℕ) (kinds : set.FinSet nat_cmp) → IsPass f p → IsFinished p → ((b : ℕ) → set.contains p.bodies b ≡ true → HoldsBodyNode f b)
+    → list ≡ p.order → kinds ≡ p.bodies → AreKnown f list kinds
+pass_known f p list kinds pass end bodies is is_kinds = record {
+  whole = λ b has none.
+      let at = at_place p b (subst (λ (l : List ℕ). Contains l b) is has) in
+      pass.whole at.0 (omega (arith, at.1)) (ap f at.2 ∙ none);
+  named = λ b c has names.
+      let at = at_place p b (subst (λ (l : List ℕ). Contains l b) is has) in
+      subst (λ (l : List ℕ). Contains l c) (sym is) (pass.named at.0 c (omega (arith, at.1)) (subst (λ (x : ℕ). Names (f x) c) (sym at.2) names));
+  bodies = λ b has. bodies b (ap (λ s. set.contains s b) (sym is_kinds) ∙ has);
+}

@@ -1,15 +1,16 @@
 -- Blocks that hold nodes of bodies, and those of directories.
-use Rattle.std.specs.Prelude.{◌≡◌, ◌⊎◌, ℕ, ◌<◌, Bool, true, false, ◌&&◌, ◌+◌, ◌≤◌, Option, Some, None, List, length, take, Contains}
+use Rattle.std.specs.Prelude.{◌≡◌, ◌≢◌, ◌⊎◌, ℕ, ◌<◌, Bool, true, false, ◌&&◌, ◌+◌, ◌≤◌, Option, Some, None, List, [], ◌∷◌, length, take, Contains}
 use Rattle.std.specs.List.{sum_by}
 use Rattle.std.specs.Option.{is_some}
 use Rattle.std.specs.FinSet as set
+use Rattle.std.specs.Ordering.{nat_cmp}
 use Rattle.node_format.specs.Items.{Item}
 use Rattle.node_format.specs.declared.place.Place.{Place}
 use Rattle.node_format.specs.declared.place.Place.TheVariants.{Dir, File}
 use Rattle.node_store.specs.NodePages.{pages_for}
 use Rattle.block_trees.specs.Bodies.{Blocks, index_of, pointer_of}
 use Rattle.block_trees.specs.Chains.{link_items}
-use Rattle.block_trees.specs.Reached.{BodyNames}
+use Rattle.block_trees.specs.Reached.{Names, BodyNames}
 use Rattle.reclaim.specs.Passes.{Pass, IsPass}
 use Rattle.reclaim.specs.Verified.{AreRoots}
 use Rattle.reclaim.specs.declared.reading.Reading.{Reading}
@@ -21,8 +22,8 @@ is_by_fronts Whole = false
 is_by_fronts Fronts = true
 
 -- the block holds a node of a body
-abbrev pub HoldsBody : Blocks → ℕ → Type 0
-HoldsBody f block = (index : ℕ) × (index_of (f block) ≡ Some index)
+abbrev pub HoldsBodyNode : Blocks → ℕ → Type 0
+HoldsBodyNode f block = (index : ℕ) × (index_of (f block) ≡ Some index)
 
 -- a place names the head of a file that is not empty
 abbrev pub FileNames : Place → ℕ → Type 0
@@ -35,19 +36,35 @@ NamesBody node next = ((item : Item) × Contains (link_items node) item × FileN
 
 -- a marking noted as those of bodies the marked blocks that hold their nodes, and no others
 pub record KnowsBodies (f : Blocks) (p : Pass) : Type 0 where
-  pub bodies : (b : ℕ) → set.contains p.bodies b ≡ true → HoldsBody f b
+  pub marked : (b : ℕ) → set.contains p.bodies b ≡ true → Contains p.order b
+  pub bodies : (b : ℕ) → set.contains p.bodies b ≡ true → HoldsBodyNode f b
   pub others : (b : ℕ) → Contains p.order b → set.contains p.bodies b ≡ false → index_of (f b) ≡ None
 
 -- a marking of roots that have trees, on blocks of so many bytes
-pub record IsKnown (limit : ℕ) (f : Blocks) (p : Pass) : Type 0 where
+pub record IsKnownMarking (limit : ℕ) (f : Blocks) (p : Pass) : Type 0 where
   pub trees : AreRoots limit f p.roots
   pub pass : IsPass f p
   pub kinds : KnowsBodies f p
 
--- what a way of reading asks of a marking
+-- what a way of reading asks of a marking: by fronts that it is one of roots that have trees, which is said as a proposition;
+-- else that the noted blocks are those of bodies
 abbrev pub Knows : Reading → ℕ → Blocks → Pass → Type 0
-Knows Whole limit f p = Unit {0}
-Knows Fronts limit f p = IsKnown limit f p
+Knows Whole limit f p = (b : ℕ) → set.contains p.bodies b ≡ true → HoldsBodyNode f b
+Knows Fronts limit f p = (IsKnownMarking limit f p → ⊥) → ⊥
+
+-- what is noted of a block that was read: by fronts what its node names as those of bodies, else the block itself where it holds
+-- a body's node
+abbrev pub noted_of : Reading → ℕ → Bool → List ℕ → List ℕ
+noted_of Fronts block is_body bodies = bodies
+noted_of Whole block true bodies = block ∷ []
+noted_of Whole block false bodies = []
+
+-- the blocks of a list hold nodes, and so do those that their nodes name, which are in the list too; and the blocks of a set are
+-- those of bodies
+pub record AreKnown (f : Blocks) (list : List ℕ) (kinds : set.FinSet nat_cmp) : Type 0 where
+  pub whole : (b : ℕ) → Contains list b → f b ≢ None
+  pub named : (b c : ℕ) → Contains list b → Names (f b) c → Contains list c
+  pub bodies : (b : ℕ) → set.contains kinds b ≡ true → HoldsBodyNode f b
 
 -- how many pages are asked at most for a node: one where the first page alone is read
 abbrev pub read_pages : Bool → ℕ → Option (List ℕ) → ℕ

@@ -1,5 +1,5 @@
 -- What a look at a block brings.
-use Rattle.std.specs.Prelude.{◌≡◌, ℕ, suc, ◌+◌, ◌*◌, ◌<◌, ◌==◌, ◌&&◌, Bool, true, false, Option, Some, None, List, [], ◌∷◌, length, map, slice_index, if◌then◌else◌}
+use Rattle.std.specs.Prelude.{◌≡◌, ◌≢◌, ℕ, suc, ◌+◌, ◌*◌, ◌<◌, ◌==◌, ◌&&◌, Bool, true, false, Option, Some, None, List, [], ◌∷◌, length, map, slice_index, if◌then◌else◌}
 use Rattle.std.specs.Option.{option_map, option_map_or}
 use Rattle.fs_types.specs.declared.limits.TheConstants.{MAX_FILE_BYTES}
 use Rattle.fs_types.specs.Names.{Name}
@@ -7,10 +7,25 @@ use Rattle.node_format.specs.Items.{Item, is_before}
 use Rattle.node_format.specs.Links.{Link}
 use Rattle.node_format.specs.declared.place.Place.{Place}
 use Rattle.block_trees.specs.Bodies.{Blocks, index_of, data_of, pointer_of}
+use Rattle.block_trees.specs.Reached.{PlaceNames, Names}
+use Rattle.node_format.specs.BodyNodes.{HasSlot}
 use Rattle.block_trees.specs.Chains.{link_of, next_of, link_items, is_later, most_after}
 use Rattle.reclaim.specs.Naming.{has_slot}
 use Rattle.reclaim.specs.Sound.{HoldsSlot, IsSoundBody, IsSoundNode, IsPlainNode}
 use Rattle.node_format.specs.declared.headers.TheConstants.{SLOTS}
+
+-- a place leads to blocks that hold nodes
+abbrev pub LeadsToNodes : Blocks → Place → Type 0
+LeadsToNodes f at = (c : ℕ) → PlaceNames at c → f c ≢ None
+
+-- the slots that an index has name blocks that hold nodes
+abbrev pub SlotsHold : Blocks → (ℕ → ℕ) → ℕ → Type 0
+SlotsHold f pointer index = (x : ℕ) → HasSlot index x → f (pointer x) ≢ None
+
+-- a block holds a node, and each block that this names does
+pub record HoldsNodes (f : Blocks) (block : ℕ) : Type 0 where
+  pub own : f block ≢ None
+  pub named : (c : ℕ) → Names (f block) c → f c ≢ None
 
 -- the index of a body node, and how many data bytes it has
 abbrev pub body_of : Option (List ℕ) → Option (ℕ × ℕ)

@@ -1,5 +1,5 @@
 -- A marking of the blocks that roots reach, in steps.
-use Rattle.std.specs.Prelude.{◌≡◌, ◌≢◌, ◌⊎◌, ◌↔◌, ℕ, ◌+◌, ◌<◌, ◌≤◌, ◌++◌, ◌-◌, ◌^◌, Bool, true, false, Result, Ok, List, length, slice_index, Contains, refl}
+use Rattle.std.specs.Prelude.{◌≡◌, ◌≢◌, ◌⊎◌, ◌↔◌, ℕ, ◌+◌, ◌<◌, ◌≤◌, ◌++◌, ◌-◌, ◌^◌, Bool, true, false, None, Result, Ok, List, length, slice_index, Contains, refl}
 use Rattle.std.specs.Coded.{Coded, code_by, coded×, coded_ℕ, coded_list}
 use Rattle.std.specs.FinSet as set
 use Rattle.std.specs.Ordering.{nat_cmp}
@@ -51,12 +51,13 @@ pub record IsMarked (old names new : List ℕ) : Type 0 where
   pub only : (b : ℕ) → Contains new b → Contains old b ⊎ Contains names b
   pub distinct : AreDistinct old → AreDistinct new
 
--- a pass over these nodes: the roots are marked, and what the blocks read so far name; all that is marked is reached,
--- and none is marked twice
+-- a pass over these nodes: the roots are marked, and what the blocks read so far name, which hold nodes; all that is marked
+-- is reached, and none is marked twice
 pub record IsPass (f : Blocks) (p : Pass) : Type 0 where
   pub rooted : (b : ℕ) → Contains p.roots b → Contains p.order b
   pub reached : (b : ℕ) → Contains p.order b → Reached f p.roots b
   pub named : (k b : ℕ) → k < p.next → Names (f (slice_index p.order k)) b → Contains p.order b
+  pub whole : (k : ℕ) → k < p.next → f (slice_index p.order k) ≢ None
   pub distinct : AreDistinct p.order
   pub within : p.next ≤ length p.order
 

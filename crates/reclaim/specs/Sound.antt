@@ -36,9 +36,11 @@ abbrev pub IsSoundPlace : ℕ → Blocks → Place → Type 0
 IsSoundPlace capacity f (Dir block) = HoldsLink f block
 IsSoundPlace capacity f (File head size) = IsHead capacity f head size
 
--- slot x of a node names this block
-abbrev pub HoldsSlot : Option (List ℕ) → ℕ → ℕ → Type 0
-HoldsSlot node x next = (bytes : List ℕ) × (node ≡ Some bytes) × (pointer_of (Some bytes) x ≡ next)
+-- slot x of a body node names this block
+pub record HoldsSlot (node : Option (List ℕ)) (x next : ℕ) : Type 0 where
+  pub index : ℕ
+  pub is_body : index_of node ≡ Some index
+  pub names : pointer_of node x ≡ next
 
 -- each slot that the index has, after slot 0, is the one before it of the node that the one before it names
 abbrev pub AreStepped : Blocks → (ℕ → ℕ) → ℕ → Type 0

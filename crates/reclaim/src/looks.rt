@@ -1,20 +1,24 @@
 //! One look at a block, and at the blocks that it names.
 ghost use Rattle.std.specs.Option.{option_map};
-ghost use Rattle.std.specs.Prelude.{◌≡◌, ℕ, ◌+◌, ◌*◌, ◌^◌, ◌-◌, ◌≤◌, ◌<◌, ◌↔◌, ◌++◌, ◌/◌, ◌%◌, ◌&&◌, nat_eq, nat_lt, All, true, false, IsTrue, map, length, List, Option, Some, None, OnOk, IfOk, IfErr, slice_index};
+ghost use Rattle.std.specs.Prelude.{◌≡◌, ◌≢◌, ℕ, ◌+◌, ◌*◌, ◌^◌, ◌-◌, ◌≤◌, ◌<◌, ◌↔◌, ◌++◌, ◌/◌, ◌%◌, ◌&&◌, nat_eq, nat_lt, Bool, All, Contains, true, false, IsTrue, map, length, List, Option, Some, None, OnOk, IfOk, IfErr, slice_index};
 ghost use Rattle.fs_types.specs.declared.limits.TheConstants.{MAX_FILE_BYTES};
+ghost use Rattle.node_format.specs.Headers.{field};
+ghost use Rattle.node_format.specs.declared.place.Place.{Place};
 ghost use Rattle.node_format.specs.declared.place.Place.TheVariants.{Dir, File};
 ghost use Rattle.node_format.specs.declared.headers.TheConstants.{SLOTS};
-ghost use Rattle.block_trees.specs.Bodies.{pointer_of};
+ghost use Rattle.block_trees.specs.Bodies.{index_of, pointer_of};
 ghost use Rattle.block_trees.specs.Chains.{link_items};
 ghost use Rattle.reclaim.specs.Sound.{HoldsLink, IsHead, IsSoundPlace, HoldsSlot, IsSoundBody, AreSoundNames};
 ghost use Rattle.reclaim.specs.Looks as spec;
 ghost use Rattle.node_store.specs.Faults.{IsLookFault};
 ghost use Rattle.node_store.specs.Frames.{OnlyLooks};
+ghost use Rattle.node_store.specs.Fronts.{IsFront};
+ghost use Rattle.reclaim.specs.Kinds.{HoldsBodyNode};
 
 use crate::edge::{Edge, begins_directory, edge_in, is_chained};
-use crate::slots::{has_pointer, index_in, pointer_in};
+use crate::slots::{has_pointer, index_in, pointer_in, used_in};
 use fs_types::{Fault, MAX_FILE_BYTES};
-use node_format::{BODY_HEADER, Entries, EntryList, Place, SLOTS};
+use node_format::{Entries, EntryList, Place, SLOTS};
 use node_store::{Nodes, brings};
 use std::alloc::{AllocError, Global};
 
@@ -34,24 +38,47 @@ pub fn holds_link<N: Nodes>(nodes: &mut N, block: u32) -> Result<bool, Fault>
     Ok(Entries::of(nodes.lent()).is_some())
 }
 
-/// The index of the body node in a block, and how many data bytes it has. None where it holds none.
+/// Brings the beginning of a node, for `fronted` to lend.
+fn bring_front<N: Nodes>(nodes: &mut N, block: u32) -> Result<(), Fault>
+    requires sound { N.is_sound nodes.old }
+    requires there { N.node nodes.old block ≢ None }
+
+    // What is brought.
+    ensures begins { OnOk result ((bytes : List ℕ) → N.node nodes.old block ≡ Some bytes → IsFront (N.page nodes.old) (N.beginning nodes.new) bytes) }
+    ensures lends { OnOk result (N.lends_front nodes.new) }
+
+    // Why not, and what is read.
+    ensures why { IfErr result (λ fault. N.causes nodes.old nodes.new fault) }
+    ensures faults { IfErr result IsLookFault }
+    ensures looks { OnlyLooks N.node N.kept N.writes N.follows N.is_sound N.limit N.blocks nodes.old nodes.new }
+    ensures reads { N.reads nodes.new ≡ N.reads nodes.old + 1 }
+{
+    nodes.front(block)?;
+    Ok(())
+}
+
+/// The index of the body node with this beginning, and how many data bytes it has. None where it is of
+/// no body node.
+fn body_in(front: &[u8]) -> Option<(u32, usize)>
+    ensures { result ≡ option_map (λ index. (index, field front.now 8)) (index_of (Some front.now)) }
+{
+    let index = index_in(front)?;
+    Some((index, used_in(front) as usize))
+}
+
+/// The index of the body node in a block, and how many data bytes it has. None where the node in it is
+/// of another kind.
 fn body_at<N: Nodes>(nodes: &mut N, block: u32) -> Result<Option<(u32, usize)>, Fault>
-    requires { N.is_sound nodes.old }
+    requires sound { N.is_sound nodes.old }
+    requires there { N.node nodes.old block ≢ None }
     ensures exact { IfOk result (λ found. found ≡ spec.body_of (N.node nodes.old block)) }
     ensures why { IfErr result (λ fault. N.causes nodes.old nodes.new fault) }
     ensures faults { IfErr result IsLookFault }
     ensures looks { OnlyLooks N.node N.kept N.writes N.follows N.is_sound N.limit N.blocks nodes.old nodes.new }
     ensures reads { N.reads nodes.new ≡ N.reads nodes.old + 1 }
 {
-    let brought = brings(nodes, block)?;
-    if !brought {
-        return Ok(None);
-    }
-    let bytes = nodes.lent();
-    let Some(index) = index_in(bytes) else {
-        return Ok(None);
-    };
-    Ok(Some((index, bytes.len().saturating_sub(BODY_HEADER as usize))))
+    bring_front(nodes, block)?;
+    Ok(body_in(nodes.fronted()))
 }
 
 /// Whether the last node of a file, whose length is not 0, has the index and bytes enough.
@@ -67,7 +94,12 @@ fn ends_file(capacity: u32, index: u32, held: usize, length: u32) -> bool
 fn is_head<N: Nodes>(nodes: &mut N, capacity: u32, head: u32, length: u32) -> Result<bool, Fault>
     requires sound { N.is_sound nodes.old }
     requires capacity { 0 < capacity }
+    requires there { spec.LeadsToNodes (N.node nodes.old) (File head length) }
+
+    // What is answered.
     ensures exact { IfOk result (λ good. IsTrue good ↔ IsHead capacity (N.node nodes.old) head length) }
+
+    // Why not, and what is read.
     ensures why { IfErr result (λ fault. N.causes nodes.old nodes.new fault) }
     ensures faults { IfErr result IsLookFault }
     ensures looks { OnlyLooks N.node N.kept N.writes N.follows N.is_sound N.limit N.blocks nodes.old nodes.new }
@@ -87,7 +119,12 @@ fn is_head<N: Nodes>(nodes: &mut N, capacity: u32, head: u32, length: u32) -> Re
 fn is_sound_place<N: Nodes>(nodes: &mut N, capacity: u32, place: Place) -> Result<bool, Fault>
     requires sound { N.is_sound nodes.old }
     requires capacity { 0 < capacity }
+    requires there { spec.LeadsToNodes (N.node nodes.old) place }
+
+    // What is answered.
     ensures exact { IfOk result (λ good. IsTrue good ↔ IsSoundPlace capacity (N.node nodes.old) place) }
+
+    // Why not, and what is read.
     ensures why { IfErr result (λ fault. N.causes nodes.old nodes.new fault) }
     ensures faults { IfErr result IsLookFault }
     ensures looks { OnlyLooks N.node N.kept N.writes N.follows N.is_sound N.limit N.blocks nodes.old nodes.new }
@@ -123,7 +160,12 @@ fn push_places_of(out: &mut Vec<Place>, entries: EntryList<'_>) -> Result<(), Al
 fn are_sound_places<N: Nodes>(nodes: &mut N, capacity: u32, places: &[Place]) -> Result<bool, Fault>
     requires sound { N.is_sound nodes.old }
     requires capacity { 0 < capacity }
+    requires there { (place : Place) → Contains places.now place → spec.LeadsToNodes (N.node nodes.old) place }
+
+    // What is answered.
     ensures exact { IfOk result (λ good. IsTrue good ↔ All (IsSoundPlace capacity (N.node nodes.old)) places.now) }
+
+    // Why not, and what is read.
     ensures why { IfErr result (λ fault. N.causes nodes.old nodes.new fault) }
     ensures faults { IfErr result IsLookFault }
     ensures looks { OnlyLooks N.node N.kept N.writes N.follows N.is_sound N.limit N.blocks nodes.old nodes.new }
@@ -150,21 +192,31 @@ fn pointers_in(alloc: Global, bytes: &[u8]) -> Result<Vec<u32>, AllocError>
     Ok(out)
 }
 
-/// Whether a slot of the node in a block names a block.
+/// Whether a slot of the body node with this beginning names a block.
+fn slot_names(front: &[u8], slot: usize, next: u32) -> bool
+    requires { slot < SLOTS }
+    ensures { IsTrue result ↔ HoldsSlot (Some front.now) slot next }
+{
+    index_in(front).is_some() && pointer_in(front, slot) == next
+}
+
+/// Whether a slot of the body node in a block names a block.
 fn holds_slot<N: Nodes>(nodes: &mut N, block: u32, slot: usize, next: u32) -> Result<bool, Fault>
     requires sound { N.is_sound nodes.old }
     requires slot { slot < SLOTS }
+    requires there { N.node nodes.old block ≢ None }
+
+    // What is answered.
     ensures exact { IfOk result (λ holds. IsTrue holds ↔ HoldsSlot (N.node nodes.old block) slot next) }
+
+    // Why not, and what is read.
     ensures why { IfErr result (λ fault. N.causes nodes.old nodes.new fault) }
     ensures faults { IfErr result IsLookFault }
     ensures looks { OnlyLooks N.node N.kept N.writes N.follows N.is_sound N.limit N.blocks nodes.old nodes.new }
     ensures reads { N.reads nodes.new ≡ N.reads nodes.old + 1 }
 {
-    let brought = brings(nodes, block)?;
-    if !brought {
-        return Ok(false);
-    }
-    Ok(pointer_in(nodes.lent(), slot) == next)
+    bring_front(nodes, block)?;
+    Ok(slot_names(nodes.fronted(), slot, next))
 }
 
 /// Whether each pointer of an index below 2^13 is the one before it of the node that the one before it
@@ -172,7 +224,12 @@ fn holds_slot<N: Nodes>(nodes: &mut N, block: u32, slot: usize, next: u32) -> Re
 fn are_stepped<N: Nodes>(nodes: &mut N, pointers: &[u32], index: u32) -> Result<bool, Fault>
     requires sound { N.is_sound nodes.old }
     requires count { length pointers.now ≡ SLOTS }
+    requires there { spec.SlotsHold (N.node nodes.old) (slice_index pointers.now) index }
+
+    // What is answered.
     ensures exact { IfOk result (λ good. IsTrue good ↔ spec.AreSteppedTo (N.node nodes.old) (slice_index pointers.now) index 12) }
+
+    // Why not, and what is read.
     ensures why { IfErr result (λ fault. N.causes nodes.old nodes.new fault) }
     ensures faults { IfErr result IsLookFault }
     ensures looks { OnlyLooks N.node N.kept N.writes N.follows N.is_sound N.limit N.blocks nodes.old nodes.new }
@@ -199,7 +256,12 @@ fn is_sound_body<N: Nodes>(
     requires sound { N.is_sound nodes.old }
     requires count { length pointers.now ≡ SLOTS }
     requires short { index < 2 ^ 13 }
+    requires there { spec.SlotsHold (N.node nodes.old) (slice_index pointers.now) index }
+
+    // What is answered.
     ensures exact { IfOk result (λ good. IsTrue good ↔ IsSoundBody capacity (N.node nodes.old) (slice_index pointers.now) index) }
+
+    // Why not, and what is read.
     ensures why { IfErr result (λ fault. N.causes nodes.old nodes.new fault) }
     ensures faults { IfErr result IsLookFault }
     ensures looks { OnlyLooks N.node N.kept N.writes N.follows N.is_sound N.limit N.blocks nodes.old nodes.new }
@@ -233,7 +295,12 @@ fn is_sound_at<N: Nodes>(
     requires sound { N.is_sound nodes.old }
     requires capacity { 2 ^ 11 ≤ capacity }
     requires count { length pointers.now ≡ SLOTS }
+    requires there { spec.SlotsHold (N.node nodes.old) (slice_index pointers.now) index }
+
+    // What is answered.
     ensures exact { IfOk result (λ good. IsTrue good ↔ spec.IsSoundAt capacity (N.node nodes.old) (slice_index pointers.now) index) }
+
+    // Why not, and what is read.
     ensures why { IfErr result (λ fault. N.causes nodes.old nodes.new fault) }
     ensures faults { IfErr result IsLookFault }
     ensures looks { OnlyLooks N.node N.kept N.writes N.follows N.is_sound N.limit N.blocks nodes.old nodes.new }
@@ -286,7 +353,13 @@ fn are_sound_names<N: Nodes>(
     requires sound { N.is_sound nodes.old }
     requires capacity { 2 ^ 11 ≤ capacity }
     requires count { length pointers.now ≡ SLOTS }
+    requires places { (place : Place) → Contains places.now place → spec.LeadsToNodes (N.node nodes.old) place }
+    requires slots { (i : ℕ) → index ≡ Some i → spec.SlotsHold (N.node nodes.old) (slice_index pointers.now) i }
+
+    // What is answered.
     ensures exact { IfOk result (λ good. (node : Option (List ℕ)) → spec.ArePartsOf node places.now pointers.now index → IsTrue good ↔ AreSoundNames capacity (N.node nodes.old) node) }
+
+    // Why not, and what is read.
     ensures why { IfErr result (λ fault. N.causes nodes.old nodes.new fault) }
     ensures faults { IfErr result IsLookFault }
     ensures looks { OnlyLooks N.node N.kept N.writes N.follows N.is_sound N.limit N.blocks nodes.old nodes.new }
@@ -302,10 +375,36 @@ fn are_sound_names<N: Nodes>(
     }
 }
 
-/// Whether the node in a block is sound: a directory's entries are, and the nodes after it go on with a
-/// directory, or a body node's pointers are. Where only plain directories are allowed, no node of a
-/// chain is.
-pub fn look<N: Nodes>(
+/// Whether the body node in a block is sound: what its slots name is.
+fn look_at_body<N: Nodes>(
+    alloc: Global,
+    nodes: &mut N,
+    capacity: u32,
+    block: u32,
+) -> Result<bool, Fault>
+    requires sound { N.is_sound nodes.old }
+    requires capacity { 2 ^ 11 ≤ capacity }
+    requires body { HoldsBodyNode (N.node nodes.old) block }
+    requires there { spec.HoldsNodes (N.node nodes.old) block }
+
+    // What is answered.
+    ensures exact { IfOk result (λ good. (plain : Bool) → IsTrue good ↔ spec.IsAllowed capacity (N.node nodes.old) plain block) }
+
+    // Why not, and what is read.
+    ensures why { IfErr result (λ fault. N.causes nodes.old nodes.new fault) }
+    ensures faults { IfErr result IsLookFault }
+    ensures looks { OnlyLooks N.node N.kept N.writes N.follows N.is_sound N.limit N.blocks nodes.old nodes.new }
+    ensures reads { N.reads nodes.new ≤ N.reads nodes.old + spec.look_reads (N.node nodes.old block) }
+{
+    bring_front(nodes, block)?;
+    let front = nodes.fronted();
+    let index = index_in(front);
+    let pointers = pointers_in(alloc, front)?;
+    are_sound_names(nodes, capacity, &[], &pointers, index)
+}
+
+/// Whether a node that is not known to be one of a body is sound.
+fn look_at_whole<N: Nodes>(
     alloc: Global,
     nodes: &mut N,
     capacity: u32,
@@ -314,7 +413,12 @@ pub fn look<N: Nodes>(
 ) -> Result<bool, Fault>
     requires sound { N.is_sound nodes.old }
     requires capacity { 2 ^ 11 ≤ capacity }
+    requires there { spec.HoldsNodes (N.node nodes.old) block }
+
+    // What is answered.
     ensures exact { IfOk result (λ good. IsTrue good ↔ spec.IsAllowed capacity (N.node nodes.old) plain block) }
+
+    // Why not, and what is read.
     ensures why { IfErr result (λ fault. N.causes nodes.old nodes.new fault) }
     ensures faults { IfErr result IsLookFault }
     ensures looks { OnlyLooks N.node N.kept N.writes N.follows N.is_sound N.limit N.blocks nodes.old nodes.new }
@@ -334,4 +438,36 @@ pub fn look<N: Nodes>(
     }
     let good = are_sound_names(nodes, capacity, &parts.places, &parts.pointers, parts.index)?;
     Ok(good)
+}
+
+/// Whether the node in a block is sound: a directory's entries are, and the nodes after it go on with a
+/// directory, or a body node's pointers are. Where only plain directories are allowed, no node of a
+/// chain is. It holds a node, and so do the blocks that this names; one that is known to be of a body is
+/// told by its beginning, and so are the nodes of bodies that are named.
+pub fn look<N: Nodes>(
+    alloc: Global,
+    nodes: &mut N,
+    capacity: u32,
+    plain: bool,
+    is_body: bool,
+    block: u32,
+) -> Result<bool, Fault>
+    requires sound { N.is_sound nodes.old }
+    requires capacity { 2 ^ 11 ≤ capacity }
+    requires body { is_body ≡ true → HoldsBodyNode (N.node nodes.old) block }
+    requires there { spec.HoldsNodes (N.node nodes.old) block }
+
+    // What is answered.
+    ensures exact { IfOk result (λ good. IsTrue good ↔ spec.IsAllowed capacity (N.node nodes.old) plain block) }
+
+    // Why not, and what is read.
+    ensures why { IfErr result (λ fault. N.causes nodes.old nodes.new fault) }
+    ensures faults { IfErr result IsLookFault }
+    ensures looks { OnlyLooks N.node N.kept N.writes N.follows N.is_sound N.limit N.blocks nodes.old nodes.new }
+    ensures reads { N.reads nodes.new ≤ N.reads nodes.old + spec.look_reads (N.node nodes.old block) }
+{
+    if is_body {
+        return look_at_body(alloc, nodes, capacity, block);
+    }
+    look_at_whole(alloc, nodes, capacity, plain, block)
 }

@@ -1,5 +1,5 @@
 //! The blocks that a node names.
-ghost use Rattle.std.specs.Prelude.{◌≡◌, ◌≢◌, ℕ, ◌+◌, ◌≤◌, ◌↔◌, ◌++◌, true, false, Some, None, OnOk, IfOk, IfErr, IsErrOf, Contains, option_to_list};
+ghost use Rattle.std.specs.Prelude.{◌≡◌, ◌≢◌, ℕ, ◌+◌, ◌≤◌, ◌↔◌, ◌++◌, true, false, is_some, Some, None, OnOk, IfOk, IfErr, IsErrOf, Contains, option_to_list};
 ghost use Rattle.std.specs.List.{flat_map};
 ghost use Rattle.node_format.specs.declared.headers.TheConstants.{SLOTS};
 ghost use Rattle.block_trees.specs.Bodies.{index_of, pointer_of};
@@ -7,7 +7,7 @@ ghost use Rattle.block_trees.specs.Chains.{link_items, next_of};
 ghost use Rattle.block_trees.specs.Reached.{Names};
 ghost use Rattle.node_store.specs.Faults.{IsReadFault};
 ghost use Rattle.node_store.specs.Frames.{OnlyLooks};
-ghost use Rattle.reclaim.specs.Kinds.{HoldsBody, NamesBody, read_pages};
+ghost use Rattle.reclaim.specs.Kinds.{HoldsBodyNode, NamesBody, read_pages};
 ghost use Rattle.reclaim.specs.Naming.{place_names, item_names, place_heads, item_heads, next_names, slots_named, body_named};
 
 use crate::slots::{has_pointer, index_in, pointer_in};
@@ -16,11 +16,13 @@ use node_format::{Entries, EntryList, Place, SLOTS};
 use node_store::Nodes;
 use std::alloc::{AllocError, Global};
 
-/// The blocks that a node names, and those of them that it names as nodes of bodies.
+/// The blocks that a node names, and those of them that it names as nodes of bodies; and whether it is
+/// one of a body itself.
 #[derive(Drop)]
 pub struct Named {
     pub blocks: Vec<u32>,
     pub bodies: Vec<u32>,
+    pub is_body: bool,
 }
 
 // The block that a place names: none for an empty file.
@@ -143,11 +145,17 @@ fn list_bodies(alloc: Global, bytes: &[u8]) -> Result<Vec<u32>, Fault>
 fn list_named(alloc: Global, bytes: &[u8]) -> Result<Named, Fault>
     ensures blocks { IfOk result (λ n. (b : ℕ) → Contains n.blocks.items b ↔ Names (Some bytes.now) b) }
     ensures bodies { IfOk result (λ n. (b : ℕ) → Contains n.bodies.items b ↔ NamesBody (Some bytes.now) b) }
+    ensures is_body { IfOk result (λ n. n.is_body ≡ is_some (index_of (Some bytes.now))) }
     ensures memory { IfErr result (λ fault. fault ≡ Fault.NoMemory) }
 {
     let blocks = list_names(alloc, bytes)?;
     let bodies = list_bodies(alloc, bytes)?;
-    Ok(Named { blocks, bodies })
+    let is_body = index_in(bytes).is_some();
+    Ok(Named {
+        blocks,
+        bodies,
+        is_body,
+    })
 }
 
 // What the node in a block names, which is read whole.
@@ -157,6 +165,7 @@ fn read_whole<N: Nodes>(alloc: Global, nodes: &mut N, block: u32) -> Result<Name
     // What is named.
     ensures blocks { IfOk result (λ n. (b : ℕ) → Contains n.blocks.items b ↔ Names (N.node nodes.old block) b) }
     ensures bodies { IfOk result (λ n. (b : ℕ) → Contains n.bodies.items b ↔ NamesBody (N.node nodes.old block) b) }
+    ensures own { IfOk result (λ n. (N.node nodes.old block ≢ None) × (n.is_body ≡ true → HoldsBodyNode (N.node nodes.old) block)) }
 
     // Why not, and what is read.
     ensures damaged { IsErrOf result Fault.Damaged → N.node nodes.old block ≡ None }
@@ -173,11 +182,12 @@ fn read_whole<N: Nodes>(alloc: Global, nodes: &mut N, block: u32) -> Result<Name
 // What the node of a body in a block names, of which the first page alone is read.
 fn read_front<N: Nodes>(alloc: Global, nodes: &mut N, block: u32) -> Result<Named, Fault>
     requires sound { N.is_sound nodes.old }
-    requires body { HoldsBody (N.node nodes.old) block }
+    requires body { HoldsBodyNode (N.node nodes.old) block }
 
     // What is named.
     ensures blocks { IfOk result (λ n. (b : ℕ) → Contains n.blocks.items b ↔ Names (N.node nodes.old block) b) }
     ensures bodies { IfOk result (λ n. (b : ℕ) → Contains n.bodies.items b ↔ NamesBody (N.node nodes.old block) b) }
+    ensures own { IfOk result (λ n. (N.node nodes.old block ≢ None) × (n.is_body ≡ true → HoldsBodyNode (N.node nodes.old) block)) }
 
     // Why not, and what is read.
     ensures damaged { IsErrOf result Fault.Damaged → N.node nodes.old block ≡ None }
@@ -199,11 +209,12 @@ pub fn read_named<N: Nodes>(
     is_body: bool,
 ) -> Result<Named, Fault>
     requires sound { N.is_sound nodes.old }
-    requires body { is_body ≡ true → HoldsBody (N.node nodes.old) block }
+    requires body { is_body ≡ true → HoldsBodyNode (N.node nodes.old) block }
 
     // What is named.
     ensures blocks { IfOk result (λ n. (b : ℕ) → Contains n.blocks.items b ↔ Names (N.node nodes.old block) b) }
     ensures bodies { IfOk result (λ n. (b : ℕ) → Contains n.bodies.items b ↔ NamesBody (N.node nodes.old block) b) }
+    ensures own { IfOk result (λ n. (N.node nodes.old block ≢ None) × (n.is_body ≡ true → HoldsBodyNode (N.node nodes.old) block)) }
 
     // Why not, and what is read.
     ensures damaged { IsErrOf result Fault.Damaged → N.node nodes.old block ≡ None }

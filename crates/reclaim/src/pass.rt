@@ -6,10 +6,10 @@ ghost use Rattle.block_trees.specs.Bodies.{Blocks};
 ghost use Rattle.block_trees.specs.Reached.{Reached};
 ghost use Rattle.node_store.specs.Faults.{IsReadFault};
 ghost use Rattle.node_store.specs.Frames.{OnlyLooks};
-ghost use Rattle.reclaim.specs.Kinds.{Knows, is_by_fronts, mark_pages, HasAsked};
+ghost use Rattle.reclaim.specs.Kinds.{Knows, is_by_fronts, noted_of, mark_pages, HasAsked};
 ghost use Rattle.reclaim.specs.Passes.{IsMarked, IsPass, IsFinished, HasRead, IsMarkFault, Begins, Advances, HasStepped, AreNoted};
 
-use crate::named::read_named;
+use crate::named::{Named, read_named};
 use crate::reading::Reading;
 use allocator::{BlockSet, Marks};
 use fs_types::{ANCHORS, Fault};
@@ -18,8 +18,8 @@ use std::alloc::Global;
 use std::marker::Model;
 
 /// A marking of the blocks that roots reach. The marked blocks are kept in the order of marking, and
-/// are read in that order: what a block names is marked when it is read. Those that are named as nodes
-/// of bodies are noted.
+/// are read in that order: what a block names is marked when it is read. Blocks of bodies are noted: by
+/// fronts those that are named so, and else those that were found to be.
 ///
 /// Between steps nodes may be written, as long as those that the roots reach stay as they are.
 #[derive(Drop)]
@@ -80,7 +80,7 @@ impl Pass {
     /// By fronts one page is asked at most for each node of a body.
     ///
     /// What is said of a pass holds where this is one over these nodes ([`Pass::start`], and a step that
-    /// was not refused). After a refusal it is of no use: no step may follow.
+    /// was not refused); what its reading asks of it holds again for the next step. After a refusal it is of no use: no step may follow.
     pub fn step<N: Nodes>(
         &mut self,
         nodes: &mut N,
@@ -95,7 +95,7 @@ impl Pass {
         ensures pass { IsPass (N.node nodes.old) self.old → OnOk result (IsPass (N.node nodes.new) self.new) }
         ensures on { Advances self.old self.new }
         ensures ends { HasStepped budget self.old self.new result }
-        ensures read { OnOk result ((N.reads nodes.new + self.old.next ≡ N.reads nodes.old + self.new.next) × HasAsked reading (N.page nodes.old) (N.node nodes.old) self.old self.new (N.asked nodes.old) (N.asked nodes.new)) }
+        ensures read { OnOk result ((N.reads nodes.new + self.old.next ≡ N.reads nodes.old + self.new.next) × HasAsked reading (N.page nodes.old) (N.node nodes.old) self.old self.new (N.asked nodes.old) (N.asked nodes.new) × Knows reading (N.limit nodes.new) (N.node nodes.new) self.new) }
         ensures reads { N.reads nodes.new ≤ N.reads nodes.old + budget }
 
         // Whatever is answered, each read was of another block that the roots reach.
@@ -127,7 +127,7 @@ impl Pass {
         // The pass ends, and what it reads.
         ensures pass { OnOk result (IsPass (N.node nodes.new) self.new × IsFinished self.new) }
         ensures on { Advances self.old self.new }
-        ensures read { OnOk result ((N.reads nodes.new + self.old.next ≡ N.reads nodes.old + self.new.next) × HasAsked reading (N.page nodes.old) (N.node nodes.old) self.old self.new (N.asked nodes.old) (N.asked nodes.new)) }
+        ensures read { OnOk result ((N.reads nodes.new + self.old.next ≡ N.reads nodes.old + self.new.next) × HasAsked reading (N.page nodes.old) (N.node nodes.old) self.old self.new (N.asked nodes.old) (N.asked nodes.new) × Knows reading (N.limit nodes.new) (N.node nodes.new) self.new) }
         ensures seen { HasRead (N.node nodes.old) self.old (N.reads nodes.old) (N.reads nodes.new) }
         ensures looks { OnlyLooks N.node N.kept N.writes N.follows N.is_sound N.limit N.blocks nodes.old nodes.new }
 
@@ -146,6 +146,13 @@ impl Pass {
         ensures { result.now ≡ self.now.order }
     {
         &self.order
+    }
+
+    /// The blocks that are noted as those of bodies.
+    pub(crate) fn noted(&self) -> &BlockSet
+        ensures { result.now.members ≡ self.now.bodies }
+    {
+        &self.bodies
     }
 
     /// The marked blocks: exactly those that the roots reach. No marked block is left to be read.
@@ -189,7 +196,7 @@ impl Pass {
         let is_body = self.has_front(reading, block);
         let named = read_named(self.alloc, nodes, block, is_body)?;
         self.mark_all(&named.blocks)?;
-        self.note_bodies(&named.bodies);
+        self.note(reading, block, &named);
         self.next += 1;
         Ok(())
     }
@@ -199,6 +206,21 @@ impl Pass {
         ensures { result ≡ (is_by_fronts reading && set.contains self.now.bodies block) }
     {
         reading.is_by_fronts() && self.bodies.contains(block)
+    }
+
+    // Notes what a way of reading notes of a block that was read, and names these.
+    fn note(&mut self, reading: Reading, block: u32, named: &Named)
+        ensures noted { AreNoted self.old.bodies (noted_of reading block named.now.is_body named.now.bodies.items) self.old.blocks self.new.bodies }
+        ensures same { self.new ≡ record self.old { bodies = self.new.bodies } }
+    {
+        match reading {
+            Reading::Fronts => self.note_bodies(&named.bodies),
+            Reading::Whole => {
+                if named.is_body {
+                    self.note_bodies(&[block]);
+                }
+            }
+        }
     }
 
     // Notes blocks as those of bodies.

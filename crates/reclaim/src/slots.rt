@@ -1,6 +1,7 @@
 //! The index and the slots of any bytes with the magic of a body node.
 ghost use Rattle.std.specs.Prelude.{◌≡◌, ℕ, ◌+◌, ◌*◌, ◌^◌, ◌<◌, Some};
 ghost use Rattle.block_trees.specs.Bodies.{index_of, pointer_of};
+ghost use Rattle.node_format.specs.Headers.{field};
 ghost use Rattle.node_format.specs.declared.headers.TheConstants.{SLOTS};
 ghost use Rattle.reclaim.specs.Naming as spec;
 
@@ -18,6 +19,13 @@ pub fn index_in(bytes: &[u8]) -> Option<u32>
     } else {
         None
     }
+}
+
+/// How many data bytes a body node has, by its first bytes.
+pub fn used_in(bytes: &[u8]) -> u32
+    ensures { result ≡ field bytes.now 8 }
+{
+    u32_at(bytes, 8)
 }
 
 /// The block in a slot.

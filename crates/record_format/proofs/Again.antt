@@ -16,12 +16,12 @@ use Rattle.fs_types.specs.declared.limits.TheConstants.{MAX_VERSIONS}
 use Rattle.record_format.specs.declared.formats.TheConstants.{FORMAT, OLD_FORMAT}
 use Rattle.record_format.specs.declared.record.Record.{Record}
 use Rattle.record_format.specs.declared.front.Front.{Front}
-use Rattle.record_format.specs.Items.{name_at, version_at, checkpoint_at, block_at, many_at}
-use Rattle.record_format.specs.Payloads.{flag, is_format, version_bytes, checkpoint_bytes, block_bytes, sizes_bytes, counts_bytes, lists_bytes, spelling, is_record, SizesFit, Fits, sizes_at, front_at, if_spelled, meaning_of}
+use Rattle.record_format.specs.Items.{checkpoint_name_at, version_at, checkpoint_at, block_at, many_at}
+use Rattle.record_format.specs.Payloads.{flag, is_format, version_bytes, checkpoint_bytes, block_field, sizes_bytes, counts_bytes, lists_bytes, spelling, is_record, SizesFit, FitsFields, sizes_at, front_at, if_spelled, meaning_of}
 use Rattle.record_format.proofs.Many.{many_again}
 use Rattle.record_format.proofs.LawfulRecords.{both_true, and_true, counts_of, serials_below, bad_below}
 
-name_again : (name : Name) (rest : List ℕ) → is_checkpoint_name name ≡ true → name_at (length name) (name ++ rest) ≡ Some (name, rest)
+name_again : (name : Name) (rest : List ℕ) → is_checkpoint_name name ≡ true → checkpoint_name_at (length name) (name ++ rest) ≡ Some (name, rest)
 name_again name rest lawful =
     let long : ltb (length (name ++ rest)) (length name) ≡ false = le-ltb _ _ (omega (arith, length-append name rest)) in
     rw (long, take_at name rest (length name) refl, drop_at name rest (length name) refl, lawful) refl
@@ -42,7 +42,7 @@ checkpoint_again checkpoint rest fit =
     ∙ step _ _ _ (name_again checkpoint.name (root ++ rest) parts.0)
     ∙ step _ _ _ (number_again 4 checkpoint.root rest (ltb-true _ _ parts.1))
 
-block_again : (block : ℕ) (rest : List ℕ) → nat_lt block (2 ^ 32) ≡ true → block_at (block_bytes block ++ rest) ≡ Some (block, rest)
+block_again : (block : ℕ) (rest : List ℕ) → nat_lt block (2 ^ 32) ≡ true → block_at (block_field block ++ rest) ≡ Some (block, rest)
 block_again block rest fit = number_again 4 block rest (ltb-true _ _ fit)
 
 sizes_again : (g : Geometry) (rest : List ℕ) → SizesFit g → sizes_at (sizes_bytes g ++ rest) ≡ Some (g, rest)
@@ -69,7 +69,7 @@ front_of r one two = record {
 ends_of : Record → ℕ → List ℕ → List ℕ
 ends_of r two rest = little_bytes 2 (length r.bad) ++ (little_bytes 2 two ++ (little_bytes 8 r.next ++ (little_bytes 4 r.last ++ rest)))
 
-front_again : (r : Record) (one two : ℕ) (rest : List ℕ) → is_record r ≡ true → Fits r → two < 256 ^ 2 → front_at (counts_bytes one two r ++ rest) ≡ Some (front_of r one two, rest)
+front_again : (r : Record) (one two : ℕ) (rest : List ℕ) → is_record r ≡ true → FitsFields r → two < 256 ^ 2 → front_at (counts_bytes one two r ++ rest) ≡ Some (front_of r one two, rest)
 unfolding front_at front_of ends_of
 front_again r one two rest lawful fit small =
     let counts = counts_of r lawful in
@@ -119,13 +119,13 @@ bytes_eq-true (x ∷ xs) (y ∷ ys) e =
     let parts = both_true (eqb x y) (bytes_eq xs ys) e in
     λ i. eqb-true x y parts.0 i ∷ bytes_eq-true xs ys parts.1 i
 
-pub versions_fit : (r : Record) → is_record r ≡ true → Fits r → list_all (λ version. nat_lt version.serial (2 ^ 64) && nat_lt version.root (2 ^ 32)) r.versions ≡ true
+pub versions_fit : (r : Record) → is_record r ≡ true → FitsFields r → list_all (λ version. nat_lt version.serial (2 ^ 64) && nat_lt version.root (2 ^ 32)) r.versions ≡ true
 versions_fit r lawful fit =
     all_both (λ version. nat_lt version.serial (2 ^ 64)) (λ version. nat_lt version.root (2 ^ 32)) r.versions
     (all_weaker (λ version. nat_lt version.serial r.next) (λ version. nat_lt version.serial (2 ^ 64)) r.versions (λ version e. below_further version.serial r.next (2 ^ 64) (let h : r.next < 2 ^ 64 = fit.next in omega arith) e) (serials_below r lawful))
     fit.roots
 
-pub bad_fit : (r : Record) → is_record r ≡ true → Fits r → list_all (λ block. nat_lt block (2 ^ 32)) r.bad ≡ true
+pub bad_fit : (r : Record) → is_record r ≡ true → FitsFields r → list_all (λ block. nat_lt block (2 ^ 32)) r.bad ≡ true
 bad_fit r lawful fit =
     all_weaker (λ block. nat_lt block r.geometry.blocks) (λ block. nat_lt block (2 ^ 32)) r.bad (λ block e. below_further block r.geometry.blocks (2 ^ 32) (let h : r.geometry.blocks < 2 ^ 32 = fit.sizes.blocks in omega arith) e) (bad_below r lawful)
 
@@ -138,19 +138,19 @@ format_fits format is = on (eqb format OLD_FORMAT) (eqb format FORMAT) refl refl
     on false true e f is = let h = eqb-true format FORMAT f in omega arith
     on false false e f is = absurd cc
 
-pub spelling_means : (r : Record) (one two : ℕ) → is_record r ≡ true → Fits r → two < 256 ^ 2 → meaning_of r.sequence (spelling one two r) ≡ Some r
+pub spelling_means : (r : Record) (one two : ℕ) → is_record r ≡ true → FitsFields r → two < 256 ^ 2 → meaning_of r.sequence (spelling one two r) ≡ Some r
 unfolding meaning_of front_of
 spelling_means r one two lawful fit small =
     let bytes = spelling one two r in
     let versions = flat_map version_bytes r.versions in
     let checkpoints = flat_map checkpoint_bytes r.checkpoints in
-    let bad = flat_map block_bytes r.bad in
+    let bad = flat_map block_field r.bad in
     let no_more : bad ++ [] ≡ bad = append-nil bad in
     step _ _ _ (number_again 4 r.format (sizes_bytes r.geometry ++ (counts_bytes one two r ++ lists_bytes r)) (format_fits r.format (counts_of r lawful).format))
     ∙ step _ _ _ (sizes_again r.geometry (counts_bytes one two r ++ lists_bytes r) fit.sizes)
     ∙ step _ _ _ (front_again r one two (lists_bytes r) lawful fit small)
     ∙ step _ _ _ (many_again version_at version_bytes (λ version. nat_lt version.serial (2 ^ 64) && nat_lt version.root (2 ^ 32)) version_again r.versions (checkpoints ++ bad) (versions_fit r lawful fit))
     ∙ step _ _ _ (many_again checkpoint_at checkpoint_bytes (λ checkpoint. is_checkpoint_name checkpoint.name && nat_lt checkpoint.root (2 ^ 32)) checkpoint_again r.checkpoints bad fit.checkpoints)
-    ∙ step _ _ _ (ap (many_at block_at (length r.bad)) (sym no_more) ∙ many_again block_at block_bytes (λ block. nat_lt block (2 ^ 32)) block_again r.bad [] (bad_fit r lawful fit))
+    ∙ step _ _ _ (ap (many_at block_at (length r.bad)) (sym no_more) ∙ many_again block_at block_field (λ block. nat_lt block (2 ^ 32)) block_again r.bad [] (bad_fit r lawful fit))
     ∙ ap (λ (b : Bool). if_spelled (record r { dropped = b }) one two bytes) (flag_again r.dropped)
     ∙ rw (lawful, bytes_eq-itself bytes) refl

@@ -17,7 +17,7 @@ use Rattle.record_format.specs.declared.record.Checkpoint.{Checkpoint}
 use Rattle.fs_types.specs.declared.limits.TheConstants.{MAX_VERSIONS}
 use Rattle.record_format.specs.declared.record.Record.{Record}
 use Rattle.record_format.specs.Items.{version_at, checkpoint_at, block_at, many_at}
-use Rattle.record_format.specs.Payloads.{is_format, longest, shortest, version_bytes, checkpoint_bytes, block_bytes, sizes_bytes, counts_bytes, lists_bytes, spelling, payload_bytes, is_record, SizesFit, sizes_at, front_at, if_spelled, meaning_of, tells_sizes}
+use Rattle.record_format.specs.Payloads.{is_format, longest, shortest, version_bytes, checkpoint_bytes, block_field, sizes_bytes, counts_bytes, lists_bytes, spelling, payload_bytes, is_record, SizesFit, sizes_at, front_at, if_spelled, meaning_of, tells_sizes}
 use Rattle.record_format.specs.Laws.{Says, MeaningSays, SaysMeaning, OneMeaning, WrittenIsRead, IsShort}
 use Rattle.record_format.proofs.LawfulRecords.{both_true, counts_of, name_length}
 use Rattle.record_format.proofs.Again.{bytes_eq-true, format_fits, spelling_means}
@@ -87,10 +87,10 @@ is_short r lawful fit =
     let d : length r.bad ≤ 256 = counts.bad in
     let versions = flat_map-short version_bytes (λ version. true) 12 r.versions (λ version e. omega arith) (all_true r.versions) in
     let checkpoints = flat_map-short checkpoint_bytes (λ checkpoint. is_checkpoint_name checkpoint.name && ltb checkpoint.root (2 ^ 32)) 36 r.checkpoints checkpoint_short fit.checkpoints in
-    let bad = flat_map-short block_bytes (λ block. true) 4 r.bad (λ block e. omega arith) (all_true r.bad) in
-    let lists : length (lists_bytes r) ≡ length (flat_map version_bytes r.versions) + (length (flat_map checkpoint_bytes r.checkpoints) + length (flat_map block_bytes r.bad)) =
-    length-append (flat_map version_bytes r.versions) (flat_map checkpoint_bytes r.checkpoints ++ flat_map block_bytes r.bad)
-    ∙ ap (λ (n : ℕ). length (flat_map version_bytes r.versions) + n) (length-append (flat_map checkpoint_bytes r.checkpoints) (flat_map block_bytes r.bad)) in
+    let bad = flat_map-short block_field (λ block. true) 4 r.bad (λ block e. omega arith) (all_true r.bad) in
+    let lists : length (lists_bytes r) ≡ length (flat_map version_bytes r.versions) + (length (flat_map checkpoint_bytes r.checkpoints) + length (flat_map block_field r.bad)) =
+    length-append (flat_map version_bytes r.versions) (flat_map checkpoint_bytes r.checkpoints ++ flat_map block_field r.bad)
+    ∙ ap (λ (n : ℕ). length (flat_map version_bytes r.versions) + n) (length-append (flat_map checkpoint_bytes r.checkpoints) (flat_map block_field r.bad)) in
     let all : length (payload_bytes r) ≡ 40 + length (lists_bytes r) = omega arith in
     (omega arith, omega arith)
 

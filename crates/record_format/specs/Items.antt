@@ -6,8 +6,8 @@ use Rattle.fs_types.specs.declared.call.Version.{Version}
 use Rattle.record_format.specs.declared.record.Checkpoint.{Checkpoint}
 
 -- a lawful name of a checkpoint, of so many bytes
-abbrev pub name_at : ℕ → List ℕ → Option (Name × List ℕ)
-name_at size bytes = if nat_lt (length bytes) size then None else if is_checkpoint_name (take size bytes) then Some (take size bytes, drop size bytes) else None
+abbrev pub checkpoint_name_at : ℕ → List ℕ → Option (Name × List ℕ)
+checkpoint_name_at size bytes = if nat_lt (length bytes) size then None else if is_checkpoint_name (take size bytes) then Some (take size bytes, drop size bytes) else None
 
 -- a version: serial, root
 unfoldable pub version_at : List ℕ → Option (Version ℕ × List ℕ)
@@ -20,7 +20,7 @@ version_at bytes = do
 unfoldable pub checkpoint_at : List ℕ → Option (Checkpoint × List ℕ)
 checkpoint_at bytes = do
   size ← byte_at bytes
-  name ← name_at size.0 size.1
+  name ← checkpoint_name_at size.0 size.1
   root ← number_at 4 name.1
   Some (record { name = name.0; root = root.0 }, root.1)
 

@@ -12,8 +12,8 @@ abbrev pub record_magic : ℕ
 record_magic = little_from 0 4 (codes "UFCR")
 
 -- the header that a page begins with: magic, sequence, index of the page, count of pages, used bytes; none without the magic
-abbrev pub head_of : List ℕ → Option PageHead
-head_of page =
+abbrev pub page_head_of : List ℕ → Option PageHead
+page_head_of page =
     if little_from 0 4 page == record_magic
     then Some (record { sequence = little_from 4 8 page; index = little_from 12 2 page; count = little_from 14 2 page; used = little_from 16 2 page })
     else None
@@ -34,5 +34,5 @@ abbrev pub used_bytes : PageHead → List ℕ → List ℕ
 used_bytes head page = take head.used (drop head_size page)
 
 -- a page of so many bytes with this header and payload; the bytes past it are 0
-abbrev pub page_bytes : ℕ → PageHead → List ℕ → List ℕ
-page_bytes size head payload = head_bytes head ++ (payload ++ replicate (size - (head_size + length payload)) 0)
+abbrev pub record_page_bytes : ℕ → PageHead → List ℕ → List ℕ
+record_page_bytes size head payload = head_bytes head ++ (payload ++ replicate (size - (head_size + length payload)) 0)

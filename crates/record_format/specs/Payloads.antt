@@ -46,8 +46,8 @@ version_bytes version = little_bytes 8 version.serial ++ little_bytes 4 version.
 abbrev pub checkpoint_bytes : Checkpoint → List ℕ
 checkpoint_bytes checkpoint = length checkpoint.name ∷ (checkpoint.name ++ little_bytes 4 checkpoint.root)
 
-abbrev pub block_bytes : ℕ → List ℕ
-block_bytes block = little_bytes 4 block
+abbrev pub block_field : ℕ → List ℕ
+block_field block = little_bytes 4 block
 
 -- bytes of a page, pages of a block, blocks
 abbrev pub sizes_bytes : Geometry → List ℕ
@@ -60,7 +60,7 @@ counts_bytes one two r =
     ++ (little_bytes 2 (length r.bad) ++ (little_bytes 2 two ++ (little_bytes 8 r.next ++ little_bytes 4 r.last)))))
 
 abbrev pub lists_bytes : Record → List ℕ
-lists_bytes r = flat_map version_bytes r.versions ++ (flat_map checkpoint_bytes r.checkpoints ++ flat_map block_bytes r.bad)
+lists_bytes r = flat_map version_bytes r.versions ++ (flat_map checkpoint_bytes r.checkpoints ++ flat_map block_field r.bad)
 
 -- a payload that says this record, with the numbers that are not looked at
 abbrev pub spelling : ℕ → ℕ → Record → List ℕ
@@ -124,7 +124,7 @@ pub record SizesFit (g : Geometry) : Type 0 where
   pub blocks : g.blocks < 2 ^ 32
 
 -- the numbers of a record fit their fields, and its names are names
-pub record Fits (r : Record) : Type 0 where
+pub record FitsFields (r : Record) : Type 0 where
   pub sizes : SizesFit r.geometry
   pub next : r.next < 2 ^ 64
   pub roots : list_all (λ version. nat_lt version.root (2 ^ 32)) r.versions ≡ true

@@ -11,7 +11,7 @@ use flash_model::Geometry;
 use fs_types::{CpName, Version};
 
 fn name_of(size: u8, bytes: &[u8]) -> Option<(CpName, &[u8])>
-    ensures { option_map (λ x. (x.0, x.1.now)) result ≡ spec.name_at size bytes.now }
+    ensures { option_map (λ x. (x.0, x.1.now)) result ≡ spec.checkpoint_name_at size bytes.now }
 {
     let size = size as usize;
     if bytes.len() < size {

@@ -28,7 +28,7 @@ impl PageHead {
     /// The header that a page begins with, or None where it has no magic of one.
     pub fn of(page: &[u8]) -> Option<PageHead>
         requires { 20 ≤ length page.now }
-        ensures { result ≡ spec.head_of page.now }
+        ensures { result ≡ spec.page_head_of page.now }
     {
         if u32_at(page, 0) != u32::from_le_bytes(MAGIC) {
             return None;
@@ -70,7 +70,7 @@ fn push_head(out: &mut Vec<u8>, head: PageHead)
 pub fn write_page(out: &mut Vec<u8>, size: usize, head: PageHead, payload: &[u8])
     requires fits { 20 + length payload.now ≤ size }
     requires room { size ≤ vec_capacity out.old }
-    ensures page { out.new.items ≡ spec.page_bytes size head payload.now }
+    ensures page { out.new.items ≡ spec.record_page_bytes size head payload.now }
     ensures len { vec_len out.new ≡ size }
     ensures capacity { vec_capacity out.old ≤ vec_capacity out.new }
 {

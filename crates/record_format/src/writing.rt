@@ -88,7 +88,7 @@ fn push_checkpoints(out: &mut Payload, checkpoints: &[Checkpoint])
 
 fn push_blocks(out: &mut Payload, blocks: &[u32])
     requires { array_vec_len out.old + 4 * length blocks.now ≤ payload.longest }
-    ensures items { out.new.items ≡ out.old.items ++ flat_map payload.block_bytes blocks.now }
+    ensures items { out.new.items ≡ out.old.items ++ flat_map payload.block_field blocks.now }
     ensures len { array_vec_len out.new ≤ array_vec_len out.old + 4 * length blocks.now }
 {
     for block in blocks {
@@ -117,7 +117,7 @@ fn push_counts(out: &mut Payload, saved: &Record, bad: &[u32], one: u8, two: u16
 pub(crate) fn spell(saved: &Record, format: u32, bad: &[u32], one: u8, two: u16) -> Payload
     requires { payload.is_record (record saved.now { format = format; bad = bad.now }) ≡ true }
     ensures spelled { result.items ≡ payload.spelling one two (record saved.now { format = format; bad = bad.now }) }
-    ensures fits { payload.Fits (record saved.now { format = format; bad = bad.now }) }
+    ensures fits { payload.FitsFields (record saved.now { format = format; bad = bad.now }) }
 {
     let mut out = ArrayVec::new();
     put_u32(&mut out, format);
@@ -134,7 +134,7 @@ pub(crate) fn spell(saved: &Record, format: u32, bad: &[u32], one: u8, two: u16)
 pub fn write_payload(saved: &Record, bad: &[u32]) -> Payload
     requires { payload.is_record (payload.written saved.now bad.now) ≡ true }
     ensures spelled { result.items ≡ payload.payload_bytes (payload.written saved.now bad.now) }
-    ensures fits { payload.Fits (payload.written saved.now bad.now) }
+    ensures fits { payload.FitsFields (payload.written saved.now bad.now) }
 {
     spell(saved, FORMAT, bad, 0, 0)
 }

@@ -4,7 +4,7 @@ use Rattle.std.specs.List.{onto_first, AllByRecursion}
 use Rattle.std.specs.Io.KnownBytes.{Consumes}
 use Rattle.std.proofs.lemmas.Bool.Decides.{nat_tests}
 use Rattle.std.proofs.lemmas.List.Elements.{recursion_from_All}
-use Rattle.script.specs.Streams.{lines_of, TakesLine, TakesLines, Takes, BeginsWithLines}
+use Rattle.script.specs.Streams.{lines_of, TakesLine, TakesLines, TakesLineBytes, BeginsWithLines}
 use Rattle.script.specs.declared.line_reader.Taken.{Taken}
 use Rattle.script.specs.declared.line_reader.Taken.TheVariants.{Line, TooLong, End}
 
@@ -43,7 +43,7 @@ no_lines None new h = tt
 no_lines (Some xs) None h = absurd h
 no_lines (Some xs) (Some ys) h = ap lines_of h
 
-pub lines_from_taken : {E : Type 0} → (old new : Option (List ℕ)) (r : Result Taken E) (line : List ℕ) → Takes old new r line → TakesLines old new r line
+pub lines_from_taken : {E : Type 0} → (old new : Option (List ℕ)) (r : Result Taken E) (line : List ℕ) → TakesLineBytes old new r line → TakesLines old new r line
 lines_from_taken old new (Ok Line) line h = taken_line old new line h.0
 lines_from_taken old new (Ok TooLong) line h = (h.0, h.2, taken_line old new h.0 h.1)
 lines_from_taken old new (Ok End) line h = no_lines old new h.0

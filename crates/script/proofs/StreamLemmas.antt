@@ -6,7 +6,7 @@ use Rattle.std.proofs.lemmas.List.Elements.{All-push, All-append}
 use Rattle.std.proofs.KnownBytes.{Appends-trans, Consumes-trans}
 use Rattle.std.specs.Io.KnownBytes.{Consumes, IsAtEnd, Appends}
 use Rattle.std.specs.Prelude.{IfOk, MatchResult}
-use Rattle.script.specs.Streams.{IsWithoutLf, Takes, TakesPart, TakesRest, TakesLine}
+use Rattle.script.specs.Streams.{IsWithoutLf, TakesLineBytes, TakesPart, TakesRest, TakesLine}
 use Rattle.script.specs.declared.line_reader.Taken.{Taken}
 use Rattle.script.specs.declared.line_reader.Taken.TheVariants.{TooLong}
 
@@ -56,9 +56,9 @@ full_line a b c d line byte capacity filling more other full rest =
 
 -- what skipping the rest of a line after a full buffer took
 pub full_taken : {E : Type 0} (a b c d : Option (List ℕ)) (r : Result Taken E) (line : List ℕ) (byte capacity : ℕ) → IsFilling a b line capacity → Consumes b c (byte ∷ []) → byte ≢ 10
-    → length line ≡ 65536 → IfOk r (λ taken. taken ≡ TooLong) → MatchResult r (λ _. (bytes : List ℕ) × TakesRest c d bytes) (λ _. TakesPart c d) → Takes a d r line
+    → length line ≡ 65536 → IfOk r (λ taken. taken ≡ TooLong) → MatchResult r (λ _. (bytes : List ℕ) × TakesRest c d bytes) (λ _. TakesPart c d) → TakesLineBytes a d r line
 full_taken {E} a b c d (Ok taken) line byte capacity filling more other full long rest =
-    subst (λ (t : Taken). Takes {E = E} a d (Ok t) line) (sym long) (full_line a b c d line byte capacity filling more other full rest)
+    subst (λ (t : Taken). TakesLineBytes {E = E} a d (Ok t) line) (sym long) (full_line a b c d line byte capacity filling more other full rest)
 full_taken {E} a b c d (Err error) line byte capacity filling more other full long rest = full_part a b c d line byte capacity filling more other rest
 
 -- the bytes from a place on

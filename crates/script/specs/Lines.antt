@@ -13,7 +13,7 @@ use Rattle.fs_types.specs.declared.call.Call.TheVariants.{Open, Close, Pread, Pw
 use Rattle.script.specs.Kinds.{kinds}
 use Rattle.script.specs.Verbs.{verbs}
 use Rattle.script.specs.declared.verb.Verb.{Verb}
-use Rattle.script.specs.Words.{given, number_from, text_from, data_from}
+use Rattle.script.specs.Words.{well_formed, number_from, text_from, data_from}
 use Rattle.script.specs.declared.line.Line.{Line}
 use Rattle.script.specs.declared.line.Line.TheVariants.{Call, ReclaimStep, Restart, PlanFault, Refused, Syntax}
 use Rattle.script.specs.declared.misread.Misread.{Misread}
@@ -66,7 +66,7 @@ three_words_and_view _ = Err no_form
 -- a view: `@` and a serial, or `=` and a name; without a word the present version
 abbrev pub view_from : List ℕ → Result NamedView Misread
 view_from [] = Err no_form
-view_from (mark ∷ rest) = if mark == 64 then (given (number_from rest) >>= λ serial. Ok (AtSerial serial)) else if mark == 61 then (given (text_from rest) >>= λ name. Ok (AtName name)) else Err no_form
+view_from (mark ∷ rest) = if mark == 64 then (well_formed (number_from rest) >>= λ serial. Ok (AtSerial serial)) else if mark == 61 then (well_formed (text_from rest) >>= λ name. Ok (AtName name)) else Err no_form
 
 abbrev pub named_view : List (List ℕ) → Result NamedView Misread
 named_view [] = Ok Now
@@ -83,18 +83,18 @@ view_of (AtName bytes) = name_of bytes >>= λ name. Ok (checkpoint_view name)
 abbrev pub only_number : List (List ℕ) → Result ℕ Misread
 only_number words = do
   word ← one_word words
-  given (number_from word)
+  well_formed (number_from word)
 
 abbrev pub only_path : List (List ℕ) → Result Path Misread
 only_path words = do
   word ← one_word words
-  bytes ← given (text_from word)
+  bytes ← well_formed (text_from word)
   path_of bytes
 
-abbrev pub only_name : List (List ℕ) → Result (List ℕ) Misread
-only_name words = do
+abbrev pub lone_name : List (List ℕ) → Result (List ℕ) Misread
+lone_name words = do
   word ← one_word words
-  bytes ← given (text_from word)
+  bytes ← well_formed (text_from word)
   name_of bytes
 
 abbrev pub path_in_view : List ℕ → List (List ℕ) → Result (Path × View) Misread
@@ -107,7 +107,7 @@ path_in_view bytes words = do
 abbrev pub path_and_view : List (List ℕ) → Result (Path × View) Misread
 path_and_view words = do
   parts ← one_word_and_view words
-  bytes ← given (text_from parts.0)
+  bytes ← well_formed (text_from parts.0)
   named ← named_view parts.1
   path ← path_of bytes
   view ← view_of named
@@ -116,39 +116,39 @@ path_and_view words = do
 abbrev pub open_line : List (List ℕ) → Result Line Misread
 open_line words = do
   parts ← two_words words
-  bytes ← given (text_from parts.0)
-  flags ← given (number_from parts.1)
+  bytes ← well_formed (text_from parts.0)
+  flags ← well_formed (number_from parts.1)
   path ← path_of bytes
   Ok (Call (Open path (record { 0 = flags })))
 
 abbrev pub pread_line : List (List ℕ) → Result Line Misread
 pread_line words = do
   parts ← three_words words
-  descriptor ← given (number_from parts.0)
-  offset ← given (number_from parts.1)
-  count ← given (number_from parts.2)
+  descriptor ← well_formed (number_from parts.0)
+  offset ← well_formed (number_from parts.1)
+  count ← well_formed (number_from parts.2)
   Ok (Call (Pread descriptor offset count))
 
 abbrev pub pwrite_line : List (List ℕ) → Result Line Misread
 pwrite_line words = do
   parts ← three_words words
-  descriptor ← given (number_from parts.0)
-  offset ← given (number_from parts.1)
-  bytes ← given (data_from parts.2)
+  descriptor ← well_formed (number_from parts.0)
+  offset ← well_formed (number_from parts.1)
+  bytes ← well_formed (data_from parts.2)
   Ok (Call (Pwrite descriptor offset bytes))
 
 abbrev pub ftruncate_line : List (List ℕ) → Result Line Misread
 ftruncate_line words = do
   parts ← two_words words
-  descriptor ← given (number_from parts.0)
-  size ← given (number_from parts.1)
+  descriptor ← well_formed (number_from parts.0)
+  size ← well_formed (number_from parts.1)
   Ok (Call (Ftruncate descriptor size))
 
 abbrev pub rename_line : List (List ℕ) → Result Line Misread
 rename_line words = do
   parts ← two_words words
-  old ← given (text_from parts.0)
-  new ← given (text_from parts.1)
+  old ← well_formed (text_from parts.0)
+  new ← well_formed (text_from parts.1)
   from ← path_of old
   to ← path_of new
   Ok (Call (Rename from to))
@@ -156,9 +156,9 @@ rename_line words = do
 abbrev pub read_line : List (List ℕ) → Result Line Misread
 read_line words = do
   parts ← three_words_and_view words
-  bytes ← given (text_from parts.0)
-  offset ← given (number_from parts.1)
-  count ← given (number_from parts.2)
+  bytes ← well_formed (text_from parts.0)
+  offset ← well_formed (number_from parts.1)
+  count ← well_formed (number_from parts.2)
   named ← named_view parts.3
   path ← path_of bytes
   view ← view_of named
@@ -178,13 +178,13 @@ list_line words = do
 abbrev pub alone : Line → List (List ℕ) → Result Line Misread
 alone line words = no_words words >>= λ _. Ok line
 
--- a number from 1 on, and a kind
+-- a number and a kind
 abbrev pub fault_line : List (List ℕ) → Result Line Misread
 fault_line words = do
   parts ← two_words words
-  k ← given (number_from parts.0)
-  kind ← given (lookup (bytes_eq parts.1) kinds)
-  if k == 0 then Err no_form else Ok (PlanFault k kind)
+  k ← well_formed (number_from parts.0)
+  kind ← well_formed (lookup (bytes_eq parts.1) kinds)
+  Ok (PlanFault k kind)
 
 -- what a verb and the words after it ask
 abbrev pub asked : Verb → List (List ℕ) → Result Line Misread
@@ -205,10 +205,10 @@ asked Verb.Read words = read_line words
 asked Verb.Undo words = alone (Call Undo) words
 asked Verb.Redo words = alone (Call Redo) words
 asked Verb.Goto words = only_number words >>= λ serial. Ok (Call (Goto serial))
-asked Verb.Rollback words = only_name words >>= λ name. Ok (Call (Rollback name))
+asked Verb.Rollback words = lone_name words >>= λ name. Ok (Call (Rollback name))
 asked Verb.Forget words = only_number words >>= λ count. Ok (Call (Forget count))
-asked Verb.Checkpoint words = only_name words >>= λ name. Ok (Call (Checkpoint name))
-asked Verb.Rmcheckpoint words = only_name words >>= λ name. Ok (Call (RemoveCheckpoint name))
+asked Verb.Checkpoint words = lone_name words >>= λ name. Ok (Call (Checkpoint name))
+asked Verb.Rmcheckpoint words = lone_name words >>= λ name. Ok (Call (RemoveCheckpoint name))
 asked Verb.Begin words = alone (Call Begin) words
 asked Verb.End words = alone (Call End) words
 asked Verb.Abandon words = alone (Call Abandon) words

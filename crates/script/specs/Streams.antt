@@ -27,11 +27,11 @@ abbrev pub TakesPart : Option (List ℕ) → Option (List ℕ) → Type 0
 TakesPart old new = (part : List ℕ) × IsWithoutLf part × Consumes old new part
 
 -- what a read of a line took, and left in the buffer
-abbrev pub Takes : {E : Type 0} → Option (List ℕ) → Option (List ℕ) → Result Taken E → List ℕ → Type 0
-Takes old new (Ok Line) line = TakesLine old new line × (length line ≤ 65536)
-Takes old new (Ok TooLong) line = (long : List ℕ) × TakesLine old new long × (65536 < length long)
-Takes old new (Ok End) line = Consumes old new [] × IsAtEnd new
-Takes old new (Err error) line = TakesPart old new
+abbrev pub TakesLineBytes : {E : Type 0} → Option (List ℕ) → Option (List ℕ) → Result Taken E → List ℕ → Type 0
+TakesLineBytes old new (Ok Line) line = TakesLine old new line × (length line ≤ 65536)
+TakesLineBytes old new (Ok TooLong) line = (long : List ℕ) × TakesLine old new long × (65536 < length long)
+TakesLineBytes old new (Ok End) line = Consumes old new [] × IsAtEnd new
+TakesLineBytes old new (Err error) line = TakesPart old new
 
 -- the lines of a script: each ends with LF, and the last may end with the input
 abbrev pub lines_of : List ℕ → List (List ℕ)

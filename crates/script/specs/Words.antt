@@ -53,6 +53,6 @@ abbrev pub data_from : List ℕ → Option (List ℕ)
 data_from word = if is_dash word then Some [] else if length word == 0 then None else result_ok (decode_of word)
 
 -- a word that has no form makes the line one without a form
-abbrev pub given : {A : Type 0} → Option A → Result A Misread
-given (Some x) = Ok x
-given None = Err Syntax
+abbrev pub well_formed : {A : Type 0} → Option A → Result A Misread
+well_formed (Some x) = Ok x
+well_formed None = Err Syntax

@@ -1,7 +1,7 @@
 //! Lines by the words after the first.
 ghost use Rattle.std.specs.Prelude.{◌≡◌, ◌≢◌, Ok, Err, IfOk, IfErr, map};
 ghost use Rattle.script.specs.declared.misread.Misread.TheVariants.{NoMemory};
-ghost use Rattle.script.specs.Lines.{fault_line, open_line, pread_line, pwrite_line, ftruncate_line, rename_line, read_line, only_number, only_path, only_name, path_and_view, path_in_view, stat_line, list_line};
+ghost use Rattle.script.specs.Lines.{fault_line, open_line, pread_line, pwrite_line, ftruncate_line, rename_line, read_line, only_number, only_path, lone_name, path_and_view, path_in_view, stat_line, list_line};
 
 use crate::arguments::{
     named_view, one_word, one_word_and_view, parse_name, parse_path, three_words,
@@ -117,8 +117,8 @@ pub fn only_path(alloc: Global, words: &[&[u8]]) -> Result<Path, Misread>
 
 /// One name of a checkpoint.
 pub fn only_name(alloc: Global, words: &[&[u8]]) -> Result<CpName, Misread>
-    ensures ok { IfOk result (λ name. only_name (map (λ w. w.now) words.now) ≡ Ok name) }
-    ensures err { IfErr result (λ e. e ≢ NoMemory → only_name (map (λ w. w.now) words.now) ≡ Err e) }
+    ensures ok { IfOk result (λ name. lone_name (map (λ w. w.now) words.now) ≡ Ok name) }
+    ensures err { IfErr result (λ e. e ≢ NoMemory → lone_name (map (λ w. w.now) words.now) ≡ Err e) }
 {
     let bytes = text(alloc, one_word(words)?)?;
     parse_name(bytes.as_slice())
@@ -163,15 +163,12 @@ pub fn list(alloc: Global, words: &[&[u8]]) -> Result<Line, Misread>
     Ok(Line::Call(Call::List { view, path }))
 }
 
-/// `fault`: a number from 1 on, and a kind.
+/// `fault`: a number and a kind.
 pub fn fault(words: &[&[u8]]) -> Result<Line, Misread>
     ensures { result ≡ fault_line (map (λ w. w.now) words.now) }
 {
     let (k, kind) = two_words(words)?;
     let k = number(k)?;
     let kind = kind_of(kind).ok_or(Misread::Syntax)?;
-    if k == 0 {
-        return Err(Misread::Syntax);
-    }
     Ok(Line::PlanFault { k, kind })
 }

@@ -27,7 +27,8 @@ pub enum Line {
     ReclaimStep(u64),
     /// Power on, and mount.
     Restart,
-    /// The `k`-th operation of the kind's class from now on, counted from 1, fails so.
+    /// The `k`-th operation of the kind's class from now on, counted from 1, fails so. Who plans
+    /// it refuses 0.
     PlanFault { k: u64, kind: FaultKind },
     /// A path or a name in the line is refused.
     Refused(Fault),

@@ -1,7 +1,7 @@
 //! Lines from a reader, and text to a writer.
 ghost use Rattle.std.specs.Prelude.{◌≡◌, ◌≢◌, ℕ, ◌<◌, ◌≤◌, List, [], ◌∷◌, ◌++◌, length, take, vec_len, vec_capacity, MatchResult, OnOk, OnErr, IfOk};
 ghost use Rattle.std.specs.Io.KnownBytes.{Consumes, IsAtEnd, Appends, Keeps};
-ghost use Rattle.script.specs.Streams.{TakesByte, TakesRest, TakesPart, Takes, TakesLines};
+ghost use Rattle.script.specs.Streams.{TakesByte, TakesRest, TakesPart, TakesLineBytes, TakesLines};
 ghost use Rattle.script.specs.declared.line_reader.Taken.TheVariants.{TooLong};
 
 use crate::line::LINE_LIMIT;
@@ -75,7 +75,7 @@ fn fill_line<R: Read>(buffer: &mut Vec<u8>, reader: &mut R) -> io::Result<Taken>
     requires empty { buffer.old.items ≡ [] }
     requires room { LINE_LIMIT ≤ vec_capacity buffer.old }
     ensures room { LINE_LIMIT ≤ vec_capacity buffer.new }
-    ensures taken { Takes (R.remaining reader.old) (R.remaining reader.new) result buffer.new.items }
+    ensures taken { TakesLineBytes (R.remaining reader.old) (R.remaining reader.new) result buffer.new.items }
 {
     loop {
         let Some(byte) = read_byte(reader)? else {
@@ -125,7 +125,7 @@ impl LineReader {
     /// Takes the next line from a reader. It ends with LF, and the last one may end with the input;
     /// of one that is too long nothing is kept. After an error a part of a line may be lost.
     pub fn next_line<R: Read>(&mut self, reader: &mut R) -> io::Result<Taken>
-        ensures taken { Takes (R.remaining reader.old) (R.remaining reader.new) result self.new }
+        ensures taken { TakesLineBytes (R.remaining reader.old) (R.remaining reader.new) result self.new }
         ensures lines { TakesLines (R.remaining reader.old) (R.remaining reader.new) result self.new }
     {
         self.buffer.clear();

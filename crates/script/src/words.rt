@@ -1,7 +1,7 @@
 //! The words of a line: numbers, text with escapes, and data.
 ghost use Rattle.std.specs.Prelude.{◌≡◌, ◌≢◌, ◌<◌, true, length, Some, Ok, Err, IfOk, IfErr, MatchOption};
 ghost use Rattle.std.specs.List.{list_all};
-ghost use Rattle.script.specs.Words.{is_digit, is_number, number_from, is_plain, hex_byte, onto, unescaped, is_dash, text_from, data_from, given};
+ghost use Rattle.script.specs.Words.{is_digit, is_number, number_from, is_plain, hex_byte, onto, unescaped, is_dash, text_from, data_from, well_formed};
 ghost use Rattle.script.specs.declared.misread.Misread.TheVariants.{NoMemory};
 
 use crate::misread::Misread;
@@ -41,7 +41,7 @@ fn digits_value(digits: &[u8]) -> Option<u64>
 
 /// The number that a word spells.
 pub fn number(word: &[u8]) -> Result<u64, Misread>
-    ensures { result ≡ given (number_from word.now) }
+    ensures { result ≡ well_formed (number_from word.now) }
 {
     if !is_decimal(word) {
         return Err(Misread::Syntax);
@@ -75,8 +75,8 @@ fn first_byte(word: &[u8]) -> Option<(u8, &[u8])>
 
 /// The bytes that a word spells: bytes that stand for themselves, and `%` with two digits for any.
 fn unescape(alloc: Global, word: &[u8]) -> Result<Bytes, Misread>
-    ensures ok { IfOk result (λ bytes. given (unescaped word.now) ≡ Ok bytes) }
-    ensures err { IfErr result (λ e. e ≢ NoMemory → given (unescaped word.now) ≡ Err e) }
+    ensures ok { IfOk result (λ bytes. well_formed (unescaped word.now) ≡ Ok bytes) }
+    ensures err { IfErr result (λ e. e ≢ NoMemory → well_formed (unescaped word.now) ≡ Err e) }
 {
     let mut bytes = Bytes::new(alloc);
     let mut rest = word;
@@ -96,8 +96,8 @@ fn is_dash(word: &[u8]) -> bool
 
 /// The bytes of a path or a name; `-` alone has none.
 pub fn text(alloc: Global, word: &[u8]) -> Result<Bytes, Misread>
-    ensures ok { IfOk result (λ bytes. given (text_from word.now) ≡ Ok bytes) }
-    ensures err { IfErr result (λ e. e ≢ NoMemory → given (text_from word.now) ≡ Err e) }
+    ensures ok { IfOk result (λ bytes. well_formed (text_from word.now) ≡ Ok bytes) }
+    ensures err { IfErr result (λ e. e ≢ NoMemory → well_formed (text_from word.now) ≡ Err e) }
 {
     if is_dash(word) {
         return Ok(Bytes::new(alloc));
@@ -110,8 +110,8 @@ pub fn text(alloc: Global, word: &[u8]) -> Result<Bytes, Misread>
 
 /// The bytes of pairs of hexadecimal digits; `-` alone has none.
 pub fn data(alloc: Global, word: &[u8]) -> Result<Bytes, Misread>
-    ensures ok { IfOk result (λ bytes. given (data_from word.now) ≡ Ok bytes) }
-    ensures err { IfErr result (λ e. e ≢ NoMemory → given (data_from word.now) ≡ Err e) }
+    ensures ok { IfOk result (λ bytes. well_formed (data_from word.now) ≡ Ok bytes) }
+    ensures err { IfErr result (λ e. e ≢ NoMemory → well_formed (data_from word.now) ≡ Err e) }
 {
     if is_dash(word) {
         return Ok(Bytes::new(alloc));

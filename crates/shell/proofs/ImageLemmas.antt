@@ -14,9 +14,9 @@ use Rattle.mounting.specs.Formats.{FormatCause}
 use Rattle.system.specs.Mounts.{IsMountOf}
 use Rattle.system.specs.declared.systems.System.{System}
 use Rattle.shell.specs.Failures.{of_system}
-use Rattle.shell.specs.Files.{Held, IsFront}
+use Rattle.shell.specs.Files.{Held, AreBytesRead}
 use Rattle.shell.specs.Memory.{IsNewFlash}
-use Rattle.shell.specs.Tools.{AreLawful, IsDecoded, DecodeCause, IsUnread, IsLoaded, LoadCause, IsSaved, Unsaved, SavesChange, ChangeUnsaved, IsMade, FormatEnds, FormatFailure, PlaysBy, Plays, RunEnds, CheckEnds}
+use Rattle.shell.specs.Tools.{AreLawful, IsDecoded, DecodeCause, IsUnread, IsSpelledFlash, LoadCause, IsImageFile, Unsaved, SavesChange, ChangeUnsaved, IsMade, FormatEnds, FormatFailure, PlaysBy, Plays, RunEnds, CheckEnds}
 use Rattle.shell.specs.declared.failure.Failure.{Failure}
 
 -- a limit that is not refused
@@ -24,7 +24,7 @@ pub lawful_limit : (sizes : Geometry) (limit : ℕ) → IsGeometry sizes → (li
 lawful_limit sizes limit lawful low high = record { geometry = lawful; least = omega arith; most = omega arith }
 
 pub format_saved : (sizes : Geometry) (limit : ℕ) (flash : SimFlash) (held saved : Option (List ℕ)) (result : Result (Unit {0}) Failure)
-    → IsMade sizes limit flash → OnOk result (IsSaved saved flash) → IfErr result (Unsaved held saved (image_of (device_of flash)))
+    → IsMade sizes limit flash → OnOk result (IsImageFile saved flash) → IfErr result (Unsaved held saved (image_of (device_of flash)))
     → FormatEnds sizes limit held saved result
 format_saved sizes limit flash held saved (Ok done) made ok err = (flash, made, ok)
 format_saved sizes limit flash held saved (Err failure) made ok err = inr (flash, made, err)
@@ -34,16 +34,16 @@ pub format_refused : (sizes : Geometry) (limit : ℕ) (start end : SimFlash) (fa
 format_refused sizes limit start end Fault.NoMemory new cause = tt
 format_refused sizes limit start end fault new cause = inr (start, end, new, cause)
 
-pub front_same : (held : Option (List ℕ)) (bytes lent : List ℕ) → lent ≡ bytes → IsFront held bytes → IsFront held lent
-front_same held bytes lent same front = subst (IsFront held) (sym same) front
+pub front_same : (held : Option (List ℕ)) (bytes lent : List ℕ) → lent ≡ bytes → AreBytesRead held bytes → AreBytesRead held lent
+front_same held bytes lent same front = subst (AreBytesRead held) (sym same) front
 
 -- the flash of the bytes that are read of a file is that of the file
-pub loaded_front : (held : Option (List ℕ)) (bytes : List ℕ) → IsFront held bytes → (flash : SimFlash) → IsDecoded bytes flash → IsLoaded held flash
+pub loaded_front : (held : Option (List ℕ)) (bytes : List ℕ) → AreBytesRead held bytes → (flash : SimFlash) → IsDecoded bytes flash → IsSpelledFlash held flash
 loaded_front None bytes front flash decoded = record { spelled = tt; ready = decoded.ready; plan = decoded.plan }
 loaded_front (Some all) bytes front flash decoded = record { spelled = sym front ∙ decoded.spelled; ready = decoded.ready; plan = decoded.plan }
 
 -- so is the fault of these bytes
-pub cause_front : (held : Option (List ℕ)) (bytes : List ℕ) → IsFront held bytes → (failure : Failure) → DecodeCause bytes failure → LoadCause held failure
+pub cause_front : (held : Option (List ℕ)) (bytes : List ℕ) → AreBytesRead held bytes → (failure : Failure) → DecodeCause bytes failure → LoadCause held failure
 cause_front held bytes front Failure.Memory cause = tt
 cause_front None bytes front (Failure.Image fault) cause = tt
 cause_front (Some all) bytes front (Failure.Image fault) cause = subst (IsFault fault) front cause
@@ -74,7 +74,7 @@ cause_unread held (Failure.Image fault) cause = absurd cause
 cause_unread held (Failure.System fault) cause = absurd cause
 
 -- a script is run on the flash of the bytes that are read of a file
-pub plays_front : (stop : Bool) (held : Option (List ℕ)) (bytes : List ℕ) → IsFront held bytes → (input left : Option (List ℕ)) (result : Result SimFlash Failure) (old new : Option (List ℕ))
+pub plays_front : (stop : Bool) (held : Option (List ℕ)) (bytes : List ℕ) → AreBytesRead held bytes → (input left : Option (List ℕ)) (result : Result SimFlash Failure) (old new : Option (List ℕ))
     → PlaysBy stop (IsDecoded bytes) (DecodeCause bytes) input left result old new → Plays stop held input left result old new
 plays_front stop held bytes front input left (Ok end) old new (start, decoded, ends) = (start, loaded_front held bytes front start decoded, ends)
 plays_front stop held bytes front input left (Err failure) old new (inl (cause, unread, unwritten)) = inl (cause_front held bytes front failure cause, unread, unwritten)
@@ -87,7 +87,7 @@ after_claim stop name held claimed saved input left result old new same ends = s
 
 -- what a script leaves is saved where it changed
 pub run_saved : (stop : Bool) (name : List ℕ) (held claimed saved : Held) (bytes kept : List ℕ) (input left : Option (List ℕ)) (end : SimFlash) (result : Result (Unit {0}) Failure) (old new : Option (List ℕ))
-    → claimed ≡ held → IsFront (claimed name) bytes → PlaysBy stop (IsDecoded bytes) (DecodeCause bytes) input left (Ok end) old new → kept ≡ bytes
+    → claimed ≡ held → AreBytesRead (claimed name) bytes → PlaysBy stop (IsDecoded bytes) (DecodeCause bytes) input left (Ok end) old new → kept ≡ bytes
     → OnOk result (SavesChange name claimed saved kept (image_of (device_of end))) → IfErr result (ChangeUnsaved name claimed saved kept (image_of (device_of end)))
     → RunEnds stop name held saved input left result old new
 run_saved stop name held claimed saved bytes kept input left end (Ok done) old new same front (start, decoded, ends) is ok err =
@@ -109,7 +109,7 @@ run_saved stop name held claimed saved bytes kept input left end (Err failure) o
 
 -- a script that does not run to its end changes no file
 pub run_broken : (stop : Bool) (name : List ℕ) (held claimed : Held) (bytes : List ℕ) (input left : Option (List ℕ)) (failure : Failure) (old new : Option (List ℕ))
-    → claimed ≡ held → IsFront (claimed name) bytes → PlaysBy stop (IsDecoded bytes) (DecodeCause bytes) input left (Err failure) old new
+    → claimed ≡ held → AreBytesRead (claimed name) bytes → PlaysBy stop (IsDecoded bytes) (DecodeCause bytes) input left (Err failure) old new
     → RunEnds stop name held claimed input left (Err failure) old new
 run_broken stop name held claimed bytes input left failure old new same front plays =
     after_claim stop name held claimed claimed input left (Err failure) old new same (inl (inr (plays_front stop (claimed name) bytes front input left (Err failure) old new plays), refl))
@@ -121,7 +121,7 @@ run_unread stop name held claimed input failure old same unread =
     after_claim stop name held claimed claimed input input (Err failure) old old same (inl (inr (inl (cause_unread (claimed name) failure unread, refl, refl)), refl))
 
 pub check_said : (held : Option (List ℕ)) (start end : SimFlash) (system : System) (result : Result (Unit {0}) Failure) (old new : Option (List ℕ))
-    → IsLoaded held start → IsMountOf (device_of start) (device_of end) system → OnOk result (Appends old new (codes "ok\n"))
+    → IsSpelledFlash held start → IsMountOf (device_of start) (device_of end) system → OnOk result (Appends old new (codes "ok\n"))
     → IfErr result (λ failure. (failure ≡ Failure.Output) × ((n : ℕ) × Appends old new (take n (codes "ok\n"))))
     → CheckEnds held result old new
 check_said held start end system (Ok done) old new loaded mounted ok err = (start, end, system, loaded, mounted, ok)

@@ -2,11 +2,9 @@
 use Rattle.std.proofs.Common.{◌≡◌, ℕ, ◌+◌, Bool, true, false, ◌&&◌, List, [], ◌∷◌, ◌++◌, filter, if◌then◌else◌, cond, refl, sym, ap, ◌∙◌, arith}
 use mathlib.Core.Logic.{∥∥₁_elim}
 use Rattle.std.proofs.lemmas.List.{length-append}
-use Rattle.flash_model.specs.Plan.{Schedule, begun, is_ahead, counted, count_of}
-use Rattle.flash_model.specs.Simulation.{device_of, plan_of, plan_after}
+use Rattle.flash_model.specs.Plan.{Schedule, begun, schedule_after, is_ahead, counted, count_of}
 use Rattle.flash_model.specs.declared.fault_kind.Operation.{Operation}
 use Rattle.flash_model.specs.declared.fault_kind.PlannedFault.{PlannedFault}
-use Rattle.flash_model.specs.declared.sim_flash.SimFlash.{SimFlash}
 use Rattle.shell.specs.Plans.{begun_all, HasBegun, GoesOn, EntriesLaw}
 
 begun_all-push : (plan : Schedule) (classes : List Operation) (class : Operation) → begun_all plan (classes ++ class ∷ []) ≡ begun (begun_all plan classes) class
@@ -15,7 +13,7 @@ begun_all-push plan (one ∷ classes) class = begun_all-push (begun plan one) cl
 
 -- with the power on one more operation begins, and else none
 begun_more : (on : Bool) (done now later : ℕ) (first old new : Schedule) (class : Operation) → HasBegun done first now old
-    → new ≡ (if on then begun old class else old) → later ≡ now + (if on then 1 else 0) → HasBegun done first later new
+    → new ≡ schedule_after on old class → later ≡ now + (if on then 1 else 0) → HasBegun done first later new
 begun_more true done now later first old new class so is more = record {
   classes = so.classes ++ class ∷ [];
   plan = is ∙ ap (λ (plan : Schedule). begun plan class) so.plan ∙ sym (begun_all-push first so.classes class);
@@ -28,16 +26,14 @@ begun_more false done now later first old new class so is more = record {
 }
 
 -- a plan goes on by one more operation
-pub goes_on_more : (done : ℕ) (first : Schedule) (old new : SimFlash) (class : Operation) → GoesOn done first (device_of old).operations (plan_of old)
-    → plan_of new ≡ plan_after old class → (device_of new).operations ≡ (device_of old).operations + (if (device_of old).powered then 1 else 0)
-    → GoesOn done first (device_of new).operations (plan_of new)
-goes_on_more done first old new class goes is more =
-    ∥∥₁_elim goes squash₁ (λ so. ∣ begun_more (device_of old).powered done (device_of old).operations (device_of new).operations first (plan_of old) (plan_of new) class so is more ∣₁)
+pub goes_on_more : (on : Bool) (done now later : ℕ) (first old new : Schedule) (class : Operation) → GoesOn done first now old
+    → new ≡ schedule_after on old class → later ≡ now + (if on then 1 else 0) → GoesOn done first later new
+goes_on_more on done now later first old new class goes is more =
+    ∥∥₁_elim goes squash₁ (λ so. ∣ begun_more on done now later first old new class so is more ∣₁)
 
 -- it stays where nothing is done
-pub goes_on_same : (done : ℕ) (first : Schedule) (old new : SimFlash) → GoesOn done first (device_of old).operations (plan_of old)
-    → plan_of new ≡ plan_of old → (device_of new).operations ≡ (device_of old).operations → GoesOn done first (device_of new).operations (plan_of new)
-goes_on_same done first old new goes same count =
+pub goes_on_same : (done now later : ℕ) (first old new : Schedule) → GoesOn done first now old → new ≡ old → later ≡ now → GoesOn done first later new
+goes_on_same done now later first old new goes same count =
     ∥∥₁_elim goes squash₁ (λ so. ∣ record { classes = so.classes; plan = same ∙ so.plan; count = count ∙ so.count } ∣₁)
 
 -- a plan has gone on by no operation

@@ -1,15 +1,14 @@
 -- Events of a put, one after the other, and what comes of them.
-use Rattle.std.proofs.Common.{◌≡◌, ◌<◌, ◌+◌, ◌≤◌, ℕ, List, [], ◌∷◌, ◌++◌, take, drop, map, length, get_or, Option, Some, None, Result, Ok, Err, IfSome, IfErr, OnOk, ◌⊎◌, inl, inr, refl, sym, ap, ◌∙◌, subst, append_assoc, append-nil, take_all, take-append-drop, arith}
+use Rattle.std.proofs.Common.{◌≡◌, ◌<◌, ◌+◌, ◌≤◌, ℕ, List, [], ◌∷◌, ◌++◌, take, drop, map, length, get_or, Option, Some, None, Result, Ok, Err, IfSome, IfErr, OnOk, ◌⊎◌, inl, inr, refl, sym, ap, ◌∙◌, subst, append_assoc, append-nil, take_all, take-append-drop}
 use Rattle.std.specs.List.{flat_map, Contains}
 use Rattle.std.proofs.lemmas.List.{take_more, map_more, map-append}
 use Rattle.std.proofs.lemmas.List.Concat.{flat_map-append}
-use Rattle.std.proofs.lemmas.List.Elements.{Contains-push, Contains-append_left, Contains-append_right}
+use Rattle.std.proofs.lemmas.List.Elements.{Contains-push, Contains-append_left}
 use Rattle.history_machine.specs.History.{Past}
 use Rattle.plain_trees.specs.Trees.{Tree}
 use Rattle.fs_types.specs.Names.{Path, path_refusal}
 use Rattle.fs_types.specs.declared.event.Answer.{Answer}
 use Rattle.fs_types.specs.declared.event.Event.{Event}
-use Rattle.fs_types.specs.declared.fault.Fault.{Fault}
 use Rattle.flash_model.specs.Reading.{OnlyReads}
 use Rattle.flash_model.specs.Simulation.{device_of}
 use Rattle.flash_model.specs.declared.sim_flash.SimFlash.{SimFlash}
@@ -21,11 +20,11 @@ use Rattle.undofs.specs.Runs.{World, Happens, Run}
 use Rattle.undofs.specs.Sessions.{Stands, world}
 use Rattle.undofs.proofs.SessionSteps.{mount_begins, serve_law}
 use Rattle.shell.specs.Failures.{of_refusal}
-use Rattle.shell.specs.Files.{Held, IsFront}
-use Rattle.shell.specs.Puts.{thing_events, group_start, group_end, put_events, stop_of, GoOn, StopLast, IsThingBy, IsThing, AreThings, Puts, Stops, IsUnput, PlaceCause, PutsBy, PutCause, AskCause, SpellingCause, path_spelled}
-use Rattle.shell.specs.Served.{Place, place, Turns, Passes, Halts, Asks, PutsOne, PutsThrough, PutsEach, PutsAll}
-use Rattle.shell.specs.Sources.{Found, found_of, place_of, way_fault, kind_fault, either_fault, source_fault, Unplaced}
-use Rattle.shell.specs.Tools.{IsDecoded, DecodeCause, IsUnclaimed, IsUnread, IsLoaded, LoadCause, SavesChange, ChangeUnsaved, SourcesEnd}
+use Rattle.shell.specs.Files.{Held, AreBytesRead}
+use Rattle.shell.specs.Puts.{thing_events, group_start, group_end, put_events, stop_of, GoOn, StopLast, IsThingBy, IsThing, AreThings, Puts, Stops, IsUnput, PlaceCause, PutsBy, PutCause, GatherCause, SpellingCause, path_spelled}
+use Rattle.shell.specs.Served.{Place, place, Turns, ServesAll, Halts, ServesPut, PutsOne, PutsEach, PutsAll}
+use Rattle.shell.specs.Sources.{Found, source_found, put_place, way_fault, kind_fault, either_fault, source_fault, Unplaced}
+use Rattle.shell.specs.Tools.{IsDecoded, DecodeCause, IsUnclaimed, IsUnread, IsSpelledFlash, LoadCause, SavesChange, ChangeUnsaved, SourcesEnd}
 use Rattle.shell.specs.declared.failure.Failure.{Failure}
 use Rattle.shell.specs.declared.put.Mounted.{Mounted}
 use Rattle.shell.specs.declared.scripts.Refusal.{Refusal}
@@ -36,11 +35,11 @@ use Rattle.shell.proofs.ImageLemmas.{loaded_front, cause_front, cause_unread}
 
 -- ---- events
 
-pub passes_more : (p q r : Place) (first second : List Event) → Passes p first q → Passes q second r → Passes p (first ++ second) r
-passes_more p q r [] second h rest = subst (λ (x : Place). Passes x second r) h rest
+pub passes_more : (p q r : Place) (first second : List Event) → ServesAll p first q → ServesAll q second r → ServesAll p (first ++ second) r
+passes_more p q r [] second h rest = subst (λ (x : Place). ServesAll x second r) h rest
 passes_more p q r (event ∷ events) second (answer, between, turns, goes, passes) rest = (answer, between, turns, goes, passes_more between q r events second passes rest)
 
-pub halts_more : (p q r : Place) (first made : List Event) (refusal : Refusal) → Passes p first q → Halts q made refusal r → Halts p (first ++ made) refusal r
+pub halts_more : (p q r : Place) (first made : List Event) (refusal : Refusal) → ServesAll p first q → Halts q made refusal r → Halts p (first ++ made) refusal r
 halts_more p q r first made refusal passes h = record {
   earlier = first ++ h.earlier;
   last = h.last;
@@ -54,17 +53,17 @@ halts_more p q r first made refusal passes h = record {
 
 -- the next of some events is served
 pub asks_next : (events : List Event) (i : ℕ) (event : Event) (p q r : Place) (answer : Answer) → i < length events → event ≡ get_or events i event
-    → Passes p (take i events) q → Turns q event answer r → stop_of event answer ≡ None → Passes p (take (i + 1) events) r
+    → ServesAll p (take i events) q → Turns q event answer r → stop_of event answer ≡ None → ServesAll p (take (i + 1) events) r
 asks_next events i event p q r answer below is passes turns goes =
-    let one : Passes q (event ∷ []) r = (answer, r, turns, goes, refl) in
-    let all : Passes p (take i events ++ event ∷ []) r = passes_more p q r (take i events) (event ∷ []) passes one in
-    subst (λ (x : List Event). Passes p x r) (sym (take_more events i event below ∙ ap (λ (x : Event). take i events ++ x ∷ []) (sym is))) all
+    let one : ServesAll q (event ∷ []) r = (answer, r, turns, goes, refl) in
+    let all : ServesAll p (take i events ++ event ∷ []) r = passes_more p q r (take i events) (event ∷ []) passes one in
+    subst (λ (x : List Event). ServesAll p x r) (sym (take_more events i event below ∙ ap (λ (x : Event). take i events ++ x ∷ []) (sym is))) all
 
-pub asks_all : (events : List Event) (i : ℕ) (p q : Place) → length events ≤ i → Passes p (take i events) q → Passes p events q
-asks_all events i p q over passes = subst (λ (x : List Event). Passes p x q) (take_all i events over) passes
+pub asks_all : (events : List Event) (i : ℕ) (p q : Place) → length events ≤ i → ServesAll p (take i events) q → ServesAll p events q
+asks_all events i p q over passes = subst (λ (x : List Event). ServesAll p x q) (take_all i events over) passes
 
 pub asks_halted : (events : List Event) (i : ℕ) (event : Event) (p q r : Place) (answer : Answer) (refusal : Refusal) → i < length events → event ≡ get_or events i event
-    → Passes p (take i events) q → Turns q event answer r → stop_of event answer ≡ Some refusal → Asks p events (Err refusal) r
+    → ServesAll p (take i events) q → Turns q event answer r → stop_of event answer ≡ Some refusal → ServesPut p events (Err refusal) r
 asks_halted events i event p q r answer refusal below is passes turns stops =
     let made : List Event = take i events ++ event ∷ [] in
     let is_made : take (i + 1) events ≡ made = take_more events i event below ∙ ap (λ (x : Event). take i events ++ x ∷ []) (sym is) in (
@@ -94,50 +93,50 @@ pub none_put : (held : Held) (base : Path) (p : Place) → HasPut held base [] p
 none_put held base p = ([], tt, refl)
 
 found_more : (sources : List Source) (i : ℕ) (source : Source) → i < length sources → source ≡ get_or sources i source
-    → map found_of (take (i + 1) sources) ≡ map found_of (take i sources) ++ found_of source ∷ []
-found_more sources i source below is = map_more found_of sources i source below ∙ ap (λ (x : Source). map found_of (take i sources) ++ found_of x ∷ []) (sym is)
+    → map source_found (take (i + 1) sources) ≡ map source_found (take i sources) ++ source_found source ∷ []
+found_more sources i source below is = map_more source_found sources i source below ∙ ap (λ (x : Source). map source_found (take i sources) ++ source_found x ∷ []) (sym is)
 
 -- the sources up to one, and those after it
 parted : (sources : List Source) (i : ℕ) (source : Source) → i < length sources → source ≡ get_or sources i source
-    → map found_of sources ≡ (map found_of (take i sources) ++ found_of source ∷ []) ++ map found_of (drop (i + 1) sources)
+    → map source_found sources ≡ (map source_found (take i sources) ++ source_found source ∷ []) ++ map source_found (drop (i + 1) sources)
 parted sources i source below is =
-    ap (map found_of) (sym (take-append-drop (i + 1) sources)) ∙ map-append found_of (take (i + 1) sources) (drop (i + 1) sources)
-    ∙ ap (λ (x : List Found). x ++ map found_of (drop (i + 1) sources)) (found_more sources i source below is)
+    ap (map source_found) (sym (take-append-drop (i + 1) sources)) ∙ map-append source_found (take (i + 1) sources) (drop (i + 1) sources)
+    ∙ ap (λ (x : List Found). x ++ map source_found (drop (i + 1) sources)) (found_more sources i source below is)
 
-pub among : (sources : List Source) (i : ℕ) (source : Source) → i < length sources → source ≡ get_or sources i source → Contains (map found_of sources) (found_of source)
+pub among : (sources : List Source) (i : ℕ) (source : Source) → i < length sources → source ≡ get_or sources i source → Contains (map source_found sources) (source_found source)
 among sources i source below is =
-    let first : List Found = map found_of (take i sources) in
-    subst (λ (x : List Found). Contains x (found_of source)) (sym (parted sources i source below is))
-    (Contains-append_left (first ++ found_of source ∷ []) (map found_of (drop (i + 1) sources)) (found_of source) (Contains-push first (found_of source)))
+    let first : List Found = map source_found (take i sources) in
+    subst (λ (x : List Found). Contains x (source_found source)) (sym (parted sources i source below is))
+    (Contains-append_left (first ++ source_found source ∷ []) (map source_found (drop (i + 1) sources)) (source_found source) (Contains-push first (source_found source)))
 
 pub puts_next : (held : Held) (base : Path) (sources : List Source) (i : ℕ) (source : Source) (p q r : Place) → i < length sources → source ≡ get_or sources i source
-    → HasPut held base (map found_of (take i sources)) p q → PutsOne held base (found_of source) q (Ok tt) r → HasPut held base (map found_of (take (i + 1) sources)) p r
+    → HasPut held base (map source_found (take i sources)) p q → PutsOne held base (source_found source) q (Ok tt) r → HasPut held base (map source_found (take (i + 1) sources)) p r
 puts_next held base sources i source p q r below is (things, are, passes) (thing, one, more) =
-    let all : Passes p (flat_map thing_events things ++ thing_events thing) r = passes_more p q r (flat_map thing_events things) (thing_events thing) passes more in
+    let all : ServesAll p (flat_map thing_events things ++ thing_events thing) r = passes_more p q r (flat_map thing_events things) (thing_events thing) passes more in
     subst (λ (x : List Found). HasPut held base x p r) (sym (found_more sources i source below is)) (
       things ++ thing ∷ [],
-      things_more held base (map found_of (take i sources)) things (found_of source) thing are one,
-      subst (λ (x : List Event). Passes p x r) (sym (events_more things thing)) all,
+      things_more held base (map source_found (take i sources)) things (source_found source) thing are one,
+      subst (λ (x : List Event). ServesAll p x r) (sym (events_more things thing)) all,
     )
 
-pub puts_all : (held : Held) (base : Path) (sources : List Source) (i : ℕ) (p q : Place) → length sources ≤ i → HasPut held base (map found_of (take i sources)) p q
-    → PutsEach held base (map found_of sources) p (Ok tt) q
-puts_all held base sources i p q over h = subst (λ (x : List Source). HasPut held base (map found_of x) p q) (take_all i sources over) h
+pub puts_all : (held : Held) (base : Path) (sources : List Source) (i : ℕ) (p q : Place) → length sources ≤ i → HasPut held base (map source_found (take i sources)) p q
+    → PutsEach held base (map source_found sources) p (Ok tt) q
+puts_all held base sources i p q over h = subst (λ (x : List Source). HasPut held base (map source_found x) p q) (take_all i sources over) h
 
 pub puts_broken : (held : Held) (base : Path) (sources : List Source) (i : ℕ) (source : Source) (p q r : Place) (failure : Failure) → i < length sources → source ≡ get_or sources i source
-    → HasPut held base (map found_of (take i sources)) p q → PutsOne held base (found_of source) q (Err failure) r → PutsEach held base (map found_of sources) p (Err failure) r
-puts_broken held base sources i source p q r failure below is h (inl unput) = inr (inl (found_of source, among sources i source below is, unput))
+    → HasPut held base (map source_found (take i sources)) p q → PutsOne held base (source_found source) q (Err failure) r → PutsEach held base (map source_found sources) p (Err failure) r
+puts_broken held base sources i source p q r failure below is h (inl unput) = inr (inl (source_found source, among sources i source below is, unput))
 puts_broken held base sources i source p q r failure below is (things, are, passes) (inr (thing, made, rest, refusal, one, begins, halts, why)) =
     let earlier : List Event = flat_map thing_events things in
     inr (inr (
-      map found_of (take i sources) ++ found_of source ∷ [],
-      map found_of (drop (i + 1) sources),
+      map source_found (take i sources) ++ source_found source ∷ [],
+      map source_found (drop (i + 1) sources),
       things ++ thing ∷ [],
       earlier ++ made,
       rest,
       refusal,
       parted sources i source below is,
-      things_more held base (map found_of (take i sources)) things (found_of source) thing are one,
+      things_more held base (map source_found (take i sources)) things (source_found source) thing are one,
       events_more things thing ∙ ap (λ (x : List Event). earlier ++ x) begins ∙ sym (append_assoc earlier made rest),
       halts_more p q r earlier made refusal passes halts,
       why,
@@ -146,12 +145,12 @@ puts_broken held base sources i source p q r failure below is (things, are, pass
 -- ---- the change group
 
 -- it does not begin
-pub unbegun : (held : Held) (base : Path) (all : List Found) (p q : Place) (refusal : Refusal) (failure : Failure) → Asks p group_start (Err refusal) q → failure ≡ of_refusal refusal
+pub unbegun : (held : Held) (base : Path) (all : List Found) (p q : Place) (refusal : Refusal) (failure : Failure) → ServesPut p group_start (Err refusal) q → failure ≡ of_refusal refusal
     → PutsAll held base all p (Err failure) q
 unbegun held base all p q refusal failure (made, rest, begins, halts) why =
     inr (inr ([], all, [], made, rest ++ group_end, refusal, refl, tt, ap (λ (x : List Event). x ++ group_end) begins ∙ append_assoc made rest group_end, halts, why))
 
-pub broken_within : (held : Held) (base : Path) (all : List Found) (p q r : Place) (failure : Failure) → Passes p group_start q → PutsEach held base all q (Err failure) r
+pub broken_within : (held : Held) (base : Path) (all : List Found) (p q r : Place) (failure : Failure) → ServesAll p group_start q → PutsEach held base all q (Err failure) r
     → PutsAll held base all p (Err failure) r
 broken_within held base all p q r failure begun (inl memory) = inl memory
 broken_within held base all p q r failure begun (inr (inl cause)) = inr (inl cause)
@@ -161,17 +160,17 @@ broken_within held base all p q r failure begun (inr (inr (first, later, things,
     inr (inr (first, later, things, group_start ++ made, rest ++ group_end, refusal, parts, are, is, halts_more p q r group_start made refusal begun halts, why))
 
 -- all of it is carried out, or its end is refused
-pub group_ends : (held : Held) (base : Path) (all : List Found) (p q r s : Place) → Passes p group_start q → PutsEach held base all q (Ok tt) r → Asks r group_end (Ok tt) s
+pub group_ends : (held : Held) (base : Path) (all : List Found) (p q r s : Place) → ServesAll p group_start q → PutsEach held base all q (Ok tt) r → ServesPut r group_end (Ok tt) s
     → PutsAll held base all p (Ok tt) s
 group_ends held base all p q r s begun (things, are, passes) ended =
-    let within : Passes p (group_start ++ flat_map thing_events things) r = passes_more p q r group_start (flat_map thing_events things) begun passes in
+    let within : ServesAll p (group_start ++ flat_map thing_events things) r = passes_more p q r group_start (flat_map thing_events things) begun passes in
     (things, are, passes_more p r s (group_start ++ flat_map thing_events things) group_end within ended)
 
-pub group_unended : (held : Held) (base : Path) (all : List Found) (p q r s : Place) (refusal : Refusal) (failure : Failure) → Passes p group_start q → PutsEach held base all q (Ok tt) r
-    → Asks r group_end (Err refusal) s → failure ≡ of_refusal refusal → PutsAll held base all p (Err failure) s
+pub group_unended : (held : Held) (base : Path) (all : List Found) (p q r s : Place) (refusal : Refusal) (failure : Failure) → ServesAll p group_start q → PutsEach held base all q (Ok tt) r
+    → ServesPut r group_end (Err refusal) s → failure ≡ of_refusal refusal → PutsAll held base all p (Err failure) s
 group_unended held base all p q r s refusal failure begun (things, are, passes) (made, rest, begins, halts) why =
     let within : List Event = group_start ++ flat_map thing_events things in
-    let done : Passes p within r = passes_more p q r group_start (flat_map thing_events things) begun passes in
+    let done : ServesAll p within r = passes_more p q r group_start (flat_map thing_events things) begun passes in
     inr (inr (
       all,
       [],
@@ -188,7 +187,7 @@ group_unended held base all p q r s refusal failure begun (things, are, passes) 
 
 -- ---- sessions
 
-passes_run : (p q : Place) (events : List Event) → Passes p events q → (found : List (Past Tree)) → Stands (world p.device p.system found)
+passes_run : (p q : Place) (events : List Event) → ServesAll p events q → (found : List (Past Tree)) → Stands (world p.device p.system found)
     → (more : List (Past Tree)) × (answers : List Answer) × Run (world p.device p.system found) events answers (world q.device q.system more) × GoOn events answers × Stands (world q.device q.system more)
 passes_run p q [] h found stands =
     let same : world q.device q.system found ≡ world p.device p.system found = ap (λ (x : Place). world x.device x.system found) h in
@@ -215,7 +214,7 @@ stop_last (e ∷ []) (a ∷ other ∷ answers) event answer refusal h is = absur
 stop_last (e ∷ next ∷ events) (a ∷ answers) event answer refusal h is = (h.0, stop_last (next ∷ events) answers event answer refusal h.1 is)
 
 pub put_session : (start mid : SimFlash) (m : System) (end : Mounted) (things : List Thing) → OnlyReads (device_of start) (device_of mid) → IsMountOf (device_of start) (device_of mid) m
-    → IsSystem (device_of mid) m → Passes (record { device = device_of mid; system = Some m }) (put_events things) (place end) → Puts start things end.flash
+    → IsSystem (device_of mid) m → ServesAll (record { device = device_of mid; system = Some m }) (put_events things) (place end) → Puts start things end.flash
 put_session start mid m end things reads begins system passes =
     let first = mount_begins (device_of start) (device_of mid) m reads begins system in
     let all = passes_run (record { device = device_of mid; system = Some m }) (place end) (put_events things) passes (first.0 ∷ []) first.3 in
@@ -239,12 +238,12 @@ stopped_session start mid m q things made rest refusal reads begins system is h 
 -- ---- one source
 
 -- what is not a folder and may be put is a file
-pub file_thing : (held : Held) (base : Path) (found : Found) (bytes : List ℕ) → source_fault base found ≡ None → (found.kind ≡ SourceKind.Folder → ⊥) → IsFront (held found.name) bytes
-    → IsThing held base found (Thing.File (place_of base found) bytes)
+pub file_thing : (held : Held) (base : Path) (found : Found) (bytes : List ℕ) → source_fault base found ≡ None → (found.kind ≡ SourceKind.Folder → ⊥) → AreBytesRead (held found.name) bytes
+    → IsThing held base found (Thing.File (put_place base found) bytes)
 file_thing held base found bytes lawful other front = (lawful, by_kind found.kind lawful other)
   where
-    by_kind : (kind : SourceKind) → either_fault (kind_fault kind) (way_fault (path_refusal found.way) (length (place_of base found))) ≡ None → (kind ≡ SourceKind.Folder → ⊥)
-        → IsThingBy held kind (place_of base found) found.name (Thing.File (place_of base found) bytes)
+    by_kind : (kind : SourceKind) → either_fault (kind_fault kind) (way_fault (path_refusal found.way) (length (put_place base found))) ≡ None → (kind ≡ SourceKind.Folder → ⊥)
+        → IsThingBy held kind (put_place base found) found.name (Thing.File (put_place base found) bytes)
     by_kind SourceKind.Folder h other = absurd (other refl)
     by_kind (SourceKind.File n) h other = (bytes, refl, front)
     by_kind SourceKind.Crowded h other = absurd cc
@@ -252,9 +251,9 @@ file_thing held base found bytes lawful other front = (lawful, by_kind found.kin
     by_kind SourceKind.Special h other = absurd cc
     by_kind SourceKind.Unreadable h other = absurd cc
 
-pub folder_thing : (held : Held) (base : Path) (found : Found) → source_fault base found ≡ None → found.kind ≡ SourceKind.Folder → IsThing held base found (Thing.Directory (place_of base found))
+pub folder_thing : (held : Held) (base : Path) (found : Found) → source_fault base found ≡ None → found.kind ≡ SourceKind.Folder → IsThing held base found (Thing.Directory (put_place base found))
 folder_thing held base found lawful is =
-    (lawful, subst (λ (kind : SourceKind). IsThingBy held kind (place_of base found) found.name (Thing.Directory (place_of base found))) (sym is) refl)
+    (lawful, subst (λ (kind : SourceKind). IsThingBy held kind (put_place base found) found.name (Thing.Directory (put_place base found))) (sym is) refl)
 
 pub unput_unplaced : (held : Held) (base : Path) (found : Found) (failure : Failure) → Unplaced base found failure → IsUnput held base found failure
 unput_unplaced held base found Failure.Memory h = tt
@@ -262,11 +261,11 @@ unput_unplaced held base found (Failure.Source fault) h = inl h
 unput_unplaced held base found failure h = absurd h
 
 pub one_put : (held : Held) (base : Path) (found : Found) (thing : Thing) (events lent : List Event) (p q : Place) → IsThing held base found thing → lent ≡ events → events ≡ thing_events thing
-    → Asks p lent (Ok tt) q → PutsOne held base found p (Ok tt) q
-one_put held base found thing events lent p q is same are h = (thing, is, subst (λ (x : List Event). Passes p x q) (same ∙ are) h)
+    → ServesPut p lent (Ok tt) q → PutsOne held base found p (Ok tt) q
+one_put held base found thing events lent p q is same are h = (thing, is, subst (λ (x : List Event). ServesAll p x q) (same ∙ are) h)
 
 pub one_stopped : (held : Held) (base : Path) (found : Found) (thing : Thing) (events lent : List Event) (p q : Place) (refusal : Refusal) (failure : Failure) → IsThing held base found thing
-    → lent ≡ events → events ≡ thing_events thing → Asks p lent (Err refusal) q → failure ≡ of_refusal refusal → PutsOne held base found p (Err failure) q
+    → lent ≡ events → events ≡ thing_events thing → ServesPut p lent (Err refusal) q → failure ≡ of_refusal refusal → PutsOne held base found p (Err failure) q
 one_stopped held base found thing events lent p q refusal failure is same are (made, rest, begins, halts) why = inr (thing, made, rest, refusal, is, sym (same ∙ are) ∙ begins, halts, why)
 
 -- ---- on what is mounted
@@ -286,12 +285,12 @@ not_put IsThere Cause held base all start mid m q failure there reads begins sys
 
 -- ---- the image
 
-puts_front : (held : Held) (name bytes : List ℕ) → IsFront (held name) bytes → (base : Path) (all : List Found) (start end : SimFlash) → PutsBy (IsDecoded bytes) held base all start end
-    → PutsBy (IsLoaded (held name)) held base all start end
+puts_front : (held : Held) (name bytes : List ℕ) → AreBytesRead (held name) bytes → (base : Path) (all : List Found) (start end : SimFlash) → PutsBy (IsDecoded bytes) held base all start end
+    → PutsBy (IsSpelledFlash (held name)) held base all start end
 puts_front held name bytes front base all start end (things, there, are, puts) = (things, loaded_front (held name) bytes front start there, are, puts)
 
-put_cause : (held : Held) (name bytes : List ℕ) → IsFront (held name) bytes → (base : Path) (all : List Found) (failure : Failure) → PutCause (IsDecoded bytes) (DecodeCause bytes) held base all failure
-    → PutCause (IsLoaded (held name)) (LoadCause (held name)) held base all failure
+put_cause : (held : Held) (name bytes : List ℕ) → AreBytesRead (held name) bytes → (base : Path) (all : List Found) (failure : Failure) → PutCause (IsDecoded bytes) (DecodeCause bytes) held base all failure
+    → PutCause (IsSpelledFlash (held name)) (LoadCause (held name)) held base all failure
 put_cause held name bytes front base all failure (inl cause) = inl (cause_front (held name) bytes front failure cause)
 put_cause held name bytes front base all failure (inr (inl memory)) = inr (inl memory)
 put_cause held name bytes front base all failure (inr (inr (inl cause))) = inr (inr (inl cause))
@@ -314,13 +313,13 @@ pub sources_unread : (name : List ℕ) (base : Path) (all : List Found) (held cl
 sources_unread name base all held claimed failure same unread =
     once_claimed name base all held claimed claimed (Err failure) same (inl (inr (inl (cause_unread (claimed name) failure unread)), refl))
 
-pub sources_unput : (name : List ℕ) (base : Path) (all : List Found) (held claimed : Held) (bytes : List ℕ) (failure : Failure) → claimed ≡ held → IsFront (claimed name) bytes
+pub sources_unput : (name : List ℕ) (base : Path) (all : List Found) (held claimed : Held) (bytes : List ℕ) (failure : Failure) → claimed ≡ held → AreBytesRead (claimed name) bytes
     → PutCause (IsDecoded bytes) (DecodeCause bytes) claimed base all failure → SourcesEnd name base all held claimed (Err failure)
 sources_unput name base all held claimed bytes failure same front cause =
     once_claimed name base all held claimed claimed (Err failure) same (inl (inr (put_cause claimed name bytes front base all failure cause), refl))
 
 pub sources_saved : (name : List ℕ) (base : Path) (all : List Found) (held claimed saved : Held) (bytes kept : List ℕ) (start end : SimFlash) (result : Result (Unit {0}) Failure) → claimed ≡ held
-    → IsFront (claimed name) bytes → PutsBy (IsDecoded bytes) claimed base all start end → kept ≡ bytes → OnOk result (SavesChange name claimed saved kept (image_of (device_of end)))
+    → AreBytesRead (claimed name) bytes → PutsBy (IsDecoded bytes) claimed base all start end → kept ≡ bytes → OnOk result (SavesChange name claimed saved kept (image_of (device_of end)))
     → IfErr result (ChangeUnsaved name claimed saved kept (image_of (device_of end))) → SourcesEnd name base all held saved result
 sources_saved name base all held claimed saved bytes kept start end (Ok done) same front puts is ok err =
     once_claimed name base all held claimed saved (Ok done) same (
@@ -339,12 +338,12 @@ sources_saved name base all held claimed saved bytes kept start end (Err failure
 
 -- ---- the words
 
-pub unspelled : (held : Held) (gathered : Option (List Found)) (word : List ℕ) (failure : Failure) → SpellingCause word failure → AskCause held gathered word failure
+pub unspelled : (held : Held) (gathered : Option (List Found)) (word : List ℕ) (failure : Failure) → SpellingCause word failure → GatherCause held gathered word failure
 unspelled held gathered word failure (inl memory) = inl memory
 unspelled held gathered word failure (inr refused) = inr (inl refused)
 
 pub unplaced : (held : Held) (gathered : Option (List Found)) (word : List ℕ) (base : Path) (failure : Failure) → path_spelled word ≡ Ok base
-    → (failure ≡ Failure.Memory) ⊎ ((all : List Found) × IfSome gathered (λ found. all ≡ found) × PlaceCause base all failure) → AskCause held gathered word failure
+    → (failure ≡ Failure.Memory) ⊎ ((all : List Found) × IfSome gathered (λ found. all ≡ found) × PlaceCause base all failure) → GatherCause held gathered word failure
 unplaced held gathered word base failure spelled (inl memory) = inl memory
 unplaced held gathered word base failure spelled (inr (all, known, (found, there, cause))) =
     inr (inr (base, all, record { spelled = spelled; known = known }, (found, there, unput_unplaced held base found failure cause)))

@@ -6,11 +6,11 @@ use Rattle.script.specs.Lines.{line_of}
 use Rattle.script.specs.declared.line.Line.{Line}
 use Rattle.script.specs.declared.line_answer.LineAnswer.{LineAnswer}
 use Rattle.undofs.specs.Runs.{World, Run}
-use Rattle.shell.specs.Scripts.{Scene, event_of, RepliesBy, CarriesOut, with_first, events_of, with_told, event_answers, ScriptLaw}
+use Rattle.shell.specs.Scripts.{Scene, event_of, RepliesBy, CarriesOut, with_event, events_of, with_told, event_answers, ScriptLaw}
 
 line_more : (e : Option Event) (line : Line) (s : Scene) (answer : LineAnswer) (between : Scene) (events : List Event) (answers : List Answer) (v : World)
     → RepliesBy e line s answer between → Run between.world events answers v
-    → Run s.world (with_first e events) (with_told e answer answers) v
+    → Run s.world (with_event e events) (with_told e answer answers) v
 line_more None line s answer between events answers v h rest = subst (λ (x : World). Run x events answers v) h.0 rest
 line_more (Some event) line s (LineAnswer.Told answer) between events answers v h rest = (between.world, h.0, rest)
 line_more (Some event) line s LineAnswer.Syntax between events answers v h rest = absurd h

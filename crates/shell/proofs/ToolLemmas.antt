@@ -67,6 +67,7 @@ memory_job = record {
   path = None;
   file = None;
   view = None;
+  other = None;
   progress = false;
 }
 
@@ -84,6 +85,7 @@ memory_says = record {
   path = refl;
   file = refl;
   view = refl;
+  other = refl;
   progress = refl;
 }
 

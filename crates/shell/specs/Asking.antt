@@ -54,6 +54,18 @@ tree_in (Err failure) = Err failure
 abbrev pub tree_spelled : Option (Bor (List ℕ)) → Result Inquiry Failure
 tree_spelled view = tree_in (view_spelled view)
 
+-- for the difference of two trees the first view is read first
+abbrev pub differences_from : View → Result View Failure → Result Inquiry Failure
+differences_from old (Ok new) = Ok (Inquiry.Differences old new)
+differences_from old (Err failure) = Err failure
+
+abbrev pub differences_between : Result View Failure → Result View Failure → Result Inquiry Failure
+differences_between (Ok old) new = differences_from old new
+differences_between (Err failure) new = Err failure
+
+abbrev pub differences_spelled : Option (Bor (List ℕ)) → Option (Bor (List ℕ)) → Result Inquiry Failure
+differences_spelled view other = differences_between (view_spelled view) (view_spelled other)
+
 -- by why nothing is told
 abbrev pub of_ask : AskFault → Failure
 of_ask (AskFault.Unmounted fault) = of_system fault

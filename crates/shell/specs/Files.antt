@@ -21,5 +21,5 @@ LeavesFile was now bytes FileFault.Unsynced = IfSome now (λ all. all ≡ bytes)
 LeavesFile was now bytes _ = now ≡ was
 
 -- the bytes of a file that are read, where those of the file are known
-abbrev pub IsFront : Option (List ℕ) → List ℕ → Type 0
-IsFront held bytes = IfSome held (λ all. bytes ≡ take MOST_BYTES all)
+abbrev pub AreBytesRead : Option (List ℕ) → List ℕ → Type 0
+AreBytesRead held bytes = IfSome held (λ all. bytes ≡ take MOST_BYTES all)

@@ -16,9 +16,9 @@ use Rattle.script.specs.declared.line.Line.{Line}
 use Rattle.undofs.specs.Runs.{World}
 use Rattle.undofs.specs.Sessions.{Session}
 use Rattle.shell.specs.Failures.{of_system, of_refusal}
-use Rattle.shell.specs.Files.{Held, IsFront}
+use Rattle.shell.specs.Files.{Held, AreBytesRead}
 use Rattle.shell.specs.Scripts.{IsUnmounted}
-use Rattle.shell.specs.Sources.{Found, place_of, source_fault, Unplaced}
+use Rattle.shell.specs.Sources.{Found, put_place, source_fault, Unplaced}
 use Rattle.shell.specs.declared.failure.Failure.{Failure}
 use Rattle.shell.specs.declared.scripts.Refusal.{Refusal}
 use Rattle.shell.specs.declared.source.SourceFault.{SourceFault}
@@ -79,11 +79,11 @@ StopLast _ _ refusal = ⊥
 -- a thing is what stands at a name of the host, at its place below a path: a file has the bytes that are read of it
 abbrev pub IsThingBy : Held → SourceKind → Path → List ℕ → Thing → Type 0
 IsThingBy held SourceKind.Folder path name thing = thing ≡ Thing.Directory path
-IsThingBy held (SourceKind.File length) path name thing = (bytes : List ℕ) × (thing ≡ Thing.File path bytes) × IsFront (held name) bytes
+IsThingBy held (SourceKind.File length) path name thing = (bytes : List ℕ) × (thing ≡ Thing.File path bytes) × AreBytesRead (held name) bytes
 IsThingBy held _ path name thing = ⊥
 
 abbrev pub IsThing : Held → Path → Found → Thing → Type 0
-IsThing held base found thing = (source_fault base found ≡ None) × IsThingBy held found.kind (place_of base found) found.name thing
+IsThing held base found thing = (source_fault base found ≡ None) × IsThingBy held found.kind (put_place base found) found.name thing
 
 abbrev pub AreThings : Held → Path → List Found → List Thing → Type 0
 AreThings held base [] [] = Unit {0}
@@ -156,5 +156,5 @@ pub record IsAsked (gathered : Option (List Found)) (word : List ℕ) (base : Pa
   pub known : IfSome gathered (λ found. all ≡ found)
 
 -- why nothing is asked for that is to be put: memory was wanted, the word spells no path, or a source is not to be put
-abbrev pub AskCause : Held → Option (List Found) → List ℕ → Failure → Type 0
-AskCause held gathered word failure = (failure ≡ Failure.Memory) ⊎ ((path_spelled word ≡ Err failure) ⊎ ((base : Path) × (all : List Found) × IsAsked gathered word base all × SourceCause held base all failure))
+abbrev pub GatherCause : Held → Option (List Found) → List ℕ → Failure → Type 0
+GatherCause held gathered word failure = (failure ≡ Failure.Memory) ⊎ ((path_spelled word ≡ Err failure) ⊎ ((base : Path) × (all : List Found) × IsAsked gathered word base all × SourceCause held base all failure))

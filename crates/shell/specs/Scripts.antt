@@ -9,7 +9,7 @@ use Rattle.fs_types.specs.declared.event.Event.{Event}
 use Rattle.fs_types.specs.declared.event.Answer.{Answer}
 use Rattle.fs_types.specs.declared.fault.Fault.{Fault}
 use Rattle.flash_model.specs.Device.{Device}
-use Rattle.flash_model.specs.Plan.{Schedule, planned, IsFull}
+use Rattle.flash_model.specs.Plan.{Schedule, planned, IsPlanFull}
 use Rattle.flash_model.specs.Reading.{OnlyReads}
 use Rattle.flash_model.specs.Simulation.{device_of, plan_of}
 use Rattle.flash_model.specs.declared.fault_kind.FaultKind.{FaultKind}
@@ -43,8 +43,8 @@ pub record Scene : Type 0 where
 -- a fault is planned, or no room is left for it
 abbrev pub Plans : Schedule → ℕ → FaultKind → LineAnswer → Option Schedule → Type 0
 Plans old k kind answer new =
-    ((answer ≡ LineAnswer.Told (Answer.Done Reply.Empty)) × (IsFull old k kind → ⊥) × (new ≡ Some (planned old k kind)))
-    ⊎ ((answer ≡ LineAnswer.Told (Answer.Refused Fault.Invalid)) × IsFull old k kind × (new ≡ Some old))
+    ((answer ≡ LineAnswer.Told (Answer.Done Reply.Empty)) × (IsPlanFull old k kind → ⊥) × (new ≡ Some (planned old k kind)))
+    ⊎ ((answer ≡ LineAnswer.Told (Answer.Refused Fault.Invalid)) × IsPlanFull old k kind × (new ≡ Some old))
 
 -- the answer to a line that asks for no event: a refused path or name is refused; a fault is planned as the line says, where
 -- the flash has a plan; and what has no form of a line is told so
@@ -115,12 +115,16 @@ pub record Ground : Type 0 where
 abbrev pub ground_at : Device → Option Schedule → Ground
 ground_at d plan = record { device = d; plan = plan }
 
--- a flash in memory with its plan, and a flash that has none
-abbrev pub ground : SimFlash → Ground
-ground flash = ground_at (device_of flash) (Some (plan_of flash))
+-- a flash with its plan, and one that has none
+abbrev pub with_plan : Device → Schedule → Ground
+with_plan d plan = ground_at d (Some plan)
 
 abbrev pub unplanned : Device → Ground
 unplanned d = ground_at d None
+
+-- a flash in memory with its plan
+abbrev pub ground : SimFlash → Ground
+ground flash = with_plan (device_of flash) (plan_of flash)
 
 -- lines that were carried out on what was mounted on a flash: the first world is that of the mount, with what its operations
 -- left of the plan of the flash, and the last one stands on the flash at the end, with its plan
@@ -155,8 +159,8 @@ LineSession start end = SessionOn (ground start) (ground end)
 abbrev pub IsUnmounted : SimFlash → SimFlash → Fault → Type 0
 IsUnmounted start end fault = IsLeft (device_of start) (device_of end) fault
 
-abbrev pub Ends : SimFlash → SimFlash → Option (List ℕ) → Option (List ℕ) → Result (Unit {0}) ScriptFault → Option (List ℕ) → Option (List ℕ) → Type 0
-Ends start end = EndsOnFlash (ground start) (ground end)
+abbrev pub EndsOnSimFlash : SimFlash → SimFlash → Option (List ℕ) → Option (List ℕ) → Result (Unit {0}) ScriptFault → Option (List ℕ) → Option (List ℕ) → Type 0
+EndsOnSimFlash start end = EndsOnFlash (ground start) (ground end)
 
 -- how an answer refuses its line
 abbrev pub refusal_of : LineAnswer → Option Refusal
@@ -194,13 +198,13 @@ abbrev pub ScriptEnds : Bool → SimFlash → SimFlash → Option (List ℕ) →
 ScriptEnds stop start end = ScriptEndsOn stop (ground start) (ground end)
 
 -- the events that lines ask for
-abbrev pub with_first : {A : Type 0} → Option A → List A → List A
-with_first None xs = xs
-with_first (Some x) xs = x ∷ xs
+abbrev pub with_event : {A : Type 0} → Option A → List A → List A
+with_event None xs = xs
+with_event (Some x) xs = x ∷ xs
 
 abbrev pub events_of : List (List ℕ) → List Event
 events_of [] = []
-events_of (line ∷ lines) = with_first (event_of (line_of line)) (events_of lines)
+events_of (line ∷ lines) = with_event (event_of (line_of line)) (events_of lines)
 
 -- the answers to those events
 abbrev pub with_told : Option Event → LineAnswer → List Answer → List Answer

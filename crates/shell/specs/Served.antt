@@ -6,7 +6,6 @@ use Rattle.fs_types.specs.declared.event.Answer.{Answer}
 use Rattle.fs_types.specs.declared.event.Event.{Event}
 use Rattle.flash_model.specs.Device.{Device}
 use Rattle.flash_model.specs.Simulation.{device_of}
-use Rattle.system.specs.Systems.{IsSystem}
 use Rattle.system.specs.declared.systems.System.{System}
 use Rattle.undofs.specs.Sessions.{Serves}
 use Rattle.shell.specs.Failures.{of_refusal}
@@ -31,9 +30,9 @@ abbrev pub Turns : Place → Event → Answer → Place → Type 0
 Turns p event answer q = Serves p.device p.system event answer q.device q.system
 
 -- events are served in order, and no answer ends the put
-abbrev pub Passes : Place → List Event → Place → Type 0
-Passes p [] q = q ≡ p
-Passes p (event ∷ events) q = (answer : Answer) × (between : Place) × Turns p event answer between × (stop_of event answer ≡ None) × Passes between events q
+abbrev pub ServesAll : Place → List Event → Place → Type 0
+ServesAll p [] q = q ≡ p
+ServesAll p (event ∷ events) q = (answer : Answer) × (between : Place) × Turns p event answer between × (stop_of event answer ≡ None) × ServesAll between events q
 
 -- events are served in order, and the answer to one more ends the put
 pub record Halts (p : Place) (events : List Event) (refusal : Refusal) (q : Place) : Type 0 where
@@ -42,25 +41,25 @@ pub record Halts (p : Place) (events : List Event) (refusal : Refusal) (q : Plac
   pub answer : Answer
   pub between : Place
   pub are : events ≡ earlier ++ last ∷ []
-  pub passes : Passes p earlier between
+  pub passes : ServesAll p earlier between
   pub turns : Turns between last answer q
   pub stops : stop_of last answer ≡ Some refusal
 
 -- how events end that are served in order until an answer ends the put
-abbrev pub Asks : Place → List Event → Result (Unit {0}) Refusal → Place → Type 0
-Asks p events (Ok done) q = Passes p events q
-Asks p events (Err refusal) q = (made : List Event) × (rest : List Event) × (events ≡ made ++ rest) × Halts p made refusal q
+abbrev pub ServesPut : Place → List Event → Result (Unit {0}) Refusal → Place → Type 0
+ServesPut p events (Ok done) q = ServesAll p events q
+ServesPut p events (Err refusal) q = (made : List Event) × (rest : List Event) × (events ≡ made ++ rest) × Halts p made refusal q
 
 -- how a source is put
 abbrev pub PutsOne : Held → Path → Found → Place → Result (Unit {0}) Failure → Place → Type 0
-PutsOne held base found p (Ok done) q = (thing : Thing) × IsThing held base found thing × Passes p (thing_events thing) q
+PutsOne held base found p (Ok done) q = (thing : Thing) × IsThing held base found thing × ServesAll p (thing_events thing) q
 PutsOne held base found p (Err failure) q = IsUnput held base found failure
     ⊎ ((thing : Thing) × (made : List Event) × (rest : List Event) × (refusal : Refusal) × IsThing held base found thing × (thing_events thing ≡ made ++ rest) × Halts p made refusal q
     × (failure ≡ of_refusal refusal))
 
 -- how sources are put, where these are the events of their things
 abbrev pub PutsThrough : (List Thing → List Event) → Held → Path → List Found → Place → Result (Unit {0}) Failure → Place → Type 0
-PutsThrough events held base all p (Ok done) q = (things : List Thing) × AreThings held base all things × Passes p (events things) q
+PutsThrough events held base all p (Ok done) q = (things : List Thing) × AreThings held base all things × ServesAll p (events things) q
 PutsThrough events held base all p (Err failure) q = (failure ≡ Failure.Memory) ⊎ (SourceCause held base all failure
     ⊎ ((first : List Found) × (later : List Found) × (things : List Thing) × (made : List Event) × (rest : List Event) × (refusal : Refusal) × (all ≡ first ++ later)
     × AreThings held base first things × (events things ≡ made ++ rest) × Halts p made refusal q × (failure ≡ of_refusal refusal)))

@@ -14,16 +14,16 @@ pub record Found : Type 0 where
   pub way : List ℕ
   pub kind : SourceKind
 
-abbrev pub found_of : Source → Found
-found_of source = record { name = string_bytes source.name; way = string_bytes source.way; kind = source.kind }
+abbrev pub source_found : Source → Found
+source_found source = record { name = string_bytes source.name; way = string_bytes source.way; kind = source.kind }
 
 -- all that stands at each name, where it is known
 abbrev pub Gathered : Type 0
 Gathered = List ℕ → Option (List Found)
 
 -- where it is put, if it is put below a path
-abbrev pub place_of : Path → Found → Path
-place_of base found = base ++ components_of found.way
+abbrev pub put_place : Path → Found → Path
+put_place base found = base ++ components_of found.way
 
 -- why no path leads to it: a name is not lawful, or it or the path is too long
 abbrev pub way_fault : Option Fault → ℕ → Option SourceFault
@@ -46,7 +46,7 @@ either_fault None other = other
 
 -- why it is not put below a path
 abbrev pub source_fault : Path → Found → Option SourceFault
-source_fault base found = either_fault (kind_fault found.kind) (way_fault (path_refusal found.way) (length (place_of base found)))
+source_fault base found = either_fault (kind_fault found.kind) (way_fault (path_refusal found.way) (length (put_place base found)))
 
 -- why it is not: by its fault, or for want of memory
 abbrev pub IsFaultOf : Option SourceFault → Failure → Type 0

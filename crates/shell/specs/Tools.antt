@@ -14,7 +14,7 @@ use Rattle.flash_model.specs.Plan.{plan_of_entries}
 use Rattle.flash_model.specs.Simulation.{device_of, plan_of}
 use Rattle.flash_model.specs.declared.sim_flash.SimFlash.{SimFlash}
 use Rattle.flash_model.specs.declared.geometry.Geometry.{Geometry}
-use Rattle.flash_image.specs.Images.{image_of, IsFault, IsReady}
+use Rattle.flash_image.specs.Images.{image_of, IsFault, IsFresh}
 use Rattle.jobs.specs.Grammar.{uffs}
 use Rattle.jobs.specs.Jobs.{AsksFor}
 use Rattle.jobs.specs.declared.tasks.Job.{Job}
@@ -23,11 +23,11 @@ use Rattle.mounting.specs.Formats.{FormatCause}
 use Rattle.system.specs.Mounts.{IsMountOf}
 use Rattle.system.specs.declared.systems.System.{System}
 use Rattle.inquiries.specs.declared.inquiry.Inquiry.{Inquiry}
-use Rattle.shell.specs.Asking.{file_spelled, tree_spelled, IsMisspelled, IsToldBy, UntoldBy}
+use Rattle.shell.specs.Asking.{file_spelled, tree_spelled, differences_spelled, IsMisspelled, IsToldBy, UntoldBy}
 use Rattle.shell.specs.Failures.{of_script, of_system, job_status}
-use Rattle.shell.specs.Files.{Held, KeepsOthers, IsFront}
+use Rattle.shell.specs.Files.{Held, KeepsOthers}
 use Rattle.shell.specs.Memory.{memory_sizes, status_of, IsNewFlash, IsFormatOf, EndsInMemory}
-use Rattle.shell.specs.Puts.{PutsBy, PutCause, IsAsked, AskCause}
+use Rattle.shell.specs.Puts.{PutsBy, PutCause, IsAsked, GatherCause}
 use Rattle.shell.specs.Scripts.{IsUnmounted, ScriptEnds}
 use Rattle.shell.specs.Sources.{Found, Gathered}
 use Rattle.shell.specs.declared.image_files.TheConstants.{MOST_BYTES}
@@ -45,7 +45,7 @@ IsUnread held _ = ⊥
 -- the flash that bytes spell, with its power on and no fault planned
 pub record IsDecoded (bytes : List ℕ) (flash : SimFlash) : Type 0 where
   pub spelled : bytes ≡ image_of (device_of flash)
-  pub ready : IsReady (device_of flash)
+  pub ready : IsFresh (device_of flash)
   pub plan : plan_of flash ≡ plan_of_entries []
 
 -- why bytes give no flash: for want of memory, or by their fault
@@ -55,9 +55,9 @@ DecodeCause bytes (Failure.Image fault) = IsFault fault bytes
 DecodeCause bytes _ = ⊥
 
 -- the flash that a file spells, with its power on and no fault planned
-pub record IsLoaded (held : Option (List ℕ)) (flash : SimFlash) : Type 0 where
+pub record IsSpelledFlash (held : Option (List ℕ)) (flash : SimFlash) : Type 0 where
   pub spelled : IfSome held (λ bytes. take MOST_BYTES bytes ≡ image_of (device_of flash))
-  pub ready : IsReady (device_of flash)
+  pub ready : IsFresh (device_of flash)
   pub plan : plan_of flash ≡ plan_of_entries []
 
 -- why a file gives no flash: it is not read, and then its bytes are not known; or for want of memory, or by the fault of its
@@ -75,8 +75,8 @@ IsUnclaimed Failure.Memory = Unit {0}
 IsUnclaimed _ = ⊥
 
 -- a file is the image of a flash
-abbrev pub IsSaved : Option (List ℕ) → SimFlash → Type 0
-IsSaved held flash = IfSome held (λ bytes. bytes ≡ image_of (device_of flash))
+abbrev pub IsImageFile : Option (List ℕ) → SimFlash → Type 0
+IsImageFile held flash = IfSome held (λ bytes. bytes ≡ image_of (device_of flash))
 
 -- what a file holds where an image is not written, or not for good: it is not brought to the disk
 abbrev pub Unsaved : Option (List ℕ) → Option (List ℕ) → List ℕ → Failure → Type 0
@@ -114,7 +114,7 @@ IsMade sizes limit flash = (start : SimFlash) × AreLawful sizes limit × IsNewF
 -- a file is the image of a new flash of these sizes that was formatted; else no image is made and it is as it was, or one is
 -- made and not written, or not for good
 abbrev pub FormatEnds : Geometry → ℕ → Option (List ℕ) → Option (List ℕ) → Result (Unit {0}) Failure → Type 0
-FormatEnds sizes limit held left (Ok done) = (flash : SimFlash) × IsMade sizes limit flash × IsSaved left flash
+FormatEnds sizes limit held left (Ok done) = (flash : SimFlash) × IsMade sizes limit flash × IsImageFile left flash
 FormatEnds sizes limit held left (Err failure) = (FormatFailure sizes limit failure × (left ≡ held))
     ⊎ ((flash : SimFlash) × IsMade sizes limit flash × Unsaved held left (image_of (device_of flash)) failure)
 
@@ -134,7 +134,7 @@ PlaysBy stop Found Cause input left (Err failure) old new = (Cause failure × (l
 
 -- a script is run on the flash of a file
 abbrev pub Plays : Bool → Option (List ℕ) → Option (List ℕ) → Option (List ℕ) → Result SimFlash Failure → Option (List ℕ) → Option (List ℕ) → Type 0
-Plays stop held = PlaysBy stop (IsLoaded held) (LoadCause held)
+Plays stop held = PlaysBy stop (IsSpelledFlash held) (LoadCause held)
 
 -- a script is not run to its end on the flash of a file: the file is not claimed, and nothing is read or written, or the script
 -- does not run to its end
@@ -145,10 +145,10 @@ BreaksOff stop held input left failure old new = (IsUnclaimed failure × (left �
 -- it was that before, as after a script that programmed and erased nothing. Else no file changes, or the image that is left is not
 -- written, or not for good
 abbrev pub RunEnds : Bool → List ℕ → Held → Held → Option (List ℕ) → Option (List ℕ) → Result (Unit {0}) Failure → Option (List ℕ) → Option (List ℕ) → Type 0
-RunEnds stop name held saved input left (Ok done) old new = (start : SimFlash) × (end : SimFlash) × IsLoaded (held name) start × ScriptEnds stop start end input left (Ok None) old new
+RunEnds stop name held saved input left (Ok done) old new = (start : SimFlash) × (end : SimFlash) × IsSpelledFlash (held name) start × ScriptEnds stop start end input left (Ok None) old new
     × SavesChange name held saved (image_of (device_of start)) (image_of (device_of end))
 RunEnds stop name held saved input left (Err failure) old new = (BreaksOff stop (held name) input left failure old new × (saved ≡ held))
-    ⊎ ((start : SimFlash) × (end : SimFlash) × IsLoaded (held name) start × ScriptEnds stop start end input left (Ok None) old new
+    ⊎ ((start : SimFlash) × (end : SimFlash) × IsSpelledFlash (held name) start × ScriptEnds stop start end input left (Ok None) old new
     × ChangeUnsaved name held saved (image_of (device_of start)) (image_of (device_of end)) failure)
 
 -- the replies to a script on an image are written
@@ -158,32 +158,32 @@ LookEnds script held (Err failure) old new = (rest : Option (List ℕ)) × Plays
 
 -- an image is mounted, with `ok` written; or it gives no flash, or is not mounted, and nothing is written; or the output fails
 abbrev pub CheckEnds : Option (List ℕ) → Result (Unit {0}) Failure → Option (List ℕ) → Option (List ℕ) → Type 0
-CheckEnds held (Ok done) old new = (start : SimFlash) × (end : SimFlash) × (system : System) × IsLoaded held start × IsMountOf (device_of start) (device_of end) system
+CheckEnds held (Ok done) old new = (start : SimFlash) × (end : SimFlash) × (system : System) × IsSpelledFlash held start × IsMountOf (device_of start) (device_of end) system
     × Appends old new (codes "ok\n")
 CheckEnds held (Err failure) old new = (LoadCause held failure × (new ≡ old))
-    ⊎ (((start : SimFlash) × (end : SimFlash) × (fault : Fault) × IsLoaded held start × IsUnmounted start end fault × (failure ≡ of_system fault) × (new ≡ old))
+    ⊎ (((start : SimFlash) × (end : SimFlash) × (fault : Fault) × IsSpelledFlash held start × IsUnmounted start end fault × (failure ≡ of_system fault) × (new ≡ old))
     ⊎ ((n : ℕ) × (failure ≡ Failure.Output) × Appends old new (take n (codes "ok\n"))))
 
 -- sources are put into an image, which is written then. Else no file changes, or the image that is left is not written, or not for
 -- good
 abbrev pub SourcesEnd : List ℕ → Path → List Found → Held → Held → Result (Unit {0}) Failure → Type 0
-SourcesEnd name base all held saved (Ok done) = (start : SimFlash) × (end : SimFlash) × PutsBy (IsLoaded (held name)) held base all start end
+SourcesEnd name base all held saved (Ok done) = (start : SimFlash) × (end : SimFlash) × PutsBy (IsSpelledFlash (held name)) held base all start end
     × SavesChange name held saved (image_of (device_of start)) (image_of (device_of end))
-SourcesEnd name base all held saved (Err failure) = ((IsUnclaimed failure ⊎ PutCause (IsLoaded (held name)) (LoadCause (held name)) held base all failure) × (saved ≡ held))
-    ⊎ ((start : SimFlash) × (end : SimFlash) × PutsBy (IsLoaded (held name)) held base all start end
+SourcesEnd name base all held saved (Err failure) = ((IsUnclaimed failure ⊎ PutCause (IsSpelledFlash (held name)) (LoadCause (held name)) held base all failure) × (saved ≡ held))
+    ⊎ ((start : SimFlash) × (end : SimFlash) × PutsBy (IsSpelledFlash (held name)) held base all start end
     × ChangeUnsaved name held saved (image_of (device_of start)) (image_of (device_of end)) failure)
 
 -- all that stands at a name of the host is put into an image, below the path that a word spells
 abbrev pub PutEnds : List ℕ → List ℕ → Held → Held → Option (List Found) → Result (Unit {0}) Failure → Type 0
 PutEnds name word held saved gathered result = ((base : Path) × (all : List Found) × IsAsked gathered word base all × SourcesEnd name base all held saved result)
-    ⊎ ((failure : Failure) × (result ≡ Err failure) × AskCause held gathered word failure × (saved ≡ held))
+    ⊎ ((failure : Failure) × (result ≡ Err failure) × GatherCause held gathered word failure × (saved ≡ held))
 
 -- these bytes are told of an image, or why nothing is
 abbrev pub IsTold : Option (List ℕ) → Inquiry → List ℕ → Type 0
-IsTold held = IsToldBy (IsLoaded held)
+IsTold held = IsToldBy (IsSpelledFlash held)
 
 abbrev pub UntoldCause : Option (List ℕ) → Inquiry → Failure → Type 0
-UntoldCause held = UntoldBy (IsLoaded held) (LoadCause held)
+UntoldCause held = UntoldBy (IsSpelledFlash held) (LoadCause held)
 
 -- words spell an inquiry, and these bytes are told of an image
 pub record IsAnswer (spelled : Result Inquiry Failure) (held : Option (List ℕ)) (bytes : List ℕ) : Type 0 where
@@ -235,7 +235,7 @@ abbrev pub sizes_of : Job → Geometry
 sizes_of job = record { page = job.page; pages = job.pages; blocks = job.blocks }
 
 -- the image alone is looked at: no file changes, and no input is read
-pub record OnlyLooks (held saved : Held) (input left : Option (List ℕ)) : Type 0 where
+pub record OnlyLooksAtImage (held saved : Held) (input left : Option (List ℕ)) : Type 0 where
   pub files : saved ≡ held
   pub unread : left ≡ input
 
@@ -247,16 +247,18 @@ EndsOn Task.Put job name held saved gathered input left result old new = PutEnds
     × (left ≡ input) × (new ≡ old)
 EndsOn Task.Get job name held saved gathered input left result old new = GetEnds (file_spelled (word_given job.path) job.view) name (word_given job.file) held saved result
     × KeepsOthers (word_given job.file) held saved × (left ≡ input) × (new ≡ old)
-EndsOn Task.Tree job name held saved gathered input left result old new = TellEnds (tree_spelled job.view) (held name) result old new × OnlyLooks held saved input left
-EndsOn Task.Check job name held saved gathered input left result old new = CheckEnds (held name) result old new × OnlyLooks held saved input left
-EndsOn Task.Log job name held saved gathered input left result old new = LookEnds (codes "log\n") (held name) result old new × OnlyLooks held saved input left
-EndsOn Task.Df job name held saved gathered input left result old new = LookEnds (codes "df\n") (held name) result old new × OnlyLooks held saved input left
+EndsOn Task.Tree job name held saved gathered input left result old new = TellEnds (tree_spelled job.view) (held name) result old new × OnlyLooksAtImage held saved input left
+EndsOn Task.Diff job name held saved gathered input left result old new = TellEnds (differences_spelled job.view job.other) (held name) result old new × OnlyLooksAtImage held saved input left
+EndsOn Task.Versions job name held saved gathered input left result old new = TellEnds (Ok Inquiry.Versions) (held name) result old new × OnlyLooksAtImage held saved input left
+EndsOn Task.Check job name held saved gathered input left result old new = CheckEnds (held name) result old new × OnlyLooksAtImage held saved input left
+EndsOn Task.Log job name held saved gathered input left result old new = LookEnds (codes "log\n") (held name) result old new × OnlyLooksAtImage held saved input left
+EndsOn Task.Df job name held saved gathered input left result old new = LookEnds (codes "df\n") (held name) result old new × OnlyLooksAtImage held saved input left
 EndsOn Task.Memory job name held saved gathered input left result old new = MemoryEnds input left result old new × (saved ≡ held)
-EndsOn Task.Explain job name held saved gathered input left result old new = ExplainEnds job.refusal result old new × OnlyLooks held saved input left
+EndsOn Task.Explain job name held saved gathered input left result old new = ExplainEnds job.refusal result old new × OnlyLooksAtImage held saved input left
 
 -- how a task ends that is done on no file
 abbrev pub EndsAlone : Task → Job → Held → Held → Option (List ℕ) → Option (List ℕ) → Result (Unit {0}) Failure → Option (List ℕ) → Option (List ℕ) → Type 0
-EndsAlone Task.Explain job held saved input left result old new = ExplainEnds job.refusal result old new × OnlyLooks held saved input left
+EndsAlone Task.Explain job held saved input left result old new = ExplainEnds job.refusal result old new × OnlyLooksAtImage held saved input left
 EndsAlone _ job held saved input left result old new = MemoryEnds input left result old new × (saved ≡ held)
 
 -- by the file that a job names, if any

@@ -6,8 +6,6 @@ use Rattle.plain_trees.specs.Trees.{Tree}
 use Rattle.fs_types.specs.declared.event.Event.{Event}
 use Rattle.flash_model.specs.Device.{Device}
 use Rattle.flash_model.specs.Plan.{Schedule}
-use Rattle.flash_model.specs.Simulation.{device_of, plan_of}
-use Rattle.flash_model.specs.declared.sim_flash.SimFlash.{SimFlash}
 use Rattle.script.specs.Lines.{line_of}
 use Rattle.script.specs.Streams.{TakesLine, TakesPart}
 use Rattle.script.specs.declared.line.Line.{Line}
@@ -36,9 +34,6 @@ pub record Seat : Type 0 where
 
 abbrev pub seat_at : Device → Option System → Option Schedule → Seat
 seat_at d system plan = record { device = d; system = system; plan = plan }
-
-abbrev pub seat : SimFlash → Option System → Seat
-seat flash system = seat_at (device_of flash) system (Some (plan_of flash))
 
 -- with the histories that a restart may find
 abbrev pub world_at : Seat → List (Past Tree) → World

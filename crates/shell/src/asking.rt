@@ -1,6 +1,6 @@
 //! What is asked of an image.
 ghost use Rattle.std.specs.Prelude.{◌≡◌, ◌⊎◌, Ok, IfOk, OnOk, IfErr, IfSome};
-ghost use Rattle.shell.specs.Asking.{file_spelled, tree_spelled, of_ask, IsMisspelled};
+ghost use Rattle.shell.specs.Asking.{file_spelled, tree_spelled, differences_spelled, of_ask, IsMisspelled};
 ghost use Rattle.shell.specs.Files.{KeepsOthers};
 ghost use Rattle.shell.specs.Tools.{IsTold, UntoldCause, IsUnclaimed, Unsaved, TellEnds, GetEnds};
 
@@ -49,11 +49,52 @@ pub(crate) fn tell_tree<F: ImageFiles, W: Write>(
 ) -> Result<(), Failure>
     ensures { TellEnds (tree_spelled view.entry) (F.held files.now name.now) result (W.contents out.old) (W.contents out.new) }
 {
-    let inquiry = match tree_inquiry(alloc, view) {
-        Ok(inquiry) => inquiry,
-        Err(failure) => return Err(failure),
-    };
-    let bytes = match ask_image(files, alloc, name, &inquiry) {
+    match tree_inquiry(alloc, view) {
+        Ok(inquiry) => tell_image(files, alloc, name, &inquiry, out),
+        Err(failure) => Err(failure),
+    }
+}
+
+/// Writes a line for each path at which two trees of an image differ.
+pub(crate) fn tell_differences<F: ImageFiles, W: Write>(
+    files: &F,
+    alloc: Global,
+    name: &str,
+    view: Option<&str>,
+    other: Option<&str>,
+    out: &mut W,
+) -> Result<(), Failure>
+    ensures { TellEnds (differences_spelled view.entry other.entry) (F.held files.now name.now) result (W.contents out.old) (W.contents out.new) }
+{
+    match difference_inquiry(alloc, view, other) {
+        Ok(inquiry) => tell_image(files, alloc, name, &inquiry, out),
+        Err(failure) => Err(failure),
+    }
+}
+
+/// Writes a line for each version and each checkpoint of an image.
+pub(crate) fn tell_versions<F: ImageFiles, W: Write>(
+    files: &F,
+    alloc: Global,
+    name: &str,
+    out: &mut W,
+) -> Result<(), Failure>
+    ensures { TellEnds (Ok Inquiry.Versions) (F.held files.now name.now) result (W.contents out.old) (W.contents out.new) }
+{
+    tell_image(files, alloc, name, &Inquiry::Versions, out)
+}
+
+/// Writes what is told of an image.
+fn tell_image<F: ImageFiles, W: Write>(
+    files: &F,
+    alloc: Global,
+    name: &str,
+    inquiry: &Inquiry,
+    out: &mut W,
+) -> Result<(), Failure>
+    ensures { TellEnds (Ok inquiry.now) (F.held files.now name.now) result (W.contents out.old) (W.contents out.new) }
+{
+    let bytes = match ask_image(files, alloc, name, inquiry) {
         Ok(bytes) => bytes,
         Err(failure) => return Err(failure),
     };
@@ -85,6 +126,25 @@ fn tree_inquiry(alloc: Global, view: Option<&str>) -> Result<Inquiry, Failure>
 {
     match view_of_word(alloc, view) {
         Ok(view) => Ok(Inquiry::Tree { view }),
+        Err(failure) => Err(failure),
+    }
+}
+
+/// The inquiry for what differs between two trees.
+fn difference_inquiry(
+    alloc: Global,
+    view: Option<&str>,
+    other: Option<&str>,
+) -> Result<Inquiry, Failure>
+    ensures ok { IfOk result (λ inquiry. differences_spelled view.entry other.entry ≡ Ok inquiry) }
+    ensures err { IfErr result (IsMisspelled (differences_spelled view.entry other.entry)) }
+{
+    let old = match view_of_word(alloc, view) {
+        Ok(view) => view,
+        Err(failure) => return Err(failure),
+    };
+    match view_of_word(alloc, other) {
+        Ok(new) => Ok(Inquiry::Differences { old, new }),
         Err(failure) => Err(failure),
     }
 }

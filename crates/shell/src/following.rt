@@ -1,16 +1,15 @@
-//! A flash in memory of which the plan of faults is known after each call. The contracts of calls on
-//! any flash say nothing of a plan; here they run on a flash whose every operation keeps account of it.
+//! A planned flash of which the plan of faults is known after each call. The contracts of calls on any
+//! flash say nothing of a plan; here they run on a flash whose every operation keeps account of it.
 ghost use Rattle.std.specs.Prelude.{◌≡◌, ℕ, [], IfSome, IfOk, OnOk, IfErr};
 ghost use Rattle.flash_model.specs.Plan.{Schedule, plan_of_entries};
 ghost use Rattle.flash_model.specs.Reading.{OnlyReads};
-ghost use Rattle.flash_model.specs.Simulation.{device_of, plan_of};
 ghost use Rattle.mounting.specs.Formats.{IsFormatted, ListsFailed, IsNumbered, FormatCause};
 ghost use Rattle.system.specs.Mounts.{IsMountOf, MountCause};
 ghost use Rattle.system.specs.Systems.{IsSystem};
 ghost use Rattle.undofs.specs.Sessions.{Serves};
-ghost use Rattle.shell.specs.Plans.{GoesOn, FollowsPlan};
+ghost use Rattle.shell.specs.Plans.{GoesOn};
 
-use flash_model::{DevFault, Flash, Geometry, PageState, SimFlash};
+use flash_model::{DevFault, Flash, Geometry, PageState, Planned};
 use fs_types::{Answer, Event, Fault};
 use std::alloc::Global;
 use std::marker::{Brand, PhantomData};
@@ -35,18 +34,18 @@ impl Start for Brand {
 
 /// A flash whose plan has gone on from what it was at the start.
 #[derive(Drop)]
-struct Following<'f, S: Start> {
-    flash: &'f mut SimFlash,
+struct Following<'f, F: Planned, S: Start> {
+    flash: &'f mut F,
     start: PhantomData<S>,
     ghost same_flash: { flash.ghost_name ≡ S.name },
-    ghost goes_on: { GoesOn S.done S.plan (device_of flash.now).operations (plan_of flash.now) },
+    ghost goes_on: { GoesOn S.done S.plan (F.device flash.now).operations (F.schedule flash.now) },
 }
 
-impl<'f, S: Start> Following<'f, S> {
-    fn on(flash: &'f mut SimFlash) -> Following<'f, S>
+impl<'f, F: Planned, S: Start> Following<'f, F, S> {
+    fn on(flash: &'f mut F) -> Following<'f, F, S>
         requires name { flash.ghost_name ≡ S.name }
-        requires plan { plan_of flash.old ≡ S.plan }
-        requires done { (device_of flash.old).operations ≡ S.done }
+        requires plan { F.schedule flash.old ≡ S.plan }
+        requires done { (F.device flash.old).operations ≡ S.done }
         ensures same { result.flash.now ≡ flash.old }
         ensures same_flash { result.flash.ghost_name ≡ flash.entry.ghost_name }
     {
@@ -57,142 +56,157 @@ impl<'f, S: Start> Following<'f, S> {
     }
 }
 
-impl<'f, S: Start> Flash for Following<'f, S> {
-    ghost use Rattle.flash_model.specs.Simulation.{device_of};
-    ghost use Rattle.flash_model.specs.WholePages.{whole_pages_of};
+impl<'f, F: Planned, S: Start> Flash for Following<'f, F, S> {
+    ghost device = { λ following. F.device following.flash.now };
 
-    ghost device = { λ following. device_of following.flash.now };
-
-    ghost whole_pages = { λ following. whole_pages_of following.flash.now };
+    ghost whole_pages = { λ following. F.whole_pages following.flash.now };
 
     fn geometry(&self) -> Geometry {
         self.flash.geometry()
     }
 
     fn read(&mut self, page: u32, buffer: &mut [u8]) -> Result<PageState, DevFault> {
-        self.flash.read(page, buffer)
+        self.flash.read_as_planned(page, buffer)
     }
 
     fn program(&mut self, page: u32, bytes: &[u8]) -> Result<(), DevFault> {
-        self.flash.program(page, bytes)
+        self.flash.program_as_planned(page, bytes)
     }
 
     fn erase(&mut self, block: u32) -> Result<(), DevFault> {
-        self.flash.erase(block)
+        self.flash.erase_as_planned(block)
     }
 
     fn power_on(&mut self) {
-        self.flash.power_on();
+        self.flash.power_on_as_planned();
     }
 }
 
 /// Carries out an event as [`serve`] does.
-pub(crate) fn serve_as_planned(
+pub(crate) fn serve_as_planned<F: Planned>(
     alloc: Global,
-    flash: &mut SimFlash,
+    flash: &mut F,
     system: &mut Option<System>,
     event: &Event,
 ) -> Answer
-    requires { IfSome system.old (IsSystem (device_of flash.old)) }
-    ensures mounted { IfSome system.new (IsSystem (device_of flash.new)) }
-    ensures serves { Serves (device_of flash.old) system.old event.now result (device_of flash.new) system.new }
-    ensures plan { FollowsPlan flash.old flash.new }
+    requires { IfSome system.old (IsSystem (F.device flash.old)) }
+    ensures mounted { IfSome system.new (IsSystem (F.device flash.new)) }
+    ensures serves { Serves (F.device flash.old) system.old event.now result (F.device flash.new) system.new }
+    ensures plan { GoesOn (F.device flash.old).operations (F.schedule flash.old) (F.device flash.new).operations (F.schedule flash.new) }
 {
-    let (_flash, answer) = serve_from::<Brand>(alloc, flash, system, event);
+    let mut answer = Answer::Unmounted;
+    let _flash = serve_from::<F, Brand>(alloc, flash, system, event, &mut answer);
     answer
 }
 
-/// The same, with the flash given back.
-fn serve_from<'f, S: Start>(
+/// The same, with the flash given back, and the answer put into its place.
+fn serve_from<'f, F: Planned, S: Start>(
     alloc: Global,
-    flash: &'f mut SimFlash,
+    flash: &'f mut F,
     system: &mut Option<System>,
     event: &Event,
-) -> (&'f mut SimFlash, Answer)
-    requires mounted { IfSome system.old (IsSystem (device_of flash.old)) }
+    answer: &mut Answer,
+) -> &'f mut F
+    requires mounted { IfSome system.old (IsSystem (F.device flash.old)) }
     requires name { flash.ghost_name ≡ S.name }
-    requires plan { plan_of flash.old ≡ S.plan }
-    requires done { (device_of flash.old).operations ≡ S.done }
-    ensures same_flash { result.0.ghost_name ≡ flash.entry.ghost_name }
-    ensures mounted { IfSome system.new (IsSystem (device_of result.0.now)) }
-    ensures serves { Serves (device_of flash.entry.now) system.old event.now result.1 (device_of result.0.now) system.new }
-    ensures plan { GoesOn S.done S.plan (device_of result.0.now).operations (plan_of result.0.now) }
+    requires plan { F.schedule flash.old ≡ S.plan }
+    requires done { (F.device flash.old).operations ≡ S.done }
+
+    // The event is carried out.
+    ensures same_flash { result.ghost_name ≡ flash.entry.ghost_name }
+    ensures mounted { IfSome system.new (IsSystem (F.device result.now)) }
+    ensures serves { Serves (F.device flash.entry.now) system.old event.now answer.new (F.device result.now) system.new }
+
+    // The plan went on.
+    ensures plan { GoesOn S.done S.plan (F.device result.now).operations (F.schedule result.now) }
 {
-    let mut following: Following<'f, S> = Following::on(flash);
-    let answer = serve(alloc, &mut following, system, event);
+    let mut following: Following<'f, F, S> = Following::on(flash);
+    *answer = serve(alloc, &mut following, system, event);
     let Following { flash, .. } = following;
-    (flash, answer)
+    flash
 }
 
 /// Mounts what the newest record of a flash holds, as [`mount`] does.
-pub(crate) fn mount_as_planned(alloc: Global, flash: &mut SimFlash) -> Result<System, Fault>
-    ensures ok { IfOk result (IsMountOf (device_of flash.old) (device_of flash.new)) }
-    ensures system { IfOk result (IsSystem (device_of flash.new)) }
-    ensures only_reads { OnlyReads (device_of flash.old) (device_of flash.new) }
-    ensures why { IfErr result (MountCause (device_of flash.old) (device_of flash.new)) }
-    ensures plan { FollowsPlan flash.old flash.new }
+pub(crate) fn mount_as_planned<F: Planned>(alloc: Global, flash: &mut F) -> Result<System, Fault>
+    ensures ok { IfOk result (IsMountOf (F.device flash.old) (F.device flash.new)) }
+    ensures system { IfOk result (IsSystem (F.device flash.new)) }
+    ensures only_reads { OnlyReads (F.device flash.old) (F.device flash.new) }
+    ensures why { IfErr result (MountCause (F.device flash.old) (F.device flash.new)) }
+    ensures plan { GoesOn (F.device flash.old).operations (F.schedule flash.old) (F.device flash.new).operations (F.schedule flash.new) }
 {
-    let (_flash, mounted) = mount_from::<Brand>(alloc, flash);
+    let mut mounted = Err(Fault::NoRecord);
+    let _flash = mount_from::<F, Brand>(alloc, flash, &mut mounted);
     mounted
 }
 
-/// The same, with the flash given back.
-fn mount_from<'f, S: Start>(
+/// The same, with the flash given back, and the system or the refusal put into its place.
+fn mount_from<'f, F: Planned, S: Start>(
     alloc: Global,
-    flash: &'f mut SimFlash,
-) -> (&'f mut SimFlash, Result<System, Fault>)
+    flash: &'f mut F,
+    mounted: &mut Result<System, Fault>,
+) -> &'f mut F
     requires name { flash.ghost_name ≡ S.name }
-    requires plan { plan_of flash.old ≡ S.plan }
-    requires done { (device_of flash.old).operations ≡ S.done }
-    ensures same_flash { result.0.ghost_name ≡ flash.entry.ghost_name }
-    ensures ok { IfOk result.1 (IsMountOf (device_of flash.entry.now) (device_of result.0.now)) }
-    ensures system { IfOk result.1 (IsSystem (device_of result.0.now)) }
-    ensures only_reads { OnlyReads (device_of flash.entry.now) (device_of result.0.now) }
-    ensures why { IfErr result.1 (MountCause (device_of flash.entry.now) (device_of result.0.now)) }
-    ensures plan { GoesOn S.done S.plan (device_of result.0.now).operations (plan_of result.0.now) }
+    requires plan { F.schedule flash.old ≡ S.plan }
+    requires done { (F.device flash.old).operations ≡ S.done }
+
+    // What is mounted, by reads alone, or why not.
+    ensures same_flash { result.ghost_name ≡ flash.entry.ghost_name }
+    ensures ok { IfOk mounted.new (IsMountOf (F.device flash.entry.now) (F.device result.now)) }
+    ensures system { IfOk mounted.new (IsSystem (F.device result.now)) }
+    ensures only_reads { OnlyReads (F.device flash.entry.now) (F.device result.now) }
+    ensures why { IfErr mounted.new (MountCause (F.device flash.entry.now) (F.device result.now)) }
+
+    // The plan went on.
+    ensures plan { GoesOn S.done S.plan (F.device result.now).operations (F.schedule result.now) }
 {
-    let mut following: Following<'f, S> = Following::on(flash);
-    let mounted = mount(alloc, &mut following);
+    let mut following: Following<'f, F, S> = Following::on(flash);
+    *mounted = mount(alloc, &mut following);
     let Following { flash, .. } = following;
-    (flash, mounted)
+    flash
 }
 
 /// Makes an empty file system on a flash, as [`format`] does.
-pub(crate) fn format_as_planned(
+pub(crate) fn format_as_planned<F: Planned>(
     alloc: Global,
-    flash: &mut SimFlash,
+    flash: &mut F,
     limit: u32,
 ) -> Result<(), Fault>
-    ensures ok { OnOk result (IsFormatted limit (device_of flash.new)) }
-    ensures stay { OnOk result ((device_of flash.new).geometry ≡ (device_of flash.old).geometry) }
-    ensures listed { OnOk result (ListsFailed (device_of flash.old) (device_of flash.new)) }
-    ensures numbered { OnOk result (IsNumbered (device_of flash.old) (device_of flash.new)) }
-    ensures why { IfErr result (λ fault. FormatCause (device_of flash.old) limit fault (device_of flash.new)) }
-    ensures plan { FollowsPlan flash.old flash.new }
+    ensures ok { OnOk result (IsFormatted limit (F.device flash.new)) }
+    ensures stay { OnOk result ((F.device flash.new).geometry ≡ (F.device flash.old).geometry) }
+    ensures listed { OnOk result (ListsFailed (F.device flash.old) (F.device flash.new)) }
+    ensures numbered { OnOk result (IsNumbered (F.device flash.old) (F.device flash.new)) }
+    ensures why { IfErr result (λ fault. FormatCause (F.device flash.old) limit fault (F.device flash.new)) }
+    ensures plan { GoesOn (F.device flash.old).operations (F.schedule flash.old) (F.device flash.new).operations (F.schedule flash.new) }
 {
-    let (_flash, formatted) = format_from::<Brand>(alloc, flash, limit);
+    let mut formatted = Ok(());
+    let _flash = format_from::<F, Brand>(alloc, flash, limit, &mut formatted);
     formatted
 }
 
-/// The same, with the flash given back.
-fn format_from<'f, S: Start>(
+/// The same, with the flash given back, and what a format answers put into its place.
+fn format_from<'f, F: Planned, S: Start>(
     alloc: Global,
-    flash: &'f mut SimFlash,
+    flash: &'f mut F,
     limit: u32,
-) -> (&'f mut SimFlash, Result<(), Fault>)
+    formatted: &mut Result<(), Fault>,
+) -> &'f mut F
     requires name { flash.ghost_name ≡ S.name }
-    requires plan { plan_of flash.old ≡ S.plan }
-    requires done { (device_of flash.old).operations ≡ S.done }
-    ensures same_flash { result.0.ghost_name ≡ flash.entry.ghost_name }
-    ensures ok { OnOk result.1 (IsFormatted limit (device_of result.0.now)) }
-    ensures stay { OnOk result.1 ((device_of result.0.now).geometry ≡ (device_of flash.entry.now).geometry) }
-    ensures listed { OnOk result.1 (ListsFailed (device_of flash.entry.now) (device_of result.0.now)) }
-    ensures numbered { OnOk result.1 (IsNumbered (device_of flash.entry.now) (device_of result.0.now)) }
-    ensures why { IfErr result.1 (λ fault. FormatCause (device_of flash.entry.now) limit fault (device_of result.0.now)) }
-    ensures plan { GoesOn S.done S.plan (device_of result.0.now).operations (plan_of result.0.now) }
+    requires plan { F.schedule flash.old ≡ S.plan }
+    requires done { (F.device flash.old).operations ≡ S.done }
+
+    // What is formatted, or why not.
+    ensures same_flash { result.ghost_name ≡ flash.entry.ghost_name }
+    ensures ok { OnOk formatted.new (IsFormatted limit (F.device result.now)) }
+    ensures stay { OnOk formatted.new ((F.device result.now).geometry ≡ (F.device flash.entry.now).geometry) }
+    ensures listed { OnOk formatted.new (ListsFailed (F.device flash.entry.now) (F.device result.now)) }
+    ensures numbered { OnOk formatted.new (IsNumbered (F.device flash.entry.now) (F.device result.now)) }
+    ensures why { IfErr formatted.new (λ fault. FormatCause (F.device flash.entry.now) limit fault (F.device result.now)) }
+
+    // The plan went on.
+    ensures plan { GoesOn S.done S.plan (F.device result.now).operations (F.schedule result.now) }
 {
-    let mut following: Following<'f, S> = Following::on(flash);
-    let formatted = format(alloc, &mut following, limit);
+    let mut following: Following<'f, F, S> = Following::on(flash);
+    *formatted = format(alloc, &mut following, limit);
     let Following { flash, .. } = following;
-    (flash, formatted)
+    flash
 }

@@ -3,8 +3,8 @@ ghost use Rattle.std.specs.Prelude.{◌≡◌, ℕ, IfOk, OnOk, IfErr, IfSome, t
 ghost use Rattle.std.specs.Io.KnownBytes.{Appends};
 ghost use Rattle.flash_model.specs.Simulation.{device_of};
 ghost use Rattle.flash_image.specs.Images.{image_of};
-ghost use Rattle.shell.specs.Files.{KeepsOthers, IsFront};
-ghost use Rattle.shell.specs.Tools.{IsDecoded, DecodeCause, IsUnclaimed, IsUnread, IsLoaded, LoadCause, IsSaved, Unsaved, SavesChange, ChangeUnsaved, FormatEnds, PlaysBy, RunEnds, CheckEnds, LookEnds};
+ghost use Rattle.shell.specs.Files.{KeepsOthers, AreBytesRead};
+ghost use Rattle.shell.specs.Tools.{IsDecoded, DecodeCause, IsUnclaimed, IsUnread, IsSpelledFlash, LoadCause, IsImageFile, Unsaved, SavesChange, ChangeUnsaved, FormatEnds, PlaysBy, RunEnds, CheckEnds, LookEnds};
 
 use crate::failure::Failure;
 use crate::image_files::{FileFault, ImageFiles};
@@ -160,7 +160,7 @@ pub(crate) fn claim<F: ImageFiles>(files: &mut F, alloc: Global, name: &str) -> 
 
 /// The flash of an image.
 pub(crate) fn load<F: ImageFiles>(files: &F, alloc: Global, name: &str) -> Result<SimFlash, Failure>
-    ensures ok { IfOk result (IsLoaded (F.held files.now name.now)) }
+    ensures ok { IfOk result (IsSpelledFlash (F.held files.now name.now)) }
     ensures err { IfErr result (LoadCause (F.held files.now name.now)) }
 {
     match read_image(files, alloc, name) {
@@ -175,7 +175,7 @@ pub(crate) fn read_image<F: ImageFiles>(
     alloc: Global,
     name: &str,
 ) -> Result<Vec<u8>, Failure>
-    ensures ok { IfOk result (λ bytes. IsFront (F.held files.now name.now) bytes.items) }
+    ensures ok { IfOk result (λ bytes. AreBytesRead (F.held files.now name.now) bytes.items) }
     ensures err { IfErr result (IsUnread (F.held files.now name.now)) }
 {
     match files.read(alloc, name) {
@@ -204,7 +204,7 @@ fn save<F: ImageFiles>(
     flash: &SimFlash,
 ) -> Result<(), Failure>
     requires { F.claims files.old name.now }
-    ensures ok { OnOk result (IsSaved (F.held files.new name.now) flash.now) }
+    ensures ok { OnOk result (IsImageFile (F.held files.new name.now) flash.now) }
     ensures err { IfErr result (Unsaved (F.held files.old name.now) (F.held files.new name.now) (image_of (device_of flash.now))) }
     ensures others { KeepsOthers name.now (F.held files.old) (F.held files.new) }
 {

@@ -10,7 +10,7 @@ ghost use Rattle.shell.specs.Plans.{PlanGoesOn};
 ghost use Rattle.shell.specs.Scripts.{IsStillAnswer};
 
 use crate::following::{mount_as_planned, serve_as_planned};
-use flash_model::{FaultKind, Flash, Planned, SimFlash};
+use flash_model::{FaultKind, Flash, Planned};
 use fs_types::{Answer, Event, Fault, Reply};
 use script::LineAnswer;
 use std::alloc::Global;
@@ -42,29 +42,23 @@ pub(crate) trait Planning<F: Flash> {
         ensures plans { IsStillAnswer (Line.PlanFault k kind) (plan flash.old) result (plan flash.new) };
 }
 
-/// A flash in memory follows its plan.
+/// A planned flash follows its plan.
 pub(crate) struct Followed;
 
-impl Planning<SimFlash> for Followed {
+impl<F: Planned> Planning<F> for Followed {
     ghost use Rattle.std.specs.Prelude.{Some};
-    ghost use Rattle.flash_model.specs.Simulation.{plan_of};
 
-    ghost plan = { λ flash. Some (plan_of flash) };
+    ghost plan = { λ flash. Some (F.schedule flash) };
 
-    fn mount(alloc: Global, flash: &mut SimFlash) -> Result<System, Fault> {
+    fn mount(alloc: Global, flash: &mut F) -> Result<System, Fault> {
         mount_as_planned(alloc, flash)
     }
 
-    fn serve(
-        alloc: Global,
-        flash: &mut SimFlash,
-        system: &mut Option<System>,
-        event: &Event,
-    ) -> Answer {
+    fn serve(alloc: Global, flash: &mut F, system: &mut Option<System>, event: &Event) -> Answer {
         serve_as_planned(alloc, flash, system, event)
     }
 
-    fn plan_fault(flash: &mut SimFlash, k: u64, kind: FaultKind) -> LineAnswer {
+    fn plan_fault(flash: &mut F, k: u64, kind: FaultKind) -> LineAnswer {
         if k == 0 {
             return LineAnswer::Syntax;
         }

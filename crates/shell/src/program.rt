@@ -3,7 +3,7 @@ ghost use Rattle.std.specs.Prelude.{◌≡◌, IsTrue, map, string_bytes};
 ghost use Rattle.clap.specs.Words.{kind_of};
 ghost use Rattle.shell.specs.Tools.{EndsOn, JobEnds, MemoryEnds, ToolEnds, MemoryBy, sizes_of, word_given, refused_status, is_memory};
 
-use crate::asking::{get_file, tell_tree};
+use crate::asking::{get_file, tell_differences, tell_tree, tell_versions};
 use crate::explanations::explain;
 use crate::failure::Failure;
 use crate::image_files::ImageFiles;
@@ -116,6 +116,8 @@ fn do_task<F: ImageFiles + Sources, R: Read, W: Write, E: Write>(
             get_file(files, alloc, name, path, job.view, file)
         }
         Task::Tree => tell_tree(files, alloc, name, job.view, out),
+        Task::Diff => tell_differences(files, alloc, name, job.view, job.other, out),
+        Task::Versions => tell_versions(files, alloc, name, out),
         Task::Check => check_image(files, alloc, name, out),
         Task::Log => look_at_image(files, alloc, name, b"log\n", out),
         Task::Df => look_at_image(files, alloc, name, b"df\n", out),

@@ -5,8 +5,8 @@ ghost use Rattle.flash_model.specs.declared.sim_flash.SimFlash.{SimFlash};
 ghost use Rattle.system.specs.Systems.{IsSystem};
 ghost use Rattle.shell.specs.Files.{KeepsOthers};
 ghost use Rattle.shell.specs.Puts.{stop_of, stop_of_reply, refused_by, is_mkdir, makes_directory, PutsBy, PutCause, PlaceCause};
-ghost use Rattle.shell.specs.Served.{place, Asks, PutsOne, PutsEach, PutsAll};
-ghost use Rattle.shell.specs.Sources.{Found, found_of};
+ghost use Rattle.shell.specs.Served.{place, ServesPut, PutsOne, PutsEach, PutsAll};
+ghost use Rattle.shell.specs.Sources.{Found, source_found};
 ghost use Rattle.shell.specs.Tools.{IsDecoded, DecodeCause, SourcesEnd, PutEnds};
 
 use crate::failure::Failure;
@@ -74,7 +74,7 @@ fn gather<F: Sources, E: Write>(
     file: &str,
     err: &mut E,
 ) -> Result<Vec<Source>, Failure>
-    ensures ok { IfOk result (λ sources. IfSome (F.gathered files.now file.now) (λ all. map found_of sources.items ≡ all)) }
+    ensures ok { IfOk result (λ sources. IfSome (F.gathered files.now file.now) (λ all. map source_found sources.items ≡ all)) }
     ensures err { IfErr result (λ failure. (failure ≡ Failure.Memory) ⊎ ((all : List Found) × IfSome (F.gathered files.now file.now) (λ found. all ≡ found) × PlaceCause base.now all failure)) }
 {
     let sources = match files.gather(alloc, file) {
@@ -94,7 +94,7 @@ fn check_places<E: Write>(
     sources: &[Source],
     err: &mut E,
 ) -> Result<(), Failure>
-    ensures { IfErr result (PlaceCause base.now (map found_of sources.now)) }
+    ensures { IfErr result (PlaceCause base.now (map source_found sources.now)) }
 {
     for source in sources {
         match place_of(alloc, base, source) {
@@ -118,7 +118,7 @@ fn put_sources<F: ImageFiles, E: Write>(
     progress: bool,
     err: &mut E,
 ) -> Result<(), Failure>
-    ensures ends { SourcesEnd name.now base.now (map found_of sources.now) (F.held files.old) (F.held files.new) result }
+    ensures ends { SourcesEnd name.now base.now (map source_found sources.now) (F.held files.old) (F.held files.new) result }
     ensures others { KeepsOthers name.now (F.held files.old) (F.held files.new) }
 {
     match claim(files, alloc, name) {
@@ -145,8 +145,8 @@ fn put_on<F: ImageFiles, E: Write>(
     progress: bool,
     err: &mut E,
 ) -> Result<SimFlash, Failure>
-    ensures ok { IfOk result (λ end. (start : SimFlash) × PutsBy (IsDecoded bytes.now) (F.held files.now) base.now (map found_of sources.now) start end) }
-    ensures err { IfErr result (PutCause (IsDecoded bytes.now) (DecodeCause bytes.now) (F.held files.now) base.now (map found_of sources.now)) }
+    ensures ok { IfOk result (λ end. (start : SimFlash) × PutsBy (IsDecoded bytes.now) (F.held files.now) base.now (map source_found sources.now) start end) }
+    ensures err { IfErr result (PutCause (IsDecoded bytes.now) (DecodeCause bytes.now) (F.held files.now) base.now (map source_found sources.now)) }
 {
     let mut flash = match flash_of(alloc, bytes) {
         Ok(flash) => flash,
@@ -174,7 +174,7 @@ fn put_all<F: ImageFiles, E: Write>(
     err: &mut E,
 ) -> Result<(), Failure>
     requires { IfSome mounted.old.system (IsSystem (device_of mounted.old.flash)) }
-    ensures { PutsAll (F.held files.now) base.now (map found_of sources.now) (place mounted.old) result (place mounted.new) }
+    ensures { PutsAll (F.held files.now) base.now (map source_found sources.now) (place mounted.old) result (place mounted.new) }
 {
     let start = [Event::Call(Call::Begin)];
     match ask_all(alloc, mounted, &start) {
@@ -204,7 +204,7 @@ fn put_each<F: ImageFiles, E: Write>(
 ) -> Result<(), Failure>
     requires { IfSome mounted.old.system (IsSystem (device_of mounted.old.flash)) }
     ensures mounted { IfSome mounted.new.system (IsSystem (device_of mounted.new.flash)) }
-    ensures ends { PutsEach (F.held files.now) base.now (map found_of sources.now) (place mounted.old) result (place mounted.new) }
+    ensures ends { PutsEach (F.held files.now) base.now (map source_found sources.now) (place mounted.old) result (place mounted.new) }
 {
     for (at, source) in sources.iter().enumerate() {
         match put_one(files, alloc, base, source, mounted) {
@@ -238,7 +238,7 @@ fn put_one<F: ImageFiles>(
 ) -> Result<(), Failure>
     requires { IfSome mounted.old.system (IsSystem (device_of mounted.old.flash)) }
     ensures mounted { IfSome mounted.new.system (IsSystem (device_of mounted.new.flash)) }
-    ensures ends { PutsOne (F.held files.now) base.now (found_of source.now) (place mounted.old) result (place mounted.new) }
+    ensures ends { PutsOne (F.held files.now) base.now (source_found source.now) (place mounted.old) result (place mounted.new) }
 {
     let thing = match thing_of(files, alloc, base, source) {
         Ok(thing) => thing,
@@ -258,7 +258,7 @@ fn put_one<F: ImageFiles>(
 fn ask_all(alloc: Global, mounted: &mut Mounted, events: &[Event]) -> Result<(), Refusal>
     requires { IfSome mounted.old.system (IsSystem (device_of mounted.old.flash)) }
     ensures mounted { IfSome mounted.new.system (IsSystem (device_of mounted.new.flash)) }
-    ensures asks { Asks (place mounted.old) events.now result (place mounted.new) }
+    ensures asks { ServesPut (place mounted.old) events.now result (place mounted.new) }
 {
     for event in events {
         let answer = serve(alloc, &mut mounted.flash, &mut mounted.system, event);

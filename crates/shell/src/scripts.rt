@@ -1,12 +1,11 @@
 //! A script run on a flash.
-ghost use Rattle.std.specs.Prelude.{◌≡◌, IfSome, None, if◌then◌else◌};
-ghost use Rattle.flash_model.specs.Simulation.{device_of};
+ghost use Rattle.std.specs.Prelude.{◌≡◌, IfSome, Some, None, if◌then◌else◌};
 ghost use Rattle.system.specs.Systems.{IsSystem};
-ghost use Rattle.shell.specs.Scripts.{Ends, EndsOnFlash, ScriptEnds, ScriptEndsOn, ground_at, unplanned, refusal_of};
-ghost use Rattle.shell.specs.Turns.{Gets, seat, seat_at, Does, Writes, LinesEnd};
+ghost use Rattle.shell.specs.Scripts.{EndsOnFlash, ScriptEndsOn, ground_at, with_plan, unplanned, refusal_of};
+ghost use Rattle.shell.specs.Turns.{Gets, seat_at, Does, Writes, LinesEnd};
 
 use crate::planning::{Followed, Planning, Unplanned};
-use flash_model::{Flash, SimFlash};
+use flash_model::{Flash, Planned};
 use fs_types::{Answer, Event, Fault};
 use script::{Line, LineAnswer, LineReader, Taken, print_answer, read_line, write_out};
 use std::alloc::Global;
@@ -53,16 +52,17 @@ pub struct Stop {
 }
 
 /// Mounts what the newest record of a flash holds, runs a script on it, and writes a reply for each
-/// line as it is carried out. The lines and their replies are those of docs/scripts.md.
+/// line as it is carried out. The lines and their replies are those of docs/scripts.md. A line `fault`
+/// adds to the plan of the flash, from which each operation takes what comes due.
 ///
 /// It keeps one line in memory at a time. The flash stands as after the lines that were carried out.
-pub fn run_script<R: Read, W: Write>(
+pub fn run_script<F: Planned, R: Read, W: Write>(
     alloc: Global,
     reader: &mut R,
     writer: &mut W,
-    flash: &mut SimFlash,
+    flash: &mut F,
 ) -> Result<(), ScriptFault>
-    ensures ends { Ends flash.old flash.new (R.remaining reader.old) (R.remaining reader.new) result (W.contents writer.old) (W.contents writer.new) }
+    ensures ends { EndsOnFlash (with_plan (F.device flash.old) (F.schedule flash.old)) (with_plan (F.device flash.new) (F.schedule flash.new)) (R.remaining reader.old) (R.remaining reader.new) result (W.contents writer.old) (W.contents writer.new) }
 {
     match run_script_until(alloc, reader, writer, flash, false) {
         Ok(_) => Ok(()),
@@ -88,16 +88,16 @@ pub fn run_script_on<F: Flash, R: Read, W: Write>(
 
 /// Runs a script as [`run_script`] does. Where it is to `stop` it ends at the first line that is
 /// refused, whose reply is written too, and answers where that was.
-pub(crate) fn run_script_until<R: Read, W: Write>(
+pub(crate) fn run_script_until<F: Planned, R: Read, W: Write>(
     alloc: Global,
     reader: &mut R,
     writer: &mut W,
-    flash: &mut SimFlash,
+    flash: &mut F,
     stop: bool,
 ) -> Result<Option<Stop>, ScriptFault>
-    ensures ends { ScriptEnds stop flash.old flash.new (R.remaining reader.old) (R.remaining reader.new) result (W.contents writer.old) (W.contents writer.new) }
+    ensures ends { ScriptEndsOn stop (with_plan (F.device flash.old) (F.schedule flash.old)) (with_plan (F.device flash.new) (F.schedule flash.new)) (R.remaining reader.old) (R.remaining reader.new) result (W.contents writer.old) (W.contents writer.new) }
 {
-    run_until::<SimFlash, Followed, R, W>(alloc, reader, writer, flash, stop)
+    run_until::<F, Followed, R, W>(alloc, reader, writer, flash, stop)
 }
 
 /// The same on any flash, with account of its plan of faults.
@@ -195,18 +195,18 @@ fn next<R: Read>(
     }
 }
 
-/// Carries out what a line asks.
-pub fn carry_out(
+/// Carries out what a line asks, on a planned flash and on what is mounted on it, if anything is.
+pub fn carry_out<F: Planned>(
     alloc: Global,
-    flash: &mut SimFlash,
+    flash: &mut F,
     system: &mut Option<System>,
     line: Line,
 ) -> LineAnswer
-    requires { IfSome system.old (IsSystem (device_of flash.old)) }
-    ensures mounted { IfSome system.new (IsSystem (device_of flash.new)) }
-    ensures does { Does line (seat flash.old system.old) result (seat flash.new system.new) }
+    requires { IfSome system.old (IsSystem (F.device flash.old)) }
+    ensures mounted { IfSome system.new (IsSystem (F.device flash.new)) }
+    ensures does { Does line (seat_at (F.device flash.old) system.old (Some (F.schedule flash.old))) result (seat_at (F.device flash.new) system.new (Some (F.schedule flash.new))) }
 {
-    carry_out_on::<SimFlash, Followed>(alloc, flash, system, line)
+    carry_out_on::<F, Followed>(alloc, flash, system, line)
 }
 
 /// The same on any flash, with account of its plan of faults.

@@ -1,7 +1,7 @@
 //! What of the host is put into an image.
 ghost use Rattle.std.specs.Prelude.{◌≡◌, true, ◌++◌, ◌+◌, ◌≤◌, IfOk, OnOk, IfErr, None, length};
 ghost use Rattle.fs_types.specs.Names.{is_path};
-ghost use Rattle.shell.specs.Sources.{found_of, place_of, kind_fault, source_fault, Unplaced, unparsed};
+ghost use Rattle.shell.specs.Sources.{source_found, put_place, kind_fault, source_fault, Unplaced, unparsed};
 
 use crate::failure::Failure;
 use fs_types::{Fault, MAX_FILE_BYTES, MAX_NAMES, Name, Path};
@@ -66,7 +66,7 @@ pub enum SourceFault {
 /// What stands at names of the host.
 pub trait Sources {
     ghost use Rattle.std.specs.Prelude.{◌≡◌, None, IfSome, IfOk, map};
-    ghost use Rattle.shell.specs.Sources.{Gathered, found_of};
+    ghost use Rattle.shell.specs.Sources.{Gathered, source_found};
 
     // What stands at a name and below it, where it is known.
     ghost gathered: { Self → Gathered } = { λ _ _. None };
@@ -74,14 +74,14 @@ pub trait Sources {
     /// What stands at a name and below it: each folder comes before what stands in it. No link is
     /// followed. The only error is want of memory.
     fn gather(&self, alloc: Global, name: &str) -> Result<Vec<Source>, AllocError>
-        ensures { IfOk result (λ sources. IfSome (gathered self.now name.now) (λ all. map found_of sources.items ≡ all)) };
+        ensures { IfOk result (λ sources. IfSome (gathered self.now name.now) (λ all. map source_found sources.items ≡ all)) };
 }
 
 /// Where a source is put, if it is put below a path.
 pub(crate) fn place_of(alloc: Global, base: &Path, source: &Source) -> Result<Path, Failure>
-    ensures ok { IfOk result (λ path. path ≡ place_of base.now (found_of source.now)) }
-    ensures lawful { OnOk result (source_fault base.now (found_of source.now) ≡ None) }
-    ensures err { IfErr result (Unplaced base.now (found_of source.now)) }
+    ensures ok { IfOk result (λ path. path ≡ put_place base.now (source_found source.now)) }
+    ensures lawful { OnOk result (source_fault base.now (source_found source.now) ≡ None) }
+    ensures err { IfErr result (Unplaced base.now (source_found source.now)) }
 {
     if let Some(fault) = kind_fault(source.kind) {
         return Err(Failure::Source(fault));

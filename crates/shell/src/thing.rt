@@ -1,7 +1,7 @@
 //! What is put at a path of an image.
 ghost use Rattle.std.specs.Prelude.{◌≡◌, IfOk, IfErr};
 ghost use Rattle.shell.specs.Puts.{thing_events, IsThing, IsUnput};
-ghost use Rattle.shell.specs.Sources.{found_of};
+ghost use Rattle.shell.specs.Sources.{source_found};
 
 use crate::failure::Failure;
 use crate::image_files::{FileFault, ImageFiles};
@@ -29,8 +29,8 @@ pub(crate) fn thing_of<F: ImageFiles>(
     base: &Path,
     source: &Source,
 ) -> Result<Thing, Failure>
-    ensures ok { IfOk result (IsThing (F.held files.now) base.now (found_of source.now)) }
-    ensures err { IfErr result (IsUnput (F.held files.now) base.now (found_of source.now)) }
+    ensures ok { IfOk result (IsThing (F.held files.now) base.now (source_found source.now)) }
+    ensures err { IfErr result (IsUnput (F.held files.now) base.now (source_found source.now)) }
 {
     let path = match place_of(alloc, base, source) {
         Ok(path) => path,

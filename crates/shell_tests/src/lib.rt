@@ -2,6 +2,8 @@
 #![tactic(auto)]
 
 #[cfg(test)]
+mod counted_flash;
+#[cfg(test)]
 mod gets;
 #[cfg(test)]
 mod host_files;

@@ -1,5 +1,6 @@
 //! What stands written where a script does not run to its end.
-use flash_model::{Flash, Geometry, PageView, SimFlash};
+use crate::counted_flash::CountedFlash;
+use flash_model::{Flash, Geometry, PageView, Planned, SimFlash};
 use fs_types::Fault;
 use nor_part::{MemoryNor, NorFlash};
 use shell::{ScriptFault, run_script, run_script_on};
@@ -242,7 +243,7 @@ fn holds(flash: &SimFlash, number: u32, wanted: Option<&[u8]>) -> bool {
 }
 
 /// Runs a script, and gives what it writes.
-fn written(alloc: Global, flash: &mut SimFlash, script: &str) -> Result<String, Fail> {
+fn written<F: Planned>(alloc: Global, flash: &mut F, script: &str) -> Result<String, Fail> {
     let mut reader = script.as_bytes();
     let mut out: Vec<u8> = Vec::new(alloc);
     run_script(alloc, &mut reader, &mut out, flash)?;
@@ -272,5 +273,27 @@ fn a_script_runs_on_a_nor_part(rt: HostRuntime) -> Result<(), Fail> {
     run_script_on(rt.alloc(), &mut script, &mut out, &mut flash)?;
     let wanted = b"ok\nok\nok\nerr SYNTAX\nmounted\nentries 1 a/\n";
     assert!(rt; out.as_slice() == wanted.as_slice());
+    Ok(())
+}
+
+/// A script that plans faults: a program that fails is passed, and a cut in a commit leaves what was
+/// committed before.
+const PLANNED: &str = "fault 1 program-fail\nmkdir /a\nsync\nfault 0 read-fail\nmkdir /b\n\
+    fault 1 program-cut-none\nsync\nls /\nrestart\nls /\nfault 1 read-cut\nrestart\nls /\nrestart\nls /\n";
+
+/// Its replies.
+const PLANNED_REPLIES: &str = "ok\nok\nok\nerr SYNTAX\nok\n\
+    ok\nerr POWERCUT 24\nerr POWERCUT 24\nmounted\nentries 1 a/\nok\nerr POWERCUT 24\nunmounted\nmounted\nentries 1 a/\n";
+
+#[test]
+fn a_script_plans_faults_of_any_planned_flash(rt: HostRuntime) -> Result<(), Fail> {
+    let mut flash = formatted(rt.alloc(), SIZES, 8)?;
+    let replies = written(rt.alloc(), &mut flash, PLANNED)?;
+    assert_eq!(rt; replies.as_str(), PLANNED_REPLIES);
+
+    let mut flash = CountedFlash::new(formatted(rt.alloc(), SIZES, 8)?);
+    let replies = written(rt.alloc(), &mut flash, PLANNED)?;
+    assert_eq!(rt; replies.as_str(), PLANNED_REPLIES);
+    assert!(rt; flash.asked > 0);
     Ok(())
 }

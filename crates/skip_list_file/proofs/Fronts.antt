@@ -4,7 +4,7 @@ use Rattle.std.proofs.lemmas.List.{take-append-le, take-take, length-take, lengt
 use Rattle.std.proofs.lemmas.Nat.{le-div}
 use Rattle.block_trees.specs.Bodies.{Blocks, pointer_of, data_of, back, data_to, head_index, body, IsChain, IsLinked, IsBody}
 use Rattle.block_trees.specs.Reached.{Reached}
-use Rattle.skip_list_file.specs.Writing.{IsFront}
+use Rattle.skip_list_file.specs.Writing.{IsBodyFront}
 use Rattle.skip_list_file.proofs.Parts.{data_length}
 use Rattle.block_trees.proofs.Reaching.{reached_below, before_named}
 use Rattle.block_trees.proofs.Bodies.{chain_back, linked_back}
@@ -88,7 +88,7 @@ pub front_before : (capacity m size : ℕ) → 0 < capacity → m ≤ size → h
 front_before capacity m size some le = le-div (head_index capacity m) (size - 1) capacity some (omega arith)
 
 -- the front of a body is a body: its beginning
-pub front_of : (capacity : ℕ) (f : Blocks) (head size m n : ℕ) → 0 < capacity → IsBody capacity f head size → 0 < m → m ≤ size → n ≡ head_index capacity size - head_index capacity m → IsFront capacity f head size (back f head n) m
+pub front_of : (capacity : ℕ) (f : Blocks) (head size m n : ℕ) → 0 < capacity → IsBody capacity f head size → 0 < m → m ≤ size → n ≡ head_index capacity size - head_index capacity m → IsBodyFront capacity f head size (back f head n) m
 front_of capacity f head size m n some is more le steps =
     let i = head_index capacity size in
     let j = head_index capacity m in
@@ -112,5 +112,5 @@ front_of capacity f head size m n some is more le steps =
       reached = λ _ b r. reached_back capacity f n i head (omega arith) h.chain r;
     }
 
-pub front_none : (capacity : ℕ) (f : Blocks) (head size : ℕ) → IsFront capacity f head size 0 0
+pub front_none : (capacity : ℕ) (f : Blocks) (head size : ℕ) → IsBodyFront capacity f head size 0 0
 front_none capacity f head size = record { whole = refl; shown = refl; reached = λ some. absurd (omega arith) }

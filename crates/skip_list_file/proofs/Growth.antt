@@ -10,7 +10,7 @@ use Rattle.node_format.specs.Headers.{field, body_header, body_magic, IsNode}
 use Rattle.node_format.specs.BodyNodes.{IsBodySpelling, HasSlot}
 use Rattle.node_format.specs.declared.place.Place.TheVariants.{Dir, File}
 use Rattle.block_trees.specs.Bodies.{Blocks, index_of, data_of, head_index, body, IsChain, IsBody, back, pointer_of}
-use Rattle.block_trees.specs.Trees.{leads, HasTree, IsWhole}
+use Rattle.block_trees.specs.Trees.{leads, HasTree, IsWholePlace}
 use Rattle.block_trees.specs.Reached.{Reached, IsHeld, Keeps, PlaceNames}
 use Rattle.block_trees.proofs.Entries.{place_is}
 use Rattle.block_trees.proofs.Frames.{frame_law}
@@ -20,7 +20,7 @@ use Rattle.skip_list_file.specs.declared.body.Body.{Body}
 use Rattle.skip_list_file.specs.declared.change.Change.{Change}
 use Rattle.skip_list_file.specs.declared.start.Start.{Start}
 use Rattle.skip_list_file.specs.Reading.{AreBlocks, HoldsBody}
-use Rattle.skip_list_file.specs.Writing.{edited, slot_before, AreLinked, IsFront, IsGrown, IsWritten, HoldsNode, HoldsPart, OnlyReaches, IsStart, IsStored}
+use Rattle.skip_list_file.specs.Writing.{edited, slot_before, AreLinked, IsBodyFront, IsGrown, IsWritten, HoldsIndex, HoldsPart, BodyOnlyReaches, BeginsChange, IsStored}
 use Rattle.skip_list_file.proofs.Fronts.{has_head, body_length}
 use Rattle.skip_list_file.proofs.Parts.{data_length}
 use Rattle.skip_list_file.proofs.EditedBytes.{resized_cut, edited_length}
@@ -31,7 +31,7 @@ use Rattle.skip_list_file.proofs.NodeBytes.{data_fits}
 
 file_tree : (capacity : ℕ) (f : Blocks) (head size : ℕ) → IsBody capacity f head size → HasTree capacity f (File head size) 0
 file_tree capacity f head size is [] (Dir block) leads = absurd cc
-file_tree capacity f head size is [] (File other length) leads = (subst (IsWhole capacity f) (place_is (File head size) (File other length) leads) is, omega arith)
+file_tree capacity f head size is [] (File other length) leads = (subst (IsWholePlace capacity f) (place_is (File head size) (File other length) leads) is, omega arith)
 file_tree capacity f head size is (n ∷ path) at leads = absurd cc
 
 shown_bytes : (x y : List ℕ) → (let a : Option Entry = Some (Entry.File x) in let b : Option Entry = Some (Entry.File y) in a ≡ b) → x ≡ y
@@ -67,8 +67,8 @@ pub stored_later : (capacity head size : ℕ) (f f' : Blocks) (kept kept' : ℕ 
 stored_later capacity head size f f' kept kept' same_nodes same_kept is =
     subst (λ (h : Blocks). IsStored capacity h kept' head size) (sym same_nodes) (subst (λ (k : ℕ → Bool). IsStored capacity f k head size) (sym same_kept) is)
 
-pub start_later : (f f' : Blocks) {change : Change} {end : ℕ} {start : Start} → f' ≡ f → IsStart f change end start → IsStart f' change end start
-start_later f f' {change} {end} {start} same is = subst (λ (h : Blocks). IsStart h change end start) (sym same) is
+pub start_later : (f f' : Blocks) {change : Change} {end : ℕ} {start : Start} → f' ≡ f → BeginsChange f change end start → BeginsChange f' change end start
+start_later f f' {change} {end} {start} same is = subst (λ (h : Blocks). BeginsChange h change end start) (sym same) is
 
 -- so do the nodes before a held one
 pub back_stays : (capacity : ℕ) (old new : Blocks) (kept kept' : ℕ → Bool) → Keeps kept old kept' new → (i n block : ℕ) → n ≤ i → IsChain capacity old i block → ((b : ℕ) → Reached old (block ∷ []) b → kept b ≡ true) → back new block n ≡ back old block n
@@ -111,7 +111,7 @@ slots_stay capacity old new kept kept' head (suc i) keeps linked held x has =
     sym (back_stays capacity old new kept kept' keeps i (2 ^ x - 1) head (omega (arith, divides_least x (suc i) has.1 has.2)) linked.0 (held has.1))
 
 pub grown : (capacity : ℕ) (old new : Blocks) (kept kept' : ℕ → Bool) (head i next : ℕ) (bytes : List ℕ) → Keeps kept old kept' new → IsBody capacity old head (i * capacity) → IsHeld old kept (File head (i * capacity))
-    → (0 < i → length (data_of (old head)) ≡ capacity) → 0 < length bytes → length bytes ≤ capacity → IsNext old new head i next bytes → HoldsNode (new next) i bytes → kept next ≡ false → kept' next ≡ true → IsGrown capacity old new kept kept' head i next bytes
+    → (0 < i → length (data_of (old head)) ≡ capacity) → 0 < length bytes → length bytes ≤ capacity → IsNext old new head i next bytes → HoldsIndex (new next) i bytes → kept next ≡ false → kept' next ≡ true → IsGrown capacity old new kept kept' head i next bytes
 grown capacity old new kept kept' head i next bytes keeps whole held full some fits node holds was_free is_kept =
     record {
       whole = more.whole;
@@ -185,7 +185,7 @@ pub record IsBegun (capacity : ℕ) (f0 : Blocks) (kept0 : ℕ → Bool) (from :
 
 -- the nodes of the old body before the edit
 pub begun_front : (capacity : ℕ) (f : Blocks) (kept : ℕ → Bool) (from : Body) (bytes : List ℕ) (front size : ℕ) → size ≤ from.length → IsHeld f kept (File from.head from.length)
-    → IsFront capacity f from.head from.length front size → take size bytes ≡ take size (body capacity f from.head from.length) → IsBegun capacity f kept from bytes f kept front size
+    → IsBodyFront capacity f from.head from.length front size → take size bytes ≡ take size (body capacity f from.head from.length) → IsBegun capacity f kept from bytes f kept front size
 begun_front capacity f kept from bytes front size le held is same = record {
   whole = is.whole;
   shown = is.shown ∙ sym same;
@@ -214,7 +214,7 @@ begun_more capacity f0 f f' kept0 kept kept' from bytes head i next chunk count 
     again b same (inr (free, holds)) = inr (free, subst (HoldsPart capacity bytes) (sym same) holds)
 
     on : (b : ℕ) → (next ≡ b) ⊎ ((0 < i) × Reached f (head ∷ []) b) → ((0 < from.length) × Reached f0 (from.head ∷ []) b) ⊎ ((kept0 b ≡ false) × HoldsPart capacity bytes (f' b))
-    on b (inl here) = inr (was b (ap kept (sym here) ∙ more.fresh), subst (λ (n : ℕ). HoldsPart capacity bytes (f' n)) here (i, subst (HoldsNode (f' next) i) part more.node))
+    on b (inl here) = inr (was b (ap kept (sym here) ∙ more.fresh), subst (λ (n : ℕ). HoldsPart capacity bytes (f' n)) here (i, subst (HoldsIndex (f' next) i) part more.node))
     on b (inr (below, reached)) =
         let size = product_some capacity i least below in
         again b (keeps.same b (begun.held head (size, refl) b reached)) (begun.reached size b reached)
@@ -295,7 +295,7 @@ written_whole capacity f0 f kept0 kept from to bytes begun counted = record {
   counted = counted;
 }
 
-pub written_reaches : (capacity : ℕ) (f0 f : Blocks) (kept0 kept : ℕ → Bool) (from to : Body) (bytes : List ℕ) → IsBegun capacity f0 kept0 from bytes f kept to.head to.length → to.length ≡ length bytes → OnlyReaches capacity f0 f kept0 from to
+pub written_reaches : (capacity : ℕ) (f0 f : Blocks) (kept0 kept : ℕ → Bool) (from to : Body) (bytes : List ℕ) → IsBegun capacity f0 kept0 from bytes f kept to.head to.length → to.length ≡ length bytes → BodyOnlyReaches capacity f0 f kept0 from to
 written_reaches capacity f0 f kept0 kept from to bytes begun counted root b names r =
     on (begun.reached names.0 b (subst (λ (n : ℕ). Reached f (n ∷ []) b) (sym names.1) r))
   where
@@ -311,7 +311,7 @@ written_reaches capacity f0 f kept0 kept from to bytes begun counted root b name
 
 -- a front, found by reads alone, is the body cut to its length
 pub cut_begun : (capacity : ℕ) (f f' : Blocks) (kept kept' : ℕ → Bool) (from : Body) (front size : ℕ) → f' ≡ f → kept' ≡ kept → size ≤ from.length → IsHeld f kept (File from.head from.length) → IsBody capacity f from.head from.length
-    → IsFront capacity f from.head from.length front size → IsBegun capacity f kept from (resized (body capacity f from.head from.length) size) f' kept' front size
+    → IsBodyFront capacity f from.head from.length front size → IsBegun capacity f kept from (resized (body capacity f from.head from.length) size) f' kept' front size
 cut_begun capacity f f' kept kept' from front size same_nodes same_kept le held whole is =
     let old = body capacity f from.head from.length in
     let cut : resized old size ≡ take size old = resized_cut old size (omega (arith, body_length capacity f from.head from.length whole)) in

@@ -2,6 +2,7 @@ pub mod Chains
 pub mod FirstPages
 pub mod Hops
 pub mod Parts
+pub mod PartReads
 pub mod Fronts
 pub mod Appended
 pub mod EditedBytes

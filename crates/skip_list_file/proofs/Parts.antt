@@ -91,7 +91,7 @@ pub record IsStep (capacity : ℕ) (f : Blocks) (start end index block from next
   pub is_from : from ≡ max start (index * capacity)
   pub copied : piece ≡ take (end - from) (drop (from - index * capacity) (data_of (f block)))
   pub filled : out' ≡ take (from - start) out ++ (piece ++ drop (end - start) out)
-  pub before : 0 < index → next ≡ pointer_of (f block) 0
+  pub before : start < from → 0 < index → next ≡ pointer_of (f block) 0
 
 pub finished : (capacity : ℕ) (f : Blocks) (start end index block : ℕ) (out wanted : List ℕ) → end ≤ start → IsLeft capacity f start end index block out wanted → out ≡ wanted
 finished capacity f start end index block out wanted done left =
@@ -144,7 +144,7 @@ step_left capacity f start end index block from next out out' wanted index' some
         let last = left.last lt in
         let chain = subst (λ (i : ℕ). IsChain capacity f i block) e (left.chain lt) in
         let begins : from ≡ suc j * capacity = omega (arith, step.is_from, ap (λ (i : ℕ). i * capacity) e) in
-        let to : next ≡ pointer_of (f block) 0 = step.before (omega (arith, e)) in
+        let to : next ≡ pointer_of (f block) 0 = step.before more (omega (arith, e)) in
         let size : length (data_to f j (pointer_of (f block) 0)) ≡ from = omega (arith, data_length capacity f j (pointer_of (f block) 0) chain.2, chain.1, begins, suc-mul j capacity) in
         let all = subst (λ (i : ℕ). take (from - start) (drop start (data_to f i block)) ++ drop (from - start) out' ≡ wanted) e (so_far capacity f start end index block from next out out' wanted lt left step) in
         let front = range_front (data_to f j (pointer_of (f block) 0)) (data_of (f block)) start from (omega arith) (omega (arith, size)) in
@@ -171,7 +171,7 @@ part_length start end from out le le' size =
 
 pub step_of : (capacity : ℕ) (f : Blocks) (start end index block from next : ℕ) (out ys out' : List ℕ) → start < end → IsLast capacity end index → end - start ≤ length out → from ≡ max start (index * capacity)
     → ys ≡ take (length (take (end - start - (from - start)) (drop (from - start) out))) (drop (from - index * capacity) (data_of (f block))) → out' ≡ put_mid (from - start) (end - start - (from - start)) out ys
-    → (0 < index → next ≡ pointer_of (f block) 0) → IsStep capacity f start end index block from next out out'
+    → (start < from → 0 < index → next ≡ pointer_of (f block) 0) → IsStep capacity f start end index block from next out out'
 step_of capacity f start end index block from next out ys out' lt last size is copied filled before =
     let le : start ≤ from = omega (arith, is) in
     let le' : from ≤ end = omega (arith, is, last.starts) in

@@ -1,13 +1,14 @@
 -- Reading a range of a file's bytes: which pointers lead to its last node, and how many nodes hold it.
-use Rattle.std.specs.Prelude.{◌≡◌, ◌<◌, List, length, slice_index, ℕ, ◌+◌, ◌-◌, ◌/◌, ◌^◌, ◌≤◌, Bool, false, IsTrue, min, nat_lt, if◌then◌else◌}
+use Rattle.std.specs.Prelude.{◌≡◌, ◌<◌, List, length, slice_index, ℕ, ◌+◌, ◌-◌, ◌/◌, ◌%◌, ◌^◌, ◌≤◌, Bool, false, IsTrue, min, nat_lt, if◌then◌else◌}
 use Rattle.fs_types.specs.declared.fault.Fault.{Fault}
 use Rattle.fs_types.specs.declared.fault.Fault.TheVariants.{Damaged}
 use Rattle.node_store.specs.Faults.{is_read_fault}
-use Rattle.block_trees.specs.Bodies.{Blocks, back, IsBody}
+use Rattle.block_trees.specs.Bodies.{Blocks, back, head_index, IsBody}
 use Rattle.node_format.specs.Headers.{body_header}
 use Rattle.node_format.specs.BodyNodes.{HasSlot}
 use Rattle.node_format.specs.declared.headers.TheConstants.{SLOTS}
 use Rattle.skip_list_file.specs.declared.body.Body.{Body}
+use Rattle.skip_list_file.specs.declared.range_reads.TheConstants.{LEAST_SCAN}
 
 -- slot x, which the node of index i has, leads towards index j, and not past it
 abbrev pub IsUseful : ℕ → ℕ → ℕ → Type 0
@@ -28,6 +29,17 @@ nodes_between capacity from to = if nat_lt from to then (to - 1) / capacity + 1 
 -- how many nodes hold what is read from an offset on of a file of this length, at most so many bytes
 abbrev pub nodes_of_range : ℕ → ℕ → ℕ → ℕ → ℕ
 nodes_of_range capacity size offset count = nodes_between capacity offset (min size (offset + count))
+
+-- the bytes that are read of a file of this length are in one node; where they begin with its first byte, they are too few
+-- for a scan and not the last of the file
+pub record IsPartOfNode (capacity size offset count : ℕ) : Type 0 where
+  pub some : offset < min size (offset + count)
+  pub one_node : offset / capacity ≡ (min size (offset + count) - 1) / capacity
+  pub few : offset % capacity ≡ 0 → (count < LEAST_SCAN) × (offset + count < size)
+
+-- the block of the node that holds the byte at an offset
+abbrev pub block_of_byte : Blocks → ℕ → Body → ℕ → ℕ
+block_of_byte f capacity body offset = back f body.head (head_index capacity body.length - offset / capacity)
 
 -- blocks of the last nodes of a body, from its head back
 abbrev pub AreBlocks : Blocks → ℕ → List ℕ → Type 0

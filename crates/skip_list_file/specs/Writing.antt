@@ -27,7 +27,7 @@ pub record IsWritten (capacity : ℕ) (f : Blocks) (kept : ℕ → Bool) (body :
 
 -- a block holds the body node of an index as it is spelled: these bytes, and 0 in its zero field and in
 -- each slot that the index does not have
-pub record HoldsNode (node : Option (List ℕ)) (index : ℕ) (bytes : List ℕ) : Type 0 where
+pub record HoldsIndex (node : Option (List ℕ)) (index : ℕ) (bytes : List ℕ) : Type 0 where
   pub spelling : List ℕ
   pub pointers : List ℕ
   pub holds : node ≡ Some spelling
@@ -35,12 +35,12 @@ pub record HoldsNode (node : Option (List ℕ)) (index : ℕ) (bytes : List ℕ)
 
 -- a block holds a node of a body with these bytes: as many of them as a node has room for, or as are left
 abbrev pub HoldsPart : ℕ → List ℕ → Option (List ℕ) → Type 0
-HoldsPart capacity bytes node = (index : ℕ) × HoldsNode node index (read_from bytes (index * capacity) capacity)
+HoldsPart capacity bytes node = (index : ℕ) × HoldsIndex node index (read_from bytes (index * capacity) capacity)
 
 -- each block that the new body reaches was reached by the old one, or was not kept before and holds a
 -- node of the new one
-abbrev pub OnlyReaches : ℕ → Blocks → Blocks → (ℕ → Bool) → Body → Body → Type 0
-OnlyReaches capacity old new kept from to =
+abbrev pub BodyOnlyReaches : ℕ → Blocks → Blocks → (ℕ → Bool) → Body → Body → Type 0
+BodyOnlyReaches capacity old new kept from to =
     (root block : ℕ) → PlaceNames (File to.head to.length) root → Reached new (root ∷ []) block
     → ((first : ℕ) × PlaceNames (File from.head from.length) first × Reached old (first ∷ []) block)
     ⊎ ((kept block ≡ false) × HoldsPart capacity (bodies.body capacity new to.head to.length) (new block))
@@ -105,7 +105,7 @@ IsTable f head index last table =
     (x k : ℕ) → 0 < index → index ≤ k → k ≤ last → HasSlot k x → slice_index table x ≡ back f head ((index - 1) % 2 ^ x)
 
 -- the front of a body: its first bytes, in the nodes that hold them
-pub record IsFront (capacity : ℕ) (f : Blocks) (head size front part : ℕ) : Type 0 where
+pub record IsBodyFront (capacity : ℕ) (f : Blocks) (head size front part : ℕ) : Type 0 where
   pub whole : IsBody capacity f front part
   pub shown : bodies.body capacity f front part ≡ take part (bodies.body capacity f head size)
   pub reached : 0 < part → (b : ℕ) → Reached f (front ∷ []) b → Reached f (head ∷ []) b
@@ -117,7 +117,7 @@ pub record IsGrown (capacity : ℕ) (old new : Blocks) (kept kept' : ℕ → Boo
   pub shown : bodies.body capacity new next (i * capacity + length bytes) ≡ bodies.body capacity old head (i * capacity) ++ bytes
   pub held : IsHeld new kept' (File next (i * capacity + length bytes))
   pub fresh : kept next ≡ false
-  pub node : HoldsNode (new next) i bytes
+  pub node : HoldsIndex (new next) i bytes
   pub reached : (b : ℕ) → Reached new (next ∷ []) b → (next ≡ b) ⊎ ((0 < i) × Reached old (head ∷ []) b)
 
 -- the nodes before an index are a held body, and the table is that for the nodes from there to the last
@@ -126,9 +126,9 @@ pub record IsWrittenTo (capacity : ℕ) (f : Blocks) (kept : ℕ → Bool) (head
   pub table : IsTable f head index last blocks
 
 -- what the nodes of a change whose bytes end at `end` are written after
-pub record IsStart (f : Blocks) (change : Change) (end : ℕ) (start : Start) : Type 0 where
+pub record BeginsChange (f : Blocks) (change : Change) (end : ℕ) (start : Start) : Type 0 where
   pub first : start.first ≡ min change.offset change.body.length / change.capacity
-  pub front : IsFront change.capacity f change.body.head change.body.length start.head (start.first * change.capacity)
+  pub front : IsBodyFront change.capacity f change.body.head change.body.length start.head (start.first * change.capacity)
   pub table : IsTable f start.head start.first (head_index change.capacity change.size) start.table.blocks
   pub listed : AreBlocks f change.body.head start.old.items
   pub count : length start.old.items ≡ nodes_between change.capacity end change.body.length

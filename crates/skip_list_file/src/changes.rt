@@ -34,10 +34,10 @@ fn write_nodes<N: Nodes>(
     requires holds { HoldsBody (N.limit nodes.old) (N.node nodes.old) change.capacity change.body }
     requires stored { spec.IsStored change.capacity (N.node nodes.old) (N.kept nodes.old) change.body.head change.body.length }
     requires written { change.offset + length bytes.now ≤ MAX_FILE_BYTES }
-    requires start { spec.IsStart (N.node nodes.old) change (change.offset + length bytes.now) start }
+    requires start { spec.BeginsChange (N.node nodes.old) change (change.offset + length bytes.now) start }
 
     ensures written { IfOk result (λ new. spec.IsWritten change.capacity (N.node nodes.new) (N.kept nodes.new) new (spec.bytes_after (N.node nodes.old) change bytes.now)) }
-    ensures reaches { IfOk result (λ new. spec.OnlyReaches change.capacity (N.node nodes.old) (N.node nodes.new) (N.kept nodes.old) change.body new) }
+    ensures reaches { IfOk result (λ new. spec.BodyOnlyReaches change.capacity (N.node nodes.old) (N.node nodes.new) (N.kept nodes.old) change.body new) }
 
     // One read for each old node of which bytes after the written ones stay, and the way to the first.
     ensures reads { (digits : ℕ) → HasDigits (head_index change.capacity change.body.length) digits → N.reads nodes.new ≤ N.reads nodes.old + (nodes_between change.capacity (change.offset + length bytes.now) change.body.length + (1 + 2 * digits)) }
@@ -92,7 +92,7 @@ fn change_body<N: Nodes>(
     requires changed { min offset body.length < size }
 
     ensures written { IfOk result (λ new. spec.IsWritten (N.limit nodes.old - body_header) (N.node nodes.new) (N.kept nodes.new) new (spec.edited (bodies.body (N.limit nodes.old - body_header) (N.node nodes.old) body.head body.length) offset bytes.now size)) }
-    ensures reaches { IfOk result (λ new. spec.OnlyReaches (N.limit nodes.old - body_header) (N.node nodes.old) (N.node nodes.new) (N.kept nodes.old) body new) }
+    ensures reaches { IfOk result (λ new. spec.BodyOnlyReaches (N.limit nodes.old - body_header) (N.node nodes.old) (N.node nodes.new) (N.kept nodes.old) body new) }
 
     // Two reads for each old node of which bytes after the written ones stay, and a few for the first.
     ensures reads { (digits : ℕ) → HasDigits (head_index (N.limit nodes.old - body_header) body.length) digits → N.reads nodes.new ≤ N.reads nodes.old + (2 * nodes_between (N.limit nodes.old - body_header) (offset + length bytes.now) body.length + (1 + 5 * digits)) }
@@ -136,7 +136,7 @@ pub fn write_range<N: Nodes>(
 
     // The new body, beside the old one.
     ensures written { IfOk result (λ new. spec.IsWritten (N.limit nodes.old - body_header) (N.node nodes.new) (N.kept nodes.new) new (overwritten (bodies.body (N.limit nodes.old - body_header) (N.node nodes.old) body.head body.length) offset bytes.now)) }
-    ensures reaches { IfOk result (λ new. spec.OnlyReaches (N.limit nodes.old - body_header) (N.node nodes.old) (N.node nodes.new) (N.kept nodes.old) body new) }
+    ensures reaches { IfOk result (λ new. spec.BodyOnlyReaches (N.limit nodes.old - body_header) (N.node nodes.old) (N.node nodes.new) (N.kept nodes.old) body new) }
     ensures keeps { Keeps (N.kept nodes.old) (N.node nodes.old) (N.kept nodes.new) (N.node nodes.new) }
 
     // What it costs, and why it is refused.
@@ -168,7 +168,7 @@ pub fn set_length<N: Nodes>(
 
     // The new body, beside the old one.
     ensures written { IfOk result (λ new. spec.IsWritten (N.limit nodes.old - body_header) (N.node nodes.new) (N.kept nodes.new) new (resized (bodies.body (N.limit nodes.old - body_header) (N.node nodes.old) body.head body.length) length)) }
-    ensures reaches { IfOk result (λ new. spec.OnlyReaches (N.limit nodes.old - body_header) (N.node nodes.old) (N.node nodes.new) (N.kept nodes.old) body new) }
+    ensures reaches { IfOk result (λ new. spec.BodyOnlyReaches (N.limit nodes.old - body_header) (N.node nodes.old) (N.node nodes.new) (N.kept nodes.old) body new) }
     ensures keeps { Keeps (N.kept nodes.old) (N.node nodes.old) (N.kept nodes.new) (N.node nodes.new) }
 
     // What it costs, and why it is refused.

@@ -13,4 +13,4 @@ mod table;
 
 pub use body::Body;
 pub use changes::{set_length, write_range};
-pub use range_reads::read_range;
+pub use range_reads::{LEAST_SCAN, read_range};

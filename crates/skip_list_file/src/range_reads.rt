@@ -1,5 +1,5 @@
 //! Reading the bytes of a file.
-ghost use Rattle.std.specs.Prelude.{◌≡◌, ℕ, ◌+◌, ◌-◌, ◌*◌, ◌/◌, ◌^◌, ◌<◌, ◌≤◌, length, take, drop, Some, OnOk, IfOk, IfErr};
+ghost use Rattle.std.specs.Prelude.{◌≡◌, ◌≢◌, ℕ, ◌+◌, ◌-◌, ◌*◌, ◌/◌, ◌%◌, ◌^◌, ◌<◌, ◌≤◌, length, min, take, drop, true, false, Some, OnOk, IfOk, IfErr};
 ghost use Rattle.plain_trees.specs.Contents.{read_from};
 ghost use Rattle.node_format.specs.Headers.{body_header};
 ghost use Rattle.node_format.specs.BodyNodes.{HasSlot};
@@ -8,6 +8,7 @@ ghost use Rattle.block_trees.specs.Bodies as trees;
 ghost use Rattle.skip_list_file.specs.Reading as spec;
 ghost use Rattle.node_store.specs.Frames.{OnlyLooks};
 ghost use Rattle.node_store.specs.NodePages.{pages_for};
+ghost use Rattle.node_store.specs.Parts.{pages_of_range};
 
 use crate::body::Body;
 use fields::u32_at;
@@ -15,6 +16,9 @@ use fs_types::{Bytes, Fault};
 use node_format::{BODY_HEADER, BodyNode, SLOTS};
 use node_store::Nodes;
 use std::alloc::Global;
+
+/// The fewest bytes that are taken for the beginning of a scan where they begin with a node's first byte.
+pub const LEAST_SCAN: u32 = 512;
 
 /// The farthest slot that leads from an index to one before it, or to one between.
 fn farthest_slot(index: u32, before: u32) -> u32
@@ -29,11 +33,16 @@ fn farthest_slot(index: u32, before: u32) -> u32
 pub(crate) fn pointer_at<N: Nodes>(nodes: &mut N, block: u32, slot: u32) -> Result<u32, Fault>
     requires sound { N.is_sound nodes.old }
     requires slot { (index : ℕ) × (index_of (N.node nodes.old block) ≡ Some index) × HasSlot index slot }
+
+    // The pointer, or why not.
     ensures found { IfOk result (λ next. next ≡ pointer_of (N.node nodes.old block) slot) }
     ensures refused { IfErr result (λ fault. spec.IsBodyFault fault × N.causes nodes.old nodes.new fault) }
+
+    // What is read.
     ensures looks { OnlyLooks N.node N.kept N.writes N.follows N.is_sound N.limit N.blocks nodes.old nodes.new }
     ensures reads { N.reads nodes.new ≡ N.reads nodes.old + 1 }
     ensures asks { N.asked nodes.new ≤ N.asked nodes.old + 1 }
+    ensures partly { N.partly nodes.new ≡ N.partly nodes.old }
 {
     nodes.front(block)?;
     Ok(u32_at(nodes.fronted(), 16 + 4 * slot as usize))
@@ -60,6 +69,7 @@ pub(crate) fn find<N: Nodes>(
     // Two reads for each digit of the head's index, of a page each, and nothing is written.
     ensures reads { (digits : ℕ) → spec.HasDigits head_index digits → N.reads nodes.new ≤ N.reads nodes.old + 2 * digits }
     ensures asks { spec.AsksPageEach N.asked N.reads nodes.old nodes.new }
+    ensures partly { N.partly nodes.new ≡ N.partly nodes.old }
     ensures refused { IfErr result (λ fault. spec.IsBodyFault fault × N.causes nodes.old nodes.new fault) }
     ensures looks { OnlyLooks N.node N.kept N.writes N.follows N.is_sound N.limit N.blocks nodes.old nodes.new }
 {
@@ -106,14 +116,69 @@ pub(crate) fn copy_data<N: Nodes>(
     Ok(node.pointer(0).unwrap_or(0))
 }
 
+/// Fills a slice with the data of a body node from a place on, by the pages that hold it.
+fn copy_part<N: Nodes>(nodes: &mut N, block: u32, from: u32, out: &mut [u8]) -> Result<(), Fault>
+    // The block holds a body node with so many bytes.
+    requires sound { N.is_sound nodes.old }
+    requires node { (index : ℕ) × (index_of (N.node nodes.old block) ≡ Some index) }
+    requires within { from + length out.old ≤ length (data_of (N.node nodes.old block)) }
+
+    ensures copied { OnOk result (out.new ≡ take (length out.old) (drop from (data_of (N.node nodes.old block)))) }
+
+    // One read, of the pages that hold the data unless a part of the node was read last, and nothing is written.
+    ensures refused { IfErr result (λ fault. spec.IsBodyFault fault × N.causes nodes.old nodes.new fault) }
+    ensures looks { OnlyLooks N.node N.kept N.writes N.follows N.is_sound N.limit N.blocks nodes.old nodes.new }
+    ensures reads { N.reads nodes.new ≡ N.reads nodes.old + 1 }
+    ensures asks { N.partly nodes.old ≢ block → N.asked nodes.new ≤ N.asked nodes.old + pages_of_range (N.page nodes.old) (body_header + from) (length out.old) }
+    ensures asks_most { N.asked nodes.new ≤ N.asked nodes.old + pages_for (N.page nodes.old) (N.limit nodes.old) }
+{
+    // No block has more bytes than its contract tells, so no node has.
+    let _ = nodes.block_bytes();
+    nodes.read_at(block, BODY_HEADER + from, out)
+}
+
+/// Fills a slice with the data of a body node from a place on. A node that is wanted `whole` is read so,
+/// and the block of the node before it answered; of another one only the pages that hold the data are.
+fn copy_piece<N: Nodes>(
+    nodes: &mut N,
+    block: u32,
+    from: u32,
+    whole: bool,
+    out: &mut [u8],
+) -> Result<u32, Fault>
+    // The block holds a body node with so many bytes.
+    requires sound { N.is_sound nodes.old }
+    requires node { (index : ℕ) × (index_of (N.node nodes.old block) ≡ Some index) }
+    requires within { from + length out.old ≤ length (data_of (N.node nodes.old block)) }
+
+    // Its bytes, and the block before it.
+    ensures copied { OnOk result (out.new ≡ take (length out.old) (drop from (data_of (N.node nodes.old block)))) }
+    ensures before { IfOk result (λ before. whole ≡ true → (index : ℕ) → index_of (N.node nodes.old block) ≡ Some index → 0 < index → before ≡ pointer_of (N.node nodes.old block) 0) }
+
+    // One read, of the pages that hold the data or of a block's, and nothing is written.
+    ensures refused { IfErr result (λ fault. spec.IsBodyFault fault × N.causes nodes.old nodes.new fault) }
+    ensures looks { OnlyLooks N.node N.kept N.writes N.follows N.is_sound N.limit N.blocks nodes.old nodes.new }
+    ensures reads { N.reads nodes.new ≡ N.reads nodes.old + 1 }
+    ensures asks { N.asked nodes.new ≤ N.asked nodes.old + pages_for (N.page nodes.old) (N.limit nodes.old) }
+    ensures asks_part { whole ≡ false → N.partly nodes.old ≢ block → N.asked nodes.new ≤ N.asked nodes.old + pages_of_range (N.page nodes.old) (body_header + from) (length out.old) }
+{
+    if whole {
+        return copy_data(nodes, block, from, out);
+    }
+    copy_part(nodes, block, from, out)?;
+    Ok(0)
+}
+
 /// Fills a slice with the bytes from `start` to `end` of a chain, whose node of the last of them is in
-/// the block. The nodes are read from the last one back, each once.
+/// the block. The nodes are read from the last one back, each once. Of the first of them only the pages
+/// that hold the bytes are read, unless it is wanted `whole`.
 fn fill<N: Nodes>(
     nodes: &mut N,
     capacity: u32,
     block: u32,
     start: u32,
     end: u32,
+    whole: bool,
     out: &mut [u8],
 ) -> Result<(), Fault>
     // The chain from the block has the bytes.
@@ -129,6 +194,7 @@ fn fill<N: Nodes>(
     // One read for each node that holds them, of a block's pages at most, and nothing is written.
     ensures reads { N.reads nodes.new ≤ N.reads nodes.old + spec.nodes_between capacity start end }
     ensures asks { N.asked nodes.new ≤ N.asked nodes.old + spec.nodes_between capacity start end * pages_for (N.page nodes.old) (N.limit nodes.old) }
+    ensures asks_part { whole ≡ false → start / capacity ≡ (end - 1) / capacity → N.partly nodes.old ≢ block → N.asked nodes.new ≤ N.asked nodes.old + pages_of_range (N.page nodes.old) (body_header + start % capacity) (end - start) }
     ensures refused { IfErr result (λ fault. spec.IsBodyFault fault × N.causes nodes.old nodes.new fault) }
     ensures looks { OnlyLooks N.node N.kept N.writes N.follows N.is_sound N.limit N.blocks nodes.old nodes.new }
 {
@@ -138,7 +204,8 @@ fn fill<N: Nodes>(
         let first = (end - 1) / capacity * capacity;
         let from = start.max(first);
         let part = &mut out[(from - start) as usize..(end - start) as usize];
-        block = copy_data(nodes, block, from - first, part)?;
+        let wanted = whole || start < first;
+        block = copy_piece(nodes, block, from - first, wanted, part)?;
         end = from;
     }
     Ok(())
@@ -156,9 +223,11 @@ pub(crate) fn capacity_in<N: Nodes>(nodes: &N) -> u32
 /// The bytes of a file from an offset on, at most `count`: fewer near its end, none at or past it.
 ///
 /// The node of the last of them is found by few hops from the head, of a page each, and the nodes that
-/// hold them are read once each: no more pages are asked than a block has. Nothing is read where there is
-/// no such byte. Refused only with what reads are
-/// refused with, and with `NoMemory`: the body is whole.
+/// hold them are read once each: no more pages are asked than a block has. Of the first of them only the
+/// pages that hold the bytes are asked, unless a part of it was read last, or the bytes begin with its
+/// first one and are [`LEAST_SCAN`] or more or the last of the file: then more of it is likely to be read
+/// next, or all of it is wanted. Nothing is read where there is no such byte. Refused only with what reads are refused with, and with
+/// `NoMemory`: the body is whole.
 pub fn read_range<N: Nodes>(
     alloc: Global,
     nodes: &mut N,
@@ -174,6 +243,7 @@ pub fn read_range<N: Nodes>(
     // What it costs, and why it is refused; nothing is written.
     ensures reads { (digits : ℕ) → spec.HasDigits (head_index (N.limit nodes.old - body_header) body.length) digits → N.reads nodes.new ≤ N.reads nodes.old + (spec.nodes_of_range (N.limit nodes.old - body_header) body.length offset count + 2 * digits) }
     ensures asks { (digits : ℕ) → spec.HasDigits (head_index (N.limit nodes.old - body_header) body.length) digits → N.asked nodes.new ≤ N.asked nodes.old + (spec.nodes_of_range (N.limit nodes.old - body_header) body.length offset count * pages_for (N.page nodes.old) (N.limit nodes.old) + 2 * digits) }
+    ensures asks_part { (digits : ℕ) → spec.HasDigits (head_index (N.limit nodes.old - body_header) body.length) digits → spec.IsPartOfNode (N.limit nodes.old - body_header) body.length offset count → N.partly nodes.old ≢ spec.block_of_byte (N.node nodes.old) (N.limit nodes.old - body_header) body offset → N.asked nodes.new ≤ N.asked nodes.old + (pages_of_range (N.page nodes.old) (body_header + offset % (N.limit nodes.old - body_header)) (min body.length (offset + count) - offset) + 2 * digits) }
     ensures unread { spec.nodes_of_range (N.limit nodes.old - body_header) body.length offset count ≡ 0 → N.reads nodes.new ≡ N.reads nodes.old }
     ensures why { IfErr result (λ fault. N.causes nodes.old nodes.new fault) }
     ensures faults { IfErr result spec.IsBodyFault }
@@ -192,6 +262,7 @@ pub fn read_range<N: Nodes>(
         (body.length - 1) / capacity,
         (end - 1) / capacity,
     )?;
-    fill(nodes, capacity, block, start, end, &mut bytes)?;
+    let whole = start % capacity == 0 && (end - start >= LEAST_SCAN || end == body.length);
+    fill(nodes, capacity, block, start, end, whole, &mut bytes)?;
     Ok(Bytes::from_vec(bytes))
 }

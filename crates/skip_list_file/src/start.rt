@@ -36,7 +36,7 @@ pub(crate) fn find_front<N: Nodes>(
     requires holds { HoldsBody (N.limit nodes.old) (N.node nodes.old) capacity body }
     requires within { part ≤ body.length }
 
-    ensures front { IfOk result (λ front. spec.IsFront capacity (N.node nodes.old) body.head body.length front part) }
+    ensures front { IfOk result (λ front. spec.IsBodyFront capacity (N.node nodes.old) body.head body.length front part) }
 
     // Two reads for each digit of the head's index, of a page each, and nothing is written.
     ensures reads { (digits : ℕ) → HasDigits (head_index capacity body.length) digits → N.reads nodes.new ≤ N.reads nodes.old + 2 * digits }
@@ -63,7 +63,7 @@ pub(crate) fn start_at<N: Nodes>(
     requires holds { HoldsBody (N.limit nodes.old) (N.node nodes.old) change.capacity change.body }
 
     // What is found, what it costs, and why it is refused; nothing is written.
-    ensures start { IfOk result (spec.IsStart (N.node nodes.old) change end) }
+    ensures start { IfOk result (spec.BeginsChange (N.node nodes.old) change end) }
     ensures reads { (digits : ℕ) → HasDigits (head_index change.capacity change.body.length) digits → N.reads nodes.new ≤ N.reads nodes.old + (nodes_between change.capacity end change.body.length + 3 * digits) }
     ensures asks { AsksPageEach N.asked N.reads nodes.old nodes.new }
     ensures refused { IfErr result (λ fault. IsBodyFault fault × N.causes nodes.old nodes.new fault) }

@@ -34,8 +34,8 @@ use Rattle.working_state.specs.Steps.{is_cut_answer}
 use Rattle.working_state.specs.Mounted.{IsStanding, IsMounted}
 use Rattle.working_state.specs.Roots.{HasRoot}
 use Rattle.working_state.specs.declared.state.State.{State}
-use Rattle.mounting.specs.Records.{history_of, roots_of, trees_of, is_plain}
-use Rattle.mounting.specs.Saved.{saved_on, saved_trees, IsWhole}
+use Rattle.mounting.specs.Records.{history_of, roots_of, trees_of, knows_plain_only}
+use Rattle.mounting.specs.Saved.{saved_on, saved_trees, IsWholeRecord}
 use Rattle.system.specs.Commits.{record_on, Saves}
 use Rattle.system.specs.Systems.{IsSystem, IsKnown, IsRunning}
 use Rattle.system.specs.declared.systems.System.{System}
@@ -141,14 +141,14 @@ module _ {T : Type 0} (d e : Device) (m n : System) (result : Result T Fault) (s
       ]
 
   -- and each directory in them is of its format
-  plain_after : SavedAfter → IsWhole d → (r : Record) → saved_on e ≡ Some r → is_plain r ≡ true → IsPlain (node_of e) (roots_of (history_of r))
+  plain_after : SavedAfter → IsWholeRecord d → (r : Record) → saved_on e ≡ Some r → knows_plain_only r ≡ true → IsPlain (node_of e) (roots_of (history_of r))
   plain_after (inl was) whole r is plain = subst (λ (f : Blocks). IsPlain f (roots_of (history_of r))) (sym (same_nodes d e same)) ((whole r (sym was ∙ is)).1 plain)
   plain_after (inr newly) whole r is plain = not_plain r (subst (λ (x : Record). x.format ≡ FORMAT) (one_record newly.newest r (sym newly.saved ∙ is)) newly.written) plain
     where
       one_record : (a b : Record) → Some a ≡ Some b → a ≡ b
       one_record a b x = cc
 
-  pub whole_after : SavedAfter → m.state.is_off ≡ false → IsWhole d → IsWhole e
+  pub whole_after : SavedAfter → m.state.is_off ≡ false → IsWholeRecord d → IsWholeRecord e
   whole_after after on whole r is = (λ root has. (stands_after after on r is root has).rooted, plain_after after whole r is)
 
   is_saved : SavedAfter → m.state.is_off ≡ false → is_some (saved_on e) ≡ true

@@ -23,7 +23,7 @@ use Rattle.commit_pair.specs.Newest.{IsUncleared, committed_on, NewestCause}
 use Rattle.commit_pair.specs.Reading.{IsEnd}
 use Rattle.commit_pair.specs.Remembering.{MayCommit, KnowsNewest}
 use Rattle.commit_pair.proofs.NewestLaws.{found_is_newest}
-use Rattle.mounting.specs.Records.{history_of, roots_of, is_plain, IsLoaded, RootsCause}
+use Rattle.mounting.specs.Records.{history_of, roots_of, knows_plain_only, IsLoaded, RootsCause}
 use Rattle.system.specs.Mounts.{IsMountOf, MountCause}
 use Rattle.system.specs.declared.systems.System.{System}
 use Rattle.mounting.proofs.Loading.{later_trees}
@@ -98,12 +98,12 @@ newest_why old new PowerCut why = why
 newest_why old new NoMemory why = tt
 newest_why old new _ why = absurd why
 
-pub load_why : (old mid new : Device) (r : Record) (fault : Fault) → IsGeometry old.geometry → committed_on old ≡ Some (Ok r) → OnlyReads old mid → RootsCause (is_plain r) mid (roots_of (history_of r)) new fault → MountCause old new fault
+pub load_why : (old mid new : Device) (r : Record) (fault : Fault) → IsGeometry old.geometry → committed_on old ≡ Some (Ok r) → OnlyReads old mid → RootsCause (knows_plain_only r) mid (roots_of (history_of r)) new fault → MountCause old new fault
 load_why old mid new r Damaged lawful is reads why =
     inr (inr (
       r,
       is,
-      λ trees. why (later_trees old mid (is_plain r) (roots_of (history_of r)) reads.geometry (OnlyReads_nodes old mid lawful reads) trees),
+      λ trees. why (later_trees old mid (knows_plain_only r) (roots_of (history_of r)) reads.geometry (OnlyReads_nodes old mid lawful reads) trees),
     ))
 load_why old mid new r ReadFailed lawful is reads why = let l = reads.failed_reads in omega arith
 load_why old mid new r PowerCut lawful is reads why = why

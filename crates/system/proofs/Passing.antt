@@ -31,7 +31,7 @@ use Rattle.block_trees.specs.Reached.{Reached}
 use Rattle.block_trees.specs.Trees.{IsRoot}
 use Rattle.reclaim.specs.Kinds.{Knows}
 use Rattle.reclaim.specs.Passes.{Pass, IsPass, IsFinished}
-use Rattle.reclaim.specs.declared.reading.Reading.{Reading}
+use Rattle.reclaim.specs.declared.reading.Reading.TheVariants.{Fronts}
 use Rattle.reclaim.proofs.KnownPasses.{begins_known}
 use Rattle.reclaim.specs.Verified.{AreRoots}
 use Rattle.reclaim.proofs.Soundness.{trees_hold_nodes}
@@ -47,7 +47,7 @@ use Rattle.working_state.specs.Seen.{capacity_of, seen_of, machine_on}
 use Rattle.working_state.specs.Steps.{is_cut_answer}
 use Rattle.working_state.specs.Worked.{ReadCause}
 use Rattle.working_state.specs.declared.state.State.{State}
-use Rattle.system.specs.Reclaiming.{AsksForRest, AsksToStep, GoesOnFrom, Advances, ReadsOn, EndsPass, StepEnds, Stays, Reclaims, marking_of, reading_of}
+use Rattle.system.specs.Reclaiming.{AsksForRest, AsksToStep, GoesOnFrom, Advances, ReadsOn, EndsPass, StepEnds, Stays, Reclaims, marking_of}
 use Rattle.mounting.specs.Records.{history_of, roots_of, group_roots, working_roots}
 use Rattle.mounting.specs.Saved.{saved_on}
 use Rattle.system.specs.Systems.{IsSystem, IsRunning, MustStay}
@@ -57,7 +57,7 @@ use Rattle.system.proofs.Costing.{asks_still, asks_on}
 use Rattle.mounting.proofs.Installed.{marked_in, with_ring, with_marks}
 use Rattle.system.proofs.Measured.{has_same, listed_root, listed_reached, mounted_roots, reached_to}
 use Rattle.mounting.proofs.Marking.{roots_hold_data}
-use Rattle.system.proofs.Running.{running_on}
+use Rattle.system.proofs.Running.{is_marking, running_on}
 use Rattle.mounting.proofs.SameNodes.{HasSameData, node_is, same_nodes, same_tree, stands_too}
 use Rattle.system.proofs.SameRecords.{still_saved}
 use Rattle.system.proofs.Syncs.{reached_from}
@@ -160,16 +160,14 @@ module _ (d e : Device) (m n : System) (s : IsSystem d m) (on : m.state.is_off �
   pub kept_running : (p : Pass) → ((b : ℕ) → set.contains m.state.storage.ring.used b ≡ true → set.contains n.state.storage.ring.used b ≡ true)
       → n.state.storage.ring.note ≡ m.state.storage.ring.note → IsRunning d m p → IsRunning e n p
   kept_running p used note running =
-      running_on d e m n p k.reads.geometry (λ b reached. node_is d e same b) used (λ b is. ap (λ (x : set.FinSet nat_cmp). set.contains x b) note ∙ is)
+      running_on d e m n p k.reads.geometry (λ b reached. node_is d e same b) (subst (λ (f : Blocks). AreRoots (block_bytes d.geometry) f p.roots) (sym (same_nodes d e same))) used (λ b is. ap (λ (x : set.FinSet nat_cmp). set.contains x b) note ∙ is)
       (λ b must. inl (still_must b must)) running
 
   -- a step of the marking
-  pub advanced : (p q : Pass) → Advances p q → (IsPass (node_of d) p → IsPass (node_of d) q) → IsRunning e n p → IsRunning e n q
-  advanced p q goes on_with running = record {
+  pub advanced : (p q : Pass) → Advances p q → Knows Fronts (block_bytes d.geometry) (node_of d) q → IsRunning e n p → IsRunning e n q
+  advanced p q goes known running = record {
     blocks = goes.blocks ∙ running.blocks;
-    marking = λ none. running.marking (λ pass.
-        let before = subst (λ (f : Blocks). IsPass f p) (same_nodes d e same) pass in
-        none (subst (λ (f : Blocks). IsPass f q) (sym (same_nodes d e same)) (on_with before)));
+    known = subst (λ (g : Geometry). Knows Fronts (block_bytes g) (node_of e) q) (sym k.reads.geometry) (subst (λ (f : Blocks). Knows Fronts (block_bytes d.geometry) f q) (sym (same_nodes d e same)) known);
     held = λ b reached. running.held b (subst (λ (l : List ℕ). Reached (node_of e) l b) goes.roots reached);
     nodes = λ b reached. running.nodes b (subst (λ (l : List ℕ). Reached (node_of e) l b) goes.roots reached);
     taken = λ b must apart. running.taken b must (λ reached. apart (subst (λ (l : List ℕ). Reached (node_of e) l b) (sym goes.roots) reached));
@@ -231,7 +229,7 @@ module _ (d : Device) (m : System) (s : IsSystem d m) (on : m.state.is_off ≡ f
       by None is some root newest there = absurd (true≢false (sym some))
       by (Some r) is some root newest there = inr (r, is, reached_to (node_of d) (roots_of (history_of r)) root b (subst (λ (l : List ℕ). Contains l root) (s.roots on r is) newest) there)
 
-  -- the next step may read as it does
+  -- a new marking begins at the roots of what must stay
   new_roots : (p : Pass) (note : set.FinSet nat_cmp) → m.pass ≡ None → GoesOnFrom m p note → p.roots ≡ working_roots m.state ++ m.record_roots.items
   new_roots p note none (inl (was, at)) = absurd (no_pass p (sym was ∙ none))
     where
@@ -239,16 +237,11 @@ module _ (d : Device) (m : System) (s : IsSystem d m) (on : m.state.is_off ≡ f
       no_pass p e = cc
   new_roots p note none (inr (absent, roots, next, at)) = roots
 
-  pub known_of_new : (p : Pass) (note : set.FinSet nat_cmp) (reading : Reading) → reading ≡ reading_of m.pass → GoesOnFrom m p note
-      → (m.pass ≡ None → (p.blocks ≡ m.state.storage.ring.blocks) × ((f : Blocks) → IsPass f p)) → (m.pass ≡ None → ((b : ℕ) → Contains p.order b → Contains p.roots b) × (p.bodies ≡ set.empty))
-      → Knows reading (block_bytes d.geometry) (node_of d) p
-  known_of_new p note reading is from begun first = subst (λ (r : Reading). Knows r (block_bytes d.geometry) (node_of d) p) (sym is) (by m.pass refl)
-    where
-      by : (o : Option Pass) → m.pass ≡ o → Knows (reading_of o) (block_bytes d.geometry) (node_of d) p
-      by (Some q) e = tt
-      by None e =
-          begins_known (block_bytes d.geometry) (node_of d) p (subst (AreRoots (block_bytes d.geometry) (node_of d)) (sym (new_roots p note e from)) must_have_trees)
-          ((begun e).1 (node_of d)) (first e).0 (first e).1
+  known_of_new : (p : Pass) (note : set.FinSet nat_cmp) → m.pass ≡ None → GoesOnFrom m p note → ((f : Blocks) → IsPass f p) → ((b : ℕ) → Contains p.order b → Contains p.roots b) × (p.bodies ≡ set.empty)
+      → Knows Fronts (block_bytes d.geometry) (node_of d) p
+  known_of_new p note none from begun first =
+      begins_known (block_bytes d.geometry) (node_of d) p (subst (AreRoots (block_bytes d.geometry) (node_of d)) (sym (new_roots p note none from)) must_have_trees)
+      (begun (node_of d)) first.0 first.1
 
   module _ (n : System) (is : n ≡ with_note m n.state.storage.ring.note) where
     pub noted_keeps : Keeps d d m n
@@ -276,14 +269,15 @@ module _ (d : Device) (m : System) (s : IsSystem d m) (on : m.state.is_off ≡ f
     still_used b used = ap (λ (x : System). set.contains x.state.storage.ring.used b) is ∙ used
 
     -- the marking that is taken up goes on
-    pub taken_up : (p : Pass) → GoesOnFrom m p n.state.storage.ring.note → (m.pass ≡ None → (p.blocks ≡ m.state.storage.ring.blocks) × ((f : Blocks) → IsPass f p)) → IsRunning d n p
-    taken_up p (inl (was, note)) begun = kept_running d d m n s on noted_keeps p still_used note (subst (λ (o : Option Pass). IfSome o (IsRunning d m)) was (s.passing on))
-    taken_up p (inr (none, roots, next, note)) begun =
+    pub taken_up : (p : Pass) → GoesOnFrom m p n.state.storage.ring.note → (m.pass ≡ None → (p.blocks ≡ m.state.storage.ring.blocks) × ((f : Blocks) → IsPass f p))
+        → (m.pass ≡ None → ((b : ℕ) → Contains p.order b → Contains p.roots b) × (p.bodies ≡ set.empty)) → IsRunning d n p
+    taken_up p (inl (was, note)) begun first = kept_running d d m n s on noted_keeps p still_used note (subst (λ (o : Option Pass). IfSome o (IsRunning d m)) was (s.passing on))
+    taken_up p (inr (none, roots, next, note)) begun first =
         let own = begun none in
         let as_all : (b : ℕ) → Reached (node_of d) p.roots b → Reached (node_of d) (working_roots m.state ++ m.record_roots.items) b = λ b reached. subst (λ (l : List ℕ). Reached (node_of d) l b) roots reached in
         record {
           blocks = own.0 ∙ s.mounted.ring_blocks;
-          marking = λ none. none (own.1 (node_of d));
+          known = known_of_new p n.state.storage.ring.note none (inr (none, roots, next, note)) own.1 (first none);
           held = λ b reached. still_used b (must_used d m s on b (reached_must b (as_all b reached)));
           nodes = λ b reached. trees_hold_nodes (block_bytes d.geometry - body_header) (node_of d) (working_roots m.state ++ m.record_roots.items) must_have_trees b (as_all b reached);
           taken = λ b must apart. absurd (apart (subst (λ (l : List ℕ). Reached (node_of d) l b) (sym roots) (must_reach b (still_must d d m n s on noted_keeps b must))));
@@ -319,17 +313,17 @@ module _ (d e : Device) (m : System) (st : Storage) (s : IsSystem d m) (on : m.s
   looked_system none = kept_system d e m (with_storage m st m.pass) s on (looked_keeps m.pass) (subst (λ (o : Option Pass). IfSome o (IsRunning e (with_storage m st m.pass))) (sym none) tt)
 
   -- the marking goes on
-  pub going_system : (p q : Pass) → Advances p q → (IsPass (node_of d) p → IsPass (node_of d) q) → IsRunning d m p → IsSystem e (with_storage m st (Some q))
-  going_system p q goes on_with running =
+  pub going_system : (p q : Pass) → Advances p q → Knows Fronts (block_bytes d.geometry) (node_of d) q → IsRunning d m p → IsSystem e (with_storage m st (Some q))
+  going_system p q goes known running =
       let n = with_storage m st (Some q) in
       let keeps = looked_keeps (Some q) in
       kept_system d e m n s on keeps
-      (advanced d e m n s on keeps p q goes on_with
+      (advanced d e m n s on keeps p q goes known
       (kept_running d e m n s on keeps p (λ b used. ap (λ (r : Ring). set.contains r.used b) l.untouched.ring ∙ used) (ap (λ (r : Ring). r.note) l.untouched.ring) running))
 
   -- no block that its roots reach lacks its node
   pub not_damaged : (p : Pass) (result : Result Bool Fault) → (IsPass (node_of d) p → IsErrOf result Damaged → (b : ℕ) × Reached (node_of d) p.roots b × (node_of d b ≡ None)) → IsRunning d m p → IsErrOf result Damaged → ⊥
-  not_damaged p result damaged running is = running.marking (λ pass. let (b, reached, none) = damaged pass is in running.nodes b reached none)
+  not_damaged p result damaged running is = is_marking d m p running (λ pass. let (b, reached, none) = damaged pass is in running.nodes b reached none)
 
   -- ---- it ends
 
@@ -343,14 +337,14 @@ module _ (d e : Device) (m : System) (st : Storage) (s : IsSystem d m) (on : m.s
       where
         by : (x : Bool) → set.contains marks.members b ≡ x → set.contains marks.members b ≡ true
         by true is = is
-        by false is = absurd (running.marking (λ pass. both_ways (set.contains marks.members b) is ((marked pass b).1 reached)))
+        by false is = absurd (is_marking d m p running (λ pass. both_ways (set.contains marks.members b) is ((marked pass b).1 reached)))
 
     pub only_marked : (b : ℕ) → (Reached (node_of d) p.roots b → ⊥) → set.contains marks.members b ≡ false
     only_marked b apart = by (set.contains marks.members b) refl
       where
         by : (x : Bool) → set.contains marks.members b ≡ x → set.contains marks.members b ≡ false
         by false is = is
-        by true is = absurd (running.marking (λ pass. apart ((marked pass b).0 is)))
+        by true is = absurd (is_marking d m p running (λ pass. apart ((marked pass b).0 is)))
 
     -- the marked blocks, and those that were taken since, are used, and of the others no node is kept in memory
     abbrev marked_storage : Storage
@@ -428,11 +422,18 @@ module _ (d e : Device) (m : System) (st : Storage) (s : IsSystem d m) (on : m.s
       on = goes;
       next = done.0;
       all = done.1;
-      marking = λ none_is. running.marking (λ pass. none_is (on_with pass));
+      marking = λ none_is. is_marking d m p running (λ pass. none_is (on_with pass));
       reached = λ b reached. union_left marks.members st.ring.note b (all_marked b reached);
       taken = λ b noted. union_right marks.members st.ring.note b noted;
       only = others_go;
     })
+
+-- what a step asked, told of the same devices
+abbrev pub HasAskedFor : Device → Pass → ℕ → Device → Type 0
+HasAskedFor d p budget e = (e.operations ≤ d.operations + budget * d.geometry.pages) × (IsPass (node_of d) p → AsksForRest d p e)
+
+pub asked_alike : (d d' e e' : Device) (p : Pass) (budget : ℕ) → d ≡ d' → e ≡ e' → HasAskedFor d p budget e → HasAskedFor d' p budget e'
+asked_alike d d' e e' p budget same same' asked = subst (λ (x : Device). HasAskedFor d' p budget x) same' (subst (λ (x : Device). HasAskedFor x p budget e) same asked)
 
 -- why a step is refused: never since a block lacks its node
 pub read_cause : (d e : Device) (s t u v : Storage) (fault : Fault) → (fault ≡ Damaged → ⊥) → (fault ≢ Damaged → ReadCause (seen_of d s) fault (seen_of e t)) → ReadCause (seen_of d u) fault (seen_of e v)
@@ -451,12 +452,14 @@ pub record IsStepped (d e : Device) (m n : System) (p q : Pass) (st : Storage) :
   pub noted : n ≡ with_note m n.state.storage.ring.note
   pub from : GoesOnFrom m p n.state.storage.ring.note
   pub begun : m.pass ≡ None → (p.blocks ≡ m.state.storage.ring.blocks) × ((f : Blocks) → IsPass f p)
+  pub first_of : m.pass ≡ None → ((b : ℕ) → Contains p.order b → Contains p.roots b) × (p.bodies ≡ set.empty)
   pub goes : Advances p q
   pub looked : HasLooked d n.state.storage e st
 
 pub is_stepped : (d e : Device) (m n : System) (p q : Pass) (st : Storage) → IsSystem d m → m.state.is_off ≡ false → n ≡ with_note m n.state.storage.ring.note → GoesOnFrom m p n.state.storage.ring.note
-    → (m.pass ≡ None → (p.blocks ≡ m.state.storage.ring.blocks) × ((f : Blocks) → IsPass f p)) → Advances p q → HasLooked d n.state.storage e st → IsStepped d e m n p q st
-is_stepped d e m n p q st system on noted from begun goes looked = record { system = system; on = on; noted = noted; from = from; begun = begun; goes = goes; looked = looked }
+    → (m.pass ≡ None → (p.blocks ≡ m.state.storage.ring.blocks) × ((f : Blocks) → IsPass f p)) → (m.pass ≡ None → ((b : ℕ) → Contains p.order b → Contains p.roots b) × (p.bodies ≡ set.empty))
+    → Advances p q → HasLooked d n.state.storage e st → IsStepped d e m n p q st
+is_stepped d e m n p q st system on noted from begun first_of goes looked = record { system = system; on = on; noted = noted; from = from; begun = begun; first_of = first_of; goes = goes; looked = looked }
 
 -- no marking was taken up
 pub untaken_asks : (d : Device) (m : System) (budget : ℕ) → IsSystem d m → m.state.is_off ≡ false → AsksToStep d (marking_of m) budget d
@@ -464,7 +467,7 @@ untaken_asks d m budget s on = asks_still d m budget (by m.pass (s.passing on))
   where
     by : (o : Option Pass) → IfSome o (IsRunning d m) → IfSome o (λ p. (IsPass (node_of d) p → ⊥) → ⊥)
     by None _ = tt
-    by (Some p) r = r.marking
+    by (Some p) r = is_marking d m p r
 
 module _ (d e : Device) (m n : System) (p q : Pass) (st : Storage) (t : IsStepped d e m n p q st) where
   first : IsSystem d n
@@ -480,13 +483,13 @@ module _ (d e : Device) (m n : System) (p q : Pass) (st : Storage) (t : IsSteppe
   none = ap (λ (x : System). x.pass) t.noted
 
   running : IsRunning d n p
-  running = taken_up d m t.system t.on n t.noted p t.from t.begun
+  running = taken_up d m t.system t.on n t.noted p t.from t.begun t.first_of
 
   pub stepped_stays : (pass : Option Pass) → Stays d m e (with_storage n st pass)
   stepped_stays pass = stays_on d d e m n (with_storage n st pass) first_stays (kept_stays d e n (with_storage n st pass) first step_is_on (looked_keeps d e n st first step_is_on t.looked pass))
 
   pub stepped_asks : (budget : ℕ) → e.operations ≤ d.operations + budget * d.geometry.pages → (IsPass (node_of d) p → AsksForRest d p e) → AsksToStep d (marking_of m) budget e
-  stepped_asks budget few rest = asks_on d e m p n.state.storage.ring.note budget t.from running.marking few rest
+  stepped_asks budget few rest = asks_on d e m p n.state.storage.ring.note budget t.from (is_marking d n p running) few rest
 
   -- it was refused
   pub refused_system : IsSystem e (with_storage n st n.pass)
@@ -517,8 +520,8 @@ module _ (d e : Device) (m n : System) (p q : Pass) (st : Storage) (t : IsSteppe
     used = ap (λ (r : Ring). r.used) t.looked.untouched.ring ∙ ap (λ (x : System). x.state.storage.ring.used) t.noted;
   }
 
-  pub goes_system : (IsPass (node_of d) p → IsPass (node_of d) q) → IsSystem e (with_storage n st (Some q))
-  goes_system on_with = going_system d e n st first step_is_on t.looked p q t.goes on_with running
+  pub goes_system : Knows Fronts (block_bytes d.geometry) (node_of d) q → IsSystem e (with_storage n st (Some q))
+  goes_system known = going_system d e n st first step_is_on t.looked p q t.goes known running
 
   -- it ends
   module _ (marks : BlockSet) (u : Storage) (is : u ≡ marked_in st marks) (blocks : AreDataBlocks st.ring.blocks st.ring.used)
@@ -560,7 +563,7 @@ power_system e n off s on is_off = record {
   where
     by : (o : Option Pass) → IfSome o (IsRunning e n) → IfSome o (IsRunning e (with_power n off))
     by None _ = tt
-    by (Some p) r = record { blocks = r.blocks; marking = r.marking; held = r.held; nodes = r.nodes; taken = r.taken }
+    by (Some p) r = record { blocks = r.blocks; known = r.known; held = r.held; nodes = r.nodes; taken = r.taken }
 
 module _ (d e : Device) (m n : System) (budget : ℕ) (answer : Result Bool Fault) (on : m.state.is_off ≡ false) (system : IsSystem e n) (still_on : n.state.is_off ≡ false) (stays : Stays d m e n) (ends : StepEnds d m budget answer e n)
     (asks : AsksToStep d (marking_of m) budget e) where

@@ -28,7 +28,7 @@ use Rattle.bad_blocks.specs.Mode.{is_read_only}
 use Rattle.working_state.specs.Mounted.{KeepsPages}
 use Rattle.working_state.specs.Roots.{IsReached, IsSpace}
 use Rattle.working_state.specs.Seen.{Seen, capacity_of, seen_on, machine_on}
-use Rattle.working_state.specs.Steps.{last_serial, is_sync, is_light, begins_work, is_cut, is_cut_answer, is_writing, tells_space, Refuses, IsLater}
+use Rattle.working_state.specs.Steps.{last_serial, is_sync, is_light, begins_work, is_cut, is_cut_answer, is_writing, tells_space, Refuses, LeadsTo}
 use Rattle.working_state.specs.Steps as once_only
 use Rattle.working_state.specs.Worked.{ReadCause}
 use Rattle.working_state.specs.declared.state.State.{State}
@@ -36,7 +36,7 @@ use Rattle.working_state.proofs.ChangeSteps.{change_accepted}
 use Rattle.working_state.proofs.CutCalls.{own_says}
 use Rattle.working_state.proofs.Refusals.{accepted_begins}
 use Rattle.mounting.specs.Records.{roots_of, group_roots, working_roots}
-use Rattle.mounting.specs.Saved.{saved_trees, IsWhole}
+use Rattle.mounting.specs.Saved.{saved_trees, IsWholeRecord}
 use Rattle.system.specs.Commits.{Saves, SaveCause, KeepsRecord, RecordAfter, TriesOnce}
 use Rattle.system.specs.Reclaiming.{GoesOnFrom, Stays, EndsPass}
 use Rattle.system.specs.Rooms.{unmarked, no_limit, MarksAnew, LacksCommit}
@@ -54,7 +54,7 @@ use Rattle.system.proofs.Syncs.{later, reached_from}
 
 -- ---- one try
 
-as_after : (old new : Seen) → IsLater old new → IsAfter old new
+as_after : (old new : Seen) → LeadsTo old new → IsAfter old new
 as_after old new l = record {
   capacity = l.capacity;
   failed_reads = l.failed_reads;
@@ -77,7 +77,7 @@ after_on a b c x y = record {
 }
 
 as_answers : (twice : Type 0) (old : Seen) (m : Machine) (off : Bool) (call : Call) (result : Result Reply Fault) (new : Seen) (n : Machine) (off' : Bool)
-    → once_only.Answers old m off call result new n off' → SystemAnswers twice old m off call result new n off'
+    → once_only.AnswersOnce old m off call result new n off' → SystemAnswers twice old m off call result new n off'
 as_answers twice old m off call (Ok reply) new n off' h = h
 as_answers twice old m true call (Err fault) new n off' h = h
 as_answers twice old m false call (Err fault) new n off' (why, is, flag) = (inl why, is, flag)
@@ -162,14 +162,14 @@ record IsFull (d : Device) (m : System) (call : Call) (b : Device) (k : System) 
 pub full_on : (d b : Device) (m k : System) (call : Call) → TriesOnce d m call (Err FlashFull) b k → k.state.is_off ≡ false
 full_on d b m k call first = by m.state.is_off first.step.answers
   where
-    by : (off : Bool) → once_only.Answers (seen_on d m.state) (machine_on d m.state) off call (Err FlashFull) (seen_on b k.state) (machine_on b k.state) k.state.is_off → k.state.is_off ≡ false
+    by : (off : Bool) → once_only.AnswersOnce (seen_on d m.state) (machine_on d m.state) off call (Err FlashFull) (seen_on b k.state) (machine_on b k.state) k.state.is_off → k.state.is_off ≡ false
     by true h = absurd (let wrong = h.0 in cc)
     by false h = h.2
 
 is_full : (d b : Device) (m k : System) (call : Call) → TriesOnce d m call (Err FlashFull) b k → IsFull d m call b k
 is_full d b m k call first = by m.state.is_off refl first.step.answers
   where
-    by : (off : Bool) → m.state.is_off ≡ off → once_only.Answers (seen_on d m.state) (machine_on d m.state) off call (Err FlashFull) (seen_on b k.state) (machine_on b k.state) k.state.is_off → IsFull d m call b k
+    by : (off : Bool) → m.state.is_off ≡ off → once_only.AnswersOnce (seen_on d m.state) (machine_on d m.state) off call (Err FlashFull) (seen_on b k.state) (machine_on b k.state) k.state.is_off → IsFull d m call b k
     by true is h = absurd (let wrong = h.0 in cc)
     by false is (inl says, _, _) = absurd (true≢false (own_says (machine_on d m.state) call FlashFull says))
     by false is (inr why, as_was, flag) =
@@ -199,7 +199,7 @@ record IsBetween (d : Device) (m : System) (c : Device) (q : System) : Type 0 wh
   bad : (b : ℕ) → set.contains m.state.storage.bad b ≡ true → set.contains q.state.storage.bad b ≡ true
   pages : KeepsPages d m.state c
   reaches : (b : ℕ) → IsReached d m.state b → IsReached c q.state b
-  whole : IsWhole d → IsWhole c
+  whole : IsWholeRecord d → IsWholeRecord c
 
 -- what a history reaches, where the nodes are the same
 moved : (x y : Device) (s t : State) → t.history ≡ s.history → t.group ≡ s.group → node_of y ≡ node_of x → (b : ℕ) → IsReached x s b → IsReached y t b
@@ -413,10 +413,10 @@ module _ (d b c : Device) (m k q : System) (call : Call) (s : IsSystem d m) (fir
     again_answers : SystemAnswers twice (seen_on d m.state) (machine_on d m.state) m.state.is_off call result (seen_on e n.state) (machine_on e n.state) n.state.is_off
     again_answers =
         subst (λ (off : Bool). SystemAnswers twice (seen_on d m.state) (machine_on d m.state) off call result (seen_on e n.state) (machine_on e n.state) n.state.is_off) (sym facts.on)
-        (by result (subst (λ (off : Bool). once_only.Answers (seen_on c q.state) (machine_on d m.state) off call result (seen_on e n.state) (machine_on e n.state) n.state.is_off) (made_off (Ok true) room)
-        (subst (λ (x : Machine). once_only.Answers (seen_on c q.state) x q.state.is_off call result (seen_on e n.state) (machine_on e n.state) n.state.is_off) at.machine second.step.answers)))
+        (by result (subst (λ (off : Bool). once_only.AnswersOnce (seen_on c q.state) (machine_on d m.state) off call result (seen_on e n.state) (machine_on e n.state) n.state.is_off) (made_off (Ok true) room)
+        (subst (λ (x : Machine). once_only.AnswersOnce (seen_on c q.state) x q.state.is_off call result (seen_on e n.state) (machine_on e n.state) n.state.is_off) at.machine second.step.answers)))
       where
-        by : (r : Result Reply Fault) → once_only.Answers (seen_on c q.state) (machine_on d m.state) false call r (seen_on e n.state) (machine_on e n.state) n.state.is_off
+        by : (r : Result Reply Fault) → once_only.AnswersOnce (seen_on c q.state) (machine_on d m.state) false call r (seen_on e n.state) (machine_on e n.state) n.state.is_off
             → SystemAnswers twice (seen_on d m.state) (machine_on d m.state) false call r (seen_on e n.state) (machine_on e n.state) n.state.is_off
         by (Ok reply) (on, is, flag) = (
           on,
@@ -736,7 +736,7 @@ few_free d e m n call result both =
         let second = again.second.step.later.listed in
         omega (arith, room, second)
 
-    first_few : (off : Bool) → once_only.Answers (seen_on d m.state) (machine_on d m.state) off call (Err FlashFull) (seen_on b k.state) (machine_on b k.state) k.state.is_off
+    first_few : (off : Bool) → once_only.AnswersOnce (seen_on d m.state) (machine_on d m.state) off call (Err FlashFull) (seen_on b k.state) (machine_on b k.state) k.state.is_off
         → (seen_on d m.state).free + (seen_on d m.state).listed < (seen_on b k.state).listed + need (capacity_of d) (machine_on d m.state) call
     first_few true h = absurd (let wrong = h.0 in cc)
     first_few false (inl says, _, _) = absurd (true≢false (own_says (machine_on d m.state) call FlashFull says))
@@ -744,13 +744,13 @@ few_free d e m n call result both =
 
 -- a call that needs no node does not find the flash full
 pub never_full : (d e : Device) (m n : System) (call : Call) (result : Result Reply Fault) → TriesOnce d m call result e n → ((capacity : ℕ) (x : Machine) → change_need capacity x call ≡ 0) → result ≢ Err FlashFull
-never_full d e m n call result once none is = by m.state.is_off (subst (λ (r : Result Reply Fault). once_only.Answers (seen_on d m.state) (machine_on d m.state) m.state.is_off call r (seen_on e n.state) (machine_on e n.state) n.state.is_off) is once.step.answers)
+never_full d e m n call result once none is = by m.state.is_off (subst (λ (r : Result Reply Fault). once_only.AnswersOnce (seen_on d m.state) (machine_on d m.state) m.state.is_off call r (seen_on e n.state) (machine_on e n.state) n.state.is_off) is once.step.answers)
   where
     no_need : (x : Bool) → (if x then change_need (capacity_of d) (machine_on d m.state) call else 0) ≡ 0
     no_need true = none (capacity_of d) (machine_on d m.state)
     no_need false = refl
 
-    by : (off : Bool) → once_only.Answers (seen_on d m.state) (machine_on d m.state) off call (Err FlashFull) (seen_on e n.state) (machine_on e n.state) n.state.is_off → ⊥
+    by : (off : Bool) → once_only.AnswersOnce (seen_on d m.state) (machine_on d m.state) off call (Err FlashFull) (seen_on e n.state) (machine_on e n.state) n.state.is_off → ⊥
     by true h = let wrong = h.0 in cc
     by false (inl says, _, _) = true≢false (own_says (machine_on d m.state) call FlashFull says)
     by false (inr why, _, _) = let needs = why.0 in let zero_need = no_need (changes_tree (machine_on d m.state) call) in omega (arith, needs, zero_need)

@@ -6,11 +6,15 @@ use Rattle.fs_types.specs.declared.fault.Fault.{Fault}
 use Rattle.history_machine.specs.History.{Past}
 use Rattle.flash_model.specs.declared.geometry.Geometry.{Geometry}
 use Rattle.flash_model.specs.Device.{Device}
+use Rattle.flash_model.specs.Geometry.{block_bytes}
 use Rattle.node_store.specs.NodePages.{node_of}
 use Rattle.block_trees.specs.Bodies.{Blocks}
 use Rattle.block_trees.specs.Reached.{Reached, Agrees}
-use Rattle.reclaim.specs.Passes.{Pass}
-use Rattle.reclaim.proofs.Marking.{pass_stays, reached_same, reached_back}
+use Rattle.reclaim.specs.Kinds.{IsKnownMarking}
+use Rattle.reclaim.specs.Passes.{Pass, IsPass}
+use Rattle.reclaim.specs.Verified.{AreRoots}
+use Rattle.reclaim.proofs.KnownPasses.{known_stays}
+use Rattle.reclaim.proofs.Marking.{reached_same, reached_back}
 use Rattle.record_format.specs.declared.record.Record.{Record}
 use Rattle.working_state.specs.Roots.{IsReached}
 use Rattle.working_state.specs.declared.state.State.{State}
@@ -23,15 +27,21 @@ use Rattle.system.proofs.Measured.{listed_reached, of_history}
 use Rattle.system.proofs.Syncs.{reached_from}
 use Rattle.mounting.proofs.SameNodes.{node_is, same_nodes}
 
--- what its roots reach keeps its nodes and stays used, no block leaves the note, and what must stay had to before, or is noted
+-- a marking that goes on is one
+pub is_marking : (d : Device) (m : System) (p : Pass) → IsRunning d m p → (IsPass (node_of d) p → ⊥) → ⊥
+is_marking d m p r none = r.known (λ k. none k.pass)
+
+-- what its roots reach keeps its nodes and stays used, they still have trees, no block leaves the note, and what must stay had
+-- to before, or is noted
 pub running_on : (d e : Device) (m n : System) (p : Pass) → e.geometry ≡ d.geometry → Agrees p.roots (node_of d) (node_of e)
+    → (AreRoots (block_bytes d.geometry) (node_of d) p.roots → AreRoots (block_bytes d.geometry) (node_of e) p.roots)
     → ((b : ℕ) → set.contains m.state.storage.ring.used b ≡ true → set.contains n.state.storage.ring.used b ≡ true)
     → ((b : ℕ) → set.contains m.state.storage.ring.note b ≡ true → set.contains n.state.storage.ring.note b ≡ true)
     → ((b : ℕ) → MustStay e n b → MustStay d m b ⊎ (set.contains n.state.storage.ring.note b ≡ true))
     → IsRunning d m p → IsRunning e n p
-running_on d e m n p geometry agrees used note stays r = record {
+running_on d e m n p geometry agrees trees used note stays r = record {
   blocks = r.blocks ∙ ap (λ (g : Geometry). g.blocks) (sym geometry);
-  marking = λ none. r.marking (λ pass. none (pass_stays (node_of d) (node_of e) p agrees pass));
+  known = λ none. r.known (λ k. none (subst (λ (g : Geometry). IsKnownMarking (block_bytes g) (node_of e) p) (sym geometry) (known_stays (block_bytes d.geometry) (node_of d) (node_of e) p agrees trees k)));
   held = λ b reached. used b (r.held b (reached_back (node_of d) (node_of e) p.roots agrees reached));
   nodes = λ b reached none. let before = reached_back (node_of d) (node_of e) p.roots agrees reached in r.nodes b before (sym (agrees b before) ∙ none);
   taken = λ b must apart. elim (stays b must) [
@@ -78,5 +88,6 @@ module _ {T : Type 0} (d e : Device) (m n : System) (result : Result T Fault) (s
       by : (o : Option Pass) → IfSome o (IsRunning d m) → IfSome o (IsRunning e n)
       by None none = tt
       by (Some p) running =
-          running_on d e m n p saves.only_anchors.geometry (λ b reached. node_is d e (same d e m n result s saves) b) still_used still_noted
+          running_on d e m n p saves.only_anchors.geometry (λ b reached. node_is d e (same d e m n result s saves) b)
+          (subst (λ (f : Blocks). AreRoots (block_bytes d.geometry) f p.roots) (sym nodes_are)) still_used still_noted
           (λ b must. inl (still_must b (saved_after d e m n result s saves) must)) running

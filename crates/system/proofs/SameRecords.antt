@@ -6,8 +6,8 @@ use Rattle.flash_model.specs.Geometry.{IsGeometry}
 use Rattle.history_machine.specs.History.{map_roots}
 use Rattle.record_format.specs.declared.record.Record.{Record}
 use Rattle.commit_pair.specs.Parts.{newest_on}
-use Rattle.mounting.specs.Records.{history_of, roots_of, is_plain}
-use Rattle.mounting.specs.Saved.{saved_on, saved_trees, IsWhole}
+use Rattle.mounting.specs.Records.{history_of, roots_of, knows_plain_only}
+use Rattle.mounting.specs.Saved.{saved_on, saved_trees, IsWholeRecord}
 use Rattle.system.proofs.Committed.{same_saved}
 use Rattle.mounting.proofs.Loading.{later_trees}
 use Rattle.mounting.proofs.SameNodes.{HasSameData, same_nodes, same_tree}
@@ -22,6 +22,6 @@ module _ (d e : Device) (lawful : IsGeometry d.geometry) (geometry : e.geometry 
   pub same_trees : saved_trees e ≡ saved_trees d
   same_trees = λ i. option_map (λ (r : Record). map_roots (same_tree d e same i) (history_of r)) (still_saved i)
 
-  pub still_whole : IsWhole d → IsWhole e
+  pub still_whole : IsWholeRecord d → IsWholeRecord e
   still_whole whole r is =
-      later_trees d e (is_plain r) (roots_of (history_of r)) geometry (same_nodes d e same) (whole r (sym still_saved ∙ is))
+      later_trees d e (knows_plain_only r) (roots_of (history_of r)) geometry (same_nodes d e same) (whole r (sym still_saved ∙ is))

@@ -172,7 +172,7 @@ module _ (d e : Device) (m n : System) (call : Call) (s : IsSystem d m) (once : 
       let few = by m.state.is_off once.step.answers in
       omega arith
     where
-      by : (off : Bool) → once_only.Answers (seen_on d m.state) (machine_on d m.state) off call (Err FlashFull) (seen_on e n.state) (machine_on e n.state) n.state.is_off
+      by : (off : Bool) → once_only.AnswersOnce (seen_on d m.state) (machine_on d m.state) off call (Err FlashFull) (seen_on e n.state) (machine_on e n.state) n.state.is_off
           → free_count m.state.storage.ring m.state.storage.bad + set.len m.state.storage.bad < set.len n.state.storage.bad + need (capacity_of d) (machine_on d m.state) call
       by true h = absurd (let wrong = h.0 in cc)
       by false (inl says, _, _) = absurd (true≢false (own_says (machine_on d m.state) call FlashFull says))

@@ -1,5 +1,5 @@
 -- A step of the working state is one of the system: it leaves the newest record.
-use Rattle.std.proofs.Common.{◌≡◌, inl, inr, ℕ, ◌<◌, Bool, true, false, Option, Some, None, Result, Ok, Err, map, refl, sym, ap, subst, ◌∙◌}
+use Rattle.std.proofs.Common.{◌≡◌, inl, inr, ℕ, ◌-◌, ◌<◌, Bool, true, false, Option, Some, None, Result, Ok, Err, [], ◌∷◌, map, refl, sym, ap, subst, ◌∙◌}
 use Rattle.std.proofs.lemmas.Bool.{true≢false}
 use Rattle.std.specs.Prelude.{◌⊎◌, is_some, IfSome, Contains}
 use Rattle.std.specs.FinSet as set
@@ -12,24 +12,28 @@ use Rattle.fs_types.specs.declared.fault.Fault.{Fault}
 use Rattle.history_machine.specs.HistoryMaps.{same-map_roots}
 use Rattle.flash_model.specs.declared.geometry.Geometry.{Geometry}
 use Rattle.flash_model.specs.Device.{Device, block_of}
+use Rattle.flash_model.specs.Geometry.{block_bytes}
+use Rattle.node_format.specs.Headers.{body_header}
 use Rattle.node_store.specs.NodePages.{node_of}
 use Rattle.node_store.specs.Storage.{Storage, storage, Evolved}
 use Rattle.node_store.specs.StoreLaws.{Evolved_node}
 use Rattle.block_trees.specs.Reached.{Reached}
+use Rattle.block_trees.specs.Trees.{IsRoot}
 use Rattle.reclaim.specs.Passes.{Pass}
+use Rattle.reclaim.specs.Verified.{AreRoots}
 use Rattle.reclaim.proofs.Marking.{reached_back}
 use Rattle.record_format.specs.declared.record.Record.{Record}
 use Rattle.commit_pair.specs.Newest.{remembered}
 use Rattle.commit_pair.proofs.NewestLaws.{only_anchors_matter}
 use Rattle.commit_pair.proofs.Beginning.{still_may_commit}
 use Rattle.working_state.specs.Seen.{seen_on, tree_on, machine_on}
-use Rattle.working_state.specs.Steps.{is_sync, Answers}
+use Rattle.working_state.specs.Steps.{is_sync, AnswersOnce}
 use Rattle.working_state.specs.Mounted.{IsStanding, IsMounted, StateStep, KeepsPages}
 use Rattle.working_state.specs.Roots.{IsReached}
 use Rattle.working_state.specs.declared.state.State.{State}
 use Rattle.working_state.proofs.Standing.{still_stands, same_tree}
 use Rattle.mounting.specs.Records.{history_of, roots_of, trees_of}
-use Rattle.mounting.specs.Saved.{saved_on, saved_trees, IsWhole}
+use Rattle.mounting.specs.Saved.{saved_on, saved_trees, IsWholeRecord}
 use Rattle.mounting.proofs.PlainRoots.{plain_stays}
 use Rattle.system.specs.Commits.{TriesOnce}
 use Rattle.system.specs.Systems.{IsSystem, IsRunning, MustStay}
@@ -37,6 +41,7 @@ use Rattle.system.specs.declared.systems.System.{System}
 use Rattle.system.proofs.AfterCommits.{knows, known, is_newest, not_none}
 use Rattle.system.proofs.Committed.{same_saved}
 use Rattle.mounting.proofs.Loading.{contains_front, contains_back}
+use Rattle.system.proofs.Measured.{reached_to}
 use Rattle.system.proofs.Running.{running_on}
 use Rattle.system.proofs.Syncs.{reached_from}
 
@@ -59,7 +64,7 @@ module _ (d e : Device) (m : System) (t : State) (call : Call) (result : Result 
   was_on on = by m.state.is_off t.is_off result refl step.step.answers on
     where
       by : (a b : Bool) (r : Result Reply Fault) → m.state.is_off ≡ a
-          → Answers (seen_on d m.state) (machine_on d m.state) a call r (seen_on e t) (machine_on e t) b → b ≡ false → m.state.is_off ≡ false
+          → AnswersOnce (seen_on d m.state) (machine_on d m.state) a call r (seen_on e t) (machine_on e t) b → b ≡ false → m.state.is_off ≡ false
       by false b r is answers off = is
       by true b (Ok reply) is answers off = absurd (true≢false answers.0)
       by true b (Err fault) is answers off = absurd (true≢false (sym answers.3 ∙ off))
@@ -101,10 +106,18 @@ module _ (d e : Device) (m : System) (t : State) (call : Call) (result : Result 
   running : IsMounted e t → m.state.is_off ≡ false → IfSome m.pass (IsRunning e (with_state m t))
   running mounted on = by m.pass (s.passing on)
     where
+      trees_stay : (p : Pass) → IsRunning d m p → AreRoots (block_bytes d.geometry) (node_of d) p.roots → AreRoots (block_bytes d.geometry) (node_of e) p.roots
+      trees_stay p runs trees root has =
+          let stands : IsStanding d m.state.storage.ring root = record {
+            held = λ first is b reached. runs.held b (reached_to (node_of d) p.roots root b has (subst (λ (x : ℕ). Reached (node_of d) (x ∷ []) b) (sym is) reached));
+            rooted = trees root has;
+          } in
+          subst (λ (g : Geometry). IsRoot (block_bytes g - body_header) (node_of e) root) evolved.geometry (still_stands was now root s.mounted.lawful evolved stands).rooted
+
       by : (o : Option Pass) → IfSome o (IsRunning d m) → IfSome o (IsRunning e (with_state m t))
       by None none = tt
       by (Some p) runs =
-          running_on d e m (with_state m t) p evolved.geometry (λ b reached. Evolved_node was now b s.mounted.lawful evolved (runs.held b reached)) evolved.kept evolved.note_stays (still_must mounted on) runs
+          running_on d e m (with_state m t) p evolved.geometry (λ b reached. Evolved_node was now b s.mounted.lawful evolved (runs.held b reached)) (trees_stay p runs) evolved.kept evolved.note_stays (still_must mounted on) runs
 
   pub state_system : IsMounted e t → IsSystem e (with_state m t)
   state_system mounted = record {
@@ -144,8 +157,8 @@ module _ (d e : Device) (m : System) (t : State) (call : Call) (result : Result 
   either : saved_trees e ≡ saved_trees d
   either = by_power (λ off. ap saved_trees (step.stopped off).0) same_trees
 
-  whole : IsWhole d → IsWhole e
-  whole before = by_power (λ off. subst IsWhole (sym (step.stopped off).0) before) (λ on r is.
+  whole : IsWholeRecord d → IsWholeRecord e
+  whole before = by_power (λ off. subst IsWholeRecord (sym (step.stopped off).0) before) (λ on r is.
       let saved : saved_on d ≡ Some r = sym as_saved ∙ is in (
         λ root has. (stands on r saved root has).rooted,
         λ plain. plain_stays (node_of d) (node_of e) (roots_of (history_of r))

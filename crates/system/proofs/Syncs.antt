@@ -31,7 +31,7 @@ use Rattle.commit_pair.specs.Anchored.{OnlyAnchors}
 use Rattle.commit_pair.specs.Committing.{Commits}
 use Rattle.working_state.specs.Roots.{IsReached}
 use Rattle.working_state.specs.Seen.{Seen, seen_on, machine_on, tree_on}
-use Rattle.working_state.specs.Steps.{is_sync, is_cut, is_cut_answer, begins_work, is_writing, replied, empty, tells_space, IsLater, Answers, MayRefuse}
+use Rattle.working_state.specs.Steps.{is_sync, is_cut, is_cut_answer, begins_work, is_writing, replied, empty, tells_space, LeadsTo, AnswersOnce, MayRefuse}
 use Rattle.working_state.proofs.BadCounts.{len-within, stays_read_only}
 use Rattle.working_state.specs.declared.state.State.{State}
 use Rattle.mounting.specs.Records.{history_of, roots_of}
@@ -137,7 +137,7 @@ module _ {T : Type 0} (d e : Device) (m n : System) (result : Result T Fault) (s
   anchors : OnlyAnchors d m.state.storage.bad e n.state.storage.bad
   anchors = saves.only_anchors
 
-  pub later : IsLater (seen_on d m.state) (seen_on e n.state)
+  pub later : LeadsTo (seen_on d m.state) (seen_on e n.state)
   later =
       let free : free_count n.state.storage.ring n.state.storage.bad ≡ free_count m.state.storage.ring m.state.storage.bad =
       ap (λ (t : State). free_count t.storage.ring n.state.storage.bad) saves.state ∙ free_same m.state.storage.ring m.state.storage.bad n.state.storage.bad (same_data d e m.state.storage.bad n.state.storage.bad anchors) in
@@ -204,11 +204,11 @@ module _ {T : Type 0} (d e : Device) (m n : System) (result : Result T Fault) (s
       by (inr newly) = inr (sync, newly)
 
   answers : (call : Call) → IsSyncing (machine_on d m.state) call → IfErr result (SaveCause d m e n)
-      → Answers (seen_on d m.state) (machine_on d m.state) m.state.is_off call (replied empty result) (seen_on e n.state) (machine_on e n.state) n.state.is_off
+      → AnswersOnce (seen_on d m.state) (machine_on d m.state) m.state.is_off call (replied empty result) (seen_on e n.state) (machine_on e n.state) n.state.is_off
   answers call is why = by result m.state.is_off on flag saves.writable why
     where
       by : (r : Result T Fault) (off : Bool) → off ≡ false → n.state.is_off ≡ is_cut_answer r → OnOk r (is_read_only n.state.storage.bad ≡ false) → IfErr r (SaveCause d m e n)
-          → Answers (seen_on d m.state) (machine_on d m.state) off call (replied empty r) (seen_on e n.state) (machine_on e n.state) n.state.is_off
+          → AnswersOnce (seen_on d m.state) (machine_on d m.state) off call (replied empty r) (seen_on e n.state) (machine_on e n.state) n.state.is_off
       by (Ok x) off was is_flag writable why = (
         was,
         record {
@@ -294,7 +294,7 @@ keeps_itself : (T : Type 0) (d : Device) (m : System) (fault : Fault) → Commit
 keeps_itself T d m PowerCut = inl (record { heads = λ q head is. is; place = refl; newest = refl })
 keeps_itself T d m _ = record { heads = λ q head is. is; place = refl; newest = refl }
 
-seen_itself : (a : Seen) → IsLater a a
+seen_itself : (a : Seen) → LeadsTo a a
 seen_itself a = record {
   capacity = refl;
   failed_reads = omega arith;
@@ -353,7 +353,7 @@ off_step d m call sync off = record {
   after = kept_record d m PowerCut _ call;
 }
   where
-    by : (b : Bool) → b ≡ true → Answers (seen_on d m.state) (machine_on d m.state) b call (Err PowerCut) (seen_on d m.state) (machine_on d m.state) b
+    by : (b : Bool) → b ≡ true → AnswersOnce (seen_on d m.state) (machine_on d m.state) b call (Err PowerCut) (seen_on d m.state) (machine_on d m.state) b
     by true is = (refl, refl, refl, refl)
     by false is = absurd (true≢false (sym is))
 
@@ -373,7 +373,7 @@ grouped_step d m call sync on refused = record {
   after = kept_record d m InGroup _ call;
 }
   where
-    by : (b : Bool) → b ≡ false → Answers (seen_on d m.state) (machine_on d m.state) b call (Err InGroup) (seen_on d m.state) (machine_on d m.state) b
+    by : (b : Bool) → b ≡ false → AnswersOnce (seen_on d m.state) (machine_on d m.state) b call (Err InGroup) (seen_on d m.state) (machine_on d m.state) b
     by false is = (inl refused, refl, refl)
     by true is = absurd (true≢false is)
 
@@ -405,6 +405,6 @@ closed_step d m call sync on refused = record {
   after = kept_record d m BadDescriptor _ call;
 }
   where
-    by : (b : Bool) → b ≡ false → Answers (seen_on d m.state) (machine_on d m.state) b call (Err BadDescriptor) (seen_on d m.state) (machine_on d m.state) b
+    by : (b : Bool) → b ≡ false → AnswersOnce (seen_on d m.state) (machine_on d m.state) b call (Err BadDescriptor) (seen_on d m.state) (machine_on d m.state) b
     by false is = (inl refused, refl, refl)
     by true is = absurd (true≢false is)

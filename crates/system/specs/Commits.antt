@@ -27,7 +27,7 @@ use Rattle.working_state.specs.Steps.{is_sync, is_cut_answer, tells_space, CallS
 use Rattle.working_state.specs.declared.state.State.{State}
 use Rattle.mounting.specs.Contents.{record_of}
 use Rattle.mounting.specs.Records.{history_of, roots_of}
-use Rattle.mounting.specs.Saved.{saved_on, saved_trees, IsWhole}
+use Rattle.mounting.specs.Saved.{saved_on, saved_trees, IsWholeRecord}
 use Rattle.system.specs.declared.systems.System.{System}
 
 -- the record that a commit of a working state writes, apart from its sequence and its bad blocks
@@ -76,7 +76,7 @@ pub record RecordAfter (commits : Type 0) (call : Call) (result : Result Reply F
   pub either : (saved_trees new ≡ saved_trees old) ⊎ (commits × (saved_trees new ≡ Some working))
   pub synced : is_sync call ≡ true → OnOk result (saved_trees new ≡ Some working)
   -- each of its versions and checkpoints has a tree, as before
-  pub whole : IsWhole old → IsWhole new
+  pub whole : IsWholeRecord old → IsWholeRecord new
   -- no page of an anchor changes but in a commit
   pub anchors : (commits → ⊥) → (p : ℕ) → block_of old p < ANCHORS → new.pages p ≡ old.pages p
   -- no page changes of a block that the newest record reaches, as long as that is the newest

@@ -7,13 +7,13 @@ use Rattle.flash_model.specs.Device.{Device}
 use Rattle.system.specs.Steps.{SystemStep}
 use Rattle.system.specs.declared.systems.System.{System}
 
-pub record Moment : Type 0 where
+pub record SystemMoment : Type 0 where
   pub device : Device
   pub system : System
 
-abbrev pub moment : Device → System → Moment
-moment d m = record { device = d; system = m }
+abbrev pub system_moment : Device → System → SystemMoment
+system_moment d m = record { device = d; system = m }
 
 -- a call takes its step from one moment to another, and is answered so
-abbrev pub Steps : Moment → Call → Result Reply Fault → Moment → Type 0
-Steps before call result after = SystemStep before.device before.system call result after.device after.system
+abbrev pub StepsAt : SystemMoment → Call → Result Reply Fault → SystemMoment → Type 0
+StepsAt before call result after = SystemStep before.device before.system call result after.device after.system

@@ -4,8 +4,6 @@ use Rattle.std.specs.FinSet as set
 use Rattle.std.specs.Ordering.{nat_cmp}
 use Rattle.flash_model.specs.Device.{Device}
 use Rattle.node_store.specs.NodePages.{node_of}
-use Rattle.reclaim.specs.declared.reading.Reading.{Reading}
-use Rattle.reclaim.specs.declared.reading.Reading.TheVariants.{Whole, Fronts}
 pub use Rattle.reclaim.specs.Passes.{Advances}
 use Rattle.reclaim.specs.Passes.{Pass, Begins, AreReached, IsPass, IsFinished}
 use Rattle.fs_types.specs.declared.fault.Fault.{Fault}
@@ -42,11 +40,6 @@ GoesOnFrom m p note =
 -- the same, as one that has listed nothing where it is new
 abbrev pub marking_of : System → Pass
 marking_of m = unwrap_or m.pass (record { blocks = m.state.storage.ring.blocks; roots = working_roots m.state ++ m.record_roots.items; order = []; next = 0; bodies = set.empty })
-
--- a step that begins a marking reads by fronts, and one that goes on with a marking whole
-abbrev pub reading_of : Option Pass → Reading
-reading_of None = Fronts
-reading_of (Some pass) = Whole
 
 -- what a step of a marking read, by its answer: so many blocks more, where some are left, which the greatest budget does not leave;
 -- so many at most, where none is

@@ -3,9 +3,12 @@ use Rattle.std.specs.Prelude.{◌≡◌, ◌≢◌, ◌⊎◌, ℕ, ◌/◌, ◌
 use Rattle.std.specs.FinSet as set
 use Rattle.std.specs.Ordering.{nat_cmp}
 use Rattle.flash_model.specs.Device.{Device}
+use Rattle.flash_model.specs.Geometry.{block_bytes}
 use Rattle.node_store.specs.NodePages.{node_of}
 use Rattle.block_trees.specs.Reached.{Reached}
-use Rattle.reclaim.specs.Passes.{Pass, IsPass}
+use Rattle.reclaim.specs.Kinds.{Knows}
+use Rattle.reclaim.specs.Passes.{Pass}
+use Rattle.reclaim.specs.declared.reading.Reading.TheVariants.{Fronts}
 use Rattle.record_format.specs.declared.record.Record.{Record}
 use Rattle.commit_pair.specs.declared.anchors.Anchors.{Anchors}
 use Rattle.commit_pair.specs.declared.best.Found.{Found}
@@ -30,10 +33,10 @@ abbrev pub MustStay : Device → System → ℕ → Type 0
 MustStay d m block = IsReached d m.state block ⊎ ((r : Record) × (saved_on d ≡ Some r) × Reached (node_of d) (roots_of (history_of r)) block)
 
 -- a marking goes on beside the calls. What its roots reach is used and has its nodes; and what must stay now they reach, or it
--- was taken since the marking began. That it is a marking is said as a proposition
+-- was taken since the marking began. Its roots have trees, and it knows which of the marked blocks are those of bodies
 pub record IsRunning (d : Device) (m : System) (p : Pass) : Type 0 where
   pub blocks : p.blocks ≡ d.geometry.blocks
-  pub marking : (IsPass (node_of d) p → ⊥) → ⊥
+  pub known : Knows Fronts (block_bytes d.geometry) (node_of d) p
   pub held : (b : ℕ) → Reached (node_of d) p.roots b → set.contains m.state.storage.ring.used b ≡ true
   pub nodes : (b : ℕ) → Reached (node_of d) p.roots b → node_of d b ≢ None
   pub taken : (b : ℕ) → MustStay d m b → (Reached (node_of d) p.roots b → ⊥) → set.contains m.state.storage.ring.note b ≡ true

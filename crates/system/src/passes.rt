@@ -7,7 +7,7 @@ ghost use Rattle.block_trees.specs.Bodies.{Blocks};
 ghost use Rattle.block_trees.specs.Reached.{Reached};
 ghost use Rattle.node_store.specs.Fitting.{Fits};
 ghost use Rattle.node_store.specs.NodePages.{node_of};
-ghost use Rattle.node_store.specs.Stores.{IsSound, Follows};
+ghost use Rattle.node_store.specs.Stores.{IsSoundStore, Follows};
 ghost use Rattle.reclaim.specs.Kinds.{Knows};
 ghost use Rattle.reclaim.specs.Passes.{IsPass};
 ghost use Rattle.working_state.specs.Leaves.{HasLooked};
@@ -15,7 +15,7 @@ ghost use Rattle.working_state.specs.Seen.{seen_of};
 ghost use Rattle.working_state.specs.Worked.{ReadCause};
 ghost use Rattle.system.specs.Reclaiming.{AsksForRest, AsksToStep};
 ghost use Rattle.mounting.specs.Records.{working_roots};
-ghost use Rattle.system.specs.Reclaiming.{GoesOnFrom, Advances, ReadsOn, StepEnds, Stays, Reclaims, marking_of, reading_of};
+ghost use Rattle.system.specs.Reclaiming.{GoesOnFrom, Advances, ReadsOn, StepEnds, Stays, Reclaims, marking_of};
 ghost use Rattle.system.specs.Systems.{IsSystem};
 
 use crate::systems::System;
@@ -64,9 +64,8 @@ impl System {
         ensures ends { StepEnds (F.device flash.old) self.old budget result (F.device flash.new) self.new }
         ensures asks { AsksToStep (F.device flash.old) (marking_of self.old) budget (F.device flash.new) }
     {
-        let reading = self.way_to_read();
         let mut pass = self.take_pass(alloc)?;
-        if !step_on(flash, &mut self.state.storage, &mut pass, reading, budget)? {
+        if !step_on(flash, &mut self.state.storage, &mut pass, budget)? {
             self.pass = Some(pass);
             return Ok(false);
         }
@@ -74,17 +73,6 @@ impl System {
         let _blocks = self.state.storage.ring.blocks();
         self.state.storage.install(pass.finish());
         Ok(true)
-    }
-
-    /// How the next step reads: one that begins a marking has roots that have trees now, and reads by
-    /// fronts; one that goes on with a marking reads whole.
-    fn way_to_read(&self) -> Reading
-        ensures { result ≡ reading_of self.now.pass }
-    {
-        match self.pass {
-            None => Reading::Fronts,
-            Some(_) => Reading::Whole,
-        }
     }
 
     /// The marking that goes on, which is none of the system's any more; else a new one.
@@ -119,17 +107,16 @@ fn step_on<F: Flash>(
     flash: &mut F,
     storage: &mut Storage,
     pass: &mut Pass,
-    reading: Reading,
     budget: u64,
 ) -> Result<bool, Fault>
     requires lawful { IsGeometry (F.device flash.old).geometry }
     requires ring_blocks { storage.old.ring.blocks ≡ (F.device flash.old).geometry.blocks }
     requires fits { Fits (F.device flash.old) storage.old }
     requires blocks { pass.old.blocks ≡ (F.device flash.old).geometry.blocks }
-    requires known { Knows reading (block_bytes (F.device flash.old).geometry) (node_of (F.device flash.old)) pass.old }
+    requires known { Knows Reading.Fronts (block_bytes (F.device flash.old).geometry) (node_of (F.device flash.old)) pass.old }
 
     // The marking went on, and is none where its reads found damage.
-    ensures pass { IsPass (node_of (F.device flash.old)) pass.old → OnOk result (IsPass (node_of (F.device flash.old)) pass.new) }
+    ensures pass { (IsPass (node_of (F.device flash.old)) pass.old → OnOk result (IsPass (node_of (F.device flash.old)) pass.new)) × OnOk result (Knows Reading.Fronts (block_bytes (F.device flash.old).geometry) (node_of (F.device flash.old)) pass.new) }
     ensures on { Advances pass.old pass.new }
     ensures reads_on { ReadsOn budget pass.old result pass.new }
     ensures damaged { IsPass (node_of (F.device flash.old)) pass.old → IsErrOf result Fault.Damaged → (b : ℕ) × Reached (node_of (F.device flash.old)) pass.old.roots b × (node_of (F.device flash.old) b ≡ None) }
@@ -140,22 +127,17 @@ fn step_on<F: Flash>(
     ensures why { IfErr result (λ fault. fault ≢ Fault.Damaged → ReadCause (seen_of (F.device flash.old) storage.old) fault (seen_of (F.device flash.new) storage.new)) }
 {
     let mut store = Store::new(flash, storage);
-    step_in(&mut store, pass, reading, budget)
+    step_in(&mut store, pass, budget)
 }
 
 /// The same, over a store.
-fn step_in<F: Flash>(
-    store: &mut Store<'_, F>,
-    pass: &mut Pass,
-    reading: Reading,
-    budget: u64,
-) -> Result<bool, Fault>
-    requires sound { IsSound F.device store.old }
+fn step_in<F: Flash>(store: &mut Store<'_, F>, pass: &mut Pass, budget: u64) -> Result<bool, Fault>
+    requires sound { IsSoundStore F.device store.old }
     requires blocks { pass.old.blocks ≡ (F.device store.old.flash.now).geometry.blocks }
-    requires known { Knows reading (block_bytes (F.device store.old.flash.now).geometry) (node_of (F.device store.old.flash.now)) pass.old }
+    requires known { Knows Reading.Fronts (block_bytes (F.device store.old.flash.now).geometry) (node_of (F.device store.old.flash.now)) pass.old }
 
     // The marking went on, and is none where its reads found damage.
-    ensures pass { IsPass (node_of (F.device store.old.flash.now)) pass.old → OnOk result (IsPass (node_of (F.device store.old.flash.now)) pass.new) }
+    ensures pass { (IsPass (node_of (F.device store.old.flash.now)) pass.old → OnOk result (IsPass (node_of (F.device store.old.flash.now)) pass.new)) × OnOk result (Knows Reading.Fronts (block_bytes (F.device store.old.flash.now).geometry) (node_of (F.device store.old.flash.now)) pass.new) }
     ensures on { Advances pass.old pass.new }
     ensures reads_on { ReadsOn budget pass.old result pass.new }
     ensures damaged { IsPass (node_of (F.device store.old.flash.now)) pass.old → IsErrOf result Fault.Damaged → (b : ℕ) × Reached (node_of (F.device store.old.flash.now)) pass.old.roots b × (node_of (F.device store.old.flash.now) b ≡ None) }
@@ -167,5 +149,5 @@ fn step_in<F: Flash>(
     ensures asks { ((F.device store.new.flash.now).operations ≤ (F.device store.old.flash.now).operations + budget * (F.device store.old.flash.now).geometry.pages) × (IsPass (node_of (F.device store.old.flash.now)) pass.old → AsksForRest (F.device store.old.flash.now) pass.old (F.device store.new.flash.now)) }
     ensures why { IfErr result (λ fault. fault ≢ Fault.Damaged → ReadCause (seen_of (F.device store.old.flash.now) store.old.storage.now) fault (seen_of (F.device store.new.flash.now) store.new.storage.now)) }
 {
-    pass.step(store, reading, budget)
+    pass.step(store, Reading::Fronts, budget)
 }

@@ -17,7 +17,7 @@ ghost use Rattle.mounting.specs.Records.{working_roots};
 ghost use Rattle.system.specs.Systems.{IsSystem};
 
 use crate::systems::System;
-use allocator::Marks;
+use allocator::{Marks, count_bad};
 use bad_blocks::{BadBlocks, bad_anchors};
 use flash_model::Flash;
 use fs_types::{ANCHORS, Fault, Reply};
@@ -64,26 +64,8 @@ fn tell_space(reached: &Marks, bad: &BadBlocks) -> Reply
     let blocks = reached.blocks();
     Reply::Df {
         blocks: (blocks - ANCHORS) as u64,
-        bad: bad_count(blocks, bad) as u64,
-        free: free_count(reached, bad) as u64,
+        bad: u64::from(count_bad(blocks, bad)),
+        free: u64::from(reached.free_count(bad)),
         anchors: ANCHORS as u64 - bad_anchors(bad) as u64,
     }
-}
-
-/// How many data blocks of a flash of `blocks` blocks are bad.
-fn bad_count(blocks: u32, bad: &BadBlocks) -> usize
-    ensures { result ≡ count_by (set.contains bad.now) (data_blocks blocks) }
-{
-    (ANCHORS..blocks)
-        .filter(|block| bad.contains(*block))
-        .count()
-}
-
-/// How many data blocks are neither bad nor reached.
-fn free_count(reached: &Marks, bad: &BadBlocks) -> usize
-    ensures { result ≡ count_by (λ b. not (set.contains bad.now b || set.contains reached.now.members b)) (data_blocks reached.now.blocks) }
-{
-    (ANCHORS..reached.blocks())
-        .filter(|block| !bad.contains(*block) && !reached.contains(*block))
-        .count()
 }

@@ -130,7 +130,7 @@ const LINES: [(&str, &str); 65] = [
         "fault 1 program-fail",
         "PlanFault { k: 1, kind: ProgramFail }",
     ),
-    ("fault 0 erase-fail", "Syntax"),
+    ("fault 0 erase-fail", "PlanFault { k: 0, kind: EraseFail }"),
     ("fault 1 fail", "Syntax"),
     ("", "Syntax"),
     ("format", "Syntax"),

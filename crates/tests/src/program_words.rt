@@ -20,6 +20,7 @@ fn words_are_read_as_a_job(rt: HostRuntime) -> Result<(), Fail> {
         path: None,
         file: None,
         view: None,
+        other: None,
         progress: false,
     };
     assert_eq!(rt; job(rt.alloc(), words.as_slice()).ok(), Some(wanted));

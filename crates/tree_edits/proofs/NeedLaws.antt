@@ -16,7 +16,7 @@ use Rattle.plain_trees.specs.Contents as plain
 use Rattle.plain_trees.specs.Trees.{Tree, put, move, entry_count, nodes_for, directory_need, path_need}
 use Rattle.plain_trees.proofs.Beneath.{by_beneath}
 use Rattle.plain_trees.proofs.Needs.{nodes_for-some, nodes_for-le, nodes_for-more, sum_below-le, put-grows, move-grows}
-use Rattle.node_format.specs.Items.{Item, named, is_dir_place}
+use Rattle.node_format.specs.Items.{Item, named_place, is_dir_place}
 use Rattle.node_format.specs.declared.place.Place.{Place}
 use Rattle.node_format.specs.declared.place.Place.TheVariants.{Dir}
 use Rattle.block_trees.specs.Bodies.{Blocks}
@@ -119,12 +119,12 @@ module _ (capacity : ℕ) (f : Blocks) (root : ℕ) (rooted : IsRoot capacity f 
       let count = counts path trail i way less in
       le_first (nodes_for (length (items_in f (slice_index trail i)) + 0)) (nodes_for (entry_count before (take i path))) (nodes_for (entry_count after (take i path)))
       (nodes_for-le (length (items_in f (slice_index trail i)) + 0) (entry_count before (take i path)) (omega (arith, count)))
-  level_few after path trail true i way less grows = on (named (items_in f (slice_index trail i)) (get_or path i [])) refl
+  level_few after path trail true i way less grows = on (named_place (items_in f (slice_index trail i)) (get_or path i [])) refl
     where
       either : (i + 1 < length path) ⊎ (i + 1 ≡ length path)
       either = grind arith
 
-      on : (o : Option Place) → named (items_in f (slice_index trail i)) (get_or path i []) ≡ o → nodes_for (length (items_in f (slice_index trail i)) + cond (is_none o) 1 0) ≤ directory_need before after (take i path)
+      on : (o : Option Place) → named_place (items_in f (slice_index trail i)) (get_or path i []) ≡ o → nodes_for (length (items_in f (slice_index trail i)) + cond (is_none o) 1 0) ≤ directory_need before after (take i path)
       on (Some place) is =
           let count = counts path trail i way less in
           le_first (nodes_for (length (items_in f (slice_index trail i)) + 0)) (nodes_for (entry_count before (take i path))) (nodes_for (entry_count after (take i path)))
@@ -204,7 +204,7 @@ module _ (capacity : ℕ) (f : Blocks) (root : ℕ) (rooted : IsRoot capacity f 
 
   -- it counts for both paths
   fork_few : edit_nodes here (get_or new fork []) (nat_lt (fork + 1) (length old)) ≤ old_need fork + new_need fork
-  fork_few = on (nat_lt (fork + 1) (length old) && is_none (named here (get_or new fork [])))
+  fork_few = on (nat_lt (fork + 1) (length old) && is_none (named_place here (get_or new fork [])))
     where
       on : (b : Bool) → nodes_for (length here + cond b 1 0) ≤ old_need fork + new_need fork
       on false = le_both (nodes_for (length here + 0)) (nodes_for (length here)) (old_need fork) (new_need fork) (nodes_for-le (length here + 0) (length here) (omega arith)) (node_few fork in_old)

@@ -8,7 +8,7 @@ use Rattle.std.specs.Option.{is_none}
 use Rattle.fs_types.specs.Names.{Path}
 use Rattle.plain_trees.specs.Contents.{Apart}
 use Rattle.plain_trees.proofs.Needs.{nodes_for-some, sum_below-long}
-use Rattle.node_format.specs.Items.{Item, named}
+use Rattle.node_format.specs.Items.{Item, named_place}
 use Rattle.block_trees.specs.Bodies.{Blocks}
 use Rattle.block_trees.specs.Reached.{Keeps}
 use Rattle.block_trees.specs.Trees.{items_in}
@@ -21,7 +21,7 @@ use Rattle.directory.proofs.TrailEdits.{level_items}
 -- each directory has a node at least
 
 edit_nodes-some : (items : List Item) (name : List ℕ) (puts : Bool) → 0 < edit_nodes items name puts
-edit_nodes-some items name puts = nodes_for-some (length items + cond (puts && is_none (named items name)) 1 0)
+edit_nodes-some items name puts = nodes_for-some (length items + cond (puts && is_none (named_place items name)) 1 0)
 
 pub path_nodes-long : (f : Blocks) (trail : List ℕ) (path : Path) (puts : Bool) (level : ℕ) → length path - level ≤ path_nodes f trail path puts level
 path_nodes-long f trail path puts level =

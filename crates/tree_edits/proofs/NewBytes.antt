@@ -5,7 +5,7 @@ use Rattle.std.specs.Prelude.{zero, Err, IfOk}
 use Rattle.std.specs.Option.{option_and_then}
 use Rattle.fs_types.specs.Names.{Path, is_path}
 use Rattle.plain_trees.specs.Contents.{Contents, Entry, overwritten, resized}
-use Rattle.plain_trees.specs.Trees.{put, bytes_of, bytes_at}
+use Rattle.plain_trees.specs.Trees.{put, bytes_of, bytes_of_file}
 use Rattle.plain_trees.proofs.Files.{length-resized, length-overwritten}
 use Rattle.fs_types.specs.declared.fault.Fault.{Fault}
 use Rattle.fs_types.specs.declared.fault.Fault.TheVariants.{FlashFull, ReadOnly, ReadFailed, PowerCut, NoMemory}
@@ -14,7 +14,7 @@ use Rattle.node_format.specs.declared.place.Place.TheVariants.{Dir, File}
 use Rattle.block_trees.specs.Bodies.{Blocks, body, data_to, head_index, IsBody}
 use Rattle.block_trees.specs.Reached.{Reached, IsHeld, Keeps, PlaceNames}
 use Rattle.block_trees.specs.Rewritten.{IsRewritten}
-use Rattle.block_trees.specs.Trees.{child, leads, HasTree, IsWhole, IsRoot, root_tree}
+use Rattle.block_trees.specs.Trees.{child, leads, HasTree, IsWholePlace, IsRoot, root_tree}
 use Rattle.block_trees.proofs.EditedMaps.{put_file_law}
 use Rattle.block_trees.proofs.EditedTrees.{edit_law}
 use Rattle.block_trees.proofs.Entries.{place_is}
@@ -47,7 +47,7 @@ body_fault _ is = absurd is
 -- ---- a body stays where nothing of it changes
 
 file_shape : (capacity : ℕ) (f : Blocks) (head size : ℕ) → IsBody capacity f head size → HasTree capacity f (File head size) 0
-file_shape capacity f head size is [] there e = (subst (IsWhole capacity f) (place_is (File head size) there e) is, omega arith)
+file_shape capacity f head size is [] there e = (subst (IsWholePlace capacity f) (place_is (File head size) there e) is, omega arith)
 file_shape capacity f head size is (n ∷ q) there e = absurd cc
 
 record StaysBody (capacity : ℕ) (new : Blocks) (kept : ℕ → Bool) (head size : ℕ) (bytes : List ℕ) : Type 0 where
@@ -92,7 +92,7 @@ abbrev pub IsFrom : Blocks → (ℕ → Bool) → ℕ → Blocks → Body → Ty
 IsFrom old kept from mid x = (root block : ℕ) → PlaceNames (File x.head x.length) root → Reached mid (root ∷ []) block → Reached old (from ∷ []) block ⊎ (kept block ≡ false)
 
 -- a body made of that of a file of the tree
-pub from_file : (capacity : ℕ) (old mid : Blocks) (kept : ℕ → Bool) (from : ℕ) (path : Path) (x y : Body) → LeadsToDirectories old from → look_up old from path ≡ Ok (found.File x.head x.length) → bodies.OnlyReaches capacity old mid kept x y → IsFrom old kept from mid y
+pub from_file : (capacity : ℕ) (old mid : Blocks) (kept : ℕ → Bool) (from : ℕ) (path : Path) (x y : Body) → LeadsToDirectories old from → look_up old from path ≡ Ok (found.File x.head x.length) → bodies.BodyOnlyReaches capacity old mid kept x y → IsFrom old kept from mid y
 from_file capacity old mid kept from path x y whole led only root block names reached = elim (only root block names reached) [
   | inl before ↦ inl (reached_leads old path from before.0 block (File x.head x.length) (found_leads_file old from path x.head x.length whole led) before.1 before.2)
   | inr fresh ↦ inr fresh.0
@@ -172,7 +172,7 @@ file_whole capacity f root path head size rooted led = (rooted path (File head s
 pub file_held : (f : Blocks) (kept : ℕ → Bool) (root : ℕ) (path : Path) (head size : ℕ) → LeadsToDirectories f root → IsHeld f kept (Dir root) → look_up f root path ≡ Ok (found.File head size) → IsHeld f kept (File head size)
 file_held f kept root path head size whole held led = held_leads f kept path (Dir root) (File head size) (found_leads_file f root path head size whole led) held
 
-pub file_bytes : (capacity : ℕ) (f : Blocks) (root : ℕ) (path : Path) (head size : ℕ) → IsRoot capacity f root → look_up f root path ≡ Ok (found.File head size) → body capacity f head size ≡ bytes_at (root_tree capacity f root) path
+pub file_bytes : (capacity : ℕ) (f : Blocks) (root : ℕ) (path : Path) (head size : ℕ) → IsRoot capacity f root → look_up f root path ≡ Ok (found.File head size) → body capacity f head size ≡ bytes_of_file (root_tree capacity f root) path
 file_bytes capacity f root path head size rooted led =
     sym (ap bytes_of (ap (λ (t : Contents). t path) (map_law capacity f root rooted).same ∙ (found_is capacity f root path (found.File head size) (rooted_leads capacity f root rooted) led).1))
 

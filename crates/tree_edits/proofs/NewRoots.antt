@@ -6,7 +6,7 @@ use Rattle.fs_types.specs.declared.fault.Fault.{Fault}
 use Rattle.fs_types.specs.Names.{Path, is_path}
 use Rattle.plain_trees.specs.Contents.{Entry, IsLast}
 use Rattle.plain_trees.specs.Trees.{put, remove, move}
-use Rattle.node_format.specs.Items.{Item, named}
+use Rattle.node_format.specs.Items.{Item, named_place}
 use Rattle.node_format.specs.declared.place.Place.{Place}
 use Rattle.node_format.specs.declared.place.Place.TheVariants.{Dir, File}
 use Rattle.block_trees.specs.Bodies.{Blocks}
@@ -21,7 +21,7 @@ use Rattle.directory.specs.declared.lookups.Found.{Found}
 use Rattle.directory.specs.declared.lookups.Found.TheVariants as found
 use Rattle.directory.specs.Edits.{OnlyReaches}
 use Rattle.directory.specs.Lookups.{look_up}
-use Rattle.directory.specs.Making.{IsMade}
+use Rattle.directory.specs.Making.{IsNewDirectory}
 use Rattle.directory.proofs.LookupLaws.{found_is, found_leads, found_leads_file, rooted_leads}
 use Rattle.tree_edits.specs.Edits.{IsMovable, IsRemovable}
 use Rattle.tree_edits.specs.Roots.{IsNewRoot}
@@ -40,7 +40,7 @@ without_entry_reaches old new kept from to block reaches r = elim (reaches block
 -- ---- a new directory
 
 pub made_root : (capacity : ℕ) (old new : Blocks) (kept kept' : ℕ → Bool) (from to : ℕ) (path : Path) → Keeps kept old kept' new → IsHeld old kept (Dir from) → IsRoot capacity old from → is_path path ≡ true
-    → look_up old from path ≡ Ok (found.Missing false) → IsMade old new kept kept' from to path → OnlyReaches old new kept from to None
+    → look_up old from path ≡ Ok (found.Missing false) → IsNewDirectory old new kept kept' from to path → OnlyReaches old new kept from to None
     → IsNewRoot capacity old kept new kept' from to (put (root_tree capacity old from) path Entry.Dir)
 made_root capacity old new kept kept' from to path keeps held rooted lawful missing made reaches =
     let nothing = (found_is capacity old from path (found.Missing false) (rooted_leads capacity old from rooted) missing).1 in
@@ -54,7 +54,7 @@ made_root capacity old new kept kept' from to path keeps held rooted lawful miss
     }
 
 pub made_result : (capacity : ℕ) (old new : Blocks) (kept kept' : ℕ → Bool) (from : ℕ) (path : Path) (result : Result ℕ Fault) → Keeps kept old kept' new → IsHeld old kept (Dir from) → IsRoot capacity old from → is_path path ≡ true
-    → look_up old from path ≡ Ok (found.Missing false) → IfOk result (λ to. IsMade old new kept kept' from to path) → IfOk result (λ to. OnlyReaches old new kept from to None)
+    → look_up old from path ≡ Ok (found.Missing false) → IfOk result (λ to. IsNewDirectory old new kept kept' from to path) → IfOk result (λ to. OnlyReaches old new kept from to None)
     → IfOk result (λ to. IsNewRoot capacity old kept new kept' from to (put (root_tree capacity old from) path Entry.Dir))
 made_result capacity old new kept kept' from path (Ok to) keeps held rooted lawful missing made reaches = made_root capacity old new kept kept' from to path keeps held rooted lawful missing made reaches
 made_result capacity old new kept kept' from path (Err fault) keeps held rooted lawful missing made reaches = tt
@@ -66,7 +66,7 @@ removable_last : (capacity : ℕ) (f : Blocks) (root : ℕ) (path : Path) (x : F
 removable_last capacity f root path (found.Missing is_full) rooted led removable = absurd removable
 removable_last capacity f root path (found.File head size) rooted led removable = last_at capacity f path (Dir root) (File head size) (found_leads_file f root path head size (rooted_leads capacity f root rooted) led) (λ n. refl)
 removable_last capacity f root path (found.Dir block) rooted led removable =
-    last_at capacity f path (Dir root) (Dir block) (found_leads f root path block (rooted_leads capacity f root rooted) led) (λ n. ap (λ (o : Option (List Item)). named (unwrap_or o []) n) removable)
+    last_at capacity f path (Dir root) (Dir block) (found_leads f root path block (rooted_leads capacity f root rooted) led) (λ n. ap (λ (o : Option (List Item)). named_place (unwrap_or o []) n) removable)
 
 pub removed_root : (capacity : ℕ) (old new : Blocks) (kept kept' : ℕ → Bool) (from to : ℕ) (path : Path) (x : Found) → Keeps kept old kept' new → IsHeld old kept (Dir from) → IsRoot capacity old from → is_path path ≡ true
     → look_up old from path ≡ Ok x → IsRemovable old x → IsRewritten old new kept kept' from to path None → OnlyReaches old new kept from to None

@@ -3,7 +3,7 @@ use Rattle.std.specs.Prelude.{◌≡◌, ℕ, ◌+◌, ◌-◌, ◌*◌, ◌<◌
 use Rattle.fs_types.specs.declared.limits.TheConstants.{MAX_NAMES, MAX_FILE_BYTES}
 use Rattle.fs_types.specs.Names.{Path, is_path, same_path}
 use Rattle.plain_trees.specs.Contents.{Entry, Apart, parent_of, overwritten, resized, pwrite_need, ftruncate_need}
-use Rattle.plain_trees.specs.Trees.{Tree, put, remove, move, bytes_at}
+use Rattle.plain_trees.specs.Trees.{Tree, put, remove, move, bytes_of_file}
 use Rattle.node_format.specs.Items.{is_place}
 use Rattle.node_format.specs.declared.place.Place.{Place}
 use Rattle.node_format.specs.declared.place.Place.TheVariants.{Dir}
@@ -58,8 +58,8 @@ IsEditable capacity f kept root (Edit.Restore other) = IsHeld f kept (Dir other)
 abbrev pub effect : (ℕ → Tree) → Edit → Tree → Tree
 effect trees (Edit.MakeDirectory path trail) t = put t path.now Entry.Dir
 effect trees (Edit.PutEmptyFile path trail) t = put t path.now (Entry.File [])
-effect trees (Edit.Overwrite path trail body offset bytes) t = put t path.now (Entry.File (overwritten (bytes_at t path.now) offset bytes.now))
-effect trees (Edit.SetLength path trail body size) t = put t path.now (Entry.File (resized (bytes_at t path.now) size))
+effect trees (Edit.Overwrite path trail body offset bytes) t = put t path.now (Entry.File (overwritten (bytes_of_file t path.now) offset bytes.now))
+effect trees (Edit.SetLength path trail body size) t = put t path.now (Entry.File (resized (bytes_of_file t path.now) size))
 effect trees (Edit.Remove path trail) t = remove t path.now
 effect trees (Edit.Move old old_trail new new_trail place) t = move t old.now new.now
 effect trees (Edit.Restore other) t = trees other
@@ -72,14 +72,14 @@ source root _ = root
 -- how many nodes an edit may write, where a body node has room for so many data bytes: of each directory of its trails as
 -- many as it has, or as it has with one entry more where a name is put that is missing; a directory that is made; and those
 -- of a file's body
-abbrev pub need : ℕ → Blocks → Edit → ℕ
-need capacity f (Edit.MakeDirectory path trail) = path_nodes f trail.now path.now true 0 + 1
-need capacity f (Edit.PutEmptyFile path trail) = path_nodes f trail.now path.now true 0
-need capacity f (Edit.Overwrite path trail body offset bytes) = pwrite_need capacity body.length offset (length bytes.now) + path_nodes f trail.now path.now true 0
-need capacity f (Edit.SetLength path trail body size) = ftruncate_need capacity body.length size + path_nodes f trail.now path.now true 0
-need capacity f (Edit.Remove path trail) = path_nodes f trail.now path.now false 0
-need capacity f (Edit.Move old old_trail new new_trail place) = move_nodes f old_trail.now old.now new_trail.now new.now
-need capacity f (Edit.Restore other) = 0
+abbrev pub edit_need : ℕ → Blocks → Edit → ℕ
+edit_need capacity f (Edit.MakeDirectory path trail) = path_nodes f trail.now path.now true 0 + 1
+edit_need capacity f (Edit.PutEmptyFile path trail) = path_nodes f trail.now path.now true 0
+edit_need capacity f (Edit.Overwrite path trail body offset bytes) = pwrite_need capacity body.length offset (length bytes.now) + path_nodes f trail.now path.now true 0
+edit_need capacity f (Edit.SetLength path trail body size) = ftruncate_need capacity body.length size + path_nodes f trail.now path.now true 0
+edit_need capacity f (Edit.Remove path trail) = path_nodes f trail.now path.now false 0
+edit_need capacity f (Edit.Move old old_trail new new_trail place) = move_nodes f old_trail.now old.now new_trail.now new.now
+edit_need capacity f (Edit.Restore other) = 0
 
 -- how many nodes are read at most to overwrite a body of this length up to an end, where the index of its head has so
 -- many binary digits

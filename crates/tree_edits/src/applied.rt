@@ -5,7 +5,7 @@ ghost use Rattle.node_format.specs.declared.place.Place.TheVariants.{Dir};
 ghost use Rattle.block_trees.specs.Reached.{IsHeld, Keeps};
 ghost use Rattle.block_trees.specs.Trees.{IsRoot, root_tree};
 ghost use Rattle.directory.specs.Trails.{IsChangeFault};
-ghost use Rattle.tree_edits.specs.Edits.{IsEditable, ReadsFew, effect, source, need};
+ghost use Rattle.tree_edits.specs.Edits.{IsEditable, ReadsFew, effect, source, edit_need};
 ghost use Rattle.tree_edits.specs.Roots.{IsNewRoot};
 
 use crate::edit::Edit;
@@ -39,8 +39,8 @@ pub fn apply<N: Nodes>(
     // What it is refused with, and what it asks for.
     ensures why { IfErr result (λ fault. N.causes nodes.old nodes.new fault) }
     ensures faults { IfErr result IsChangeFault }
-    ensures still { need (N.limit nodes.old - body_header) (N.node nodes.old) edit.entry ≡ 0 → (nodes.new ≡ nodes.old) × (result ≡ Ok (source root edit.entry)) }
-    ensures writes { N.writes nodes.new ≤ N.writes nodes.old + need (N.limit nodes.old - body_header) (N.node nodes.old) edit.entry }
+    ensures still { edit_need (N.limit nodes.old - body_header) (N.node nodes.old) edit.entry ≡ 0 → (nodes.new ≡ nodes.old) × (result ≡ Ok (source root edit.entry)) }
+    ensures writes { N.writes nodes.new ≤ N.writes nodes.old + edit_need (N.limit nodes.old - body_header) (N.node nodes.old) edit.entry }
     ensures reads { ReadsFew (N.limit nodes.old - body_header) (N.node nodes.old) edit.entry (N.reads nodes.old) (N.reads nodes.new) }
     ensures follows { N.follows nodes.old nodes.new }
 {

@@ -1,7 +1,7 @@
 //! Files with other bytes.
 ghost use Rattle.std.specs.Prelude.{◌≡◌, ℕ, ◌+◌, ◌-◌, ◌^◌, ◌≤◌, ◌<◌, true, false, length, Some, Ok, [], IfOk, IfErr};
 ghost use Rattle.plain_trees.specs.Contents.{Entry, overwritten, resized, pwrite_need, ftruncate_need};
-ghost use Rattle.plain_trees.specs.Trees.{bytes_at, put};
+ghost use Rattle.plain_trees.specs.Trees.{bytes_of_file, put};
 ghost use Rattle.fs_types.specs.declared.limits.TheConstants.{MAX_FILE_BYTES};
 ghost use Rattle.fs_types.specs.Names.{is_path};
 ghost use Rattle.node_format.specs.Headers.{body_header};
@@ -107,7 +107,7 @@ pub(crate) fn overwrite<N: Nodes>(
     requires fits { offset + length bytes.now ≤ MAX_FILE_BYTES }
 
     // The edited tree, and how many nodes were written and read for it.
-    ensures applied { IsApplied N.limit N.node N.kept N.follows N.causes nodes.old nodes.new root (λ tree. put tree path.now (Entry.File (overwritten (bytes_at tree path.now) offset bytes.now))) result }
+    ensures applied { IsApplied N.limit N.node N.kept N.follows N.causes nodes.old nodes.new root (λ tree. put tree path.now (Entry.File (overwritten (bytes_of_file tree path.now) offset bytes.now))) result }
     ensures writes { N.writes nodes.new ≤ N.writes nodes.old + (pwrite_need (N.limit nodes.old - body_header) body.length offset (length bytes.now) + path_nodes (N.node nodes.old) trail.now path.now true 0) }
     ensures reads { (digits : ℕ) → HasDigits (head_index (N.limit nodes.old - body_header) body.length) digits → N.reads nodes.new ≤ N.reads nodes.old + (overwrite_reads (N.limit nodes.old - body_header) body.length (offset + length bytes.now) digits + path_nodes (N.node nodes.old) trail.now path.now false 0) }
 {
@@ -134,7 +134,7 @@ pub(crate) fn resize<N: Nodes>(
     requires fits { size ≤ MAX_FILE_BYTES }
 
     // The edited tree, and how many nodes were written and read for it.
-    ensures applied { IsApplied N.limit N.node N.kept N.follows N.causes nodes.old nodes.new root (λ tree. put tree path.now (Entry.File (resized (bytes_at tree path.now) size))) result }
+    ensures applied { IsApplied N.limit N.node N.kept N.follows N.causes nodes.old nodes.new root (λ tree. put tree path.now (Entry.File (resized (bytes_of_file tree path.now) size))) result }
     ensures writes { N.writes nodes.new ≤ N.writes nodes.old + (ftruncate_need (N.limit nodes.old - body_header) body.length size + path_nodes (N.node nodes.old) trail.now path.now true 0) }
     ensures reads { (digits : ℕ) → HasDigits (head_index (N.limit nodes.old - body_header) body.length) digits → N.reads nodes.new ≤ N.reads nodes.old + (resize_reads digits + path_nodes (N.node nodes.old) trail.now path.now false 0) }
 {

@@ -29,7 +29,7 @@ use Rattle.system.specs.Steps.{SystemStep}
 use Rattle.mounting.specs.Records.{trees_of, HasTrees}
 use Rattle.system.specs.Mounts.{IsMountOf, MountCause}
 use Rattle.system.specs.Reclaiming.{Reclaims}
-use Rattle.mounting.specs.Saved.{record_in, saved_on, saved_trees, IsWhole}
+use Rattle.mounting.specs.Saved.{record_in, saved_on, saved_trees, IsWholeRecord}
 use Rattle.system.specs.Systems.{IsSystem}
 use Rattle.system.specs.declared.systems.System.{System}
 use Rattle.system.proofs.SameRecords.{still_saved, same_trees, still_whole}
@@ -254,7 +254,7 @@ mount_begins d e m reads mount system =
     let history : Past Tree = trees_of d mount.newest in
     let is : saved_trees d ≡ Some history = ap (λ o. option_map (trees_of d) (record_in o)) mount.holds in
     let same : saved_on e ≡ saved_on d = still_saved d e lawful reads.geometry reads.pages in
-    let there : IsWhole e = λ r saved. subst (HasTrees e) (one_record mount.newest r (sym (ap record_in mount.holds) ∙ (sym same ∙ saved))) mount.loaded.trees in
+    let there : IsWholeRecord e = λ r saved. subst (HasTrees e) (one_record mount.newest r (sym (ap record_in mount.holds) ∙ (sym same ∙ saved))) mount.loaded.trees in
     let saved : IsSaved d (history ∷ []) = record { history = history; saved = is; among = the_one history; whole = still_whole e d system.mounted.lawful (sym reads.geometry) (λ p. sym (reads.pages p)) there } in
     let both = mount_stands d e (history ∷ []) lawful saved reads m mount system in
     (history, is, both.0, both.1)

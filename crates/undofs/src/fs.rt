@@ -37,13 +37,13 @@ impl<'f, F: Flash> Fs<'f, F> {
     ghost use Rattle.flash_model.specs.Reading.{OnlyReads};
     ghost use Rattle.working_state.specs.Leaves.{is_still};
     ghost use Rattle.working_state.specs.Looking.{only_looks};
-    ghost use Rattle.system.specs.Moments.{moment};
+    ghost use Rattle.system.specs.Moments.{system_moment};
     ghost use Rattle.system.specs.Mounts.{AsksToMount};
     ghost use Rattle.system.specs.Mounts.{IsMountOf};
     ghost use Rattle.system.specs.Reclaiming.{Reclaims};
     ghost use Rattle.system.specs.declared.mounts.TheConstants.{MOUNTED_NODES};
     ghost use Rattle.undofs.specs.Refusals.{RefusesMount};
-    ghost use Rattle.undofs.specs.Systems.{moment_of, without_nodes, Steps, TellsNothing, KeepsAllPages, flash_name};
+    ghost use Rattle.undofs.specs.Systems.{moment_of, without_nodes, StepsBetween, TellsNothing, KeepsAllPages, flash_name};
 
     /// Mounts what the newest record of a flash holds, as [`mount`] does.
     pub fn mount(alloc: Global, flash: &'f mut F) -> Result<Fs<'f, F>, Fault>
@@ -76,7 +76,7 @@ impl<'f, F: Flash> Fs<'f, F> {
     /// The system that is mounted on a flash. Calls that are passed no allocator use this one.
     pub fn on(alloc: Global, flash: &'f mut F, system: System) -> Fs<'f, F>
         requires { IsSystem (F.device flash.old) system }
-        ensures moment { moment_of result ≡ moment (F.device flash.old) system }
+        ensures moment { moment_of result ≡ system_moment (F.device flash.old) system }
         ensures same_flash { flash_name result ≡ flash.entry.ghost_name }
     {
         Fs {
@@ -101,7 +101,7 @@ impl<'f, F: Flash> Fs<'f, F> {
     /// newest record is the greatest number there is. After a refusal but `PowerCut` the newest record is
     /// the one it was.
     pub fn sync(&mut self, alloc: Global) -> Result<(), Fault>
-        ensures step { Steps self.old Call.Sync (replied empty result) self.new }
+        ensures step { StepsBetween self.old Call.Sync (replied empty result) self.new }
         ensures same_flash { flash_name self.new ≡ flash_name self.old }
     {
         self.carry_out_empty(alloc, Request::Sync)
@@ -110,7 +110,7 @@ impl<'f, F: Flash> Fs<'f, F> {
     /// The same, where the descriptor is of an open file; else [`Fault::BadDescriptor`], before
     /// [`Fault::InGroup`] (POSIX.1-2017 `fsync`, which speaks of one file).
     pub fn fsync(&mut self, alloc: Global, descriptor: u64) -> Result<(), Fault>
-        ensures step { Steps self.old (Call.Fsync descriptor) (replied empty result) self.new }
+        ensures step { StepsBetween self.old (Call.Fsync descriptor) (replied empty result) self.new }
         ensures same_flash { flash_name self.new ≡ flash_name self.old }
     {
         self.carry_out_empty(alloc, Request::Fsync { descriptor })
@@ -119,7 +119,7 @@ impl<'f, F: Flash> Fs<'f, F> {
     /// Opens the file at a path, and answers its descriptor, the least that is free (POSIX.1-2017 `open`,
     /// without a mode; a directory is refused for reading too).
     pub fn open(&mut self, alloc: Global, path: &Path, flags: OpenFlags) -> Result<u8, Fault>
-        ensures step { Steps self.old (Call.Open path.now flags) (replied Reply.Fd result) self.new }
+        ensures step { StepsBetween self.old (Call.Open path.now flags) (replied Reply.Fd result) self.new }
         ensures pages { KeepsAllPages self.old self.new }
         ensures same_flash { flash_name self.new ≡ flash_name self.old }
     {
@@ -131,7 +131,7 @@ impl<'f, F: Flash> Fs<'f, F> {
 
     /// Closes the open file of a descriptor, which is free then.
     pub fn close(&mut self, descriptor: u64) -> Result<(), Fault>
-        ensures step { Steps self.old (Call.Close descriptor) (replied empty result) self.new }
+        ensures step { StepsBetween self.old (Call.Close descriptor) (replied empty result) self.new }
         ensures still { F.device self.new.flash.now ≡ F.device self.old.flash.now }
         ensures same_flash { flash_name self.new ≡ flash_name self.old }
     {
@@ -147,7 +147,7 @@ impl<'f, F: Flash> Fs<'f, F> {
         offset: u64,
         bytes: &[u8],
     ) -> Result<u64, Fault>
-        ensures step { Steps self.old (Call.Pwrite descriptor offset bytes.now) (replied Reply.Count result) self.new }
+        ensures step { StepsBetween self.old (Call.Pwrite descriptor offset bytes.now) (replied Reply.Count result) self.new }
         ensures pages { KeepsAllPages self.old self.new }
         ensures same_flash { flash_name self.new ≡ flash_name self.old }
     {
@@ -165,7 +165,7 @@ impl<'f, F: Flash> Fs<'f, F> {
     /// The length in bytes of the open file of a descriptor becomes this (POSIX.1-2017 `ftruncate`); what is
     /// new of it is zeros. The same length makes no version, and is no refusal in read-only mode.
     pub fn ftruncate(&mut self, alloc: Global, descriptor: u64, length: u64) -> Result<(), Fault>
-        ensures step { Steps self.old (Call.Ftruncate descriptor length) (replied empty result) self.new }
+        ensures step { StepsBetween self.old (Call.Ftruncate descriptor length) (replied empty result) self.new }
         ensures pages { KeepsAllPages self.old self.new }
         ensures same_flash { flash_name self.new ≡ flash_name self.old }
     {
@@ -175,7 +175,7 @@ impl<'f, F: Flash> Fs<'f, F> {
     /// What stands at a path of the tree that a view shows: a directory, with its number of entries, or
     /// a file, with its length in bytes (POSIX.1-2017 `stat`, which tells more).
     pub fn stat(&mut self, view: &View, path: &Path) -> Result<Stat, Fault>
-        ensures step { Steps self.old (Call.Stat view.now path.now) (replied Reply.Stat result) self.new }
+        ensures step { StepsBetween self.old (Call.Stat view.now path.now) (replied Reply.Stat result) self.new }
         ensures pages { (p : ℕ) → (F.device self.new.flash.now).pages p ≡ (F.device self.old.flash.now).pages p }
         ensures same_flash { flash_name self.new ≡ flash_name self.old }
     {
@@ -192,7 +192,7 @@ impl<'f, F: Flash> Fs<'f, F> {
         view: &View,
         path: &Path,
     ) -> Result<Sequence<(Name, bool)>, Fault>
-        ensures step { Steps self.old (Call.List view.now path.now) (replied Reply.Names result) self.new }
+        ensures step { StepsBetween self.old (Call.List view.now path.now) (replied Reply.Names result) self.new }
         ensures pages { (p : ℕ) → (F.device self.new.flash.now).pages p ≡ (F.device self.old.flash.now).pages p }
         ensures same_flash { flash_name self.new ≡ flash_name self.old }
     {
@@ -212,7 +212,7 @@ impl<'f, F: Flash> Fs<'f, F> {
         offset: u64,
         count: u64,
     ) -> Result<Bytes, Fault>
-        ensures step { Steps self.old (Call.ReadAt view.now path.now offset count) (replied Reply.Bytes result) self.new }
+        ensures step { StepsBetween self.old (Call.ReadAt view.now path.now offset count) (replied Reply.Bytes result) self.new }
         ensures pages { (p : ℕ) → (F.device self.new.flash.now).pages p ≡ (F.device self.old.flash.now).pages p }
         ensures same_flash { flash_name self.new ≡ flash_name self.old }
     {
@@ -237,7 +237,7 @@ impl<'f, F: Flash> Fs<'f, F> {
         offset: u64,
         count: u64,
     ) -> Result<Bytes, Fault>
-        ensures step { Steps self.old (Call.Pread descriptor offset count) (replied Reply.Bytes result) self.new }
+        ensures step { StepsBetween self.old (Call.Pread descriptor offset count) (replied Reply.Bytes result) self.new }
         ensures pages { (p : ℕ) → (F.device self.new.flash.now).pages p ≡ (F.device self.old.flash.now).pages p }
         ensures same_flash { flash_name self.new ≡ flash_name self.old }
     {
@@ -254,7 +254,7 @@ impl<'f, F: Flash> Fs<'f, F> {
 
     /// Makes an empty directory (POSIX.1-2017 `mkdir`, without a mode).
     pub fn mkdir(&mut self, alloc: Global, path: &Path) -> Result<(), Fault>
-        ensures step { Steps self.old (Call.Mkdir path.now) (replied empty result) self.new }
+        ensures step { StepsBetween self.old (Call.Mkdir path.now) (replied empty result) self.new }
         ensures pages { KeepsAllPages self.old self.new }
         ensures same_flash { flash_name self.new ≡ flash_name self.old }
     {
@@ -263,7 +263,7 @@ impl<'f, F: Flash> Fs<'f, F> {
 
     /// Removes an empty directory (POSIX.1-2017 `rmdir`). [`Fault::Busy`] for the root.
     pub fn rmdir(&mut self, alloc: Global, path: &Path) -> Result<(), Fault>
-        ensures step { Steps self.old (Call.Rmdir path.now) (replied empty result) self.new }
+        ensures step { StepsBetween self.old (Call.Rmdir path.now) (replied empty result) self.new }
         ensures pages { KeepsAllPages self.old self.new }
         ensures same_flash { flash_name self.new ≡ flash_name self.old }
     {
@@ -273,7 +273,7 @@ impl<'f, F: Flash> Fs<'f, F> {
     /// Removes a file (POSIX.1-2017 `unlink`). [`Fault::NotPermitted`] for a directory, [`Fault::Busy`]
     /// for a file that is open.
     pub fn unlink(&mut self, alloc: Global, path: &Path) -> Result<(), Fault>
-        ensures step { Steps self.old (Call.Unlink path.now) (replied empty result) self.new }
+        ensures step { StepsBetween self.old (Call.Unlink path.now) (replied empty result) self.new }
         ensures pages { KeepsAllPages self.old self.new }
         ensures same_flash { flash_name self.new ≡ flash_name self.old }
     {
@@ -284,7 +284,7 @@ impl<'f, F: Flash> Fs<'f, F> {
     /// stands there (POSIX.1-2017 `rename`). Nothing is done where both paths are the same, in
     /// read-only mode too. [`Fault::Busy`] where a file that would be moved or replaced is open.
     pub fn rename(&mut self, alloc: Global, old: &Path, new: &Path) -> Result<(), Fault>
-        ensures step { Steps self.old (Call.Rename old.now new.now) (replied empty result) self.new }
+        ensures step { StepsBetween self.old (Call.Rename old.now new.now) (replied empty result) self.new }
         ensures pages { KeepsAllPages self.old self.new }
         ensures same_flash { flash_name self.new ≡ flash_name self.old }
     {
@@ -293,7 +293,7 @@ impl<'f, F: Flash> Fs<'f, F> {
 
     /// The version before becomes the present one.
     pub fn undo(&mut self) -> Result<(), Fault>
-        ensures step { Steps self.old Call.Undo (replied empty result) self.new }
+        ensures step { StepsBetween self.old Call.Undo (replied empty result) self.new }
         ensures still { F.device self.new.flash.now ≡ F.device self.old.flash.now }
         ensures same_flash { flash_name self.new ≡ flash_name self.old }
     {
@@ -302,7 +302,7 @@ impl<'f, F: Flash> Fs<'f, F> {
 
     /// The version after becomes the present one.
     pub fn redo(&mut self) -> Result<(), Fault>
-        ensures step { Steps self.old Call.Redo (replied empty result) self.new }
+        ensures step { StepsBetween self.old Call.Redo (replied empty result) self.new }
         ensures still { F.device self.new.flash.now ≡ F.device self.old.flash.now }
         ensures same_flash { flash_name self.new ≡ flash_name self.old }
     {
@@ -311,7 +311,7 @@ impl<'f, F: Flash> Fs<'f, F> {
 
     /// The version with this serial becomes the present one.
     pub fn goto(&mut self, serial: u64) -> Result<(), Fault>
-        ensures step { Steps self.old (Call.Goto serial) (replied empty result) self.new }
+        ensures step { StepsBetween self.old (Call.Goto serial) (replied empty result) self.new }
         ensures still { F.device self.new.flash.now ≡ F.device self.old.flash.now }
         ensures same_flash { flash_name self.new ≡ flash_name self.old }
     {
@@ -326,7 +326,7 @@ impl<'f, F: Flash> Fs<'f, F> {
     /// While a group is open, `sync`, `fsync`, `undo`, `redo`, `goto`, `rollback`, `forget`, `checkpoint`
     /// and `remove_checkpoint` are refused by [`Fault::InGroup`].
     pub fn begin(&mut self) -> Result<(), Fault>
-        ensures step { Steps self.old Call.Begin (replied empty result) self.new }
+        ensures step { StepsBetween self.old Call.Begin (replied empty result) self.new }
         ensures still { F.device self.new.flash.now ≡ F.device self.old.flash.now }
         ensures same_flash { flash_name self.new ≡ flash_name self.old }
     {
@@ -338,7 +338,7 @@ impl<'f, F: Flash> Fs<'f, F> {
     /// a file is; where a version is due, [`Fault::ReadOnly`] and [`Fault::Overflow`] as for a change. A
     /// refused `end` leaves the group open.
     pub fn end(&mut self) -> Result<(), Fault>
-        ensures step { Steps self.old Call.End (replied empty result) self.new }
+        ensures step { StepsBetween self.old Call.End (replied empty result) self.new }
         ensures still { F.device self.new.flash.now ≡ F.device self.old.flash.now }
         ensures same_flash { flash_name self.new ≡ flash_name self.old }
     {
@@ -348,7 +348,7 @@ impl<'f, F: Flash> Fs<'f, F> {
     /// Gives up the change group: all is as it was at its [`Fs::begin`]. It is carried out in read-only
     /// mode too. [`Fault::NoGroup`] where none is open, [`Fault::Busy`] where a file is.
     pub fn abandon(&mut self) -> Result<(), Fault>
-        ensures step { Steps self.old Call.Abandon (replied empty result) self.new }
+        ensures step { StepsBetween self.old Call.Abandon (replied empty result) self.new }
         ensures still { F.device self.new.flash.now ≡ F.device self.old.flash.now }
         ensures same_flash { flash_name self.new ≡ flash_name self.old }
     {
@@ -357,7 +357,7 @@ impl<'f, F: Flash> Fs<'f, F> {
 
     /// A change to the tree of a checkpoint. It asks nothing of the flash.
     pub fn rollback(&mut self, alloc: Global, name: &CpName) -> Result<(), Fault>
-        ensures step { Steps self.old (Call.Rollback name.now) (replied empty result) self.new }
+        ensures step { StepsBetween self.old (Call.Rollback name.now) (replied empty result) self.new }
         ensures still { F.device self.new.flash.now ≡ F.device self.old.flash.now }
         ensures same_flash { flash_name self.new ≡ flash_name self.old }
     {
@@ -366,7 +366,7 @@ impl<'f, F: Flash> Fs<'f, F> {
 
     /// The `count` oldest versions before the present one are dropped.
     pub fn forget(&mut self, count: u64) -> Result<(), Fault>
-        ensures step { Steps self.old (Call.Forget count) (replied empty result) self.new }
+        ensures step { StepsBetween self.old (Call.Forget count) (replied empty result) self.new }
         ensures still { F.device self.new.flash.now ≡ F.device self.old.flash.now }
         ensures same_flash { flash_name self.new ≡ flash_name self.old }
     {
@@ -375,7 +375,7 @@ impl<'f, F: Flash> Fs<'f, F> {
 
     /// The present tree is kept under a name, until it is removed by that name.
     pub fn checkpoint(&mut self, name: &CpName) -> Result<(), Fault>
-        ensures step { Steps self.old (Call.Checkpoint name.now) (replied empty result) self.new }
+        ensures step { StepsBetween self.old (Call.Checkpoint name.now) (replied empty result) self.new }
         ensures still { F.device self.new.flash.now ≡ F.device self.old.flash.now }
         ensures same_flash { flash_name self.new ≡ flash_name self.old }
     {
@@ -384,7 +384,7 @@ impl<'f, F: Flash> Fs<'f, F> {
 
     /// The checkpoint of this name is given up.
     pub fn remove_checkpoint(&mut self, name: &CpName) -> Result<(), Fault>
-        ensures step { Steps self.old (Call.RemoveCheckpoint name.now) (replied empty result) self.new }
+        ensures step { StepsBetween self.old (Call.RemoveCheckpoint name.now) (replied empty result) self.new }
         ensures still { F.device self.new.flash.now ≡ F.device self.old.flash.now }
         ensures same_flash { flash_name self.new ≡ flash_name self.old }
     {
@@ -393,14 +393,14 @@ impl<'f, F: Flash> Fs<'f, F> {
 
     /// The history: next serial, kept serials, the present one, and the checkpoints.
     pub fn log(&self, alloc: Global) -> Result<Reply, Fault>
-        ensures { Steps self.now Call.Log result self.now }
+        ensures { StepsBetween self.now Call.Log result self.now }
     {
         self.system.state.log(alloc)
     }
 
     /// How much of the flash is used ([`System::df`]).
     pub fn df(&mut self, alloc: Global) -> Result<Reply, Fault>
-        ensures step { Steps self.old Call.Df result self.new }
+        ensures step { StepsBetween self.old Call.Df result self.new }
         ensures same_flash { flash_name self.new ≡ flash_name self.old }
     {
         self.carry_out(alloc, Request::Df)
@@ -419,7 +419,7 @@ impl<'f, F: Flash> Fs<'f, F> {
     /// changes no tree changes no page, but for a sync, and those on the history and on change groups,
     /// `close` and `log` do no device operation.
     pub fn call(&mut self, alloc: Global, call: &Call) -> Result<Reply, Fault>
-        ensures step { Steps self.old call.now result self.new }
+        ensures step { StepsBetween self.old call.now result self.new }
         ensures pages { KeepsAllPages self.old self.new }
         ensures same_flash { flash_name self.new ≡ flash_name self.old }
     {
@@ -428,7 +428,7 @@ impl<'f, F: Flash> Fs<'f, F> {
 
     /// Carries out a request, and answers its reply.
     fn carry_out(&mut self, alloc: Global, request: Request<'_>) -> Result<Reply, Fault>
-        ensures step { Steps self.old (call_of request.entry) result self.new }
+        ensures step { StepsBetween self.old (call_of request.entry) result self.new }
         ensures pages { KeepsAllPages self.old self.new }
         ensures looked { only_looks (call_of request.entry) ≡ true → (p : ℕ) → (F.device self.new.flash.now).pages p ≡ (F.device self.old.flash.now).pages p }
         ensures still { is_still (call_of request.entry) ≡ true → F.device self.new.flash.now ≡ F.device self.old.flash.now }
@@ -440,7 +440,7 @@ impl<'f, F: Flash> Fs<'f, F> {
     /// Carries out a request whose reply tells nothing.
     fn carry_out_empty(&mut self, alloc: Global, request: Request<'_>) -> Result<(), Fault>
         requires { TellsNothing (call_of request) }
-        ensures step { Steps self.old (call_of request.entry) (replied empty result) self.new }
+        ensures step { StepsBetween self.old (call_of request.entry) (replied empty result) self.new }
         ensures pages { KeepsAllPages self.old self.new }
         ensures still { is_still (call_of request.entry) ≡ true → F.device self.new.flash.now ≡ F.device self.old.flash.now }
         ensures same_flash { flash_name self.new ≡ flash_name self.old }
@@ -464,7 +464,7 @@ impl<'f, F: Flash> Fs<'f, F> {
 impl<'f, F: Planned> Fs<'f, F> {
     ghost use Rattle.std.specs.Prelude.{◌≤◌, ◌↔◌, Err, OnOk, OnErr, IfErr};
     ghost use Rattle.fs_types.specs.declared.fault.Fault.{Fault};
-    ghost use Rattle.flash_model.specs.Plan.{planned, IsFull};
+    ghost use Rattle.flash_model.specs.Plan.{planned, IsPlanFull};
     ghost use Rattle.undofs.specs.Systems.{moment_of, flash_name};
 
     /// Plans a fault of the flash ([`Planned::plan_fault`]): the `k`-th operation after now of the
@@ -475,7 +475,7 @@ impl<'f, F: Planned> Fs<'f, F> {
         ensures still { moment_of self.new ≡ moment_of self.old }
         ensures ok { OnOk result (F.schedule self.new.flash.now ≡ planned (F.schedule self.old.flash.now) k kind) }
         ensures err { OnErr result (F.schedule self.new.flash.now ≡ F.schedule self.old.flash.now) }
-        ensures full { (result ≡ Err Fault.Invalid) ↔ IsFull (F.schedule self.old.flash.now) k kind }
+        ensures full { (result ≡ Err Fault.Invalid) ↔ IsPlanFull (F.schedule self.old.flash.now) k kind }
         ensures only { IfErr result (λ fault. fault ≡ Fault.Invalid) }
         ensures same_flash { flash_name self.new ≡ flash_name self.old }
     {

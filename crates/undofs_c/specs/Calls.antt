@@ -1,19 +1,19 @@
 -- What each call answers and leaves: 0 and what was done, or the number of why nothing was.
 use Rattle.std.specs.Prelude.{◌≡◌, ℕ, Result, Ok, Err, List}
 use Rattle.flash_model.specs.declared.geometry.Geometry.{Geometry}
-use Rattle.image_buffer.specs.Buffers.{Buffers, FormatEnds, CheckEnds, RunEnds}
-use Rattle.image_buffer.specs.Faults.{number_of}
+use Rattle.image_buffer.specs.Buffers.{Buffers, BufferFormatEnds, BufferCheckEnds, BufferRunEnds}
+use Rattle.image_buffer.specs.Faults.{buffer_fault_number}
 use Rattle.image_buffer.specs.declared.buffer_fault.BufferFault.{BufferFault}
 use Rattle.image_buffer.specs.declared.buffers.Written.{Written}
 
 -- the sizes of a flash
-abbrev pub sizes_of : ℕ → ℕ → ℕ → Geometry
-sizes_of page pages blocks = record { page = page; pages = pages; blocks = blocks }
+abbrev pub flash_sizes : ℕ → ℕ → ℕ → Geometry
+flash_sizes page pages blocks = record { page = page; pages = pages; blocks = blocks }
 
 -- 0, or the number of why nothing was done
-abbrev pub answer_of : {A : Type 0} → Result A BufferFault → ℕ
-answer_of (Ok done) = 0
-answer_of (Err fault) = number_of fault
+abbrev pub call_status : {A : Type 0} → Result A BufferFault → ℕ
+call_status (Ok done) = 0
+call_status (Err fault) = buffer_fault_number fault
 
 -- a length that is told where something was done, and else stays
 abbrev pub length_told : Result ℕ BufferFault → ℕ → ℕ
@@ -23,11 +23,11 @@ length_told (Err fault) length = length
 -- an image of a new flash was made in a buffer, and its length was told; or nothing was done
 abbrev pub FormatAnswers : Geometry → ℕ → List ℕ → ℕ → ℕ → List ℕ → ℕ → Type 0
 FormatAnswers sizes history old length answer new told =
-    (result : Result ℕ BufferFault) × FormatEnds sizes history old result new × (answer ≡ answer_of result) × (told ≡ length_told result length)
+    (result : Result ℕ BufferFault) × BufferFormatEnds sizes history old result new × (answer ≡ call_status result) × (told ≡ length_told result length)
 
 -- an image was mounted; or it was not
 abbrev pub CheckAnswers : List ℕ → ℕ → Type 0
-CheckAnswers image answer = (result : Result (Unit {0}) BufferFault) × CheckEnds image result × (answer ≡ answer_of result)
+CheckAnswers image answer = (result : Result (Unit {0}) BufferFault) × BufferCheckEnds image result × (answer ≡ call_status result)
 
 -- the lengths of the image and of the replies
 pub record Lengths : Type 0 where
@@ -45,4 +45,4 @@ lengths_told (Err fault) old = old
 -- a script was run on an image, whose length is told, with that of the replies; or nothing was done
 abbrev pub RunAnswers : Buffers → Lengths → List ℕ → ℕ → Buffers → Lengths → Type 0
 RunAnswers old length script answer new told =
-    (result : Result Written BufferFault) × RunEnds old length.image script result new × (answer ≡ answer_of result) × (told ≡ lengths_told result length)
+    (result : Result Written BufferFault) × BufferRunEnds old length.image script result new × (answer ≡ call_status result) × (told ≡ lengths_told result length)

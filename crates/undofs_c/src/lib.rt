@@ -6,7 +6,7 @@
 #![tactic(auto)]
 
 ghost use Rattle.image_buffer.specs.Buffers.{buffers};
-ghost use Rattle.undofs_c.specs.Calls.{FormatAnswers, CheckAnswers, RunAnswers, sizes_of, lengths};
+ghost use Rattle.undofs_c.specs.Calls.{FormatAnswers, CheckAnswers, RunAnswers, flash_sizes, lengths};
 
 use flash_model::Geometry;
 use image_buffer::{check_buffer, format_buffer, run_buffer};
@@ -25,7 +25,7 @@ pub extern "C" fn undofs_format(
     image: &mut [u8],
     length: &mut usize,
 ) -> u32
-    ensures { FormatAnswers (sizes_of page pages blocks) history image.old length.old result image.new length.new }
+    ensures { FormatAnswers (flash_sizes page pages blocks) history image.old length.old result image.new length.new }
 {
     let sizes = Geometry {
         page,

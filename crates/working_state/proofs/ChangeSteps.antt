@@ -20,7 +20,7 @@ use Rattle.node_store.specs.declared.storage.Storage.{Storage}
 use Rattle.allocator.specs.Ring.{Ring}
 use Rattle.tree_edits.specs.Edits as edits
 use Rattle.tree_edits.specs.declared.edit.Edit.{Edit}
-use Rattle.working_state.specs.Moments.{Moment, moment, machine_at, seen_at, storage_at, IsMountedAt, IsStep, nodes_at, capacity_at, tree_at}
+use Rattle.working_state.specs.Moments.{Moment, moment, machine_at, seen_at, storage_at, IsMountedAt, IsStep, nodes_at, capacity_at, version_tree}
 use Rattle.working_state.specs.Changes.{IsUnwritten}
 use Rattle.bad_blocks.specs.Mode.{is_read_only}
 use Rattle.working_state.specs.Steps.{is_light, last_serial, Refuses}
@@ -79,14 +79,14 @@ not_end call heavy is = true≢false (sym (ap is_light is) ∙ heavy)
 
 -- a change that makes a version is made outside a group
 pub outside_version : (a : Moment) (call : Call) → is_light call ≡ false → makes_version (machine_at a) call ≡ true → a.state.group ≡ None
-outside_version a call heavy made = unmapped (tree_at a) a.state.group (version-outside (machine_at a) call (not_end call heavy) (and_parts (is_accepted (machine_at a) call) (is_some (version_after (machine_at a) call)) made).1)
+outside_version a call heavy made = unmapped (version_tree a) a.state.group (version-outside (machine_at a) call (not_end call heavy) (and_parts (is_accepted (machine_at a) call) (is_some (version_after (machine_at a) call)) made).1)
 
 pub later_outside : (a b : Moment) → IsLooked a b → (call : Call) → is_light call ≡ false → makes_version (machine_at a) call ≡ true → b.state.group ≡ None
 later_outside a b l call heavy made = l.rest.group ∙ outside_version a call heavy made
 
 -- the nodes of a version are not written
 pub writing_refuses : (a b : Moment) (f : Device) (st : Storage) (edit : Edit) (call : Call) (fault : Fault) → IsLooked a b → is_light call ≡ false → changes_tree (machine_at a) call ≡ true
-    → 0 < change_need (capacity_at a) (machine_at a) call → edits.need (capacity_at b) (nodes_at b) edit ≤ change_need (capacity_at a) (machine_at a) call → IsUnwritten b.device b.state.history b.state.group b.state.storage edit fault f st
+    → 0 < change_need (capacity_at a) (machine_at a) call → edits.edit_need (capacity_at b) (nodes_at b) edit ≤ change_need (capacity_at a) (machine_at a) call → IsUnwritten b.device b.state.history b.state.group b.state.storage edit fault f st
     → Refuses (seen_at a) (machine_at a) call fault (seen_at (moment f (record b.state { storage = st })))
 writing_refuses a b f st edit call fault l heavy version more few work =
     let m = machine_at a in
@@ -108,7 +108,7 @@ later_root a b root is l = same_working a.state b.state l.rest ∙ is
 pub later_stands : (a b : Moment) (root : ℕ) → IsMountedAt a → working_root a.state.history a.state.group ≡ Some root → IsLooked a b → IsStanding b.device b.state.storage.ring root
 later_stands a b root m is l = working_stands b root (worked_mounted a b m (looked_worked a b l)) (later_root a b root is l)
 
-pub later_tree : (a b : Moment) (root : ℕ) → IsMountedAt a → working_root a.state.history a.state.group ≡ Some root → IsLooked a b → working_tree (machine_at a) ≡ tree_at b root
+pub later_tree : (a b : Moment) (root : ℕ) → IsMountedAt a → working_root a.state.history a.state.group ≡ Some root → IsLooked a b → working_tree (machine_at a) ≡ version_tree b root
 later_tree a b root m is l =
     ap working_tree (sym (worked_machine a b m (looked_worked a b l))) ∙ working_tree_is b root (later_root a b root is l)
 
@@ -120,23 +120,23 @@ worked_keeps a b m w = keeps (storage_at a) (storage_at b) m.lawful w.evolved
 -- a root stands, and has this tree
 pub record HasNewTree (b : Moment) (to : ℕ) (tree : Tree) : Type 0 where
   pub stands : IsStanding b.device b.state.storage.ring to
-  pub is : tree_at b to ≡ tree
+  pub is : version_tree b to ≡ tree
 
 -- Calls work on the new root.
 
 -- the trees of the history are those before, and the new one
 pushed_trees : (a b : Moment) (to : ℕ) (tree : Tree) → IsMountedAt a → IsWorked a b → HasNewTree b to tree
-    → map_roots (tree_at b) (history_with b.state.history b.state.group to) ≡ history_with (map_roots (tree_at a) a.state.history) (map_group (tree_at a) a.state.group) tree
+    → map_roots (version_tree b) (history_with b.state.history b.state.group to) ≡ history_with (map_roots (version_tree a) a.state.history) (map_group (version_tree a) a.state.group) tree
 pushed_trees a b to tree m w new =
-    (λ i. map_roots (tree_at b) (history_with (w.rest.history i) (w.rest.group i) to))
-    ∙ sym (history_with-map (tree_at b) a.state.history a.state.group to)
+    (λ i. map_roots (version_tree b) (history_with (w.rest.history i) (w.rest.group i) to))
+    ∙ sym (history_with-map (version_tree b) a.state.history a.state.group to)
     ∙ (λ i. history_with (worked_trees a b m w i) (worked_group a b m w i) (new.is i))
 
 -- and the group has the new tree, where one is open
-pushed_group : (a b : Moment) (to : ℕ) (tree : Tree) → IsMountedAt a → IsWorked a b → HasNewTree b to tree → map_group (tree_at b) (group_with b.state.group to) ≡ group_with (map_group (tree_at a) a.state.group) tree
+pushed_group : (a b : Moment) (to : ℕ) (tree : Tree) → IsMountedAt a → IsWorked a b → HasNewTree b to tree → map_group (version_tree b) (group_with b.state.group to) ≡ group_with (map_group (version_tree a) a.state.group) tree
 pushed_group a b to tree m w new =
-    (λ i. map_group (tree_at b) (group_with (w.rest.group i) to))
-    ∙ sym (group_with-map (tree_at b) a.state.group to)
+    (λ i. map_group (version_tree b) (group_with (w.rest.group i) to))
+    ∙ sym (group_with-map (version_tree b) a.state.group to)
     ∙ (λ i. group_with (worked_group a b m w i) (new.is i))
 
 -- the machine that a change leaves

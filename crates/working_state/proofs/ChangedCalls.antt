@@ -21,10 +21,10 @@ use Rattle.node_store.specs.Stores.{Follows, Causes}
 use Rattle.block_trees.specs.Reached.{Reached}
 use Rattle.block_trees.specs.Trees.{IsRoot, root_tree}
 use Rattle.tree_edits.specs.declared.edit.Edit.{Edit}
-use Rattle.tree_edits.specs.Edits.{need, source}
+use Rattle.tree_edits.specs.Edits.{edit_need, source}
 use Rattle.tree_edits.specs.Roots.{IsNewRoot}
 use Rattle.directory.specs.Trails.{IsChangeFault}
-use Rattle.working_state.specs.Moments.{Moment, machine_at, seen_at, IsMountedAt, nodes_at, capacity_at, tree_at, moment}
+use Rattle.working_state.specs.Moments.{Moment, machine_at, seen_at, IsMountedAt, nodes_at, capacity_at, version_tree, moment}
 use Rattle.working_state.specs.Changes.{IsReady, edited_tree, ReachesFrom, WorkRefuses, IsPushed, ChangeCause, IsChanged}
 use Rattle.working_state.specs.Leaves.{HasWritten, is_still, Leaves}
 use Rattle.working_state.specs.Looking.{only_looks}
@@ -120,21 +120,21 @@ module _ {F : Type 0} (device : F → Device) where
 
   -- what an edit of a store's nodes answers where it needs none
   abbrev NeedsNone : Store F → Store F → Edit → ℕ → Result ℕ Fault → Type 0
-  NeedsNone s t edit root result = need (capacity_of (device s.flash.now)) (node_of (device s.flash.now)) edit ≡ 0 → (t ≡ s) × (result ≡ Ok (source root edit))
+  NeedsNone s t edit root result = edit_need (capacity_of (device s.flash.now)) (node_of (device s.flash.now)) edit ≡ 0 → (t ≡ s) × (result ≡ Ok (source root edit))
 
   few_left : (s t : Store F) (most : ℕ) (fault : Fault) → t.writes.n ≤ s.writes.n + most → Causes device s t fault → fault ≡ FlashFull → free_count s.storage.now.ring s.storage.now.bad + set.len s.storage.now.bad < set.len t.storage.now.bad + most
   few_left s t most FlashFull few c is = let free = c.reason.few_free in omega arith
   few_left s t most _ few c is = absurd cc
 
-  pub refused_result : (s t : Store F) (edit : Edit) (root : ℕ) (result : Result ℕ Fault) → t.writes.n ≤ s.writes.n + need (capacity_of (device s.flash.now)) (node_of (device s.flash.now)) edit
+  pub refused_result : (s t : Store F) (edit : Edit) (root : ℕ) (result : Result ℕ Fault) → t.writes.n ≤ s.writes.n + edit_need (capacity_of (device s.flash.now)) (node_of (device s.flash.now)) edit
       → NeedsNone s t edit root result → IfErr result IsChangeFault → IfErr result (λ fault. Causes device s t fault)
       → IfErr result (λ fault. WorkRefuses (device s.flash.now) s.storage.now edit fault (device t.flash.now) t.storage.now)
   refused_result s t edit root (Ok to) few none faults why = tt
   refused_result s t edit root (Err fault) few none faults why = record {
-    needs = some (need (capacity_of (device s.flash.now)) (node_of (device s.flash.now)) edit) none;
+    needs = some (edit_need (capacity_of (device s.flash.now)) (node_of (device s.flash.now)) edit) none;
     kind = faults;
     why = cause_work s t fault why;
-    few_free = few_left s t (need (capacity_of (device s.flash.now)) (node_of (device s.flash.now)) edit) fault few why;
+    few_free = few_left s t (edit_need (capacity_of (device s.flash.now)) (node_of (device s.flash.now)) edit) fault few why;
   }
     where
       some : (n : ℕ) → (n ≡ 0 → (t ≡ s) × (Err fault ≡ Ok (source root edit))) → 0 < n
@@ -142,7 +142,7 @@ module _ {F : Type 0} (device : F → Device) where
       some (suc n) none = omega arith
 
   pub still_result : (s t : Store F) (edit : Edit) (root : ℕ) (result : Result ℕ Fault) → NeedsNone s t edit root result
-      → need (capacity_of (device s.flash.now)) (node_of (device s.flash.now)) edit ≡ 0 → (device t.flash.now ≡ device s.flash.now) × (t.storage.now ≡ s.storage.now)
+      → edit_need (capacity_of (device s.flash.now)) (node_of (device s.flash.now)) edit ≡ 0 → (device t.flash.now ≡ device s.flash.now) × (t.storage.now ≡ s.storage.now)
   still_result s t edit root result none is = (ap (λ (x : Store F). device x.flash.now) (none is).0, ap (λ (x : Store F). x.storage.now) (none is).0)
 
 -- ---- a call that is a change
@@ -163,13 +163,13 @@ written_worked b f st most w = record { evolved = w.evolved; fits = w.fits; rest
 
 -- the nodes of the edit are no more than those of the call
 abbrev NeedsFew : Moment → Edit → Moment → Call → Type 0
-NeedsFew b edit a call = need (capacity_at b) (nodes_at b) edit ≤ change_need (capacity_at a) (machine_at a) call
+NeedsFew b edit a call = edit_need (capacity_at b) (nodes_at b) edit ≤ change_need (capacity_at a) (machine_at a) call
 
-change_leaves : (a b : Moment) (f : Device) (st : Storage) (call : Call) (edit : Edit) → IsLooked a b → HasWritten b.device b.state.storage (need (capacity_at b) (nodes_at b) edit) f st
+change_leaves : (a b : Moment) (f : Device) (st : Storage) (call : Call) (edit : Edit) → IsLooked a b → HasWritten b.device b.state.storage (edit_need (capacity_at b) (nodes_at b) edit) f st
     → is_still call || only_looks call ≡ false → changes_tree (machine_at a) call ≡ true → NeedsFew b edit a call → Leaves (machine_at a) call a.device a.state.storage f st
 change_leaves a b f st call edit l w moves version few =
     let all = needs_all (capacity_at a) (machine_at a) call version in
-    written_leaves a b f st call (need (capacity_at b) (nodes_at b) edit) l w moves version (omega arith)
+    written_leaves a b f st call (edit_need (capacity_at b) (nodes_at b) edit) l w moves version (omega arith)
 
 -- the edit is one of the tree that it is applied to
 abbrev IsOfTree : Edit → Type 0
@@ -184,11 +184,11 @@ pushed_reach a b f from root to m l has same reaches block reached = elim (reach
 ]
 
 pub pushed_answer : (a b : Moment) (f : Device) (st : Storage) (h : Past ℕ) (k : Option (Group ℕ)) (files : Descriptors) (call : Call) (edit : Edit) (reply : Reply) → IsMountedAt a → IsLooked a b
-    → IsChangeBy a call (edited_tree b.device edit) reply → NeedsFew b edit a call → HasWritten b.device b.state.storage (need (capacity_at b) (nodes_at b) edit) f st → IsPushed b.device b.state.history b.state.group b.state.storage edit f h k st → files ≡ descriptors_after (machine_at a) call → IsOfTree edit
+    → IsChangeBy a call (edited_tree b.device edit) reply → NeedsFew b edit a call → HasWritten b.device b.state.storage (edit_need (capacity_at b) (nodes_at b) edit) f st → IsPushed b.device b.state.history b.state.group b.state.storage edit f h k st → files ≡ descriptors_after (machine_at a) call → IsOfTree edit
     → IsAnswered a call (Ok reply) (moment f (record b.state { storage = st; history = h; group = k; files = files }))
 pushed_answer a b f st h k files call edit reply m l by few written pushed opens own =
     let c : Moment = moment f (record b.state { storage = st }) in
-    let w = written_worked b f st (need (capacity_at b) (nodes_at b) edit) written in
+    let w = written_worked b f st (edit_need (capacity_at b) (nodes_at b) edit) written in
     let all = worked_on a b c (looked_worked a b l) w in
     let working : working_root a.state.history a.state.group ≡ Some pushed.root = sym (same_working a.state b.state l.rest) ∙ pushed.working in
     let tree = edited_tree b.device edit pushed.root in
@@ -208,7 +208,7 @@ pushed_answer a b f st h k files call edit reply m l by few written pushed opens
 
 -- outside a group an accepted change of the tree makes a version
 makes_outside : (a : Moment) (call : Call) → a.state.group ≡ None → changes_tree (machine_at a) call ≡ true → makes_version (machine_at a) call ≡ true
-makes_outside a call outside changes = outside_makes (machine_at a) call (ap (λ (g : Option (Group ℕ)). map_group (tree_at a) g) outside) changes
+makes_outside a call outside changes = outside_makes (machine_at a) call (ap (λ (g : Option (Group ℕ)). map_group (version_tree a) g) outside) changes
 
 cause_refuses : (a b : Moment) (f : Device) (st : Storage) (root : ℕ) (call : Call) {edit : Edit} (made : ℕ → Tree) (reply : Reply) (fault : Fault) → working_root a.state.history a.state.group ≡ Some root → IsLooked a b
     → IsChangeBy a call made reply → NeedsFew b edit a call → ChangeCause b.device b.state.history b.state.group b.state.storage edit fault f st → Refuses (seen_at a) (machine_at a) call fault (seen_at (moment f (record b.state { storage = st })))
@@ -222,11 +222,11 @@ cause_refuses a b f st root call {edit} made reply fault is l by few (inr work) 
     writing_refuses a b f st edit call fault l by.heavy (makes (machine_at a) call by.fine (ap is_some (by.after root is))) (by.more (capacity_at a)) few work
 
 pub refused_change : (a b : Moment) (f : Device) (st : Storage) (h : Past ℕ) (k : Option (Group ℕ)) (root : ℕ) (call : Call) {edit : Edit} (made : ℕ → Tree) (reply : Reply) (fault : Fault) → IsMountedAt a → working_root a.state.history a.state.group ≡ Some root
-    → IsLooked a b → IsChangeBy a call made reply → NeedsFew b edit a call → HasWritten b.device b.state.storage (need (capacity_at b) (nodes_at b) edit) f st → (h ≡ b.state.history) × (k ≡ b.state.group) × ChangeCause b.device b.state.history b.state.group b.state.storage edit fault f st
+    → IsLooked a b → IsChangeBy a call made reply → NeedsFew b edit a call → HasWritten b.device b.state.storage (edit_need (capacity_at b) (nodes_at b) edit) f st → (h ≡ b.state.history) × (k ≡ b.state.group) × ChangeCause b.device b.state.history b.state.group b.state.storage edit fault f st
     → IsAnswered a call (Err fault) (moment f (record b.state { storage = st; history = h; group = k }))
 refused_change a b f st h k root call {edit} made reply fault m is l by few written ends =
     let c : Moment = moment f (record b.state { storage = st }) in
-    let all = worked_on a b c (looked_worked a b l) (written_worked b f st (need (capacity_at b) (nodes_at b) edit) written) in
+    let all = worked_on a b c (looked_worked a b l) (written_worked b f st (edit_need (capacity_at b) (nodes_at b) edit) written) in
     subst (λ (x : Past ℕ × Option (Group ℕ)). IsAnswered a call (Err fault) (moment f (record b.state { storage = st; history = x.0; group = x.1 }))) (λ i. (sym ends.0 i, sym ends.1 i))
     (refused_work a c call fault m all (change_leaves a b f st call edit l written by.moves (makes (machine_at a) call by.fine (ap is_some (by.after root is))) few)
     (cause_refuses a b f st root call {edit = edit} made reply fault is l by few ends.2))
@@ -243,7 +243,7 @@ change_answer a b f st h k root call edit (Err fault) m is l by few files own ch
 -- the same, where the edit is that of the change
 
 pub pushed_by : (a b : Moment) (f : Device) (st : Storage) (h : Past ℕ) (k : Option (Group ℕ)) (files : Descriptors) (call : Call) {edit : Edit} (reply : Reply) → IsPushed b.device b.state.history b.state.group b.state.storage edit f h k st
-    → IsChangeBy a call (edited_tree b.device edit) reply → NeedsFew b edit a call → HasWritten b.device b.state.storage (need (capacity_at b) (nodes_at b) edit) f st → IsMountedAt a → IsLooked a b → files ≡ descriptors_after (machine_at a) call → IsOfTree edit
+    → IsChangeBy a call (edited_tree b.device edit) reply → NeedsFew b edit a call → HasWritten b.device b.state.storage (edit_need (capacity_at b) (nodes_at b) edit) f st → IsMountedAt a → IsLooked a b → files ≡ descriptors_after (machine_at a) call → IsOfTree edit
     → IsAnswered a call (Ok reply) (moment f (record b.state { storage = st; history = h; group = k; files = files }))
 pushed_by a b f st h k files call {edit} reply pushed by few written m l opens own = pushed_answer a b f st h k files call edit reply m l by few written pushed opens own
 

@@ -9,7 +9,7 @@ use Rattle.std.specs.FinSet as set
 use Rattle.fs_types.specs.declared.limits.TheConstants.{MAX_ENTRIES}
 use Rattle.fs_types.specs.Names.{Path, is_path}
 use Rattle.plain_trees.specs.Contents.{Contents, Entry, overwritten, resized, pwrite_need, ftruncate_need}
-use Rattle.plain_trees.specs.Trees.{Tree, put, IsFile, bytes_of, bytes_at}
+use Rattle.plain_trees.specs.Trees.{Tree, put, IsFile, bytes_of, bytes_of_file}
 use Rattle.history_machine.specs.History.{working_root, changed, group_with}
 use Rattle.history_machine.specs.Descriptors.{Descriptor, descriptor_at}
 use Rattle.history_machine.specs.Machine.{Machine, Space, has_paths, working_tree, file_put, refusal, way_need, change_need, reply_of, tree_after, descriptors_after, changes_tree, machine_of, machine_with}
@@ -18,7 +18,7 @@ use Rattle.fs_types.specs.declared.call.Reply.{Reply}
 use Rattle.fs_types.specs.declared.fault.Fault.{Fault}
 use Rattle.history_machine.proofs.Accepted.{not-root}
 use Rattle.history_machine.proofs.Kept.{working-file_tree}
-use Rattle.node_format.specs.Items.{Item, named}
+use Rattle.node_format.specs.Items.{Item, named_place}
 use Rattle.node_format.specs.declared.place.Place.{Place}
 use Rattle.node_format.specs.declared.place.Place.TheVariants as place
 use Rattle.node_store.specs.FittingLaws.{still_itself}
@@ -36,7 +36,7 @@ use Rattle.directory.specs.declared.lookups.Found.TheVariants as found
 use Rattle.directory.specs.Lookups.{◌>>=◌, look_up, found_in, found_of, below_in, directory_at, is_path_fault, IsLookupFault}
 use Rattle.directory.proofs.Directories.{place_named}
 use Rattle.directory.proofs.LookupLaws.{found_is, found_items, found_leads_file, rooted_leads}
-use Rattle.working_state.specs.Moments.{Moment, machine_at, storage_at, IsMountedAt, nodes_at, capacity_at, tree_at}
+use Rattle.working_state.specs.Moments.{Moment, machine_at, storage_at, IsMountedAt, nodes_at, capacity_at, version_tree}
 use Rattle.working_state.specs.Changing.{IsPathOf}
 use Rattle.working_state.specs.Leaves.{is_still}
 use Rattle.working_state.specs.Looking.{only_looks}
@@ -64,9 +64,9 @@ leads_looked f root (n ∷ []) head size e = last (entries_in f root) refl e
     at (Some (place.Dir block)) full e = absurd cc
     at (Some (place.File h n)) full e = ap (λ (p : Place). let x : Result Found Fault = Ok (found_of (Some p) full) in x) (place_is (place.File h n) (place.File head size) e)
 
-    last : (o : Option (List Item)) → entries_in f root ≡ o → option_and_then some_place (named (unwrap_or o []) n) ≡ Some (place.File head size) → found_in f n root ≡ Ok (found.File head size)
+    last : (o : Option (List Item)) → entries_in f root ≡ o → option_and_then some_place (named_place (unwrap_or o []) n) ≡ Some (place.File head size) → found_in f n root ≡ Ok (found.File head size)
     last None is e = absurd cc
-    last (Some items) is e = found_items f root n items is ∙ at (named items n) (nat_le MAX_ENTRIES (length items)) e
+    last (Some items) is e = found_items f root n items is ∙ at (named_place items n) (nat_le MAX_ENTRIES (length items)) e
 leads_looked f root (n ∷ m ∷ path) head size e = way (λ below. leads_looked f below (m ∷ path) head size) (entries_in f root) refl e
   where
     on : ((below : ℕ) → leads f (place.Dir below) (m ∷ path) ≡ Some (place.File head size) → look_up f below (m ∷ path) ≡ Ok (found.File head size)) → (r : Option Place) → option_and_then (λ next. leads f next (m ∷ path)) r ≡ Some (place.File head size) → (directory_at r >>= λ below. look_up f below (m ∷ path)) ≡ Ok (found.File head size)
@@ -74,9 +74,9 @@ leads_looked f root (n ∷ m ∷ path) head size e = way (λ below. leads_looked
     on again (Some (place.Dir below)) e = again below e
     on again (Some (place.File h n)) e = absurd cc
 
-    way : ((below : ℕ) → leads f (place.Dir below) (m ∷ path) ≡ Some (place.File head size) → look_up f below (m ∷ path) ≡ Ok (found.File head size)) → (o : Option (List Item)) → entries_in f root ≡ o → option_and_then (λ next. leads f next (m ∷ path)) (named (unwrap_or o []) n) ≡ Some (place.File head size) → (below_in f n root >>= λ below. look_up f below (m ∷ path)) ≡ Ok (found.File head size)
+    way : ((below : ℕ) → leads f (place.Dir below) (m ∷ path) ≡ Some (place.File head size) → look_up f below (m ∷ path) ≡ Ok (found.File head size)) → (o : Option (List Item)) → entries_in f root ≡ o → option_and_then (λ next. leads f next (m ∷ path)) (named_place (unwrap_or o []) n) ≡ Some (place.File head size) → (below_in f n root >>= λ below. look_up f below (m ∷ path)) ≡ Ok (found.File head size)
     way again None is e = absurd cc
-    way again (Some items) is e = ap (λ (r : Result (Option Place) Fault). r >>= directory_at >>= λ below. look_up f below (m ∷ path)) (place_named f root n items is) ∙ on again (named items n) e
+    way again (Some items) is e = ap (λ (r : Result (Option Place) Fault). r >>= directory_at >>= λ below. look_up f below (m ∷ path)) (place_named f root n items is) ∙ on again (named_place items n) e
 
 -- a file of the tree that calls work on is looked up as one
 pub working_file : (a : Moment) (root : ℕ) (path : Path) → IsMountedAt a → working_root a.state.history a.state.group ≡ Some root → IsFile (working_tree (machine_at a)) path
@@ -101,7 +101,7 @@ long_body capacity f head (suc n) is =
 pub record IsWorkingBody (a : Moment) (path : Path) (head size : ℕ) : Type 0 where
   pub whole : IsBody (capacity_at a) (nodes_at a) head size
   pub held : IsHeld (nodes_at a) (set.contains a.state.storage.ring.used) (place.File head size)
-  pub shown : bytes_at (working_tree (machine_at a)) path ≡ body (capacity_at a) (nodes_at a) head size
+  pub shown : bytes_of_file (working_tree (machine_at a)) path ≡ body (capacity_at a) (nodes_at a) head size
   pub short : size ≤ 16777216
 
 pub working_body : (a : Moment) (root : ℕ) (path : Path) (head size : ℕ) → IsMountedAt a → working_root a.state.history a.state.group ≡ Some root → look_up (nodes_at a) root path ≡ Ok (found.File head size) → IsWorkingBody a path head size
@@ -120,7 +120,7 @@ working_body a root path head size m is led =
     }
 
 -- the length of the file that a look up finds
-pub file_length : (capacity : ℕ) (f : Blocks) (root : ℕ) (path : Path) → IsRoot capacity f root → (x : Found) (head size : ℕ) → look_up f root path ≡ Ok x → x ≡ found.File head size → length (bytes_at (root_tree capacity f root) path) ≡ size
+pub file_length : (capacity : ℕ) (f : Blocks) (root : ℕ) (path : Path) → IsRoot capacity f root → (x : Found) (head size : ℕ) → look_up f root path ≡ Ok x → x ≡ found.File head size → length (bytes_of_file (root_tree capacity f root) path) ≡ size
 file_length capacity f root path is x head size led called =
     let there : look_up f root path ≡ Ok (found.File head size) = subst (λ z. look_up f root path ≡ Ok z) called led in
     let whole = (is path (place.File head size) (found_leads_file f root path head size (rooted_leads capacity f root is) there)).0 in
@@ -199,18 +199,18 @@ some_heavy descriptor offset [] some = absurd (true≢false some)
 some_heavy descriptor offset (b ∷ bytes) some = refl
 
 pub pwrite_change : (m : Machine) (descriptor offset : ℕ) (bytes : List ℕ) (path : Path) → IsPathOf m.descriptors descriptor path → refusal m (Call.Pwrite descriptor offset bytes) ≡ None → (length bytes == 0) ≡ false → 0 < length path
-    → IsFileChange m (Call.Pwrite descriptor offset bytes) path (overwritten (bytes_at (working_tree m) path) offset bytes)
+    → IsFileChange m (Call.Pwrite descriptor offset bytes) path (overwritten (bytes_of_file (working_tree m) path) offset bytes)
 pwrite_change m descriptor offset bytes path has fine some below = record {
   fine = fine;
-  after = ap (option_and_then (λ (d : Descriptor). if length bytes == 0 then None else Some (file_put (working_tree m) d.path (overwritten (bytes_at (working_tree m) d.path) offset bytes)))) has.1
-      ∙ ap (λ b. if b then None else Some (file_put (working_tree m) path (overwritten (bytes_at (working_tree m) path) offset bytes))) some;
+  after = ap (option_and_then (λ (d : Descriptor). if length bytes == 0 then None else Some (file_put (working_tree m) d.path (overwritten (bytes_of_file (working_tree m) d.path) offset bytes)))) has.1
+      ∙ ap (λ b. if b then None else Some (file_put (working_tree m) path (overwritten (bytes_of_file (working_tree m) path) offset bytes))) some;
   files = refl;
   heavy = some_heavy descriptor offset bytes some;
   moves = refl;
   paths = refl;
   more = λ capacity.
-      subst (λ (o : Option Descriptor). 0 < option_map_or (λ d. pwrite_need capacity (length (bytes_at (working_tree m) d.path)) offset (length bytes) + way_need m (Call.Pwrite descriptor offset bytes) d.path) o 0) (sym has.1)
-      (some_more (pwrite_need capacity (length (bytes_at (working_tree m) path)) offset (length bytes)) (way_need m (Call.Pwrite descriptor offset bytes) path) (way_some m (Call.Pwrite descriptor offset bytes) path below));
+      subst (λ (o : Option Descriptor). 0 < option_map_or (λ d. pwrite_need capacity (length (bytes_of_file (working_tree m) d.path)) offset (length bytes) + way_need m (Call.Pwrite descriptor offset bytes) d.path) o 0) (sym has.1)
+      (some_more (pwrite_need capacity (length (bytes_of_file (working_tree m) path)) offset (length bytes)) (way_need m (Call.Pwrite descriptor offset bytes) path) (way_some m (Call.Pwrite descriptor offset bytes) path below));
 }
 
 pub some_length : (n : ℕ) → (n == 0) ≡ false → 0 < n
@@ -234,54 +234,54 @@ pwrite_nothing m descriptor offset [] none = record { stays = stays; no_version 
 
 -- Resizing.
 
-pub ftruncate_change : (m : Machine) (descriptor n : ℕ) (path : Path) → IsPathOf m.descriptors descriptor path → refusal m (Call.Ftruncate descriptor n) ≡ None → (length (bytes_at (working_tree m) path) == n) ≡ false → 0 < length path
-    → IsFileChange m (Call.Ftruncate descriptor n) path (resized (bytes_at (working_tree m) path) n)
+pub ftruncate_change : (m : Machine) (descriptor n : ℕ) (path : Path) → IsPathOf m.descriptors descriptor path → refusal m (Call.Ftruncate descriptor n) ≡ None → (length (bytes_of_file (working_tree m) path) == n) ≡ false → 0 < length path
+    → IsFileChange m (Call.Ftruncate descriptor n) path (resized (bytes_of_file (working_tree m) path) n)
 ftruncate_change m descriptor n path has fine other below = record {
   fine = fine;
-  after = ap (option_and_then (λ (d : Descriptor). if length (bytes_at (working_tree m) d.path) == n then None else Some (file_put (working_tree m) d.path (resized (bytes_at (working_tree m) d.path) n)))) has.1
-      ∙ ap (λ b. if b then None else Some (file_put (working_tree m) path (resized (bytes_at (working_tree m) path) n))) other;
+  after = ap (option_and_then (λ (d : Descriptor). if length (bytes_of_file (working_tree m) d.path) == n then None else Some (file_put (working_tree m) d.path (resized (bytes_of_file (working_tree m) d.path) n)))) has.1
+      ∙ ap (λ b. if b then None else Some (file_put (working_tree m) path (resized (bytes_of_file (working_tree m) path) n))) other;
   files = refl;
   heavy = refl;
   moves = refl;
   paths = refl;
   more = λ capacity.
-      subst (λ (o : Option Descriptor). 0 < option_map_or (λ d. ftruncate_need capacity (length (bytes_at (working_tree m) d.path)) n + way_need m (Call.Ftruncate descriptor n) d.path) o 0) (sym has.1)
-      (some_more (ftruncate_need capacity (length (bytes_at (working_tree m) path)) n) (way_need m (Call.Ftruncate descriptor n) path) (way_some m (Call.Ftruncate descriptor n) path below));
+      subst (λ (o : Option Descriptor). 0 < option_map_or (λ d. ftruncate_need capacity (length (bytes_of_file (working_tree m) d.path)) n + way_need m (Call.Ftruncate descriptor n) d.path) o 0) (sym has.1)
+      (some_more (ftruncate_need capacity (length (bytes_of_file (working_tree m) path)) n) (way_need m (Call.Ftruncate descriptor n) path) (way_some m (Call.Ftruncate descriptor n) path below));
 }
 
 -- the same length makes no version
-pub ftruncate_nothing : (m : Machine) (descriptor n : ℕ) (path : Path) → IsPathOf m.descriptors descriptor path → (length (bytes_at (working_tree m) path) == n) ≡ true → OnlyReads m (Call.Ftruncate descriptor n)
+pub ftruncate_nothing : (m : Machine) (descriptor n : ℕ) (path : Path) → IsPathOf m.descriptors descriptor path → (length (bytes_of_file (working_tree m) path) == n) ≡ true → OnlyReads m (Call.Ftruncate descriptor n)
 ftruncate_nothing m descriptor n path has same = record { stays = stays; no_version = no_tree; no_end = ap (option_and_then (λ t. if is_some m.group then None else Some t)) no_tree; no_record = refl }
   where
     no_tree : tree_after m (Call.Ftruncate descriptor n) ≡ None
     no_tree =
-        ap (option_and_then (λ (d : Descriptor). if length (bytes_at (working_tree m) d.path) == n then None else Some (file_put (working_tree m) d.path (resized (bytes_at (working_tree m) d.path) n)))) has.1
-        ∙ ap (λ b. if b then None else Some (file_put (working_tree m) path (resized (bytes_at (working_tree m) path) n))) same
+        ap (option_and_then (λ (d : Descriptor). if length (bytes_of_file (working_tree m) d.path) == n then None else Some (file_put (working_tree m) d.path (resized (bytes_of_file (working_tree m) d.path) n)))) has.1
+        ∙ ap (λ b. if b then None else Some (file_put (working_tree m) path (resized (bytes_of_file (working_tree m) path) n))) same
 
     stays : machine_of m (Call.Ftruncate descriptor n) None ≡ m
     stays i = machine_with (option_map_or (changed m.history) (option_and_then (λ t. if is_some m.group then None else Some t) (no_tree i)) m.history) (option_map_or (group_with m.group) (no_tree i) m.group) m.descriptors
 
 -- the length of the file whose body was found
-pub working_length : (a b : Moment) (path : Path) (head size : ℕ) → IsMountedAt a → IsWorked a b → IsWorkingBody b path head size → length (bytes_at (working_tree (machine_at a)) path) ≡ size
+pub working_length : (a b : Moment) (path : Path) (head size : ℕ) → IsMountedAt a → IsWorked a b → IsWorkingBody b path head size → length (bytes_of_file (working_tree (machine_at a)) path) ≡ size
 working_length a b path head size m w there =
-    ap (λ (x : Machine). length (bytes_at (working_tree x) path)) (sym (worked_machine a b m w)) ∙ ap length there.shown ∙ long_body (capacity_at b) (nodes_at b) head size there.whole
+    ap (λ (x : Machine). length (bytes_of_file (working_tree x) path)) (sym (worked_machine a b m w)) ∙ ap length there.shown ∙ long_body (capacity_at b) (nodes_at b) head size there.whole
 
 pub same_length : (a b : Moment) (path : Path) (head size wide n : ℕ) → IsMountedAt a → IsWorked a b → IsWorkingBody b path head size → wide ≡ size → wide ≡ n
-    → (length (bytes_at (working_tree (machine_at a)) path) == n) ≡ true
-same_length a b path head size wide n m w there is same = eq-eqb (length (bytes_at (working_tree (machine_at a)) path)) n (working_length a b path head size m w there ∙ sym is ∙ same)
+    → (length (bytes_of_file (working_tree (machine_at a)) path) == n) ≡ true
+same_length a b path head size wide n m w there is same = eq-eqb (length (bytes_of_file (working_tree (machine_at a)) path)) n (working_length a b path head size m w there ∙ sym is ∙ same)
 
 pub other_length : (a b : Moment) (path : Path) (head size wide n : ℕ) → IsMountedAt a → IsWorked a b → IsWorkingBody b path head size → wide ≡ size → (wide ≡ n → ⊥)
-    → (length (bytes_at (working_tree (machine_at a)) path) == n) ≡ false
+    → (length (bytes_of_file (working_tree (machine_at a)) path) == n) ≡ false
 other_length a b path head size wide n m w there is other =
-    ne_eqb (length (bytes_at (working_tree (machine_at a)) path)) n (λ same. other (is ∙ sym (working_length a b path head size m w there) ∙ same))
+    ne_eqb (length (bytes_of_file (working_tree (machine_at a)) path)) n (λ same. other (is ∙ sym (working_length a b path head size m w there) ∙ same))
 
 -- the change of a file's bytes, as the flash shows it after a look
 pub file_change : (a b : Moment) (call : Call) (path : Path) (f : List ℕ → List ℕ) (reply : Reply) → IsMountedAt a → IsLooked a b
-    → IsFileChange (machine_at a) call path (f (bytes_at (working_tree (machine_at a)) path)) → ((space : Space) → reply_of space (machine_at a) call ≡ reply)
-    → IsChangeBy a call (λ root. put (tree_at b root) path (Entry.File (f (bytes_at (tree_at b root) path)))) reply
+    → IsFileChange (machine_at a) call path (f (bytes_of_file (working_tree (machine_at a)) path)) → ((space : Space) → reply_of space (machine_at a) call ≡ reply)
+    → IsChangeBy a call (λ root. put (version_tree b root) path (Entry.File (f (bytes_of_file (version_tree b root) path)))) reply
 file_change a b call path f reply m l change replies = record {
   fine = change.fine;
-  after = λ root is. change.after ∙ ap (λ (x : Tree). Some (put x path (Entry.File (f (bytes_at x path))))) (later_tree a b root m is l);
+  after = λ root is. change.after ∙ ap (λ (x : Tree). Some (put x path (Entry.File (f (bytes_of_file x path))))) (later_tree a b root m is l);
   heavy = change.heavy;
   moves = change.moves;
   paths = change.paths;
@@ -298,7 +298,7 @@ same_capacity_at : (a b : Moment) → IsWorked a b → capacity_at a ≡ capacit
 same_capacity_at a b w = sym (same_capacity (storage_at a) (storage_at b) w.evolved)
 
 pub pwrite_few : (a b : Moment) (root descriptor offset : ℕ) (bytes : List ℕ) (path : Path) (trail : List ℕ) (head size : ℕ) (x : ℕ → Entry) (reply : Reply) → IsMountedAt a → working_root a.state.history a.state.group ≡ Some root → IsLooked a b
-    → IsPathOf a.state.files descriptor path → IsWorkingBody b path head size → IsChangeBy a (Call.Pwrite descriptor offset bytes) (λ r. put (tree_at b r) path (x r)) reply → IsTrail (nodes_at b) root path trail
+    → IsPathOf a.state.files descriptor path → IsWorkingBody b path head size → IsChangeBy a (Call.Pwrite descriptor offset bytes) (λ r. put (version_tree b r) path (x r)) reply → IsTrail (nodes_at b) root path trail
     → pwrite_need (capacity_at b) size offset (length bytes) + path_nodes (nodes_at b) trail path true 0 ≤ change_need (capacity_at a) (machine_at a) (Call.Pwrite descriptor offset bytes)
 pwrite_few a b root descriptor offset bytes path trail head size x reply m is l has there by way =
     let w = looked_worked a b l in
@@ -306,13 +306,13 @@ pwrite_few a b root descriptor offset bytes path trail head size x reply m is l 
     let long = working_length a b path head size m w there in
     let same = same_capacity_at a b w in
     let all : change_need (capacity_at a) (machine_at a) (Call.Pwrite descriptor offset bytes) ≡ pwrite_need (capacity_at b) size offset (length bytes) + way_need (machine_at a) (Call.Pwrite descriptor offset bytes) path =
-    ap (λ (o : Option Descriptor). option_map_or (λ y. pwrite_need (capacity_at a) (length (bytes_at (working_tree (machine_at a)) y.path)) offset (length bytes) + way_need (machine_at a) (Call.Pwrite descriptor offset bytes) y.path) o 0) has.1
+    ap (λ (o : Option Descriptor). option_map_or (λ y. pwrite_need (capacity_at a) (length (bytes_of_file (working_tree (machine_at a)) y.path)) offset (length bytes) + way_need (machine_at a) (Call.Pwrite descriptor offset bytes) y.path) o 0) has.1
     ∙ (λ i. pwrite_need (same i) (long i) offset (length bytes) + way_need (machine_at a) (Call.Pwrite descriptor offset bytes) path) in
     let few = put_way a b call x reply root path trail m is l by way in
     omega arith
 
 pub ftruncate_few : (a b : Moment) (root descriptor n : ℕ) (path : Path) (trail : List ℕ) (head size : ℕ) (x : ℕ → Entry) (reply : Reply) → IsMountedAt a → working_root a.state.history a.state.group ≡ Some root → IsLooked a b
-    → IsPathOf a.state.files descriptor path → IsWorkingBody b path head size → IsChangeBy a (Call.Ftruncate descriptor n) (λ r. put (tree_at b r) path (x r)) reply → IsTrail (nodes_at b) root path trail
+    → IsPathOf a.state.files descriptor path → IsWorkingBody b path head size → IsChangeBy a (Call.Ftruncate descriptor n) (λ r. put (version_tree b r) path (x r)) reply → IsTrail (nodes_at b) root path trail
     → ftruncate_need (capacity_at b) size n + path_nodes (nodes_at b) trail path true 0 ≤ change_need (capacity_at a) (machine_at a) (Call.Ftruncate descriptor n)
 ftruncate_few a b root descriptor n path trail head size x reply m is l has there by way =
     let w = looked_worked a b l in
@@ -320,7 +320,7 @@ ftruncate_few a b root descriptor n path trail head size x reply m is l has ther
     let long = working_length a b path head size m w there in
     let same = same_capacity_at a b w in
     let all : change_need (capacity_at a) (machine_at a) (Call.Ftruncate descriptor n) ≡ ftruncate_need (capacity_at b) size n + way_need (machine_at a) (Call.Ftruncate descriptor n) path =
-    ap (λ (o : Option Descriptor). option_map_or (λ y. ftruncate_need (capacity_at a) (length (bytes_at (working_tree (machine_at a)) y.path)) n + way_need (machine_at a) (Call.Ftruncate descriptor n) y.path) o 0) has.1
+    ap (λ (o : Option Descriptor). option_map_or (λ y. ftruncate_need (capacity_at a) (length (bytes_of_file (working_tree (machine_at a)) y.path)) n + way_need (machine_at a) (Call.Ftruncate descriptor n) y.path) o 0) has.1
     ∙ (λ i. ftruncate_need (same i) (long i) n + way_need (machine_at a) (Call.Ftruncate descriptor n) path) in
     let few = put_way a b call x reply root path trail m is l by way in
     omega arith

@@ -6,7 +6,7 @@ use Rattle.std.specs.FinMap.{get}
 use Rattle.std.specs.Option.{option_or, option_map_or}
 use Rattle.fs_types.specs.Names.{Path}
 use Rattle.plain_trees.specs.Contents.{Contents, Entry, IsTree, under, way_refusal, lookup_refusal, read_from}
-use Rattle.plain_trees.specs.Trees.{Tree, IsFileTree, IsFile, bytes_of, bytes_at}
+use Rattle.plain_trees.specs.Trees.{Tree, IsFileTree, IsFile, bytes_of, bytes_of_file}
 use Rattle.history_machine.specs.History.{working_root}
 use Rattle.history_machine.specs.Descriptors.{Descriptor, Descriptors, descriptor_at, can_read}
 use Rattle.history_machine.specs.Machine.{Machine, Space, working_tree, refusal, reply_of}
@@ -23,10 +23,10 @@ use Rattle.block_trees.specs.Trees.{root_tree, IsRoot}
 use Rattle.block_trees.proofs.RootMaps.{map_law}
 use Rattle.directory.specs.declared.lookups.Found.{Found}
 use Rattle.directory.specs.declared.lookups.Found.TheVariants as found
-use Rattle.directory.specs.Lookups.{look_up, entry_of, is_path_fault, IsLookupFault}
+use Rattle.directory.specs.Lookups.{look_up, found_entry, is_path_fault, IsLookupFault}
 use Rattle.directory.proofs.LookupLaws.{found_is, found_leads_file, rooted_leads}
 use Rattle.skip_list_file.specs.Reading.{is_body_fault}
-use Rattle.working_state.specs.Moments.{Moment, machine_at, seen_at, IsMountedAt, IsStep, tree_at}
+use Rattle.working_state.specs.Moments.{Moment, machine_at, seen_at, IsMountedAt, IsStep, version_tree}
 use Rattle.working_state.specs.Reading.{refuse_directory, file_refusal, IsRead}
 use Rattle.working_state.specs.Seen.{Seen}
 use Rattle.working_state.specs.Steps.{replied, begins_work, is_cut_answer, MayRefuse}
@@ -64,7 +64,7 @@ module _ (capacity : ℕ) (f : Blocks) (root : ℕ) (path : Path) (is : IsRoot c
     led_to = subst (λ z. look_up f root path ≡ Ok z) called led
 
     -- what was found is refused or not for what it is
-    pub found_refuses_file : (refused : Option Fault) → option_map_or refuse_directory (entry_of capacity f y) (Some NoEntry) ≡ refused → file_refusal (root_tree capacity f root) path ≡ refused
+    pub found_refuses_file : (refused : Option Fault) → option_map_or refuse_directory (found_entry capacity f y) (Some NoEntry) ≡ refused → file_refusal (root_tree capacity f root) path ≡ refused
     found_refuses_file refused e = found_tells capacity f root path refuse_directory is y led_to ∙ e
 
   module _ (capacity' : ℕ) (f' : Blocks) (same : f' ≡ f) (same_capacity : capacity' ≡ capacity) (x : Found) (head size : ℕ) (led : look_up f root path ≡ Ok x) (called : x ≡ found.File head size) where
@@ -100,13 +100,13 @@ body_refuses old new m call _ begins is why = absurd (true≢false (sym is))
 -- a call reads of the file at a path of the tree of a root
 pub record ReadsFile (a : Moment) (call : Call) (root : ℕ) (path : Path) (offset count : ℕ) : Type 0 where
   pub begins : begins_work (machine_at a) call ≡ true
-  pub by_path : refusal (machine_at a) call ≡ file_refusal (tree_at a root) path
+  pub by_path : refusal (machine_at a) call ≡ file_refusal (version_tree a root) path
   pub only : OnlyReads (machine_at a) call
-  pub replies : (space : Space) → reply_of space (machine_at a) call ≡ Reply.Bytes (read_from (bytes_at (tree_at a root) path) offset count)
+  pub replies : (space : Space) → reply_of space (machine_at a) call ≡ Reply.Bytes (read_from (bytes_of_file (version_tree a root) path) offset count)
 
 pub read_step : (a b : Moment) (call : Call) (root : ℕ) (path : Path) (offset count : ℕ) (result : Result (List ℕ) Fault) → IsMountedAt a → IsLooked a b → ReadsFile a call root path offset count
-    → IfOk result (IsRead (tree_at a root) path offset count)
-    → IfErr result (λ fault. is_body_fault fault ≡ false → file_refusal (tree_at a root) path ≡ Some fault)
+    → IfOk result (IsRead (version_tree a root) path offset count)
+    → IfErr result (λ fault. is_body_fault fault ≡ false → file_refusal (version_tree a root) path ≡ Some fault)
     → IfErr result (λ fault. is_body_fault fault ≡ true → WorkCause (seen_at a) fault (seen_at b))
     → IsStep a call (replied Reply.Bytes result) b (is_cut_answer (replied Reply.Bytes result))
 read_step a b call root path offset count (Ok bytes) m l reads read refused why =
@@ -124,7 +124,7 @@ view_reads a view path offset count root m shows = record {
   begins = looks.begins;
   by_path = looks.by_path;
   only = record { stays = refl; no_version = refl; no_end = refl; no_record = refl };
-  replies = λ space. ap (λ (t : Tree). Reply.Bytes (read_from (bytes_at t path) offset count)) (view_tree_is a view root shows);
+  replies = λ space. ap (λ (t : Tree). Reply.Bytes (read_from (bytes_of_file t path) offset count)) (view_tree_is a view root shows);
 }
   where
     looks : LooksUp a (Call.ReadAt view path offset count) root path refuse_directory
@@ -158,9 +158,9 @@ open_reads a descriptor path offset count root m is opened = record {
   by_path = accepted ∙ sym (ap (λ t. file_refusal t path) (sym (working_tree_is a root is)) ∙ file_is_read (working_tree (machine_at a)) path (working-file_tree (machine_at a) m.machine) file);
   only = record { stays = refl; no_version = refl; no_end = refl; no_record = refl };
   replies = λ space.
-      ap (λ o. Reply.Bytes (option_map_or (λ x. read_from (bytes_at (working_tree (machine_at a)) x.path) offset count) o [])) opened.there
-      ∙ ap (λ p. Reply.Bytes (read_from (bytes_at (working_tree (machine_at a)) p) offset count)) (sym opened.named)
-      ∙ ap (λ (t : Tree). Reply.Bytes (read_from (bytes_at t path) offset count)) (working_tree_is a root is);
+      ap (λ o. Reply.Bytes (option_map_or (λ x. read_from (bytes_of_file (working_tree (machine_at a)) x.path) offset count) o [])) opened.there
+      ∙ ap (λ p. Reply.Bytes (read_from (bytes_of_file (working_tree (machine_at a)) p) offset count)) (sym opened.named)
+      ∙ ap (λ (t : Tree). Reply.Bytes (read_from (bytes_of_file t path) offset count)) (working_tree_is a root is);
 }
   where
     accepted : refusal (machine_at a) (Call.Pread descriptor offset count) ≡ None

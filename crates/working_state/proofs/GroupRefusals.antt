@@ -12,7 +12,7 @@ use Rattle.fs_types.specs.declared.call.Group.{Group}
 use Rattle.fs_types.specs.declared.fault.Fault.{Fault}
 use Rattle.fs_types.specs.declared.fault.Fault.TheVariants.{Busy, NoGroup, InGroup}
 use Rattle.working_state.specs.Facts.{group_refusal}
-use Rattle.working_state.specs.Moments.{Moment, machine_at, tree_at}
+use Rattle.working_state.specs.Moments.{Moment, machine_at, version_tree}
 
 -- of a call on the history; of one that moves the present version, too, or begins a group; and of one that ends a group
 abbrev pub outside_only : Option (Group ℕ) → Option Fault
@@ -74,15 +74,15 @@ module _ (a : Moment) (fault : Fault) where
 
   -- the machine refuses the call with the same
   pub group_says : (call : Call) → group_refusal a.state.group a.state.files call ≡ Some fault → refusal (machine_at a) call ≡ Some fault
-  group_says Call.Undo e = travel_says (tree_at a) fault group is_open (undo_refusal (machine_at a).history) e
-  group_says Call.Redo e = travel_says (tree_at a) fault group is_open (redo_refusal (machine_at a).history) e
-  group_says (Call.Goto serial) e = travel_says (tree_at a) fault group is_open (serial_refusal (machine_at a).history serial) e
-  group_says (Call.Rollback name) e = travel_says (tree_at a) fault group is_open (name_refusal (machine_at a).history name) e
-  group_says Call.Begin e = travel_says (tree_at a) fault group is_open None e
-  group_says (Call.Forget count) e = outside_says (tree_at a) fault group (forget_refusal (machine_at a).history count) e
-  group_says (Call.Checkpoint name) e = outside_says (tree_at a) fault group (checkpoint_refusal (machine_at a).history name) e
-  group_says (Call.RemoveCheckpoint name) e = outside_says (tree_at a) fault group (name_refusal (machine_at a).history name) e
-  group_says Call.Sync e = outside_says (tree_at a) fault group None e
-  group_says Call.End e = ending_says (tree_at a) fault group is_open e
-  group_says Call.Abandon e = ending_says (tree_at a) fault group is_open e
+  group_says Call.Undo e = travel_says (version_tree a) fault group is_open (undo_refusal (machine_at a).history) e
+  group_says Call.Redo e = travel_says (version_tree a) fault group is_open (redo_refusal (machine_at a).history) e
+  group_says (Call.Goto serial) e = travel_says (version_tree a) fault group is_open (serial_refusal (machine_at a).history serial) e
+  group_says (Call.Rollback name) e = travel_says (version_tree a) fault group is_open (name_refusal (machine_at a).history name) e
+  group_says Call.Begin e = travel_says (version_tree a) fault group is_open None e
+  group_says (Call.Forget count) e = outside_says (version_tree a) fault group (forget_refusal (machine_at a).history count) e
+  group_says (Call.Checkpoint name) e = outside_says (version_tree a) fault group (checkpoint_refusal (machine_at a).history name) e
+  group_says (Call.RemoveCheckpoint name) e = outside_says (version_tree a) fault group (name_refusal (machine_at a).history name) e
+  group_says Call.Sync e = outside_says (version_tree a) fault group None e
+  group_says Call.End e = ending_says (version_tree a) fault group is_open e
+  group_says Call.Abandon e = ending_says (version_tree a) fault group is_open e
   group_says _ e = absurd (None≢Some e)

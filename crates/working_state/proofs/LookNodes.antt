@@ -18,7 +18,7 @@ use Rattle.directory.specs.Lookups.{look_up, way_nodes, LeadsToDirectories}
 use Rattle.directory.proofs.LookupLaws.{found_leads, rooted_leads}
 use Rattle.directory.proofs.WayNodes.{tree_nodes, led_nodes}
 use Rattle.working_state.specs.Looking.{look_nodes, list_nodes}
-use Rattle.working_state.specs.Moments.{Moment, machine_at, IsMountedAt, nodes_at, capacity_at, tree_at}
+use Rattle.working_state.specs.Moments.{Moment, machine_at, IsMountedAt, nodes_at, capacity_at, version_tree}
 use Rattle.working_state.proofs.PathCalls.{working_stands}
 use Rattle.working_state.proofs.Views.{Shows, view_stands, view_tree_is}
 
@@ -69,7 +69,7 @@ dir_listed a view path root x block m shows led is =
     let rooted = (view_stands a view root m shows).rooted in
     let whole = rooted_leads (capacity_at a) (nodes_at a) root rooted in
     let dir : look_up (nodes_at a) root path ≡ Ok (found.Dir block) = subst (λ (z : Found). look_up (nodes_at a) root path ≡ Ok z) is led in
-    let nodes : length (chain (nodes_at a) block) ≡ nodes_for (entry_count (tree_at a root) path) =
-    led_nodes (nodes_at a) root (tree_at a root) whole (map_law (capacity_at a) (nodes_at a) root rooted).lists path block (found_leads (nodes_at a) root path block whole dir) in
+    let nodes : length (chain (nodes_at a) block) ≡ nodes_for (entry_count (version_tree a root) path) =
+    led_nodes (nodes_at a) root (version_tree a root) whole (map_law (capacity_at a) (nodes_at a) root rooted).lists path block (found_leads (nodes_at a) root path block whole dir) in
     let shown : length (chain (nodes_at a) block) ≡ nodes_for (entry_count (view_tree (machine_at a) view) path) = nodes ∙ ap (λ (t : Tree). nodes_for (entry_count t path)) (sym (view_tree_is a view root shows)) in
     omega (arith, way_few a view path root m shows, shown)

@@ -4,7 +4,7 @@ use Rattle.std.proofs.lemmas.Bool.{true≢false}
 use Rattle.std.proofs.lemmas.Nat.{mul-le}
 use Rattle.history_machine.specs.Descriptors.{Descriptor, descriptor_at}
 use Rattle.history_machine.specs.Machine.{Machine, working_tree, view_tree}
-use Rattle.plain_trees.specs.Trees.{Tree, bytes_at}
+use Rattle.plain_trees.specs.Trees.{Tree, bytes_of_file}
 use Rattle.fs_types.specs.Names.{Path}
 use Rattle.fs_types.specs.declared.call.Call.{Call}
 use Rattle.flash_model.specs.declared.geometry.Geometry.{Geometry}
@@ -13,7 +13,7 @@ use Rattle.block_trees.specs.Bodies.{head_index}
 use Rattle.skip_list_file.specs.Reading.{HasDigits, nodes_of_range}
 use Rattle.node_store.specs.declared.store.Store.{Store}
 use Rattle.node_store.specs.Stores.{Follows}
-use Rattle.working_state.specs.Looking.{Asks, IsReadOf, AsksForRange, AsksForOpen, look_nodes, list_nodes, only_looks, LooksOnce}
+use Rattle.working_state.specs.Looking.{AsksBlocks, IsReadOf, AsksForRange, AsksForOpen, look_nodes, list_nodes, only_looks, LooksOnce}
 
 -- ---- what is asked
 
@@ -22,23 +22,23 @@ pub on_devices : (P : Device → Device → Type 0) (d d' e e' : Device) → d' 
 on_devices P d d' e e' same_d same_e here = subst (λ x. P x e) same_d (subst (λ x. P d' x) same_e here)
 
 -- reads of a store, where none was a write
-pub store_asks : {F : Type 0} (device : F → Device) (s t : Store F) (most : ℕ) → Follows device s t → t.writes.n ≡ s.writes.n → t.reads.n ≤ s.reads.n + most → Asks (device s.flash.now) most (device t.flash.now)
+pub store_asks : {F : Type 0} (device : F → Device) (s t : Store F) (most : ℕ) → Follows device s t → t.writes.n ≡ s.writes.n → t.reads.n ≤ s.reads.n + most → AsksBlocks (device s.flash.now) most (device t.flash.now)
 store_asks device s t most follows none few =
     let pages : ℕ = (device s.flash.now).geometry.pages in
     let asked = follows.asks none in
     let within : t.reads.n * pages ≤ (s.reads.n + most) * pages = mul-le t.reads.n pages (s.reads.n + most) pages few (omega arith) in
     record { most = omega (arith, asked, within) }
 
-pub asks_none : (d : Device) (nodes : ℕ) → Asks d nodes d
+pub asks_none : (d : Device) (nodes : ℕ) → AsksBlocks d nodes d
 asks_none d nodes = record { most = omega arith }
 
-pub asks_more : (d e : Device) (few nodes : ℕ) → few ≤ nodes → Asks d few e → Asks d nodes e
+pub asks_more : (d e : Device) (few nodes : ℕ) → few ≤ nodes → AsksBlocks d few e → AsksBlocks d nodes e
 asks_more d e few nodes less asks =
     let within : few * d.geometry.pages ≤ nodes * d.geometry.pages = mul-le few d.geometry.pages nodes d.geometry.pages less (omega arith) in
     let few_asked = asks.most in
     record { most = omega (arith, few_asked, within) }
 
-pub asks_on : (d e f : Device) (some more : ℕ) → e.geometry ≡ d.geometry → Asks d some e → Asks e more f → Asks d (some + more) f
+pub asks_on : (d e f : Device) (some more : ℕ) → e.geometry ≡ d.geometry → AsksBlocks d some e → AsksBlocks e more f → AsksBlocks d (some + more) f
 asks_on d e f some more same first second =
     let then : f.operations ≤ e.operations + more * d.geometry.pages = subst (λ (g : Geometry). f.operations ≤ e.operations + more * g.pages) same second.most in
     let before = first.most in
@@ -85,11 +85,11 @@ looks_other m _ d e other = tt
 
 -- the bytes of an open file
 pub open_looks : (d e : Device) (o : Option Descriptor) (file : Descriptor) (path : Path) (t u : Tree) (offset count : ℕ) → o ≡ Some file → path ≡ file.path → t ≡ u
-    → AsksForRange d (look_nodes u path) (bytes_at u path) offset count e → AsksForOpen d o t offset count e
+    → AsksForRange d (look_nodes u path) (bytes_of_file u path) offset count e → AsksForOpen d o t offset count e
 open_looks d e o file path t u offset count there named same asks =
     subst (λ (x : Option Descriptor). AsksForOpen d x t offset count e) (sym there)
-    (subst (λ (x : Tree). AsksForRange d (look_nodes x file.path) (bytes_at x file.path) offset count e) (sym same)
-    (subst (λ (p : Path). AsksForRange d (look_nodes u p) (bytes_at u p) offset count e) named asks))
+    (subst (λ (x : Tree). AsksForRange d (look_nodes x file.path) (bytes_of_file x file.path) offset count e) (sym same)
+    (subst (λ (p : Path). AsksForRange d (look_nodes u p) (bytes_of_file u p) offset count e) named asks))
 
 -- neither of two
 pub neither : (x y : Bool) → x || y ≡ false → (x ≡ false) × (y ≡ false)

@@ -29,11 +29,11 @@ use Rattle.block_trees.proofs.TooDeep.{depth_law}
 use Rattle.directory.specs.declared.lookups.Found.{Found}
 use Rattle.directory.specs.declared.lookups.Found.TheVariants as found
 use Rattle.directory.specs.Trails.{has_room}
-use Rattle.directory.specs.Lookups.{look_up, entry_of, is_path_fault, IsLookupFault}
+use Rattle.directory.specs.Lookups.{look_up, found_entry, is_path_fault, IsLookupFault}
 use Rattle.directory.proofs.LookupLaws.{found_is, found_leads, found_leads_file, missing_parent, refused_is, rooted_leads}
-use Rattle.working_state.specs.Moments.{Moment, machine_at, seen_at, IsMountedAt, nodes_at, capacity_at, tree_at}
+use Rattle.working_state.specs.Moments.{Moment, machine_at, seen_at, IsMountedAt, nodes_at, capacity_at, version_tree}
 use Rattle.working_state.specs.Seen.{Seen}
-use Rattle.working_state.specs.Steps.{begins_work, MayRefuse, IsLater}
+use Rattle.working_state.specs.Steps.{begins_work, MayRefuse, LeadsTo}
 use Rattle.directory.specs.Depths.{IsDeeper}
 use Rattle.working_state.specs.Renames.{target_refusal, lacks_room}
 use Rattle.working_state.specs.Worked.{IsLooked, WorkCause, ReadCause}
@@ -57,7 +57,7 @@ read_cause old new NotDirectory other is why = absurd (true≢false other)
 read_cause old new Damaged other is why = absurd (true≢false other)
 read_cause old new _ other is why = absurd (not_so is)
 
-pub read_later : (old mid new : Seen) (fault : Fault) → IsLater old mid → ReadCause mid fault new → ReadCause old fault new
+pub read_later : (old mid new : Seen) (fault : Fault) → LeadsTo old mid → ReadCause mid fault new → ReadCause old fault new
 read_later old mid new ReadFailed later why = omega arith
 read_later old mid new PowerCut later why = why
 read_later old mid new NoMemory later why = tt
@@ -134,7 +134,7 @@ module _ (a : Moment) (root : ℕ) (path : Path) (m : IsMountedAt a) (is : worki
   rooted : IsRoot (capacity_at a) (nodes_at a) root
   rooted = (working_stands a root m is).rooted
 
-  same : get (tree_at a root) ≡ tree (capacity_at a) (nodes_at a) root
+  same : get (version_tree a root) ≡ tree (capacity_at a) (nodes_at a) root
   same = (map_law (capacity_at a) (nodes_at a) root rooted).same
 
   place_at : (refuse : Entry → Option Fault)
@@ -144,13 +144,13 @@ module _ (a : Moment) (root : ℕ) (path : Path) (m : IsMountedAt a) (is : worki
       ∙ ap (λ (t : Contents). option_or (lookup_refusal t path) (option_map_or refuse (t path) (Some NoEntry))) same
 
   pub place_by : (x y : Found) → look_up (nodes_at a) root path ≡ Ok x → x ≡ y → (refuse : Entry → Option Fault)
-      → found_refusal (working_tree (machine_at a)) path refuse ≡ option_map_or refuse (entry_of (capacity_at a) (nodes_at a) y) (Some NoEntry)
+      → found_refusal (working_tree (machine_at a)) path refuse ≡ option_map_or refuse (found_entry (capacity_at a) (nodes_at a) y) (Some NoEntry)
   place_by x y led called refuse =
       let there = found_is (capacity_at a) (nodes_at a) root path x (rooted_leads (capacity_at a) (nodes_at a) root rooted) led in
       place_at refuse
       ∙ ap (λ o. option_or o (option_map_or refuse (tree (capacity_at a) (nodes_at a) root path) (Some NoEntry))) there.0
       ∙ ap (λ o. option_map_or refuse o (Some NoEntry)) there.1
-      ∙ ap (λ z. option_map_or refuse (entry_of (capacity_at a) (nodes_at a) z) (Some NoEntry)) called
+      ∙ ap (λ z. option_map_or refuse (found_entry (capacity_at a) (nodes_at a) z) (Some NoEntry)) called
 
   pub place_look : (b : Moment) (fault : Fault) → (is_path_fault fault ≡ true → look_up (nodes_at a) root path ≡ Err fault)
       → (is_path_fault fault ≡ false → WorkCause (seen_at a) fault (seen_at b)) → IsLookupFault fault → PlaceRefused a b path fault
@@ -175,24 +175,24 @@ module _ (a : Moment) (root : ℕ) (path : Path) (m : IsMountedAt a) (is : worki
       ((working-file_tree (machine_at a) m.machine).lengths path (body (capacity_at a) (nodes_at a) head size) there)
 
   target_at : (entry : Entry)
-      → target_refusal (working_tree (machine_at a)) path entry ≡ option_or (lookup_refusal (tree (capacity_at a) (nodes_at a) root) path) (replace_refusal (tree_at a root) path entry (tree (capacity_at a) (nodes_at a) root path))
+      → target_refusal (working_tree (machine_at a)) path entry ≡ option_or (lookup_refusal (tree (capacity_at a) (nodes_at a) root) path) (replace_refusal (version_tree a root) path entry (tree (capacity_at a) (nodes_at a) root path))
   target_at entry =
       ap (λ t. target_refusal t path entry) (working_tree_is a root is)
-      ∙ ap (λ (t : Contents). option_or (lookup_refusal t path) (replace_refusal (tree_at a root) path entry (t path))) same
+      ∙ ap (λ (t : Contents). option_or (lookup_refusal t path) (replace_refusal (version_tree a root) path entry (t path))) same
 
   target_by : (x y : Found) → look_up (nodes_at a) root path ≡ Ok x → x ≡ y → (entry : Entry)
-      → target_refusal (working_tree (machine_at a)) path entry ≡ replace_refusal (tree_at a root) path entry (entry_of (capacity_at a) (nodes_at a) y)
+      → target_refusal (working_tree (machine_at a)) path entry ≡ replace_refusal (version_tree a root) path entry (found_entry (capacity_at a) (nodes_at a) y)
   target_by x y led called entry =
       let there = found_is (capacity_at a) (nodes_at a) root path x (rooted_leads (capacity_at a) (nodes_at a) root rooted) led in
       target_at entry
-      ∙ ap (λ o. option_or o (replace_refusal (tree_at a root) path entry (tree (capacity_at a) (nodes_at a) root path))) there.0
-      ∙ ap (λ o. replace_refusal (tree_at a root) path entry o) there.1
-      ∙ ap (λ z. replace_refusal (tree_at a root) path entry (entry_of (capacity_at a) (nodes_at a) z)) called
+      ∙ ap (λ o. option_or o (replace_refusal (version_tree a root) path entry (tree (capacity_at a) (nodes_at a) root path))) there.0
+      ∙ ap (λ o. replace_refusal (version_tree a root) path entry o) there.1
+      ∙ ap (λ z. replace_refusal (version_tree a root) path entry (found_entry (capacity_at a) (nodes_at a) z)) called
 
   pub target_look : (b : Moment) (moves : Bool) (fault : Fault) → (is_path_fault fault ≡ true → look_up (nodes_at a) root path ≡ Err fault)
       → (is_path_fault fault ≡ false → WorkCause (seen_at a) fault (seen_at b)) → IsLookupFault fault → TargetRefused a b path moves fault
   target_look b moves fault refused why lookup = elim (cases_Bool (is_path_fault fault)) [
-    | inl tells ↦ inl (λ entry kind. target_at entry ∙ ap (λ o. option_or o (replace_refusal (tree_at a root) path entry (tree (capacity_at a) (nodes_at a) root path))) (refused_is (capacity_at a) (nodes_at a) root path fault rooted (refused tells)))
+    | inl tells ↦ inl (λ entry kind. target_at entry ∙ ap (λ o. option_or o (replace_refusal (version_tree a root) path entry (tree (capacity_at a) (nodes_at a) root path))) (refused_is (capacity_at a) (nodes_at a) root path fault rooted (refused tells)))
     | inr other ↦ inr (read_cause (seen_at a) (seen_at b) fault other lookup (why other))
   ]
 
@@ -205,16 +205,16 @@ module _ (a : Moment) (root : ℕ) (path : Path) (m : IsMountedAt a) (is : worki
       inr (read_later (seen_at a) (seen_at b) (seen_at c) fault (worked_later a b (looked_worked a b l)) (read_cause (seen_at b) (seen_at c) fault other (read_lookup fault reads) (why other)))
 
   pub target_missing : (x : Found) (full : Bool) → look_up (nodes_at a) root path ≡ Ok x → x ≡ found.Missing full → (entry : Entry) → target_refusal (working_tree (machine_at a)) path entry ≡ None
-  target_missing x full led called entry = target_by x (found.Missing full) led called entry ∙ missing_fits (tree_at a root) path entry
+  target_missing x full led called entry = target_by x (found.Missing full) led called entry ∙ missing_fits (version_tree a root) path entry
 
   pub target_file : (x : Found) (head size : ℕ) → look_up (nodes_at a) root path ≡ Ok x → x ≡ found.File head size → (entry : Entry) → is_dir entry ≡ false → target_refusal (working_tree (machine_at a)) path entry ≡ None
-  target_file x head size led called entry kind = target_by x (found.File head size) led called entry ∙ file_fits (tree_at a root) path entry (body (capacity_at a) (nodes_at a) head size) kind
+  target_file x head size led called entry kind = target_by x (found.File head size) led called entry ∙ file_fits (version_tree a root) path entry (body (capacity_at a) (nodes_at a) head size) kind
 
   pub target_no_directory : (x : Found) (head size : ℕ) → look_up (nodes_at a) root path ≡ Ok x → x ≡ found.File head size → (entry : Entry) → is_dir entry ≡ true → target_refusal (working_tree (machine_at a)) path entry ≡ Some NotDirectory
-  target_no_directory x head size led called entry kind = target_by x (found.File head size) led called entry ∙ file_refuses (tree_at a root) path entry (body (capacity_at a) (nodes_at a) head size) kind
+  target_no_directory x head size led called entry kind = target_by x (found.File head size) led called entry ∙ file_refuses (version_tree a root) path entry (body (capacity_at a) (nodes_at a) head size) kind
 
   pub target_directory : (x : Found) (block : ℕ) → look_up (nodes_at a) root path ≡ Ok x → x ≡ found.Dir block → (entry : Entry) → is_dir entry ≡ false → target_refusal (working_tree (machine_at a)) path entry ≡ Some IsDirectory
-  target_directory x block led called entry kind = target_by x (found.Dir block) led called entry ∙ dir_refuses (tree_at a root) path entry kind
+  target_directory x block led called entry kind = target_by x (found.Dir block) led called entry ∙ dir_refuses (version_tree a root) path entry kind
 
   pub target_counted : (e : Device) (x : Found) (block : ℕ) (items : List Item) → node_of e ≡ nodes_at a → look_up (nodes_at a) root path ≡ Ok x → x ≡ found.Dir block → entries_in (node_of e) block ≡ Some items → (entry : Entry) → is_dir entry ≡ true
       → target_refusal (working_tree (machine_at a)) path entry ≡ (if nat_lt 0 (length items) then Some NotEmpty else None)
@@ -222,15 +222,15 @@ module _ (a : Moment) (root : ℕ) (path : Path) (m : IsMountedAt a) (is : worki
       let dir : look_up (nodes_at a) root path ≡ Ok (found.Dir block) = subst (λ z. look_up (nodes_at a) root path ≡ Ok z) called led in
       let here : entries_in (nodes_at a) block ≡ Some items = ap (λ (g : Blocks). entries_in g block) (sym nodes) ∙ spelled in
       target_by x (found.Dir block) led called entry
-      ∙ dir_counted (tree_at a root) path entry kind
+      ∙ dir_counted (version_tree a root) path entry kind
       ∙ ap (λ n. if nat_lt 0 n then Some NotEmpty else None) (rmdir_count a path root block items m is dir here)
 
-  lacks_by : (x y : Found) → look_up (nodes_at a) root path ≡ Ok x → x ≡ y → lacks_room (working_tree (machine_at a)) path ≡ (is_none (entry_of (capacity_at a) (nodes_at a) y) && is_full (tree_at a root) (parent_of path))
+  lacks_by : (x y : Found) → look_up (nodes_at a) root path ≡ Ok x → x ≡ y → lacks_room (working_tree (machine_at a)) path ≡ (is_none (found_entry (capacity_at a) (nodes_at a) y) && is_full (version_tree a root) (parent_of path))
   lacks_by x y led called =
       ap (λ t. lacks_room t path) (working_tree_is a root is)
-      ∙ ap (λ (t : Contents). is_none (t path) && is_full (tree_at a root) (parent_of path)) same
-      ∙ ap (λ o. is_none o && is_full (tree_at a root) (parent_of path)) (found_is (capacity_at a) (nodes_at a) root path x (rooted_leads (capacity_at a) (nodes_at a) root rooted) led).1
-      ∙ ap (λ z. is_none (entry_of (capacity_at a) (nodes_at a) z) && is_full (tree_at a root) (parent_of path)) called
+      ∙ ap (λ (t : Contents). is_none (t path) && is_full (version_tree a root) (parent_of path)) same
+      ∙ ap (λ o. is_none o && is_full (version_tree a root) (parent_of path)) (found_is (capacity_at a) (nodes_at a) root path x (rooted_leads (capacity_at a) (nodes_at a) root rooted) led).1
+      ∙ ap (λ z. is_none (found_entry (capacity_at a) (nodes_at a) z) && is_full (version_tree a root) (parent_of path)) called
 
   pub lacks_missing : (x : Found) (full : Bool) → look_up (nodes_at a) root path ≡ Ok x → x ≡ found.Missing full → full ≡ lacks_room (working_tree (machine_at a)) path
   lacks_missing x full led called =
@@ -342,7 +342,7 @@ module _ (a : Moment) (old new : Path) (place : Place) (dir : Bool) (differ : sa
 
 -- the depth of what a path leads to, in the tree that calls work on
 module _ (a : Moment) (root : ℕ) (old new : Path) (place : Place) (m : IsMountedAt a) (is : working_root a.state.history a.state.group ≡ Some root) (led : leads (nodes_at a) (Dir root) old ≡ Some place) (short : length new ≤ 16) where
-  depth_is : (deep : Bool) → is_too_deep (tree_at a root) old new ≡ deep → is_too_deep (working_tree (machine_at a)) old new ≡ deep
+  depth_is : (deep : Bool) → is_too_deep (version_tree a root) old new ≡ deep → is_too_deep (working_tree (machine_at a)) old new ≡ deep
   depth_is deep told = ap (λ t. is_too_deep t old new) (working_tree_is a root is) ∙ told
 
   pub is_deep : IsDeeper (nodes_at a) place (16 - length new) → is_too_deep (working_tree (machine_at a)) old new ≡ true

@@ -18,9 +18,9 @@ use Rattle.block_trees.specs.Trees.{tree, root_tree, IsRoot}
 use Rattle.block_trees.proofs.RootMaps.{map_law, full_directory}
 use Rattle.directory.specs.declared.lookups.Found.{Found}
 use Rattle.directory.specs.declared.lookups.Found.TheVariants as found
-use Rattle.directory.specs.Lookups.{look_up, entry_of, is_path_fault, IsLookupFault}
+use Rattle.directory.specs.Lookups.{look_up, found_entry, is_path_fault, IsLookupFault}
 use Rattle.directory.proofs.LookupLaws.{found_is, missing_parent, refused_is, rooted_leads}
-use Rattle.working_state.specs.Moments.{Moment, machine_at, seen_at, IsMountedAt, IsRefused, nodes_at, capacity_at, tree_at}
+use Rattle.working_state.specs.Moments.{Moment, machine_at, seen_at, IsMountedAt, IsRefused, nodes_at, capacity_at, version_tree}
 use Rattle.working_state.specs.Worked.{IsLooked, WorkCause}
 use Rattle.working_state.proofs.ChangeSteps.{later_tree}
 use Rattle.working_state.proofs.ChangedCalls.{IsChangeBy}
@@ -38,10 +38,10 @@ path_refusal path refused there full = if length path == 0 then Some Exists else
 
 mkdir_at : (a : Moment) (path : Path) (root : ℕ) → IsMountedAt a → working_root a.state.history a.state.group ≡ Some root
     → refusal (machine_at a) (Call.Mkdir path)
-    ≡ path_refusal path (lookup_refusal (tree (capacity_at a) (nodes_at a) root) path) (tree (capacity_at a) (nodes_at a) root path) (is_full (tree_at a root) (parent_of path))
+    ≡ path_refusal path (lookup_refusal (tree (capacity_at a) (nodes_at a) root) path) (tree (capacity_at a) (nodes_at a) root path) (is_full (version_tree a root) (parent_of path))
 mkdir_at a path root m is =
     ap (λ t. path_refusal path (lookup_refusal (get t) path) (get t path) (is_full t (parent_of path))) (working_tree_is a root is)
-    ∙ ap (λ (t : Contents). path_refusal path (lookup_refusal t path) (t path) (is_full (tree_at a root) (parent_of path)))
+    ∙ ap (λ (t : Contents). path_refusal path (lookup_refusal t path) (t path) (is_full (version_tree a root) (parent_of path)))
     (map_law (capacity_at a) (nodes_at a) root (working_stands a root m is).rooted).same
 
 -- why no directory is made where a look up found this
@@ -73,14 +73,14 @@ mkdir_found : (a : Moment) (path : Path) (root : ℕ) (x : Found) → IsMountedA
 mkdir_found a path root x m is e =
     let law = found_is (capacity_at a) (nodes_at a) root path x (rooted_leads (capacity_at a) (nodes_at a) root (working_stands a root m is).rooted) e in
     mkdir_at a path root m is
-    ∙ ap (λ o. path_refusal path o (tree (capacity_at a) (nodes_at a) root path) (is_full (tree_at a root) (parent_of path))) law.0
-    ∙ ap (λ o. path_refusal path None o (is_full (tree_at a root) (parent_of path))) law.1
+    ∙ ap (λ o. path_refusal path o (tree (capacity_at a) (nodes_at a) root path) (is_full (version_tree a root) (parent_of path))) law.0
+    ∙ ap (λ o. path_refusal path None o (is_full (version_tree a root) (parent_of path))) law.1
     ∙ go x e
   where
-    go : (x : Found) → look_up (nodes_at a) root path ≡ Ok x → path_refusal path None (entry_of (capacity_at a) (nodes_at a) x) (is_full (tree_at a root) (parent_of path)) ≡ found_refuses x
+    go : (x : Found) → look_up (nodes_at a) root path ≡ Ok x → path_refusal path None (found_entry (capacity_at a) (nodes_at a) x) (is_full (version_tree a root) (parent_of path)) ≡ found_refuses x
     go (found.Missing full) e = missing_refuses (capacity_at a) (nodes_at a) root path full (working_stands a root m is).rooted e
-    go (found.File head size) e = same_when_there path (Entry.File (body (capacity_at a) (nodes_at a) head size)) (is_full (tree_at a root) (parent_of path))
-    go (found.Dir block) e = same_when_there path Entry.Dir (is_full (tree_at a root) (parent_of path))
+    go (found.File head size) e = same_when_there path (Entry.File (body (capacity_at a) (nodes_at a) head size)) (is_full (version_tree a root) (parent_of path))
+    go (found.Dir block) e = same_when_there path Entry.Dir (is_full (version_tree a root) (parent_of path))
 
 told_refuses : (f : Blocks) (root : ℕ) (path : Path) (fault : Fault) (there : Option Entry) (full : Bool) → look_up f root path ≡ Err fault → path_refusal path (Some fault) there full ≡ Some fault
 told_refuses f root [] fault there full e = absurd cc
@@ -90,7 +90,7 @@ mkdir_told : (a : Moment) (path : Path) (root : ℕ) (fault : Fault) → IsMount
     → refusal (machine_at a) (Call.Mkdir path) ≡ Some fault
 mkdir_told a path root fault m is e =
     let there = tree (capacity_at a) (nodes_at a) root path in
-    let full = is_full (tree_at a root) (parent_of path) in
+    let full = is_full (version_tree a root) (parent_of path) in
     mkdir_at a path root m is
     ∙ ap (λ o. path_refusal path o there full) (refused_is (capacity_at a) (nodes_at a) root path fault (working_stands a root m is).rooted e)
     ∙ told_refuses (nodes_at a) root path fault there full e
@@ -118,7 +118,7 @@ mkdir_refuses a b path root x y fault m is led same refused = inl (mkdir_by a pa
 -- A directory that is made.
 
 pub mkdir_change : (a b : Moment) (path : Path) → IsMountedAt a → IsLooked a b → refusal (machine_at a) (Call.Mkdir path) ≡ None → is_path path ≡ true
-    → IsChangeBy a (Call.Mkdir path) (λ root. put (tree_at b root) path Entry.Dir) Reply.Empty
+    → IsChangeBy a (Call.Mkdir path) (λ root. put (version_tree b root) path Entry.Dir) Reply.Empty
 mkdir_change a b path m l fine lawful = record {
   fine = fine;
   after = λ root is. ap (λ (x : Tree). Some (put x path Entry.Dir)) (later_tree a b root m is l);

@@ -22,7 +22,7 @@ use Rattle.block_trees.specs.Trees.{tree}
 use Rattle.block_trees.proofs.RootMaps.{map_law, full_directory}
 use Rattle.directory.specs.declared.lookups.Found.{Found}
 use Rattle.directory.specs.declared.lookups.Found.TheVariants as found
-use Rattle.directory.specs.Lookups.{look_up, entry_of, is_path_fault, IsLookupFault}
+use Rattle.directory.specs.Lookups.{look_up, found_entry, is_path_fault, IsLookupFault}
 use Rattle.directory.proofs.LookupLaws.{found_is, found_leads_file, missing_parent, refused_is, rooted_leads}
 use Rattle.working_state.proofs.Roots.{at_history}
 use Rattle.working_state.specs.Moments.{Moment, moment, machine_at, seen_at, IsMountedAt, IsRefused, nodes_at, capacity_at}
@@ -30,7 +30,7 @@ use Rattle.working_state.specs.Leaves.{is_still, Leaves}
 use Rattle.working_state.specs.Looking.{only_looks}
 use Rattle.working_state.specs.Steps.{replied, CallStep}
 use Rattle.working_state.specs.Moments.{IsAnswered}
-use Rattle.working_state.specs.Opening.{found_refusal, changes_found}
+use Rattle.working_state.specs.Opening.{open_refusal_of, changes_found}
 use Rattle.working_state.specs.Worked.{IsWorked, IsLooked, WorkCause}
 use Rattle.working_state.proofs.PathCalls.{working_tree_is, working_stands}
 use Rattle.working_state.proofs.Refusals.{read_refuses, refused_step, never}
@@ -71,7 +71,7 @@ directory false table = refl
 
 -- the refusal of what was found, and then that of the table
 open_found : (a : Moment) (path : Path) (flags : OpenFlags) (root : ℕ) (x : Found) → IsMountedAt a → working_root a.state.history a.state.group ≡ Some root → are_lawful flags ≡ true → look_up (nodes_at a) root path ≡ Ok x
-    → refusal (machine_at a) (Call.Open path flags) ≡ option_or (found_refusal flags x) (full_table_refusal (machine_at a))
+    → refusal (machine_at a) (Call.Open path flags) ≡ option_or (open_refusal_of flags x) (full_table_refusal (machine_at a))
 open_found a path flags root x m is lawful e =
     let n = machine_at a in
     let law = found_is (capacity_at a) (nodes_at a) root path x (rooted_leads (capacity_at a) (nodes_at a) root (working_stands a root m is).rooted) e in
@@ -83,7 +83,7 @@ open_found a path flags root x m is lawful e =
     table : Option Fault
     table = full_table_refusal (machine_at a)
 
-    go : (x : Found) → look_up (nodes_at a) root path ≡ Ok x → open_refusal (machine_at a) path flags (entry_of (capacity_at a) (nodes_at a) x) ≡ option_or (found_refusal flags x) table
+    go : (x : Found) → look_up (nodes_at a) root path ≡ Ok x → open_refusal (machine_at a) path flags (found_entry (capacity_at a) (nodes_at a) x) ≡ option_or (open_refusal_of flags x) table
     go (found.Missing full) e =
         let parent = missing_parent (nodes_at a) root path full (rooted_leads (capacity_at a) (nodes_at a) root (working_stands a root m is).rooted) e in
         let same : is_full (working_tree (machine_at a)) (parent_of path) ≡ full =
@@ -111,19 +111,19 @@ open_fault a b path flags root fault m is lawful refused why lookup = elim (case
 
 -- what was found is refused
 pub found_refuses : (a b : Moment) (path : Path) (flags : OpenFlags) (root : ℕ) (x : Found) (fault : Fault) → IsMountedAt a → working_root a.state.history a.state.group ≡ Some root → are_lawful flags ≡ true
-    → look_up (nodes_at a) root path ≡ Ok x → found_refusal flags x ≡ Some fault → IsRefused a (Call.Open path flags) fault b
+    → look_up (nodes_at a) root path ≡ Ok x → open_refusal_of flags x ≡ Some fault → IsRefused a (Call.Open path flags) fault b
 found_refuses a b path flags root x fault m is lawful led refused =
     inl (open_found a path flags root x m is lawful led ∙ ap (λ o. option_or o (full_table_refusal (machine_at a))) refused)
 
 -- no descriptor is free
 pub number_refuses : (a b : Moment) (path : Path) (flags : OpenFlags) (root : ℕ) (x : Found) → IsMountedAt a → working_root a.state.history a.state.group ≡ Some root → are_lawful flags ≡ true
-    → look_up (nodes_at a) root path ≡ Ok x → found_refusal flags x ≡ None → least_free a.state.files ≡ None → IsRefused a (Call.Open path flags) TooManyOpen b
+    → look_up (nodes_at a) root path ≡ Ok x → open_refusal_of flags x ≡ None → least_free a.state.files ≡ None → IsRefused a (Call.Open path flags) TooManyOpen b
 number_refuses a b path flags root x m is lawful led fits none =
     inl (open_found a path flags root x m is lawful led
     ∙ ap (λ o. option_or o (full_table_refusal (machine_at a))) fits ∙ ap (λ o. cond (is_none o) (Some TooManyOpen) None) none)
 
 pub open_accepted : (a : Moment) (path : Path) (flags : OpenFlags) (root descriptor : ℕ) (x : Found) → IsMountedAt a → working_root a.state.history a.state.group ≡ Some root → are_lawful flags ≡ true
-    → look_up (nodes_at a) root path ≡ Ok x → found_refusal flags x ≡ None → least_free a.state.files ≡ Some descriptor → refusal (machine_at a) (Call.Open path flags) ≡ None
+    → look_up (nodes_at a) root path ≡ Ok x → open_refusal_of flags x ≡ None → least_free a.state.files ≡ Some descriptor → refusal (machine_at a) (Call.Open path flags) ≡ None
 open_accepted a path flags root descriptor x m is lawful led fits free =
     open_found a path flags root x m is lawful led
     ∙ ap (λ o. option_or o (full_table_refusal (machine_at a))) fits ∙ ap (λ o. cond (is_none o) (Some TooManyOpen) None) free
@@ -142,14 +142,14 @@ long_body capacity f head (suc n) is =
 abbrev changes_at : OpenFlags → Option Entry → Bool
 changes_at flags o = is_none o || (truncates flags && nat_lt 0 (length (bytes_of o)))
 
-pub changes_is : (a : Moment) (path : Path) (flags : OpenFlags) (root : ℕ) (x : Found) → IsMountedAt a → working_root a.state.history a.state.group ≡ Some root → look_up (nodes_at a) root path ≡ Ok x → found_refusal flags x ≡ None
+pub changes_is : (a : Moment) (path : Path) (flags : OpenFlags) (root : ℕ) (x : Found) → IsMountedAt a → working_root a.state.history a.state.group ≡ Some root → look_up (nodes_at a) root path ≡ Ok x → open_refusal_of flags x ≡ None
     → open_changes (working_tree (machine_at a)) path flags ≡ changes_found flags x
 changes_is a path flags root x m is led fits =
     ap (λ (t : Contents). changes_at flags (t path)) (working_is a root m is)
     ∙ ap (changes_at flags) (found_is (capacity_at a) (nodes_at a) root path x (rooted_leads (capacity_at a) (nodes_at a) root (working_stands a root m is).rooted) led).1
     ∙ go x led fits
   where
-    go : (x : Found) → look_up (nodes_at a) root path ≡ Ok x → found_refusal flags x ≡ None → changes_at flags (entry_of (capacity_at a) (nodes_at a) x) ≡ changes_found flags x
+    go : (x : Found) → look_up (nodes_at a) root path ≡ Ok x → open_refusal_of flags x ≡ None → changes_at flags (found_entry (capacity_at a) (nodes_at a) x) ≡ changes_found flags x
     go (found.Missing full) led fits = refl
     go (found.File head size) led fits =
         let whole = ((working_stands a root m is).rooted path (place.File head size) (found_leads_file (nodes_at a) root path head size (rooted_leads (capacity_at a) (nodes_at a) root (working_stands a root m is).rooted) led)).0 in
@@ -269,7 +269,7 @@ opened_answer a b path flags descriptor files m l lawful fine same free is =
 -- ---- a file that is made or cut
 
 -- what is found and fits is below the root, and no directory
-pub found_below : (f : Blocks) (root : ℕ) (path : Path) (flags : OpenFlags) (x : Found) → look_up f root path ≡ Ok x → found_refusal flags x ≡ None → 0 < length path
+pub found_below : (f : Blocks) (root : ℕ) (path : Path) (flags : OpenFlags) (x : Found) → look_up f root path ≡ Ok x → open_refusal_of flags x ≡ None → 0 < length path
 found_below f root [] flags (found.Missing full) led fits = absurd cc
 found_below f root [] flags (found.File head size) led fits = absurd cc
 found_below f root [] flags (found.Dir block) led fits = absurd (go (creates flags && is_exclusive flags) fits)

@@ -23,9 +23,9 @@ use Rattle.block_trees.specs.Trees.{entries_in, tree, root_tree, IsRoot}
 use Rattle.block_trees.proofs.RootMaps.{map_law}
 use Rattle.directory.specs.declared.lookups.Found.{Found}
 use Rattle.directory.specs.declared.lookups.Found.TheVariants as found
-use Rattle.directory.specs.Lookups.{look_up, entry_of, is_path_fault, IsLookupFault}
+use Rattle.directory.specs.Lookups.{look_up, found_entry, is_path_fault, IsLookupFault}
 use Rattle.directory.proofs.LookupLaws.{found_is, found_leads, refused_is, rooted_leads}
-use Rattle.working_state.specs.Moments.{Moment, machine_at, seen_at, IsMountedAt, IsRefused, IsStep, nodes_at, capacity_at, tree_at}
+use Rattle.working_state.specs.Moments.{Moment, machine_at, seen_at, IsMountedAt, IsRefused, IsStep, nodes_at, capacity_at, version_tree}
 use Rattle.working_state.specs.Steps.{begins_work, is_for_record}
 use Rattle.working_state.specs.Mounted.{IsStanding}
 use Rattle.working_state.specs.Worked.{IsLooked, WorkCause}
@@ -35,14 +35,14 @@ use Rattle.working_state.proofs.Refusals.{read_refuses, cause_later}
 
 -- The tree that calls work on.
 
-pub working_tree_is : (a : Moment) (root : ℕ) → working_root a.state.history a.state.group ≡ Some root → working_tree (machine_at a) ≡ tree_at a root
-working_tree_is a root is = ap (λ o. unwrap_or o bare) (working_root-map (tree_at a) a.state.history a.state.group ∙ ap (option_map (tree_at a)) is)
+pub working_tree_is : (a : Moment) (root : ℕ) → working_root a.state.history a.state.group ≡ Some root → working_tree (machine_at a) ≡ version_tree a root
+working_tree_is a root is = ap (λ o. unwrap_or o bare) (working_root-map (version_tree a) a.state.history a.state.group ∙ ap (option_map (version_tree a)) is)
 
 pub working_stands : (a : Moment) (root : ℕ) → IsMountedAt a → working_root a.state.history a.state.group ≡ Some root → IsStanding a.device a.state.storage.ring root
 working_stands a root m is = of_working (IsStanding a.device a.state.storage.ring) a.state root m.roots is
 
 -- what stands in the tree that calls work on stands at a lawful path
-pub found_lawful : (a : Moment) (root : ℕ) (path : Path) (x : Found) (entry : Entry) → IsMountedAt a → working_root a.state.history a.state.group ≡ Some root → look_up (nodes_at a) root path ≡ Ok x → entry_of (capacity_at a) (nodes_at a) x ≡ Some entry
+pub found_lawful : (a : Moment) (root : ℕ) (path : Path) (x : Found) (entry : Entry) → IsMountedAt a → working_root a.state.history a.state.group ≡ Some root → look_up (nodes_at a) root path ≡ Ok x → found_entry (capacity_at a) (nodes_at a) x ≡ Some entry
     → is_path path ≡ true
 found_lawful a root path x entry m is led there =
     let law = map_law (capacity_at a) (nodes_at a) root (working_stands a root m is).rooted in
@@ -61,7 +61,7 @@ found_at capacity f root path refuse is = ap (λ (t : Contents). option_or (look
 
 -- by what was found
 pub found_tells : (capacity : ℕ) (f : Blocks) (root : ℕ) (path : Path) (refuse : Entry → Option Fault) → IsRoot capacity f root → (x : Found) → look_up f root path ≡ Ok x
-    → found_refusal (root_tree capacity f root) path refuse ≡ option_map_or refuse (entry_of capacity f x) (Some NoEntry)
+    → found_refusal (root_tree capacity f root) path refuse ≡ option_map_or refuse (found_entry capacity f x) (Some NoEntry)
 found_tells capacity f root path refuse is x e =
     let there = found_is capacity f root path x (rooted_leads capacity f root is) e in
     found_at capacity f root path refuse is
@@ -79,18 +79,18 @@ refused_tells capacity f root path refuse is fault e =
 pub record LooksUp (a : Moment) (call : Call) (root : ℕ) (path : Path) (refuse : Entry → Option Fault) : Type 0 where
   pub rooted : IsRoot (capacity_at a) (nodes_at a) root
   pub begins : begins_work (machine_at a) call ≡ true
-  pub by_path : refusal (machine_at a) call ≡ found_refusal (tree_at a root) path refuse
+  pub by_path : refusal (machine_at a) call ≡ found_refusal (version_tree a root) path refuse
 
 module _ (a : Moment) (call : Call) (root : ℕ) (path : Path) (refuse : Entry → Option Fault) (looks : LooksUp a call root path refuse) where
   -- what was found is refused or not for what it is
-  pub found_refuses : (x : Found) → look_up (nodes_at a) root path ≡ Ok x → refusal (machine_at a) call ≡ option_map_or refuse (entry_of (capacity_at a) (nodes_at a) x) (Some NoEntry)
+  pub found_refuses : (x : Found) → look_up (nodes_at a) root path ≡ Ok x → refusal (machine_at a) call ≡ option_map_or refuse (found_entry (capacity_at a) (nodes_at a) x) (Some NoEntry)
   found_refuses x e = looks.by_path ∙ found_tells (capacity_at a) (nodes_at a) root path refuse looks.rooted x e
 
   -- the same of what is also called `y`
-  pub found_by : (x y : Found) → look_up (nodes_at a) root path ≡ Ok x → x ≡ y → refusal (machine_at a) call ≡ option_map_or refuse (entry_of (capacity_at a) (nodes_at a) y) (Some NoEntry)
+  pub found_by : (x y : Found) → look_up (nodes_at a) root path ≡ Ok x → x ≡ y → refusal (machine_at a) call ≡ option_map_or refuse (found_entry (capacity_at a) (nodes_at a) y) (Some NoEntry)
   found_by x y e is = found_refuses y (subst (λ z. look_up (nodes_at a) root path ≡ Ok z) is e)
 
-  pub found_refused : (b : Moment) (x y : Found) (fault : Fault) → look_up (nodes_at a) root path ≡ Ok x → x ≡ y → option_map_or refuse (entry_of (capacity_at a) (nodes_at a) y) (Some NoEntry) ≡ Some fault
+  pub found_refused : (b : Moment) (x y : Found) (fault : Fault) → look_up (nodes_at a) root path ≡ Ok x → x ≡ y → option_map_or refuse (found_entry (capacity_at a) (nodes_at a) y) (Some NoEntry) ≡ Some fault
       → IsRefused a call fault b
   found_refused b x y fault led is refused = inl (found_by x y led is ∙ refused)
 

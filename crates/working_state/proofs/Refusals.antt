@@ -16,7 +16,7 @@ use Rattle.working_state.specs.Moments.{Moment, machine_at, seen_at, IsMountedAt
 use Rattle.working_state.specs.Leaves.{is_still}
 use Rattle.working_state.specs.Looking.{LooksOnce}
 use Rattle.working_state.specs.Seen.{Seen}
-use Rattle.working_state.specs.Steps.{last_serial, replied, is_light, unlooked_refusal, begins_work, is_writing, is_cut, is_cut_answer, MayRefuse, IsLater, CallStep, tells_space}
+use Rattle.working_state.specs.Steps.{last_serial, replied, is_light, unlooked_refusal, begins_work, is_writing, is_cut, is_cut_answer, MayRefuse, LeadsTo, CallStep, tells_space}
 use Rattle.working_state.specs.Mounted.{IsMounted}
 use Rattle.working_state.specs.Worked.{IsWorked, IsLooked, WorkCause}
 use Rattle.working_state.specs.declared.state.State.{State}
@@ -74,7 +74,7 @@ write_refuses old new m call NoMemory begins needs writes off left is few why = 
 write_refuses old new m call _ begins needs writes off left is few why = absurd (not_so is)
 
 -- a cause between later states
-pub cause_later : (old mid new : Seen) (fault : Fault) → IsLater old mid → WorkCause mid fault new → WorkCause old fault new
+pub cause_later : (old mid new : Seen) (fault : Fault) → LeadsTo old mid → WorkCause mid fault new → WorkCause old fault new
 cause_later old mid new FlashFull later why = why
 cause_later old mid new ReadOnly later why = why
 cause_later old mid new ReadFailed later why = omega arith

@@ -23,13 +23,13 @@ use Rattle.block_trees.specs.Laws.{FrameLaw}
 use Rattle.block_trees.specs.Reached.{Keeps}
 use Rattle.block_trees.specs.Trees.{IsRoot, root_tree}
 use Rattle.block_trees.proofs.Frames.{frame_law}
-use Rattle.working_state.specs.Moments.{Moment, machine_at, seen_at, storage_at, IsMountedAt, capacity_at, tree_at, moment}
+use Rattle.working_state.specs.Moments.{Moment, machine_at, seen_at, storage_at, IsMountedAt, capacity_at, version_tree, moment}
 use Rattle.working_state.specs.Leaves.{HasLooked, HasWritten, is_still, Leaves}
 use Rattle.working_state.specs.Looking.{only_looks, LooksOnce}
 use Rattle.working_state.proofs.Looks.{looks_still, looks_other, neither}
 use Rattle.working_state.specs.Seen.{capacity_of, tree_on}
 use Rattle.working_state.specs.Roots.{HasRoot, ReachesNew}
-use Rattle.working_state.specs.Steps.{IsLater}
+use Rattle.working_state.specs.Steps.{LeadsTo}
 use Rattle.working_state.specs.Mounted.{IsStanding, KeepsPages}
 use Rattle.working_state.specs.Worked.{IsSameBut, IsWorked, IsLooked}
 use Rattle.working_state.specs.declared.state.State.{State}
@@ -163,16 +163,16 @@ written_leaves a b f u call nodes l w moves makes few = record {
 pub worked_stand : (a b : Moment) → IsMountedAt a → IsWorked a b → AllStand (at_work b a.state.history a.state.group)
 worked_stand a b m w = all_still_stand (storage_at a) (storage_at b) a.state m.lawful w.evolved m.roots
 
-pub worked_trees : (a b : Moment) → IsMountedAt a → IsWorked a b → map_roots (tree_at b) a.state.history ≡ map_roots (tree_at a) a.state.history
+pub worked_trees : (a b : Moment) → IsMountedAt a → IsWorked a b → map_roots (version_tree b) a.state.history ≡ map_roots (version_tree a) a.state.history
 worked_trees a b m w = same_trees (storage_at a) (storage_at b) a.state m.lawful w.evolved m.roots
 
-pub worked_group : (a b : Moment) → IsMountedAt a → IsWorked a b → map_group (tree_at b) a.state.group ≡ map_group (tree_at a) a.state.group
+pub worked_group : (a b : Moment) → IsMountedAt a → IsWorked a b → map_group (version_tree b) a.state.group ≡ map_group (version_tree a) a.state.group
 worked_group a b m w = same_group (storage_at a) (storage_at b) a.state m.lawful w.evolved m.roots
 
 pub worked_machine : (a b : Moment) → IsMountedAt a → IsWorked a b → machine_at b ≡ machine_at a
 worked_machine a b m w =
-    let history = ap (λ (h : Past ℕ). map_roots (tree_at b) h) w.rest.history ∙ worked_trees a b m w in
-    let group = ap (λ (g : Option (Group ℕ)). map_group (tree_at b) g) w.rest.group ∙ worked_group a b m w in
+    let history = ap (λ (h : Past ℕ). map_roots (version_tree b) h) w.rest.history ∙ worked_trees a b m w in
+    let group = ap (λ (g : Option (Group ℕ)). map_group (version_tree b) g) w.rest.group ∙ worked_group a b m w in
     (λ i. machine_with (history i) (group i) (w.rest.files i))
 
 -- a mounted system, with any history of roots that stand
@@ -193,7 +193,7 @@ pub worked_mounted : (a b : Moment) → IsMountedAt a → IsWorked a b → IsMou
 worked_mounted a b m w = mounted_with a b b.state.history m w (subst (λ (x : Past ℕ × Option (Group ℕ)). AllStand (at_work b x.0 x.1)) (λ i. (sym w.rest.history i, sym w.rest.group i)) (worked_stand a b m w))
     (subst IsMachine (sym (worked_machine a b m w)) m.machine)
 
-pub worked_later : (a b : Moment) → IsWorked a b → IsLater (seen_at a) (seen_at b)
+pub worked_later : (a b : Moment) → IsWorked a b → LeadsTo (seen_at a) (seen_at b)
 worked_later a b w = record {
   capacity = same_capacity (storage_at a) (storage_at b) w.evolved;
   failed_reads = w.evolved.failed_reads;

@@ -5,7 +5,7 @@ use Rattle.std.specs.Prelude.{◌==◌, ◌||◌, nat_lt, nat_le, unwrap_or}
 use Rattle.std.specs.Option.{option_map, option_map_or, option_and_then, is_some, is_none}
 use Rattle.fs_types.specs.Names.{Name}
 use Rattle.plain_trees.specs.Trees.{Tree}
-use Rattle.history_machine.specs.History.{Past, map_roots, map_group, changed, checkpoint_root, first_serial, place_of, undo_refusal, redo_refusal, serial_refusal, forget_refusal, name_refusal, checkpoint_refusal, with_checkpoint, group_with}
+use Rattle.history_machine.specs.History.{Past, map_roots, map_group, changed, checkpoint_root, first_serial, version_place, undo_refusal, redo_refusal, serial_refusal, forget_refusal, name_refusal, checkpoint_refusal, with_checkpoint, group_with}
 use Rattle.history_machine.specs.HistoryMaps.{checkpoint_root-map, changed-map, checkpoint_refusal-map, with_checkpoint-map}
 use Rattle.history_machine.specs.Descriptors.{Descriptors, any_open}
 use Rattle.history_machine.specs.Machine.{Machine, IsMachine, Space, has_paths, travel_refusal, log_of, refusal, answer_of, machine_of, reply_of, is_accepted, changes_tree, makes_version, tree_after, version_after, outside_refusal, machine_with}
@@ -17,21 +17,21 @@ use Rattle.fs_types.specs.declared.call.Version.{Version}
 use Rattle.fs_types.specs.declared.fault.Fault.{Fault}
 use Rattle.fs_types.specs.declared.fault.Fault.TheVariants.{PowerCut}
 use Rattle.node_store.specs.declared.storage.Storage.{Storage}
-use Rattle.history.specs.Answers.{answer}
-use Rattle.working_state.specs.Moments.{Moment, machine_at, seen_at, IsMountedAt, IsAnswered, Steps, tree_at, moment}
+use Rattle.history.specs.Answers.{told_nothing}
+use Rattle.working_state.specs.Moments.{Moment, machine_at, seen_at, IsMountedAt, IsAnswered, Steps, version_tree, moment}
 use Rattle.working_state.specs.Changes.{IsReadOnly, IsOverflow}
 use Rattle.working_state.specs.Facts.{facts_of, group_refusal}
 use Rattle.working_state.specs.Leaves.{Leaves}
 use Rattle.working_state.specs.Roots.{HasRoot, IsSpace, ReachesNew}
 use Rattle.working_state.specs.Seen.{Seen}
 use Rattle.bad_blocks.specs.Mode.{is_read_only}
-use Rattle.working_state.specs.Steps.{last_serial, replied, empty, is_cut, is_cut_answer, is_writing, is_for_record, tells_space, MayRefuse, Answers, IsLater, CallStep}
+use Rattle.working_state.specs.Steps.{last_serial, replied, empty, is_cut, is_cut_answer, is_writing, is_for_record, tells_space, MayRefuse, AnswersOnce, LeadsTo, CallStep}
 use Rattle.working_state.specs.declared.state.State.{State}
 use Rattle.working_state.proofs.GroupRefusals.{outside_only, travelling, outside_of, closed_of, group_says}
 use Rattle.working_state.proofs.Roots.{with_history, at_history, at_work, with_work, same_reach, after_checkpoint}
 use Rattle.working_state.proofs.Standing.{AllStand, still_leaves}
 
-same-later : (old : Seen) → IsLater old old
+same-later : (old : Seen) → LeadsTo old old
 same-later old = record { capacity = refl; failed_reads = omega arith; failures = refl; listed = omega arith; taken = refl; cuts = omega arith; was_on = λ e. e; stays_read_only = λ e. e }
 
 module _ (a : Moment) (call : Call) where
@@ -84,27 +84,27 @@ module _ (a : Moment) (call : Call) where
   pub refused : (fault : Fault) → a.state.is_off ≡ false → is_cut fault ≡ false → (refusal before call ≡ Some fault) ⊎ MayRefuse (seen_at a) before call fault (seen_at a) → Steps a call (Err fault) a
   refused fault on no_cut why = still_step a.state (Err fault) refl (λ _. refl) (λ _. tt) stays refl refl (record {
     later = same-later (seen_at a);
-    answers = subst (λ off. Answers (seen_at a) before off call (Err fault) (seen_at a) before off) (sym on) (why, refl, sym no_cut);
+    answers = subst (λ off. AnswersOnce (seen_at a) before off call (Err fault) (seen_at a) before off) (sym on) (why, refl, sym no_cut);
   })
 
   -- a call where an earlier one answered that the power is off
   pub off_step : (fault : Fault) → (fault ≡ PowerCut) × (a.state.is_off ≡ true) → Steps a call (Err fault) a
   off_step fault why = still_step a.state (Err fault) refl (λ _. refl) (λ _. tt) stays refl refl (record {
     later = same-later (seen_at a);
-    answers = subst (λ off. Answers (seen_at a) before off call (Err fault) (seen_at a) before off) (sym why.1) (why.0, refl, refl, refl);
+    answers = subst (λ off. AnswersOnce (seen_at a) before off call (Err fault) (seen_at a) before off) (sym why.1) (why.0, refl, refl, refl);
   })
 
   -- a call that the history answers
-  pub answered : (r : Option Fault) (result : Result (Unit {0}) Fault) (after p : Past ℕ) → result ≡ answer r → OnOk result (p ≡ after) → OnErr result (p ≡ a.state.history)
+  pub answered : (r : Option Fault) (result : Result (Unit {0}) Fault) (after p : Past ℕ) → result ≡ told_nothing r → OnOk result (p ≡ after) → OnErr result (p ≡ a.state.history)
       → (r ≡ None → Steps a call (Ok Reply.Empty) (at_history a after)) → ((fault : Fault) → r ≡ Some fault → Steps a call (Err fault) a) → Steps a call (replied empty result) (at_history a p)
   answered r (Ok x) after p is ok err accepts refuses = subst (λ q. Steps a call (Ok Reply.Empty) (at_history a q)) (sym ok) (accepts (go r is))
     where
-      go : (r : Option Fault) → Ok x ≡ answer r → r ≡ None
+      go : (r : Option Fault) → Ok x ≡ told_nothing r → r ≡ None
       go None e = refl
       go (Some fault) e = cc
   answered r (Err fault) after p is ok err accepts refuses = subst (λ q. Steps a call (Err fault) (at_history a q)) (sym err) (refuses fault (go r is))
     where
-      go : (r : Option Fault) → Err fault ≡ answer r → r ≡ Some fault
+      go : (r : Option Fault) → Err fault ≡ told_nothing r → r ≡ Some fault
       go None e = cc
       go (Some other) e = cc
 
@@ -144,7 +144,7 @@ refused_record a call fault on ok record_call why = subst (λ f. Steps a call (E
 
 -- no group is open, so that a call may work on the history
 pub may_change : (a : Moment) (refused : Option Fault) → a.state.group ≡ None → outside_refusal (machine_at a) refused ≡ refused
-may_change a refused none = ap (λ (g : Option (Group ℕ)). cond (is_some (map_group (tree_at a) g)) (Some Fault.InGroup) refused) none
+may_change a refused none = ap (λ (g : Option (Group ℕ)). cond (is_some (map_group (version_tree a) g)) (Some Fault.InGroup) refused) none
 
 -- no file is open, so that the present version may move
 pub may_travel : (m : Machine) (refused : Option Fault) → any_open m.descriptors ≡ false → travel_refusal m refused ≡ refused
@@ -161,24 +161,24 @@ works_travelling a refused allowed =
 -- Rollback to a checkpoint that is there.
 
 module _ (a : Moment) (name : Name) (root : ℕ) (outside : a.state.group ≡ None) (none : any_open a.state.files ≡ false) (there : checkpoint_root a.state.history name ≡ Some root) where
-  seen_there : checkpoint_root (map_roots (tree_at a) a.state.history) name ≡ Some (tree_at a root)
-  seen_there = checkpoint_root-map (tree_at a) a.state.history name ∙ ap (option_map (tree_at a)) there
+  seen_there : checkpoint_root (map_roots (version_tree a) a.state.history) name ≡ Some (version_tree a root)
+  seen_there = checkpoint_root-map (version_tree a) a.state.history name ∙ ap (option_map (version_tree a)) there
 
   pub rollback-accepted : refusal (machine_at a) (Call.Rollback name) ≡ None
   rollback-accepted = may_change a _ outside ∙ may_travel (machine_at a) _ none ∙ ap (λ o. cond (is_none o) (Some Fault.NoSuchVersion) None) seen_there
 
   pub rollback-makes : makes_version (machine_at a) (Call.Rollback name) ≡ true
   rollback-makes = and_from (is_accepted (machine_at a) (Call.Rollback name)) _ (ap is_none rollback-accepted)
-      (ap (λ o. is_some (option_and_then (λ t. cond (is_some (map_group (tree_at a) a.state.group)) None (Some t)) o)) seen_there ∙ ap (λ (g : Option (Group ℕ)). is_some (cond (is_some (map_group (tree_at a) g)) None (Some (tree_at a root)))) outside)
+      (ap (λ o. is_some (option_and_then (λ t. cond (is_some (map_group (version_tree a) a.state.group)) None (Some t)) o)) seen_there ∙ ap (λ (g : Option (Group ℕ)). is_some (cond (is_some (map_group (version_tree a) g)) None (Some (version_tree a root)))) outside)
 
   pub rollback-leaves : machine_of (machine_at a) (Call.Rollback name) None ≡ machine_at (at_history a (changed a.state.history root))
   rollback-leaves =
-      let h = map_roots (tree_at a) a.state.history in
+      let h = map_roots (version_tree a) a.state.history in
       (λ i. machine_with
-      (option_map_or (changed h) (option_and_then (λ t. cond (is_some (map_group (tree_at a) (outside i))) None (Some t)) (seen_there i)) h)
-      (option_map_or (group_with (map_group (tree_at a) (outside i))) (seen_there i) (map_group (tree_at a) (outside i)))
+      (option_map_or (changed h) (option_and_then (λ t. cond (is_some (map_group (version_tree a) (outside i))) None (Some t)) (seen_there i)) h)
+      (option_map_or (group_with (map_group (version_tree a) (outside i))) (seen_there i) (map_group (version_tree a) (outside i)))
       a.state.files)
-      ∙ (λ i. machine_with (changed-map (tree_at a) a.state.history root i) (map_group (tree_at a) (sym outside i)) a.state.files)
+      ∙ (λ i. machine_with (changed-map (version_tree a) a.state.history root i) (map_group (version_tree a) (sym outside i)) a.state.files)
 
 -- A checkpoint.
 
@@ -198,12 +198,12 @@ pub checkpointed : (a : Moment) (name : Name) (result : Result (Unit {0}) Fault)
     → Steps a (Call.Checkpoint name) (replied empty result) (at_history a p)
 checkpointed a name (Ok x) p on outside writable free ok why err =
     subst (λ q. Steps a (Call.Checkpoint name) (Ok Reply.Empty) (at_history a q)) (sym ok)
-    (done a (Call.Checkpoint name) (with_checkpoint a.state.history name) Reply.Empty on refl (may_change a _ outside ∙ checkpoint_refusal-map (tree_at a) a.state.history name ∙ free) (λ _. refl) (ap (λ (h : Past Tree). machine_with h (map_group (tree_at a) a.state.group) a.state.files) (with_checkpoint-map (tree_at a) a.state.history name))
+    (done a (Call.Checkpoint name) (with_checkpoint a.state.history name) Reply.Empty on refl (may_change a _ outside ∙ checkpoint_refusal-map (version_tree a) a.state.history name ∙ free) (λ _. refl) (ap (λ (h : Past Tree). machine_with h (map_group (version_tree a) a.state.group) a.state.files) (with_checkpoint-map (version_tree a) a.state.history name))
     (same_reach a.device a.state (with_history a.state (with_checkpoint a.state.history name)) (after_checkpoint (HasRoot a.state) a.state name (λ root has. has))) (λ _. writable) (λ e. absurd (never _ e)))
 checkpointed a name (Err fault) p on outside writable free ok why err =
     let want : fault ≡ Fault.NoMemory = why ∙ ap (λ o. unwrap_or o Fault.NoMemory) free in
     subst (λ q. Steps a (Call.Checkpoint name) (Err fault) (at_history a q)) (sym err)
-    (subst (λ f. Steps a (Call.Checkpoint name) (Err f) a) (sym want) (refused a (Call.Checkpoint name) Fault.NoMemory on refl (inr (ap is_none (may_change a _ outside ∙ checkpoint_refusal-map (tree_at a) a.state.history name ∙ free)))))
+    (subst (λ f. Steps a (Call.Checkpoint name) (Err f) a) (sym want) (refused a (Call.Checkpoint name) Fault.NoMemory on refl (inr (ap is_none (may_change a _ outside ∙ checkpoint_refusal-map (version_tree a) a.state.history name ∙ free)))))
 
 -- Log tells nothing of roots.
 
@@ -278,7 +278,7 @@ module _ {R : Type 0} (p : Past R) where
   serial-no_cut serial =
       either (nat_lt serial (first_serial p)) (Some Fault.TooOld) _ refl
       (either (nat_le p.next serial) (Some Fault.NoSuchVersion) _ refl
-      (either (is_none (place_of p serial)) (Some Fault.Discarded) None refl tt))
+      (either (is_none (version_place p serial)) (Some Fault.Discarded) None refl tt))
 
   pub forget-no_cut : (count : ℕ) → NoCut (forget_refusal p count)
   forget-no_cut count = either (nat_lt p.cursor count) (Some Fault.Invalid) None refl tt
@@ -302,7 +302,7 @@ refused_group a call fault on says =
 pub still_answer : (a : Moment) (call : Call) (result : Result Reply Fault) (t : State) → a.state.is_off ≡ false → t.is_off ≡ a.state.is_off → IsMountedAt (moment a.device t) → Steps a call result (moment a.device t) → IsAnswered a call result (moment a.device t)
 still_answer a call result t on same m steps = record {
   mounted = m;
-  step = record { later = steps.step.later; answers = by result t.is_off (subst (λ off. Answers (seen_at a) (machine_at a) off call result (seen_at b) (machine_at b) t.is_off) on steps.step.answers) };
+  step = record { later = steps.step.later; answers = by result t.is_off (subst (λ off. AnswersOnce (seen_at a) (machine_at a) off call result (seen_at b) (machine_at b) t.is_off) on steps.step.answers) };
   leaves = steps.leaves;
   is_off = same;
   pages = λ p reached. refl;
@@ -314,7 +314,7 @@ still_answer a call result t on same m steps = record {
     b : Moment
     b = moment a.device t
 
-    by : (result : Result Reply Fault) (off : Bool) → Answers (seen_at a) (machine_at a) false call result (seen_at b) (machine_at b) off → Answers (seen_at a) (machine_at a) false call result (seen_at b) (machine_at b) (is_cut_answer result)
+    by : (result : Result Reply Fault) (off : Bool) → AnswersOnce (seen_at a) (machine_at a) false call result (seen_at b) (machine_at b) off → AnswersOnce (seen_at a) (machine_at a) false call result (seen_at b) (machine_at b) (is_cut_answer result)
     by (Ok reply) off h = (refl, h.1, refl)
     by (Err fault) off h = (h.0, h.1, refl)
 
@@ -327,7 +327,7 @@ pub history_answer : (a : Moment) (call : Call) (r : Option Fault) (result : Res
     → refusal (machine_at a) call ≡ r → NoCut r → ((space : Space) → reply_of space (machine_at a) call ≡ Reply.Empty) → machine_of (machine_at a) call None ≡ machine_at (at_history a after)
     → ReachesNew a.device a.state a.device (with_history a.state after) → AllStand (at_history a after)
     → (is_writing (machine_at a) call ≡ true → is_read_only a.state.storage.bad ≡ false) → (makes_version (machine_at a) call ≡ true → a.state.history.next < last_serial)
-    → result ≡ answer r → OnOk result (p ≡ after) → OnErr result (p ≡ a.state.history) → IsAnswered a call (replied empty result) (at_history a p)
+    → result ≡ told_nothing r → OnOk result (p ≡ after) → OnErr result (p ≡ a.state.history) → IsAnswered a call (replied empty result) (at_history a p)
 history_answer a call r result after p on m paths plain same cuts replies leaves reached stand writable serial is ok err =
     let step : Steps a call (replied empty result) (at_history a p) =
     answered a call r result after p is ok err

@@ -20,7 +20,7 @@ use Rattle.directory.specs.declared.lookups.Found.{Found}
 use Rattle.directory.specs.declared.lookups.Found.TheVariants as found
 use Rattle.directory.specs.Lookups.{look_up}
 use Rattle.directory.proofs.LookupLaws.{found_leads, rooted_leads}
-use Rattle.working_state.specs.Moments.{Moment, machine_at, IsMountedAt, IsRefused, nodes_at, capacity_at, tree_at}
+use Rattle.working_state.specs.Moments.{Moment, machine_at, IsMountedAt, IsRefused, nodes_at, capacity_at, version_tree}
 use Rattle.working_state.specs.Worked.{IsLooked}
 use Rattle.working_state.proofs.LookNodes.{some_items, no_items}
 use Rattle.working_state.proofs.ChangeSteps.{later_tree, way_some}
@@ -29,17 +29,17 @@ use Rattle.working_state.proofs.PathCalls.{working_tree_is, working_stands, Look
 
 -- An empty directory.
 
-pub rmdir_looks : (a : Moment) (path : Path) (root : ℕ) → IsMountedAt a → working_root a.state.history a.state.group ≡ Some root → (length path == 0) ≡ false → LooksUp a (Call.Rmdir path) root path (rmdir_refusal (tree_at a root) path)
+pub rmdir_looks : (a : Moment) (path : Path) (root : ℕ) → IsMountedAt a → working_root a.state.history a.state.group ≡ Some root → (length path == 0) ≡ false → LooksUp a (Call.Rmdir path) root path (rmdir_refusal (version_tree a root) path)
 rmdir_looks a path root m is below = record {
   rooted = (working_stands a root m is).rooted;
   begins = ap (λ b. is_none (if b then Some Busy else None)) below;
   by_path = ap (λ (t : Tree). if length path == 0 then Some Busy else found_refusal t path (rmdir_refusal t path)) (working_tree_is a root is)
-      ∙ ap (λ b. if b then Some Busy else found_refusal (tree_at a root) path (rmdir_refusal (tree_at a root) path)) below;
+      ∙ ap (λ b. if b then Some Busy else found_refusal (version_tree a root) path (rmdir_refusal (version_tree a root) path)) below;
 }
 
 -- the number of entries that was read
 pub rmdir_count : (a : Moment) (path : Path) (root block : ℕ) (items : List Item) → IsMountedAt a → working_root a.state.history a.state.group ≡ Some root → look_up (nodes_at a) root path ≡ Ok (found.Dir block) → entries_in (nodes_at a) block ≡ Some items
-    → entry_count (tree_at a root) path ≡ length items
+    → entry_count (version_tree a root) path ≡ length items
 rmdir_count a path root block items m is led spelled =
     ap length ((map_law (capacity_at a) (nodes_at a) root (working_stands a root m is).rooted).lists path block (found_leads (nodes_at a) root path block (rooted_leads (capacity_at a) (nodes_at a) root (working_stands a root m is).rooted) led))
     ∙ length-map (unwrap_or (entries_in (nodes_at a) block) []) (λ (item : Item). (item.name, is_dir_place item.place))
@@ -52,7 +52,7 @@ pub rmdir_counted : (a : Moment) (e : Device) (path : Path) (root block : ℕ) (
 rmdir_counted a e path root block items x m is below same led called spelled =
     let dir : look_up (nodes_at a) root path ≡ Ok (found.Dir block) = subst (λ z. look_up (nodes_at a) root path ≡ Ok z) called led in
     let here : entries_in (nodes_at a) block ≡ Some items = ap (λ (g : Blocks). entries_in g block) (sym same) ∙ spelled in
-    found_by a (Call.Rmdir path) root path (rmdir_refusal (tree_at a root) path) (rmdir_looks a path root m is below) x (found.Dir block) led called
+    found_by a (Call.Rmdir path) root path (rmdir_refusal (version_tree a root) path) (rmdir_looks a path root m is below) x (found.Dir block) led called
     ∙ ap (λ n. if nat_lt 0 n then Some NotEmpty else None) (rmdir_count a path root block items m is dir here)
 
 -- a directory with entries
@@ -80,7 +80,7 @@ rmdir_accepts a e path root block empty items x m is below same led called spell
     ∙ ap (λ (all : List Item). if nat_lt 0 (length all) then Some NotEmpty else None) (no_items empty items shows none)
 
 pub rmdir_change : (a b : Moment) (path : Path) → IsMountedAt a → IsLooked a b → refusal (machine_at a) (Call.Rmdir path) ≡ None → is_path path ≡ true → 0 < length path
-    → IsChangeBy a (Call.Rmdir path) (λ root. remove (tree_at b root) path) Reply.Empty
+    → IsChangeBy a (Call.Rmdir path) (λ root. remove (version_tree b root) path) Reply.Empty
 rmdir_change a b path m l fine lawful below = record {
   fine = fine;
   after = λ root is. ap (λ (x : Tree). Some (remove x path)) (later_tree a b root m is l);
@@ -112,7 +112,7 @@ unlink_found a files path root head size x busy m is same led called told =
     ∙ ap (λ b. if b then Some Busy else None) (ap (λ (ds : Descriptors). is_open ds path) (sym same) ∙ told)
 
 pub unlink_change : (a b : Moment) (path : Path) → IsMountedAt a → IsLooked a b → refusal (machine_at a) (Call.Unlink path) ≡ None → is_path path ≡ true → 0 < length path
-    → IsChangeBy a (Call.Unlink path) (λ root. remove (tree_at b root) path) Reply.Empty
+    → IsChangeBy a (Call.Unlink path) (λ root. remove (version_tree b root) path) Reply.Empty
 unlink_change a b path m l fine lawful below = record {
   fine = fine;
   after = λ root is. ap (λ (x : Tree). Some (remove x path)) (later_tree a b root m is l);

@@ -6,7 +6,7 @@ use Rattle.std.specs.Option.{is_none, option_or, option_map, option_and_then}
 use Rattle.fs_types.specs.Names.{Path}
 use Rattle.plain_trees.specs.Contents.{Entry}
 use Rattle.plain_trees.specs.Trees.{bare}
-use Rattle.history_machine.specs.History.{Past, place_of, view_refusal, seen_root}
+use Rattle.history_machine.specs.History.{Past, version_place, view_refusal, seen_root}
 use Rattle.history_machine.specs.HistoryMaps.{view_refusal-map, seen_root-map}
 use Rattle.history_machine.specs.Machine.{refusal, found_refusal, view_path_refusal, view_tree}
 use Rattle.fs_types.specs.declared.call.Call.{Call}
@@ -16,7 +16,7 @@ use Rattle.fs_types.specs.declared.call.View.{View}
 use Rattle.fs_types.specs.declared.call.View.TheVariants.{Present, Serial, Checkpoint}
 use Rattle.fs_types.specs.declared.fault.Fault.{Fault}
 use Rattle.plain_trees.proofs.Beneath.{None≢Some, same_Some}
-use Rattle.working_state.specs.Moments.{Moment, machine_at, IsMountedAt, IsRefused, tree_at}
+use Rattle.working_state.specs.Moments.{Moment, machine_at, IsMountedAt, IsRefused, version_tree}
 use Rattle.working_state.specs.Steps.{begins_work}
 use Rattle.working_state.specs.Mounted.{IsStanding}
 use Rattle.working_state.specs.declared.state.State.{State}
@@ -27,7 +27,7 @@ use Rattle.working_state.proofs.PathCalls.{LooksUp}
 of_view : (P : ℕ → Type 0) (s : State) (view : View) (root : ℕ) → AllRoots P s → seen_root s.history s.group view ≡ Some root → P root
 of_view P s Present root all e = of_working P s root all e
 of_view P s (Checkpoint name) root all e = of_checkpoint P s name root all e
-of_view P s (Serial serial) root all e = at (place_of s.history serial) e
+of_view P s (Serial serial) root all e = at (version_place s.history serial) e
   where
     versions : List (Version ℕ)
     versions = s.history.versions
@@ -48,11 +48,11 @@ pub record Shows (h : Past ℕ) (group : Option (Group ℕ)) (view : View) (root
 pub view_stands : (a : Moment) (view : View) (root : ℕ) → IsMountedAt a → Shows a.state.history a.state.group view root → IsStanding a.device a.state.storage.ring root
 view_stands a view root m shows = of_view (IsStanding a.device a.state.storage.ring) a.state view root m.roots shows.shown
 
-pub view_tree_is : (a : Moment) (view : View) (root : ℕ) → Shows a.state.history a.state.group view root → view_tree (machine_at a) view ≡ tree_at a root
-view_tree_is a view root shows = ap (λ o. unwrap_or o bare) (seen_root-map (tree_at a) a.state.history a.state.group view ∙ ap (option_map (tree_at a)) shows.shown)
+pub view_tree_is : (a : Moment) (view : View) (root : ℕ) → Shows a.state.history a.state.group view root → view_tree (machine_at a) view ≡ version_tree a root
+view_tree_is a view root shows = ap (λ o. unwrap_or o bare) (seen_root-map (version_tree a) a.state.history a.state.group view ∙ ap (option_map (version_tree a)) shows.shown)
 
 view_fine : (a : Moment) (view : View) → view_refusal (machine_at a).history view ≡ view_refusal a.state.history view
-view_fine a view = view_refusal-map (tree_at a) a.state.history view
+view_fine a view = view_refusal-map (version_tree a) a.state.history view
 
 module _ (a : Moment) (view : View) (path : Path) (call : Call) (refuse : Entry → Option Fault) (by_view : refusal (machine_at a) call ≡ view_path_refusal (machine_at a) view path refuse) where
   -- a view that shows a root leaves the path to refuse

@@ -15,7 +15,7 @@ use Rattle.node_store.specs.NodePages.{node_of}
 use Rattle.block_trees.specs.Reached.{Reached}
 use Rattle.directory.specs.Trails.{IsChangeFault}
 use Rattle.tree_edits.specs.declared.edit.Edit.{Edit}
-use Rattle.tree_edits.specs.Edits.{IsEditable, source, effect, need}
+use Rattle.tree_edits.specs.Edits.{IsEditable, source, effect, edit_need}
 use Rattle.working_state.specs.Leaves.{HasWritten}
 use Rattle.working_state.specs.Mounted.{IsStanding}
 use Rattle.working_state.specs.Seen.{capacity_of, tree_on, seen_of}
@@ -40,10 +40,10 @@ edited_tree device edit root = effect (tree_on device) edit (tree_on device root
 -- why the nodes of an edit are not written, of which there is one at least: for what reads and writes are refused; and
 -- where no block is free, those that were free were too few
 pub record WorkRefuses (old : Device) (s : Storage) (edit : Edit) (fault : Fault) (new : Device) (t : Storage) : Type 0 where
-  pub needs : 0 < need (capacity_of old) (node_of old) edit
+  pub needs : 0 < edit_need (capacity_of old) (node_of old) edit
   pub kind : IsChangeFault fault
   pub why : WorkCause (seen_of old s) fault (seen_of new t)
-  pub few_free : fault ≡ FlashFull → free_count s.ring s.bad + set.len s.bad < set.len t.bad + need (capacity_of old) (node_of old) edit
+  pub few_free : fault ≡ FlashFull → free_count s.ring s.bad + set.len s.bad < set.len t.bad + edit_need (capacity_of old) (node_of old) edit
 
 -- what a root reaches was reached by another before, or is in a block that was not used
 abbrev pub ReachesFrom : Device → Storage → ℕ → Device → ℕ → Type 0
@@ -53,12 +53,12 @@ ReachesFrom old s from new to = (block : ℕ) → Reached (node_of new) (to ∷ 
 -- what the source of the edit did, or blocks that were not used; or a read or write was refused for its cause; where no
 -- node is needed, flash and storage are as they were
 pub record IsTried (old : Device) (s : Storage) (edit : Edit) (root : ℕ) (result : Result ℕ Fault) (new : Device) (t : Storage) : Type 0 where
-  pub written : HasWritten old s (need (capacity_of old) (node_of old) edit) new t
+  pub written : HasWritten old s (edit_need (capacity_of old) (node_of old) edit) new t
   pub stands : IfOk result (IsStanding new t.ring)
   pub shows : IfOk result (λ to. tree_on new to ≡ edited_tree old edit root)
   pub reached : IfOk result (ReachesFrom old s (source root edit) new)
   pub refused : IfErr result (λ fault. WorkRefuses old s edit fault new t)
-  pub still : need (capacity_of old) (node_of old) edit ≡ 0 → (new ≡ old) × (t ≡ s)
+  pub still : edit_need (capacity_of old) (node_of old) edit ≡ 0 → (new ≡ old) × (t ≡ s)
 
 -- a root stands that has the edited tree of the root that calls work on and reaches what the source of the edit did, or blocks
 -- that were not used, and calls work on it now: it is the group's, or a new version's; read-only mode was off and is, and for a
@@ -105,6 +105,6 @@ ChangeEnds old h g s edit (Err fault) new i j t = (i ≡ h) × (j ≡ g) × Chan
 
 -- what a change leaves, whatever it answers; one that needs no node leaves flash and storage as they were
 pub record IsChanged (old : Device) (h : Past ℕ) (g : Option (Group ℕ)) (s : Storage) (edit : Edit) (result : Result (Unit {0}) Fault) (new : Device) (i : Past ℕ) (j : Option (Group ℕ)) (t : Storage) : Type 0 where
-  pub written : HasWritten old s (need (capacity_of old) (node_of old) edit) new t
+  pub written : HasWritten old s (edit_need (capacity_of old) (node_of old) edit) new t
   pub ends : ChangeEnds old h g s edit result new i j t
-  pub still : need (capacity_of old) (node_of old) edit ≡ 0 → (new ≡ old) × (t ≡ s)
+  pub still : edit_need (capacity_of old) (node_of old) edit ≡ 0 → (new ≡ old) × (t ≡ s)

@@ -2,7 +2,7 @@
 use Rattle.std.specs.Prelude.{◌≡◌, ℕ, ◌+◌, ◌*◌, ◌≤◌, Bool, Option, Some, None, List, length}
 use Rattle.fs_types.specs.declared.call.Call.{Call}
 use Rattle.fs_types.specs.Names.{Path}
-use Rattle.plain_trees.specs.Trees.{Tree, bytes_at, entry_count, nodes_for, path_need}
+use Rattle.plain_trees.specs.Trees.{Tree, bytes_of_file, entry_count, nodes_for, path_need}
 use Rattle.history_machine.specs.Descriptors.{Descriptor, descriptor_at}
 use Rattle.history_machine.specs.Machine.{Machine, working_tree, view_tree}
 use Rattle.flash_model.specs.Device.{Device}
@@ -12,7 +12,7 @@ use Rattle.working_state.specs.Facts.{facts_of}
 use Rattle.working_state.specs.Seen.{capacity_of}
 
 -- the device was asked for no more than the pages of so many blocks
-pub record Asks (old : Device) (blocks : ℕ) (new : Device) : Type 0 where
+pub record AsksBlocks (old : Device) (blocks : ℕ) (new : Device) : Type 0 where
   pub most : new.operations ≤ old.operations + blocks * old.geometry.pages
 
 -- how many nodes the directories on a path have, and with that at the path itself
@@ -31,12 +31,12 @@ pub record IsReadOf (capacity way : ℕ) (bytes : List ℕ) (offset count nodes 
 
 -- a range of the bytes of a file is read once
 abbrev pub AsksForRange : Device → ℕ → List ℕ → ℕ → ℕ → Device → Type 0
-AsksForRange old way bytes offset count new = (nodes : ℕ) → IsReadOf (capacity_of old) way bytes offset count nodes → Asks old nodes new
+AsksForRange old way bytes offset count new = (nodes : ℕ) → IsReadOf (capacity_of old) way bytes offset count nodes → AsksBlocks old nodes new
 
 -- that of an open file; without one nothing is read
 abbrev pub AsksForOpen : Device → Option Descriptor → Tree → ℕ → ℕ → Device → Type 0
-AsksForOpen old None t offset count new = Asks old 0 new
-AsksForOpen old (Some file) t offset count new = AsksForRange old (look_nodes t file.path) (bytes_at t file.path) offset count new
+AsksForOpen old None t offset count new = AsksBlocks old 0 new
+AsksForOpen old (Some file) t offset count new = AsksForRange old (look_nodes t file.path) (bytes_of_file t file.path) offset count new
 
 -- calls that only look at what stands at a path, or at the bytes of a file
 abbrev pub only_looks : Call → Bool
@@ -44,8 +44,8 @@ only_looks call = (facts_of call).looks
 
 -- such a call looks once: it reads the nodes of each directory on its path, and then those of the directory or the bytes of the file
 abbrev pub LooksOnce : Machine → Call → Device → Device → Type 0
-LooksOnce m (Call.Stat view path) old new = Asks old (list_nodes (view_tree m view) path) new
-LooksOnce m (Call.List view path) old new = Asks old (list_nodes (view_tree m view) path) new
-LooksOnce m (Call.ReadAt view path offset count) old new = AsksForRange old (look_nodes (view_tree m view) path) (bytes_at (view_tree m view) path) offset count new
+LooksOnce m (Call.Stat view path) old new = AsksBlocks old (list_nodes (view_tree m view) path) new
+LooksOnce m (Call.List view path) old new = AsksBlocks old (list_nodes (view_tree m view) path) new
+LooksOnce m (Call.ReadAt view path offset count) old new = AsksForRange old (look_nodes (view_tree m view) path) (bytes_of_file (view_tree m view) path) offset count new
 LooksOnce m (Call.Pread descriptor offset count) old new = AsksForOpen old (descriptor_at m.descriptors descriptor) (working_tree m) offset count new
 LooksOnce m _ old new = Unit {0}

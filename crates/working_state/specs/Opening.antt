@@ -8,10 +8,10 @@ use Rattle.directory.specs.declared.lookups.Found.{Found}
 use Rattle.directory.specs.declared.lookups.Found.TheVariants.{Missing, File, Dir}
 
 -- why what was found is not opened
-abbrev pub found_refusal : OpenFlags → Found → Option Fault
-found_refusal flags (Missing is_full) = if not (creates flags) then Some NoEntry else if is_full then Some DirectoryFull else None
-found_refusal flags (File head size) = if creates flags && is_exclusive flags then Some Exists else None
-found_refusal flags (Dir block) = if creates flags && is_exclusive flags then Some Exists else Some IsDirectory
+abbrev pub open_refusal_of : OpenFlags → Found → Option Fault
+open_refusal_of flags (Missing is_full) = if not (creates flags) then Some NoEntry else if is_full then Some DirectoryFull else None
+open_refusal_of flags (File head size) = if creates flags && is_exclusive flags then Some Exists else None
+open_refusal_of flags (Dir block) = if creates flags && is_exclusive flags then Some Exists else Some IsDirectory
 
 -- a file that is missing is made, and one that has bytes is cut
 abbrev pub changes_found : OpenFlags → Found → Bool

@@ -109,14 +109,14 @@ pub record IsDone (old : Seen) (m : Machine) (call : Call) (reply : Reply) (new 
   pub serial_left : makes_version m call ≡ true → m.history.next < last_serial
 
 -- by whether a call answered before that the power is off, and now: then each call answers so and does nothing
-abbrev pub Answers : Seen → Machine → Bool → Call → Result Reply Fault → Seen → Machine → Bool → Type 0
-Answers old m off call (Ok reply) new n off' = (off ≡ false) × IsDone old m call reply new n × (off' ≡ false)
-Answers old m true call (Err fault) new n off' = (fault ≡ PowerCut) × (new ≡ old) × (n ≡ m) × (off' ≡ true)
-Answers old m false call (Err fault) new n off' = Refuses old m call fault new × (n ≡ m) × (off' ≡ is_cut fault)
+abbrev pub AnswersOnce : Seen → Machine → Bool → Call → Result Reply Fault → Seen → Machine → Bool → Type 0
+AnswersOnce old m off call (Ok reply) new n off' = (off ≡ false) × IsDone old m call reply new n × (off' ≡ false)
+AnswersOnce old m true call (Err fault) new n off' = (fault ≡ PowerCut) × (new ≡ old) × (n ≡ m) × (off' ≡ true)
+AnswersOnce old m false call (Err fault) new n off' = Refuses old m call fault new × (n ≡ m) × (off' ≡ is_cut fault)
 
 -- what calls lead to, whatever they answer: the bad list grows by exactly the failures, and each take leaves one free
 -- block less
-pub record IsLater (old new : Seen) : Type 0 where
+pub record LeadsTo (old new : Seen) : Type 0 where
   pub capacity : new.capacity ≡ old.capacity
   pub failed_reads : old.failed_reads ≤ new.failed_reads
   pub failures : new.failures + old.listed ≡ old.failures + new.listed
@@ -128,5 +128,5 @@ pub record IsLater (old new : Seen) : Type 0 where
 
 -- the call's step: it is answered so, and what is seen is later
 pub record CallStep (old : Seen) (m : Machine) (off : Bool) (call : Call) (result : Result Reply Fault) (new : Seen) (n : Machine) (off' : Bool) : Type 0 where
-  pub later : IsLater old new
-  pub answers : Answers old m off call result new n off'
+  pub later : LeadsTo old new
+  pub answers : AnswersOnce old m off call result new n off'

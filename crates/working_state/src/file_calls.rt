@@ -12,7 +12,7 @@ ghost use Rattle.node_store.specs.NodePages.{node_of};
 ghost use Rattle.directory.specs.Lookups.{look_up};
 ghost use Rattle.directory.specs.Trails.{IsTrail};
 ghost use Rattle.working_state.specs.Mounted.{IsMounted};
-ghost use Rattle.working_state.specs.Opening.{found_refusal, changes_found};
+ghost use Rattle.working_state.specs.Opening.{open_refusal_of, changes_found};
 ghost use Rattle.working_state.specs.Steps.{replied, empty, Refuses};
 ghost use Rattle.working_state.specs.Worked.{IsLooked};
 ghost use Rattle.working_state.specs.Moments.{IsAnswered, IsRefused, moment, machine_at};
@@ -95,7 +95,7 @@ impl State {
         ensures lawful { OnOk result (is_path path.now ≡ true) }
         ensures nodes { node_of (F.device flash.new) ≡ node_of (F.device flash.old) }
         ensures found { IfOk result (λ r. look_up (node_of (F.device flash.old)) root path.now ≡ Ok r.0) }
-        ensures fits { IfOk result (λ r. found_refusal flags r.0 ≡ None) }
+        ensures fits { IfOk result (λ r. open_refusal_of flags r.0 ≡ None) }
         ensures way { IfOk result (λ r. IsTrail (node_of (F.device flash.old)) root path.now r.1) }
         ensures descriptor { IfOk result (λ r. least_free self.old.files ≡ Some r.2) }
 
@@ -119,8 +119,8 @@ impl State {
 
 /// Refuses what was found, where the flags do not open it.
 fn check_found(found: Found, flags: OpenFlags) -> Result<(), Fault>
-    ensures ok { OnOk result (found_refusal flags found ≡ None) }
-    ensures err { IfErr result (λ fault. found_refusal flags found ≡ Some fault) }
+    ensures ok { OnOk result (open_refusal_of flags found ≡ None) }
+    ensures err { IfErr result (λ fault. open_refusal_of flags found ≡ Some fault) }
 {
     let creates = flags.contains(OpenFlags::CREAT);
     let is_exclusive = flags.contains(OpenFlags::EXCL);

@@ -7,7 +7,7 @@ ghost use Rattle.directory.specs.Beside.{beside_nodes};
 ghost use Rattle.directory.specs.Trails.{IsTrail};
 ghost use Rattle.working_state.specs.Changes.{IsReady};
 ghost use Rattle.working_state.specs.Leaves.{HasLooked};
-ghost use Rattle.working_state.specs.Looking.{Asks};
+ghost use Rattle.working_state.specs.Looking.{AsksBlocks};
 ghost use Rattle.working_state.specs.Seen.{seen_of};
 ghost use Rattle.working_state.specs.Worked.{WorkCause};
 
@@ -41,7 +41,7 @@ pub(crate) fn find_path<F: Flash>(
 
     // Nodes were read alone, and how many.
     ensures looked { HasLooked (F.device flash.old) storage.old (F.device flash.new) storage.new }
-    ensures asks { Asks (F.device flash.old) (way_nodes (node_of (F.device flash.old)) root path.now) (F.device flash.new) }
+    ensures asks { AsksBlocks (F.device flash.old) (way_nodes (node_of (F.device flash.old)) root path.now) (F.device flash.new) }
     ensures nodes { node_of (F.device flash.new) ≡ node_of (F.device flash.old) }
 
     // What was found.
@@ -72,7 +72,7 @@ pub(crate) fn find_path_beside<F: Flash>(
 
     // Nodes were read alone, and how many.
     ensures looked { HasLooked (F.device flash.old) storage.old (F.device flash.new) storage.new }
-    ensures asks { Asks (F.device flash.old) (beside_nodes (node_of (F.device flash.old)) root other.now other_trail.now path.now) (F.device flash.new) }
+    ensures asks { AsksBlocks (F.device flash.old) (beside_nodes (node_of (F.device flash.old)) root other.now other_trail.now path.now) (F.device flash.new) }
     ensures nodes { node_of (F.device flash.new) ≡ node_of (F.device flash.old) }
 
     // What was found.

@@ -1,7 +1,7 @@
 //! Bytes of files, on the working state and the flash.
 ghost use Rattle.std.specs.Prelude.{◌≡◌, ℕ, ◌+◌, ◌-◌, ◌≤◌, true, false, length, Some, IfOk, IfErr};
 ghost use Rattle.std.specs.Option.{option_map_or};
-ghost use Rattle.plain_trees.specs.Trees.{bytes_at};
+ghost use Rattle.plain_trees.specs.Trees.{bytes_of_file};
 ghost use Rattle.history_machine.specs.Descriptors.{Descriptor, descriptor_at, can_read};
 ghost use Rattle.fs_types.specs.declared.call.Call.{Call};
 ghost use Rattle.fs_types.specs.declared.call.Reply.{Reply};
@@ -90,7 +90,7 @@ fn read_below<F: Flash>(
     requires ready { IsReady (F.device flash.old) storage.old }
     requires rooted { IsRoot (capacity_of (F.device flash.old)) (node_of (F.device flash.old)) root }
     ensures looked { HasLooked (F.device flash.old) storage.old (F.device flash.new) storage.new }
-    ensures asks { AsksForRange (F.device flash.old) (look_nodes (tree_on (F.device flash.old) root) path.now) (bytes_at (tree_on (F.device flash.old) root) path.now) offset count (F.device flash.new) }
+    ensures asks { AsksForRange (F.device flash.old) (look_nodes (tree_on (F.device flash.old) root) path.now) (bytes_of_file (tree_on (F.device flash.old) root) path.now) offset count (F.device flash.new) }
     ensures read { IfOk result (IsRead (tree_on (F.device flash.old) root) path.now offset count) }
     ensures refused { IfErr result (λ fault. is_body_fault fault ≡ false → file_refusal (tree_on (F.device flash.old) root) path.now ≡ Some fault) }
     ensures why { IfErr result (λ fault. is_body_fault fault ≡ true → WorkCause (seen_of (F.device flash.old) storage.old) fault (seen_of (F.device flash.new) storage.new)) }
@@ -117,7 +117,7 @@ fn read_file<N: Nodes>(
     ensures why { IfErr result (λ fault. is_body_fault fault ≡ true → N.causes nodes.old nodes.new fault) }
 
     // What was asked of the nodes.
-    ensures reads { (most : ℕ) → IsReadOf (N.limit nodes.old - body_header) (look_nodes (root_tree (N.limit nodes.old - body_header) (N.node nodes.old) root) path.now) (bytes_at (root_tree (N.limit nodes.old - body_header) (N.node nodes.old) root) path.now) offset count most → N.reads nodes.new ≤ N.reads nodes.old + most }
+    ensures reads { (most : ℕ) → IsReadOf (N.limit nodes.old - body_header) (look_nodes (root_tree (N.limit nodes.old - body_header) (N.node nodes.old) root) path.now) (bytes_of_file (root_tree (N.limit nodes.old - body_header) (N.node nodes.old) root) path.now) offset count most → N.reads nodes.new ≤ N.reads nodes.old + most }
     ensures writes { N.writes nodes.new ≡ N.writes nodes.old }
     ensures follows { N.follows nodes.old nodes.new }
 {

@@ -12,7 +12,7 @@ ghost use Rattle.directory.specs.Lookups.{is_path_fault};
 ghost use Rattle.working_state.specs.Mounted.{IsMounted};
 ghost use Rattle.working_state.specs.Steps.{replied};
 ghost use Rattle.working_state.specs.Worked.{IsLooked, WorkCause};
-ghost use Rattle.working_state.specs.Looking.{Asks};
+ghost use Rattle.working_state.specs.Looking.{AsksBlocks};
 ghost use Rattle.working_state.specs.Moments.{IsAnswered, moment, seen_at};
 
 use crate::lookups::find_path;
@@ -48,7 +48,7 @@ impl State {
 
         // Nodes were read alone, and how many.
         ensures looked { IsLooked (moment (F.device flash.old) self.old) (moment (F.device flash.new) self.new) }
-        ensures asks { Asks (F.device flash.old) (length (chain (node_of (F.device flash.old)) block)) (F.device flash.new) }
+        ensures asks { AsksBlocks (F.device flash.old) (length (chain (node_of (F.device flash.old)) block)) (F.device flash.new) }
         ensures nodes { node_of (F.device flash.new) ≡ node_of (F.device flash.old) }
 
         // What was counted, and why not.

@@ -15,7 +15,7 @@ ghost use Rattle.block_trees.specs.Trees.{entries_in, names_of};
 ghost use Rattle.directory.specs.declared.lookups.Found.TheVariants.{Missing};
 ghost use Rattle.directory.specs.Lookups.{look_up, is_path_fault};
 ghost use Rattle.directory.specs.Trails.{IsTrail};
-ghost use Rattle.working_state.specs.Looking.{Asks};
+ghost use Rattle.working_state.specs.Looking.{AsksBlocks};
 ghost use Rattle.working_state.specs.Mounted.{IsMounted};
 ghost use Rattle.working_state.specs.Steps.{replied, empty, Refuses};
 ghost use Rattle.working_state.specs.Worked.{IsLooked, WorkCause};
@@ -122,7 +122,7 @@ impl State {
     ) -> Result<Sequence<(Name, bool)>, Fault>
         requires { IsMounted (F.device flash.old) self.old }
         ensures looked { IsLooked (moment (F.device flash.old) self.old) (moment (F.device flash.new) self.new) }
-        ensures asks { Asks (F.device flash.old) (length (chain (node_of (F.device flash.old)) block)) (F.device flash.new) }
+        ensures asks { AsksBlocks (F.device flash.old) (length (chain (node_of (F.device flash.old)) block)) (F.device flash.new) }
         ensures names { IfOk result (λ names. (items : List Item) → entries_in (node_of (F.device flash.old)) block ≡ Some items → names ≡ names_of items) }
         ensures damaged { IsErrOf result Damaged → entries_in (node_of (F.device flash.old)) block ≡ None }
         ensures why { IfErr result (λ fault. is_path_fault fault ≡ false → WorkCause (seen_at (moment (F.device flash.old) self.old)) fault (seen_at (moment (F.device flash.new) self.new))) }

@@ -2,7 +2,7 @@
 ghost use Rattle.std.specs.Prelude.{◌≡◌, ◌≢◌, ℕ, ◌<◌, vec_len, slice_get, slice_index_or, false};
 ghost use Rattle.std.specs.Option.{ForSome};
 ghost use Rattle.flash_model.specs.Geometry.{page_count};
-ghost use Rattle.flash_model.specs.Stored.{seen, shown, page_at, HaveRoom};
+ghost use Rattle.flash_model.specs.Stored.{seen, shown_page, page_at, HaveRoom};
 ghost use Rattle.flash_model.specs.Contents.{IsWhole, PutsPage, PutsWear};
 ghost use Rattle.flash_model.specs.Simulation.{device_of, plan_of};
 
@@ -15,8 +15,8 @@ impl SimFlash {
     /// with the power off too, and nothing counts.
     pub fn set_page(&mut self, number: u32, page: PageView<'_>)
         requires in_range { number < page_count (device_of self.old).geometry }
-        requires whole { IsWhole (device_of self.old).geometry.page (shown page) }
-        ensures page { PutsPage (device_of self.old) number (shown page.entry) (device_of self.new) }
+        requires whole { IsWhole (device_of self.old).geometry.page (shown_page page) }
+        ensures page { PutsPage (device_of self.old) number (shown_page page.entry) (device_of self.new) }
         ensures plan { plan_of self.new ≡ plan_of self.old }
     {
         put_page(&mut self.pages, number as usize, page);
@@ -34,9 +34,9 @@ impl SimFlash {
 
 fn put_page(pages: &mut Vec<SimPage>, number: usize, page: PageView<'_>)
     requires in_flash { number < vec_len pages.old }
-    requires whole { ForSome (slice_get pages.old.items number) (λ held. IsWhole (vec_len held.bytes) (shown page)) }
+    requires whole { ForSome (slice_get pages.old.items number) (λ held. IsWhole (vec_len held.bytes) (shown_page page)) }
     ensures others { (p : ℕ) → p ≢ number → page_at pages.new.items p ≡ page_at pages.old.items p }
-    ensures own { page_at pages.new.items number ≡ shown page.entry }
+    ensures own { page_at pages.new.items number ≡ shown_page page.entry }
     ensures len { vec_len pages.new ≡ vec_len pages.old }
     ensures room { (n : ℕ) → HaveRoom pages.old.items n → HaveRoom pages.new.items n }
 {
@@ -45,8 +45,8 @@ fn put_page(pages: &mut Vec<SimPage>, number: usize, page: PageView<'_>)
 }
 
 fn put(held: &mut SimPage, page: PageView<'_>)
-    requires { IsWhole (vec_len held.old.bytes) (shown page) }
-    ensures page { seen held.new ≡ shown page.entry }
+    requires { IsWhole (vec_len held.old.bytes) (shown_page page) }
+    ensures page { seen held.new ≡ shown_page page.entry }
     ensures room { vec_len held.new.bytes ≡ vec_len held.old.bytes }
 {
     match page {

@@ -1,6 +1,6 @@
 //! What a history tells of itself.
 ghost use Rattle.std.specs.Prelude.{◌≡◌, ◌+◌, ◌<◌, ◌==◌, Some, None, length, map, position, IfOk, MatchResult};
-ghost use Rattle.history_machine.specs.History.{present_root, place_of, serial_refusal, checkpoint_root, name_refusal, view_refusal, view_root};
+ghost use Rattle.history_machine.specs.History.{present_root, version_place, serial_refusal, checkpoint_root, name_refusal, view_refusal, view_root};
 ghost use Rattle.history.specs.Kept.{IsKept};
 
 use crate::histories::History;
@@ -95,7 +95,7 @@ impl<R> History<R> {
 
     /// The place of the version with this serial, which is refused as by `goto`.
     pub(crate) fn place_of_serial(&self, serial: u64) -> Result<usize, Fault>
-        ensures { MatchResult result (λ place. (serial_refusal self.now serial ≡ None) × (place_of self.now serial ≡ Some place) × (place < length self.now.versions))
+        ensures { MatchResult result (λ place. (serial_refusal self.now serial ≡ None) × (version_place self.now serial ≡ Some place) × (place < length self.now.versions))
             (λ fault. serial_refusal self.now serial ≡ Some fault) }
     {
         if serial < self.versions[0].serial {

@@ -4,7 +4,7 @@ use Rattle.flash_model.specs.declared.geometry.Geometry.{Geometry}
 use Rattle.flash_model.specs.Geometry.{page_count}
 use Rattle.flash_model.specs.Device.{block_of, AfterProgram, bytes_of}
 use Rattle.flash_model.specs.Blocks.{block_of-at}
-use Rattle.record_format.specs.Pages.{page_bytes}
+use Rattle.record_format.specs.Pages.{record_page_bytes}
 use Rattle.commit_pair.specs.Parts.{part_of}
 use Rattle.commit_pair.specs.Programming.{bytes_for}
 use Rattle.commit_pair.proofs.Anchoring.{program_touches, Touches_itself, Touches_on}
@@ -38,7 +38,7 @@ module _ (g : Over) (c : After-program g) where
   page : c.deref.result.now ≡ bytes_for c.args.geometry c.args.draft.now.sequence c.args.draft.now.payload.now c.args.draft.now.count c.loop-n.n
   page =
       c.deref.ensures.value ∙ c.write_page.ensures.page
-      ∙ ap (λ (bytes : List ℕ). page_bytes c.args.geometry.page (record { sequence = c.args.draft.now.sequence; index = c.loop-n.n; count = c.args.draft.now.count; used = length bytes }) bytes) c.piece_of-piece.ensures
+      ∙ ap (λ (bytes : List ℕ). record_page_bytes c.args.geometry.page (record { sequence = c.args.draft.now.sequence; index = c.loop-n.n; count = c.args.draft.now.count; used = length bytes }) bytes) c.piece_of-piece.ensures
 
 pub returns-in_err-program-clause-touches : goal.returns-in_err-program-clause-touches
 returns-in_err-program-clause-touches g c =

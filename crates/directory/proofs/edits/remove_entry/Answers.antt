@@ -1,7 +1,7 @@
 use Rattle.std.proofs.Common.{ℕ, List, None, sym, subst, rules}
 use Rattle.fs_types.specs.Names.{Path}
 use Rattle.block_trees.specs.Reached.{Keeps}
-use Rattle.directory.specs.Trails.{IsTaken, IsHeldTrail}
+use Rattle.directory.specs.Trails.{TakesName, IsHeldTrail}
 use Rattle.directory.proofs.EditedPaths.{only_reaches}
 use Rattle.directory.proofs.TrailEdits.{stands_taken}
 use Rattle.directory.proofs.edits.remove_entry.Goals as goal
@@ -10,8 +10,8 @@ pub rewrite_from-requires-clause-taken : goal.rewrite_from-requires-clause-taken
 rewrite_from-requires-clause-taken g c =
     let f = g.N.Nodes.node c.args.nodes.now in
     let taken = stands_taken f c.args.root c.args.path.now c.args.trail.now c.requires.sought.way c.requires.sought.below c.requires.stands in
-    subst (λ (t : List ℕ). IsTaken f t c.names.result.now None) (sym c.blocks-blocks.ensures)
-    (subst (λ (p : Path). IsTaken f c.args.trail.now p None) (sym c.names.ensures.names) taken)
+    subst (λ (t : List ℕ). TakesName f t c.names.result.now None) (sym c.blocks-blocks.ensures)
+    (subst (λ (p : Path). TakesName f c.args.trail.now p None) (sym c.names.ensures.names) taken)
 
 pub rewrite_from-requires-clause-way : goal.rewrite_from-requires-clause-way
 rewrite_from-requires-clause-way g c =

@@ -3,7 +3,7 @@ use Rattle.std.proofs.lemmas.Bool.{eqb-true}
 use Rattle.std.proofs.lemmas.Result.{IfOk-weaker}
 use Rattle.fs_types.specs.declared.limits.TheConstants.{NODE_ENTRIES}
 use Rattle.std.specs.Int.{div_ceil}
-use Rattle.directory.specs.Written.{IsOneMore, Puts, PutsDirectory}
+use Rattle.directory.specs.Written.{IsOneMore, PutsBefore, PutsDirectory}
 use Rattle.directory.proofs.WrittenNodes.{puts_directory, puts_empty, no_items, last_tail}
 use Rattle.directory.proofs.list_writes.write_list.Goals as goal
 
@@ -26,5 +26,5 @@ returns-clause-put g c =
     let size = c.is_empty.ensures in
     let not_empty = c.if-is_empty.false in
     let some : 0 < length c.args.list.now = grind arith in
-    IfOk-weaker c.write_after.result (λ to. Puts f k f' k' (div_ceil (length c.args.list.now) NODE_ENTRIES) c.args.tail to c.args.list.now) (λ to. PutsDirectory f k f' k' c.args.tail to c.args.list.now)
+    IfOk-weaker c.write_after.result (λ to. PutsBefore f k f' k' (div_ceil (length c.args.list.now) NODE_ENTRIES) c.args.tail to c.args.list.now) (λ to. PutsDirectory f k f' k' c.args.tail to c.args.list.now)
     (λ to put. puts_directory f f' k k' c.args.tail to c.args.list.now some put) c.write_after.ensures.put

@@ -4,14 +4,14 @@ use Rattle.fs_types.specs.Names.{Path}
 use Rattle.fs_types.specs.declared.fault.Fault.{Fault}
 use Rattle.block_trees.specs.Bodies.{Blocks}
 use Rattle.block_trees.specs.Trees.{tree, IsRoot}
-use Rattle.directory.specs.Lookups.{look_up, Tells}
+use Rattle.directory.specs.Lookups.{look_up, TellsLookup}
 use Rattle.directory.specs.declared.lookups.Found.{Found}
 use Rattle.directory.proofs.LookupLaws.{found_is, refused_is, rooted_leads}
 use Rattle.directory.proofs.Directories.{seek_law}
 use Rattle.directory.proofs.WayNodes.{most_nodes, tree_nodes}
 use Rattle.directory.proofs.lookups.lookup_laws.Goals as goal
 
-told : (capacity : ℕ) (f : Blocks) (root : ℕ) (path : Path) → IsRoot capacity f root → (answer : Result Found Fault) → look_up f root path ≡ answer → Tells capacity f (tree capacity f root) path answer
+told : (capacity : ℕ) (f : Blocks) (root : ℕ) (path : Path) → IsRoot capacity f root → (answer : Result Found Fault) → look_up f root path ≡ answer → TellsLookup capacity f (tree capacity f root) path answer
 told capacity f root path is_root (Ok found) e = found_is capacity f root path found (rooted_leads capacity f root is_root) e
 told capacity f root path is_root (Err fault) e = refused_is capacity f root path fault is_root e
 

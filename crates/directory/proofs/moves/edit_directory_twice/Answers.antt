@@ -5,7 +5,7 @@ use Rattle.std.proofs.lemmas.Result.{IfOk-weaker, IfErr-weaker}
 use Rattle.fs_types.specs.declared.fault.Fault.{Fault}
 use Rattle.fs_types.specs.Names.{Name}
 use Rattle.plain_trees.specs.Trees.{nodes_for}
-use Rattle.node_format.specs.Items.{Item, named}
+use Rattle.node_format.specs.Items.{Item, named_place}
 use Rattle.node_format.specs.Edits.{edited_count}
 use Rattle.node_format.specs.declared.place.Place.{Place}
 use Rattle.block_trees.specs.Bodies.{Blocks}
@@ -55,8 +55,8 @@ edit_list_twice-requires-clause-named g c =
     let r = c.in_ok-read.ensures.read in
     let last = last_read c.in_ok-read.read c.in_ok-read.tail c.args.name.now c.in_ok-read.ensures.enough in
     let all : entries_in f c.args.block ≡ Some c.in_ok-read.read = all_read f c.args.block r.0 c.in_ok-read.read c.in_ok-read.tail r.1 last in
-    subst (λ (items : List Item). IsSome (named items c.args.name.now)) (sym c.list.ensures)
-    (subst (λ (entries : Option (List Item)). IsSome (named (unwrap_or entries []) c.args.name.now)) all c.requires.takes.named)
+    subst (λ (items : List Item). IsSome (named_place items c.args.name.now)) (sym c.list.ensures)
+    (subst (λ (entries : Option (List Item)). IsSome (named_place (unwrap_or entries []) c.args.name.now)) all c.requires.takes.named)
 
 pub edit_list_twice-requires-clause-room : goal.edit_list_twice-requires-clause-room
 edit_list_twice-requires-clause-room g c some =
@@ -117,11 +117,11 @@ returns-clause-writes g c =
     let r = c.in_ok-read.ensures.read in
     let last = last_read c.in_ok-read.read c.in_ok-read.tail c.args.name.now c.in_ok-read.ensures.enough in
     let all : entries_in f c.args.block ≡ Some c.in_ok-read.read = all_read f c.args.block r.0 c.in_ok-read.read c.in_ok-read.tail r.1 last in
-    let there : IsSome (named c.in_ok-read.read c.args.name.now) = subst (λ (entries : Option (List Item)). IsSome (named (unwrap_or entries []) c.args.name.now)) all c.requires.takes.named in
+    let there : IsSome (named_place c.in_ok-read.read c.args.name.now) = subst (λ (entries : Option (List Item)). IsSome (named_place (unwrap_or entries []) c.args.name.now)) all c.requires.takes.named in
     let edited : IsEditedTwice c.in_ok-read.read c.args.name.now c.args.gone c.args.other.now c.args.here c.in_ok-edited.edited =
     subst (λ (items : List Item). IsEditedTwice items c.args.name.now c.args.gone c.args.other.now c.args.here c.in_ok-edited.edited) c.list.ensures c.in_ok-edited.ensures in
     let count : nodes_for (length c.list-2.result) ≡ nodes_for (edited_twice_count c.in_ok-read.read c.args.name.now c.args.gone c.args.other.now c.args.here) = ap (λ (items : List Item). nodes_for (length items)) c.list-2.ensures ∙ ap nodes_for edited.counted in
-    let most = twice_most (named c.in_ok-read.read c.args.name.now) c.args.gone (named c.in_ok-read.read c.args.other.now) c.args.here (length c.in_ok-read.read) there in
+    let most = twice_most (named_place c.in_ok-read.read c.args.name.now) c.args.gone (named_place c.in_ok-read.read c.args.other.now) c.args.here (length c.in_ok-read.read) there in
     let same : edit_nodes (items_in f c.args.block) c.args.other.now (is_some c.args.gone) ≡ edit_nodes c.in_ok-read.read c.args.other.now (is_some c.args.gone) =
     ap (λ (entries : Option (List Item)). edit_nodes (unwrap_or entries []) c.args.other.now (is_some c.args.gone)) all in
     let kept = c.read_list.ensures.looks.same_writes in

@@ -7,7 +7,7 @@ use Rattle.plain_trees.proofs.Needs.{nodes_for-le}
 use Rattle.directory.specs.Counts.{nodes_in, edit_nodes}
 use Rattle.fs_types.specs.Names.{Name, Path, same_name}
 use Rattle.node_format.specs.declared.place.Place.TheVariants.{Dir}
-use Rattle.node_format.specs.Items.{Item, named}
+use Rattle.node_format.specs.Items.{Item, named_place}
 use Rattle.block_trees.specs.Trees.{entries_in, items_in}
 use Rattle.block_trees.specs.Reached.{IsHeld, Keeps}
 use Rattle.block_trees.specs.Rewritten.{IsSecondEdit, IsBranch, IsMoved}
@@ -84,9 +84,9 @@ edit_directory_twice-requires-clause-takes g c =
     let same = same_parted f0 f1 f2 k0 k1 k2 block first second held in
     let apart : same_name c.index-old-fork.result c.index-new-fork.result ≡ false =
     (λ i. same_name (old_name i) (new_name i)) ∙ c.requires.fork.differs in
-    let named_it : IsSome (named (items_in f2 block) c.index-old-fork.result) =
-    subst (λ (entries : Option (List Item)). IsSome (named (unwrap_or entries []) c.index-old-fork.result)) (sym same.0)
-    (subst (λ (n : Name). IsSome (named (items_in f0 block) n)) (sym old_name) c.requires.fork.stands) in
+    let named_it : IsSome (named_place (items_in f2 block) c.index-old-fork.result) =
+    subst (λ (entries : Option (List Item)). IsSome (named_place (unwrap_or entries []) c.index-old-fork.result)) (sym same.0)
+    (subst (λ (n : Name). IsSome (named_place (items_in f0 block) n)) (sym old_name) c.requires.fork.stands) in
     record {
       gone_place = c.in_ok-gone.ensures.lawful;
       here_place = c.in_ok-here.ensures.lawful;

@@ -1,7 +1,7 @@
 use Rattle.std.proofs.Common.{◌≡◌, ◌≤◌, ◌+◌, ◌*◌, ◌++◌, List, ℕ, ap, sym, refl, ◌∙◌, arith}
 use Rattle.flash_model.specs.declared.geometry.Geometry.{Geometry}
 use Rattle.flash_model.specs.Device.{Device}
-use Rattle.flash_model.specs.Stored.{shown}
+use Rattle.flash_model.specs.Stored.{shown_page}
 use Rattle.flash_model.specs.Simulation.{device_of}
 use Rattle.flash_image.specs.Images.{place_text}
 use Rattle.flash_image.proofs.Parts.{parts-none}
@@ -20,7 +20,7 @@ loop-place-preserved c =
     let old = device_of c.args.flash.now in
     let d = device_of c.loop-place.flash in
     let e = device_of c.set_page.new.self in
-    let page = shown c.in_ok-page.page in
+    let page = shown_page c.in_ok-page.page in
     let kept : d.geometry ≡ old.geometry = ap (λ (x : Device). x.geometry) c.loop-place.invariant.fills.others in
     let sizes : c.geometry-sizes.result.pages ≡ old.geometry.pages = ap (λ (g : Geometry). g.pages) c.geometry-sizes.ensures in
     let number : c.page_number.result ≡ c.args.block * old.geometry.pages + c.loop-place.place = c.page_number.ensures.value ∙ ap (λ (k : ℕ). c.args.block * k + c.loop-place.place) sizes in

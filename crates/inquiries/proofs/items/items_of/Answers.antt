@@ -1,27 +1,13 @@
-use Rattle.std.proofs.Common.{◌≡◌, ◌∙◌, None, sym, ap, subst}
-use Rattle.std.proofs.lemmas.Result.{err_from_is_err_and}
+use Rattle.std.proofs.Common.{sym, subst}
 use Rattle.fs_types.specs.Names.{Path}
-use Rattle.fs_types.specs.declared.call.Call.{Call}
-use Rattle.history_machine.specs.History.{view_refusal}
-use Rattle.history_machine.specs.Machine.{Machine, refusal}
+use Rattle.history_machine.specs.Machine.{Machine}
 use Rattle.inquiries.specs.Items.{IsDirectoryOf}
-use Rattle.inquiries.specs.Readings.{shown, Fails}
-use Rattle.inquiries.proofs.Entries.{root_refusal, root_there}
+use Rattle.inquiries.specs.Readings.{shown}
+use Rattle.inquiries.proofs.Entries.{root_there}
 use Rattle.inquiries.proofs.items.items_of.Goals as goal
-
-pub returns-in_err-stat_at-clause-err : goal.returns-in_err-stat_at-clause-err
-returns-in_err-stat_at-clause-err g c =
-    let p = err_from_is_err_and c.from_residual.result c.from_residual.ensures.1 in
-    let m = shown c.args.fs.now in
-    let same : refusal m (Call.Stat c.args.view.now c.root-root.result) ≡ view_refusal m.history c.args.view.now =
-    ap (λ (path : Path). refusal m (Call.Stat c.args.view.now path)) c.root-root.ensures ∙ root_refusal m c.args.view.now c.args.fs.now.mounted.mounted.machine in
-    rw (p.1, p.2) (subst (λ own. Fails own c.args.fs.now c.stat_at.new.fs c.in_err-stat_at.field-0.0) same c.in_err-stat_at.ensures.err)
 
 pub add_items-requires : goal.add_items-requires
 add_items-requires g c = λ some.
     let m = shown c.args.fs.now in
-    let same : refusal m (Call.Stat c.args.view.now c.root-root.result) ≡ view_refusal m.history c.args.view.now =
-    ap (λ (path : Path). refusal m (Call.Stat c.args.view.now path)) c.root-root.ensures ∙ root_refusal m c.args.view.now c.args.fs.now.mounted.mounted.machine in
-    let seen : view_refusal m.history c.args.view.now ≡ None = sym same ∙ c.in_ok-stat_at.ensures.accepted in
-    let here = root_there m c.args.view.now c.args.fs.now.mounted.mounted.machine seen in
-    subst (λ (x : Machine). IsDirectoryOf x c.args.view.now c.root-root.result) (sym c.in_ok-stat_at.ensures.same.machine) (subst (λ (path : Path). IsDirectoryOf m c.args.view.now path) (sym c.root-root.ensures) here)
+    let here = root_there m c.args.view.now c.args.fs.now.mounted.mounted.machine c.in_ok-check_view.ensures.accepted in
+    subst (λ (x : Machine). IsDirectoryOf x c.args.view.now c.root-root.result) (sym c.in_ok-check_view.ensures.same.machine) (subst (λ (path : Path). IsDirectoryOf m c.args.view.now path) (sym c.root-root.ensures) here)

@@ -10,5 +10,6 @@ with app command = with_subcommand app command.top
 
 pub returns : goal.returns
 returns c =
-    let second = c.in_ok-program-2.ensures ∙ ap (λ a. with a (image_app (codes "log"))) c.in_ok-program.ensures in
-    IfOk-weaker c.with_image_command-3.result _ _ (λ command is. is ∙ ap (λ a. with a (image_app (codes "df"))) second) c.with_image_command-3.ensures
+    let second = c.in_ok-program-2.ensures ∙ ap (λ a. with a (image_app (codes "check"))) c.in_ok-program.ensures in
+    let third = c.in_ok-program-3.ensures ∙ ap (λ a. with a (image_app (codes "log"))) second in
+    IfOk-weaker c.with_image_command-4.result _ _ (λ command is. is ∙ ap (λ a. with a (image_app (codes "df"))) third) c.with_image_command-4.ensures

@@ -22,5 +22,6 @@ returns-clause-some c =
       path = c.word.ensures;
       file = c.word-2.ensures;
       view = c.word-3.ensures;
+      other = c.word-4.ensures;
       progress = c.has_flag-2.ensures;
     })

@@ -6,7 +6,7 @@ use Rattle.allocator.specs.Ring.{Ring}
 use Rattle.flash_model.specs.declared.geometry.Geometry.{Geometry}
 use Rattle.node_store.specs.NodePages.{node_of}
 use Rattle.block_trees.specs.Reached.{Reached}
-use Rattle.mounting.specs.Records.{history_of, roots_of, is_plain, HaveTrees}
+use Rattle.mounting.specs.Records.{history_of, roots_of, knows_plain_only, HaveTrees}
 use Rattle.mounting.proofs.Loading.{built_loaded, err_roots}
 use Rattle.mounting.specs.Costs.{AsksToVerify}
 use Rattle.mounting.proofs.Asking.{verifies_none}
@@ -29,7 +29,7 @@ returns-clause-loaded g c =
       history = c.in_ok-history.ensures.history;
       sound = c.in_ok-history.ensures.lawful;
       named = c.in_ok-history.ensures.named;
-      trees = subst (HaveTrees (is_plain c.args.saved.now) d) roots c.in_ok-use_reached.ensures.trees;
+      trees = subst (HaveTrees (knows_plain_only c.args.saved.now) d) roots c.in_ok-use_reached.ensures.trees;
       used = subst (λ (all : List ℕ). (b : ℕ) → (set.contains c.use_reached.new.storage.ring.used b ≡ true) ↔ Reached (node_of d) all b) roots c.in_ok-use_reached.ensures.used;
       ring_blocks = ap (λ (r : Ring). r.blocks) ring ∙ ap (λ (r : Ring). r.blocks) begun ∙ ap (λ (x : Geometry). x.blocks) c.requires.same;
       bad = c.use_reached.ensures.bad ∙ c.in_ok-storage.ensures.bad ∙ c.list_bad-bad.ensures ∙ ap (λ (l : List ℕ). set.from_list l) c.as_slice.ensures;
@@ -44,7 +44,7 @@ pub returns-in_err-use_reached-clause-why : goal.returns-in_err-use_reached-clau
 returns-in_err-use_reached-clause-why g c =
     let roots : c.deref.result.now ≡ roots_of (history_of c.args.saved.now) = c.deref.ensures.value ∙ c.in_ok-roots.ensures ∙ ap roots_of c.in_ok-history.ensures.history in
     let p = err_from_is_err_and c.from_residual-in_err-use_reached.result c.from_residual-in_err-use_reached.ensures.1 in
-    err_roots _ (is_plain c.args.saved.now) (g.F.Flash.device c.args.flash.now) (g.F.Flash.device c.use_reached.new.flash) c.deref.result.now (roots_of (history_of c.args.saved.now))
+    err_roots _ (knows_plain_only c.args.saved.now) (g.F.Flash.device c.args.flash.now) (g.F.Flash.device c.use_reached.new.flash) c.deref.result.now (roots_of (history_of c.args.saved.now))
     c.from_residual-in_err-use_reached.result c.in_err-use_reached.field-0.0 roots (p.1 ∙ ap Err p.2) c.in_err-use_reached.ensures.why
 
 pub returns-in_err-history-clause-asks : goal.returns-in_err-history-clause-asks

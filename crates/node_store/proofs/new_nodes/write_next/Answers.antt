@@ -79,7 +79,7 @@ module _ (g : Over) (c : After-take_first g) (moves : c.list.new.self ≡ with_f
   out = c.take_first.ensures.rest ∙ ap (λ (k : NodeCache). record k { entries = drop 1 k.entries }) moves
 
   -- the block that was tried is not listed
-  unlisted : ListsNoneTried c.args.storage.now (record { bad = c.try_block-tried.new.bad; ring = c.try_block-tried.new.ring; page = c.try_block-tried.new.page; cache = c.take_first.new.self })
+  unlisted : ListsNoneTried c.args.storage.now (record { bad = c.try_block-tried.new.bad; ring = c.try_block-tried.new.ring; page = c.try_block-tried.new.page; cache = c.take_first.new.self; partly = c.args.storage.now.partly })
   unlisted = λ b fresh used.
       let here : b ≡ c.in_ok-block.block =
       new_listed c.args.storage.now.ring.used c.in_ok-block.block b (ap (λ s. set.contains s b) (sym c.try_block-tried.ensures.taken) ∙ used) fresh in
@@ -107,7 +107,7 @@ pub returns-clause-unlisted : goal.returns-clause-unlisted
 returns-clause-unlisted g c =
     let t = goal.at.returns-clause-unlisted g c in
     lists_none c.args.storage.now
-    (record { bad = c.try_block-tried.new.bad; ring = c.try_block-tried.new.ring; page = c.try_block-tried.new.page; cache = c.take_first.new.self })
+    (record { bad = c.try_block-tried.new.bad; ring = c.try_block-tried.new.ring; page = c.try_block-tried.new.page; cache = c.take_first.new.self; partly = c.args.storage.now.partly })
     _ (unlisted g t.After-take_first (moved g t.After-first))
 
 pub returns-clause-apart : goal.returns-clause-apart

@@ -3,7 +3,7 @@ use Rattle.std.proofs.lemmas.Result.{err_from_is_err_and}
 use Rattle.std.proofs.lemmas.List.{take_at, take_rest}
 use Rattle.flash_model.specs.declared.geometry.Geometry.{Geometry}
 use Rattle.node_store.specs.NodePages.{page_bytes, pages_for}
-use Rattle.node_store.specs.WritingLaws.{IsWriting_start, program_next, all_written, program_fails, place_below, one_more}
+use Rattle.node_store.specs.WritingLaws.{IsWriting_start, program_next, all_written, program_fails, place_below, counts_once}
 use Rattle.node_store.proofs.node_writes.write_pages.Goals as goal
 use Rattle.node_store.proofs.node_writes.write_pages.Goals.{After-program}
 use Rattle.node_store.specs.Writing.{IsWriting}
@@ -40,7 +40,7 @@ loop-place-preserved g c =
     record {
       writing = program_next _ _ _ _ _ _ _ _ _ c.loop-place.invariant.writing (below g t) (number g t) (filled g t) c.in_ok-program.ensures;
       page = c.loop-place.invariant.page;
-      operations = let one = one_more (g.F.Flash.device c.loop-place.flash).powered _ _ c.program.ensures.operates.operations in omega (arith, one, c.loop-place.invariant.operations);
+      operations = let one = counts_once (g.F.Flash.device c.loop-place.flash).powered _ _ c.program.ensures.operates.operations in omega (arith, one, c.loop-place.invariant.operations);
     }
 
 pub returns-in_err-program-clause-writes : goal.returns-in_err-program-clause-writes

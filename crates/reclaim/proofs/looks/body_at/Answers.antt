@@ -1,10 +1,10 @@
-use Rattle.std.proofs.Common.{List, ℕ, Some, ap, sym, ◌∙◌}
-use Rattle.reclaim.proofs.Looking.{body_shown}
+use Rattle.std.proofs.Common.{◌∙◌}
+use Rattle.reclaim.proofs.FrontHeads.{brought, brought_body}
 use Rattle.reclaim.proofs.looks.body_at.Goals as goal
 
 pub returns-clause-exact : goal.returns-clause-exact
 returns-clause-exact g c =
-    body_shown (g.N.Nodes.node c.args.nodes.now c.args.block) c.lent-bytes.result.now c.in-Some.index c.saturating_sub.result
-    (c.in_ok-brought.ensures.shown c.if-not-brought.false ∙ ap (λ (b : List ℕ). Some b) (sym c.lent-bytes.ensures))
-    (sym c.in-Some.ensures)
-    c.saturating_sub.ensures
+    let s = c.args.nodes.now in
+    let b = brought (g.N.Nodes.page s) (g.N.Nodes.limit s) c.fronted.result.now _ (g.N.Nodes.node s c.args.block) (g.met.N.Nodes.least_page s c.requires.sound) c.requires.there
+    (λ bytes is. g.met.N.Nodes.whole s c.args.block bytes c.requires.sound is) c.in_ok-bring_front.ensures.begins c.fronted.ensures in
+    c.body_in.ensures ∙ brought_body _ _ _ _ b

@@ -1,4 +1,4 @@
-use Rattle.std.proofs.Common.{◌↔◌, ◌-◌, subst, sym, ◌∙◌}
+use Rattle.std.proofs.Common.{◌↔◌, ◌-◌, subst, sym, ◌∙◌, arith}
 use Rattle.std.specs.Prelude.{IsTrue, slice_index}
 use Rattle.block_trees.specs.Bodies.{Blocks}
 use Rattle.reclaim.specs.Looks.{AreSteppedTo}
@@ -33,3 +33,6 @@ returns-in_err-stepped-clause-looks g c =
 pub returns-clause-looks : goal.returns-clause-looks
 returns-clause-looks g c =
     g.met.N.Nodes.looks_on c.args.nodes.now c.body_at.new.nodes c.are_stepped.new.nodes c.body_at.ensures.looks c.are_stepped.ensures.looks
+
+pub body_at-requires-clause-there : goal.body_at-requires-clause-there
+body_at-requires-clause-there g c = c.requires.there 0 (omega arith, omega arith, (c.args.index, omega arith))

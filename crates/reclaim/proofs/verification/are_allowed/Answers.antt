@@ -1,10 +1,11 @@
-use Rattle.std.proofs.Common.{◌↔◌, subst, arith}
+use Rattle.std.proofs.Common.{◌↔◌, sym, subst, arith}
 use Rattle.std.specs.Prelude.{IsTrue, slice_index}
 use Rattle.block_trees.specs.Bodies.{Blocks}
 use Rattle.std.proofs.lemmas.List.Sums.{sum_by-take-le}
-use Rattle.reclaim.specs.Looks.{look_reads, IsAllowed}
+use Rattle.std.proofs.lemmas.List.Elements.{Contains-get_or}
+use Rattle.reclaim.specs.Looks.{look_reads, IsAllowed, HoldsNodes}
 use Rattle.reclaim.proofs.Costs.{look_cost, sum_more, sum_within}
-use Rattle.reclaim.proofs.Verifying.{all_more, all_not, all_end}
+use Rattle.reclaim.proofs.Verifying.{all_more, all_not, all_end, known_holds}
 use Rattle.std.proofs.lemmas.Result.{err_from_is_err_and}
 use Rattle.reclaim.proofs.verification.are_allowed.Goals as goal
 
@@ -69,3 +70,10 @@ returns-then-not-good-clause-looks g c =
 
 pub returns-clause-looks : goal.returns-clause-looks
 returns-clause-looks g c = c.loop-block.invariant.looks
+
+pub look-requires-clause-there : goal.look-requires-clause-there
+look-requires-clause-there g c =
+    let list = c.args.list.now in
+    let k = c.loop-block.block-index in
+    subst (λ (h : Blocks). HoldsNodes h (slice_index list k)) (sym c.loop-block.invariant.looks.same_nodes)
+    (known_holds (g.N.Nodes.node c.args.nodes.now) list c.args.bodies.now.members (slice_index list k) c.requires.known (Contains-get_or list k 0 (omega (arith, c.loop-block-test.true))))

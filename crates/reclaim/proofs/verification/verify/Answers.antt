@@ -1,5 +1,8 @@
 use Rattle.std.proofs.Common.{refl, ◌≡◌, ◌≢◌, ◌↔◌, ℕ, Err, None, ap, sym, subst, ◌∙◌}
+use Rattle.std.specs.FinSet as set
+use Rattle.std.specs.Ordering.{nat_cmp}
 use Rattle.std.specs.Prelude.{IsTrue, All}
+use Rattle.std.proofs.lemmas.Bool.{true≢false}
 use Rattle.std.proofs.lemmas.Result.{err_from_is_err_and}
 use Rattle.fs_types.specs.declared.fault.Fault.TheVariants.{Damaged}
 use Rattle.fs_types.specs.declared.fault.Fault.{Fault}
@@ -8,7 +11,7 @@ use Rattle.block_trees.specs.Reached.{Reached}
 use Rattle.reclaim.specs.Sound.{HoldsLink}
 use Rattle.reclaim.proofs.Costs.{pass_reads, tree_reads}
 use Rattle.reclaim.proofs.Looking.{never, look_read, look_other}
-use Rattle.reclaim.proofs.Verifying.{AreAllowed, none_reached, marked_exact}
+use Rattle.reclaim.proofs.Verifying.{AreAllowed, none_reached, marked_exact, pass_known}
 use Rattle.reclaim.specs.Passes.{IsPass}
 use Rattle.reclaim.proofs.verification.verify.Goals as goal
 
@@ -170,3 +173,11 @@ returns-clause-pass g c =
 
 pub returns-clause-of : goal.returns-clause-of
 returns-clause-of g c = (c.read_all.ensures.on.blocks ∙ c.in_ok-pass.ensures.begun.0, c.read_all.ensures.on.roots ∙ c.in_ok-pass.ensures.begun.1)
+
+pub read_all-requires-clause-known : goal.read_all-requires-clause-known
+read_all-requires-clause-known g c b has = absurd (true≢false (sym has ∙ ap (λ s. set.contains s b) c.in_ok-pass.ensures.begun.3 ∙ set.contains-empty nat_cmp b))
+
+pub have_trees-requires-clause-known : goal.have_trees-requires-clause-known
+have_trees-requires-clause-known g c =
+    pass_known (g.N.Nodes.node c.read_all.new.nodes) c.read_all.new.self c.marked.result.now c.noted.result.now.members c.in_ok-read_all.ensures.pass.0 c.in_ok-read_all.ensures.pass.1 c.in_ok-read_all.ensures.read.2
+    c.marked.ensures c.noted.ensures

@@ -1,6 +1,6 @@
 use Rattle.std.proofs.Common.{true, refl, arith}
 use Rattle.arrayvec.specs.ArrayVec.{array_vec_len}
-use Rattle.record_format.specs.Payloads.{block_bytes}
+use Rattle.record_format.specs.Payloads.{block_field}
 use Rattle.record_format.proofs.Pushed.{pushed_none, pushed_more, pushed_items}
 use Rattle.record_format.proofs.writing.push_blocks.Goals as goal
 
@@ -12,7 +12,7 @@ put_u32-requires c = omega (arith, c.loop-block.invariant.len)
 
 pub loop-block-preserved : goal.loop-block-preserved
 loop-block-preserved c =
-    pushed_more block_bytes (λ block. true) 4 c.args.blocks.now c.args.out.now.items (array_vec_len c.args.out.now)
+    pushed_more block_field (λ block. true) 4 c.args.blocks.now c.args.out.now.items (array_vec_len c.args.out.now)
     c.loop-block.block-index c.loop-block.out.items c.put_u32.new.out.items (array_vec_len c.loop-block.out) (array_vec_len c.put_u32.new.out)
     0 c.loop-block-test.true c.loop-block.invariant c.put_u32.ensures.items (omega arith) refl
 

@@ -1,5 +1,4 @@
-use Rattle.flash_model.specs.Simulation.{device_of, plan_of}
 use Rattle.shell.proofs.following.format_as_planned.Given as goal
 
 abbrev pub ghosts-format_from : goal.ghosts-format_from
-ghosts-format_from a = record { name = a.flash.ghost_name; plan = plan_of a.flash.now; done = (device_of a.flash.now).operations }
+ghosts-format_from g a = record { name = a.flash.ghost_name; plan = g.F.Planned.schedule a.flash.now; done = (g.F.Flash.device a.flash.now).operations }

@@ -1,13 +1,13 @@
-use Rattle.std.proofs.Common.{◌≡◌, List, inr, map, subst}
+use Rattle.std.proofs.Common.{List, inr, map, subst}
 use Rattle.shell.specs.Puts.{PlaceCause}
-use Rattle.shell.specs.Sources.{found_of}
+use Rattle.shell.specs.Sources.{source_found}
 use Rattle.shell.specs.declared.source.Source.{Source}
 use Rattle.shell.proofs.put.gather.Goals as goal
 
 pub returns-in-Err-check_places-clause-err : goal.returns-in-Err-check_places-clause-err
 returns-in-Err-check_places-clause-err g c =
     inr (
-      map found_of c.in-Ok.sources.items,
+      map source_found c.in-Ok.sources.items,
       c.in-Ok.ensures,
-      subst (λ (sources : List Source). PlaceCause c.args.base.now (map found_of sources) c.in-Err-check_places.failure) c.deref.ensures.value c.in-Err-check_places.ensures,
+      subst (λ (sources : List Source). PlaceCause c.args.base.now (map source_found sources) c.in-Err-check_places.failure) c.deref.ensures.value c.in-Err-check_places.ensures,
     )

@@ -3,11 +3,11 @@ use Rattle.std.specs.Prelude.{IfSome}
 use Rattle.flash_model.specs.Simulation.{device_of}
 use Rattle.system.specs.Systems.{IsSystem}
 use Rattle.shell.specs.Served.{place}
-use Rattle.shell.specs.Sources.{found_of}
+use Rattle.shell.specs.Sources.{source_found}
 use Rattle.shell.proofs.PutLemmas.{HasPut}
 use Rattle.shell.proofs.put.put_each.Given as goal
 
 abbrev pub invariant-loop-at : goal.invariant-loop-at
 invariant-loop-at g l =
     IfSome l.mounted.system (IsSystem (device_of l.mounted.flash))
-    × HasPut (g.F.ImageFiles.held l.files) l.base (map found_of (take l.at l.sources)) (place l.initial.mounted) (place l.mounted)
+    × HasPut (g.F.ImageFiles.held l.files) l.base (map source_found (take l.at l.sources)) (place l.initial.mounted) (place l.mounted)

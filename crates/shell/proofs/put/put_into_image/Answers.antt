@@ -1,5 +1,5 @@
 use Rattle.std.proofs.Common.{List, inl, inr, refl, map, IfSome, ◌≡◌, subst, sym}
-use Rattle.shell.specs.Sources.{Found, found_of}
+use Rattle.shell.specs.Sources.{source_found}
 use Rattle.shell.specs.declared.source.Source.{Source}
 use Rattle.shell.proofs.PutLemmas.{unspelled, unplaced}
 use Rattle.shell.proofs.put.put_into_image.Goals as goal
@@ -24,5 +24,5 @@ returns-in-Err-gather-clause-ends g c =
 
 pub returns-clause-ends : goal.returns-clause-ends
 returns-clause-ends g c =
-    let known = subst (λ (sources : List Source). IfSome (g.F.Sources.gathered c.args.files.now c.args.order.file.now) (λ all. map found_of sources ≡ all)) (sym c.deref.ensures.value) c.in-Ok-gather.ensures.ok in
-    inl (c.in-Ok.base, map found_of c.deref.result.now, record { spelled = c.in-Ok.ensures.ok; known = known }, c.put_sources.ensures.ends)
+    let known = subst (λ (sources : List Source). IfSome (g.F.Sources.gathered c.args.files.now c.args.order.file.now) (λ all. map source_found sources ≡ all)) (sym c.deref.ensures.value) c.in-Ok-gather.ensures.ok in
+    inl (c.in-Ok.base, map source_found c.deref.result.now, record { spelled = c.in-Ok.ensures.ok; known = known }, c.put_sources.ensures.ends)

@@ -1,6 +1,6 @@
 use Rattle.std.proofs.Common.{inl, inr, map}
 use Rattle.shell.specs.Served.{place}
-use Rattle.shell.specs.Sources.{found_of}
+use Rattle.shell.specs.Sources.{source_found}
 use Rattle.shell.specs.Tools.{IsDecoded, DecodeCause}
 use Rattle.shell.proofs.PutLemmas.{all_put, not_put}
 use Rattle.shell.proofs.put.put_on.Goals as goal
@@ -22,12 +22,12 @@ returns-in-Err-mount-clause-err g c =
 pub returns-in-Ok-put_all-clause-ok : goal.returns-in-Ok-put_all-clause-ok
 returns-in-Ok-put_all-clause-ok g c = (
   c.in-Ok.flash,
-  all_put (IsDecoded c.args.bytes.now) (g.F.ImageFiles.held c.args.files.now) c.args.base.now (map found_of c.args.sources.now) c.in-Ok.flash c.mount.new.flash c.in-Ok-mount.system c.put_all.new.mounted
+  all_put (IsDecoded c.args.bytes.now) (g.F.ImageFiles.held c.args.files.now) c.args.base.now (map source_found c.args.sources.now) c.in-Ok.flash c.mount.new.flash c.in-Ok-mount.system c.put_all.new.mounted
       c.in-Ok.ensures.ok c.mount.ensures.only_reads c.in-Ok-mount.ensures.ok c.in-Ok-mount.ensures.system c.in-Ok-put_all.ensures,
 )
 
 pub returns-in-Err-put_all-clause-err : goal.returns-in-Err-put_all-clause-err
 returns-in-Err-put_all-clause-err g c =
-    not_put (IsDecoded c.args.bytes.now) (DecodeCause c.args.bytes.now) (g.F.ImageFiles.held c.args.files.now) c.args.base.now (map found_of c.args.sources.now) c.in-Ok.flash c.mount.new.flash c.in-Ok-mount.system
+    not_put (IsDecoded c.args.bytes.now) (DecodeCause c.args.bytes.now) (g.F.ImageFiles.held c.args.files.now) c.args.base.now (map source_found c.args.sources.now) c.in-Ok.flash c.mount.new.flash c.in-Ok-mount.system
     (place c.put_all.new.mounted) c.in-Err-put_all.failure
     c.in-Ok.ensures.ok c.mount.ensures.only_reads c.in-Ok-mount.ensures.ok c.in-Ok-mount.ensures.system c.in-Err-put_all.ensures

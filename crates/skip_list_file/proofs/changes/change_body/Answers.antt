@@ -4,7 +4,7 @@ use Rattle.fs_types.specs.declared.fault.Fault.{Fault}
 use Rattle.block_trees.specs.Bodies.{Blocks, body, IsBody}
 use Rattle.plain_trees.specs.Contents.{nodes_from}
 use Rattle.skip_list_file.specs.Reading.{HoldsBody}
-use Rattle.skip_list_file.specs.Writing.{edited, IsStored, IsWritten, IsWritingFault, OnlyReaches, WritesNodes}
+use Rattle.skip_list_file.specs.Writing.{edited, IsStored, IsWritten, IsWritingFault, BodyOnlyReaches, WritesNodes}
 use Rattle.skip_list_file.proofs.Counted.{AreAll, few_both, few_begun_all}
 use Rattle.skip_list_file.proofs.FirstPages.{read_refused}
 use Rattle.skip_list_file.proofs.Growth.{holds_later, start_later, stored_later}
@@ -98,9 +98,9 @@ returns-clause-reaches g c =
     let mid = c.start_at.new.nodes in
     let capacity : ℕ = c.block_bytes-capacity.result - 80 in
     IfOk-weaker c.write_nodes.result
-    (λ to. OnlyReaches capacity (g.N.Nodes.node mid) new (g.N.Nodes.kept mid) from to)
-    (λ to. OnlyReaches (g.N.Nodes.limit c.args.nodes.now - 80) (g.N.Nodes.node c.args.nodes.now) new (g.N.Nodes.kept c.args.nodes.now) from to)
-    (λ to reaches. subst (λ (r : ℕ). OnlyReaches r (g.N.Nodes.node c.args.nodes.now) new (g.N.Nodes.kept c.args.nodes.now) from to) (ap (λ (n : ℕ). n - 80) c.block_bytes-capacity.ensures.value)
-    (subst (λ (k : ℕ → Bool). OnlyReaches capacity (g.N.Nodes.node c.args.nodes.now) new k from to) c.start_at.ensures.looks.same_kept
-    (subst (λ (h : Blocks). OnlyReaches capacity h new (g.N.Nodes.kept mid) from to) c.start_at.ensures.looks.same_nodes reaches)))
+    (λ to. BodyOnlyReaches capacity (g.N.Nodes.node mid) new (g.N.Nodes.kept mid) from to)
+    (λ to. BodyOnlyReaches (g.N.Nodes.limit c.args.nodes.now - 80) (g.N.Nodes.node c.args.nodes.now) new (g.N.Nodes.kept c.args.nodes.now) from to)
+    (λ to reaches. subst (λ (r : ℕ). BodyOnlyReaches r (g.N.Nodes.node c.args.nodes.now) new (g.N.Nodes.kept c.args.nodes.now) from to) (ap (λ (n : ℕ). n - 80) c.block_bytes-capacity.ensures.value)
+    (subst (λ (k : ℕ → Bool). BodyOnlyReaches capacity (g.N.Nodes.node c.args.nodes.now) new k from to) c.start_at.ensures.looks.same_kept
+    (subst (λ (h : Blocks). BodyOnlyReaches capacity h new (g.N.Nodes.kept mid) from to) c.start_at.ensures.looks.same_nodes reaches)))
     c.write_nodes.ensures.reaches

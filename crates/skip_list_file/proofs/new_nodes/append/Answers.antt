@@ -4,7 +4,7 @@ use Rattle.block_trees.specs.Bodies.{Blocks, data_of, back, pointer_of}
 use Rattle.block_trees.specs.Reached.{Keeps}
 use Rattle.node_format.specs.Headers.{body_header}
 use Rattle.node_format.proofs.BodyFields.{spelled_node}
-use Rattle.skip_list_file.specs.Writing.{HoldsNode}
+use Rattle.skip_list_file.specs.Writing.{HoldsIndex}
 use Rattle.skip_list_file.proofs.Appended.{IsNext}
 use Rattle.skip_list_file.proofs.FirstPages.{write_refused}
 use Rattle.skip_list_file.proofs.Growth.{are_linked, back_stays, product_some, grown, is_next, head_full}
@@ -34,7 +34,7 @@ returns-clause-grown g c =
     let full : 0 < c.args.index → length (data_of (f c.args.head)) ≡ capacity = head_full (g.N.Nodes.limit old) capacity f c.args.head c.args.index refl least c.requires.stored.whole (λ bytes is. g.met.N.Nodes.whole old c.args.head bytes c.requires.sound is) in
     let node : IsNext f (g.N.Nodes.node new) c.args.head c.args.index next bytes =
     is_next f (g.N.Nodes.node new) c.args.head c.args.index next c.args.table.now.blocks bytes c.args.node.items c.in_ok-block.ensures.written c.requires.spelled c.requires.slots in
-    let holds : HoldsNode (g.N.Nodes.node new next) c.args.index bytes = record {
+    let holds : HoldsIndex (g.N.Nodes.node new next) c.args.index bytes = record {
       spelling = c.args.node.items;
       pointers = c.args.table.now.blocks;
       holds = c.in_ok-block.ensures.written;

@@ -20,6 +20,7 @@ loop-at-init g c =
       };
       few = λ digits small. let h = few_hops c.args.head_index c.args.index digits small.0 c.requires.before small.1 in (h.0, h.1, omega (arith, h.2));
       asks = omega arith;
+      partly = refl;
       looks = record { same_nodes = refl; same_kept = refl; same_writes = refl; came = g.met.N.Nodes.follows_itself old; sound = c.requires.sound; same_limit = refl; same_blocks = refl };
     }
 
@@ -42,5 +43,6 @@ loop-at-preserved g c =
       way = subst (λ (p : ℕ). IsOnWay (g.N.Nodes.limit old - body_header) (g.N.Nodes.node old) c.args.head c.args.head_index c.args.index (c.loop-at.at - p) c.in_ok-block.block) (sym c.pow-at.ensures) way;
       few = subst (λ (p : ℕ). FewReads c.args.head_index c.args.index (c.loop-at.at - p) (g.N.Nodes.reads old) (g.N.Nodes.reads c.pointer_at.new.nodes)) (sym c.pow-at.ensures) few;
       asks = omega (arith, so_far.asks, done.asks, done.reads);
+      partly = done.partly ∙ so_far.partly;
       looks = g.met.N.Nodes.looks_on old c.loop-at.nodes c.pointer_at.new.nodes so_far.looks done.looks;
     }

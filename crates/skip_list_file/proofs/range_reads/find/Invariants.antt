@@ -1,4 +1,4 @@
-use Rattle.std.proofs.Common.{◌-◌}
+use Rattle.std.proofs.Common.{◌≡◌, ◌-◌}
 use Rattle.node_store.specs.Frames.{OnlyLooks}
 use Rattle.node_format.specs.Headers.{body_header}
 use Rattle.skip_list_file.specs.Reading.{AsksPageEach}
@@ -14,5 +14,6 @@ invariant-loop-at g l = record {
   way : IsOnWay (g.N.Nodes.limit l.initial.nodes - body_header) (g.N.Nodes.node l.initial.nodes) l.head l.head_index l.index l.at l.block;
   few : FewReads l.head_index l.index l.at (g.N.Nodes.reads l.initial.nodes) (g.N.Nodes.reads l.nodes);
   asks : AsksPageEach g.N.Nodes.asked g.N.Nodes.reads l.initial.nodes l.nodes;
+  partly : g.N.Nodes.partly l.nodes ≡ g.N.Nodes.partly l.initial.nodes;
   looks : OnlyLooks g.N.Nodes.node g.N.Nodes.kept g.N.Nodes.writes g.N.Nodes.follows g.N.Nodes.is_sound g.N.Nodes.limit g.N.Nodes.blocks l.initial.nodes l.nodes;
 }

@@ -1,6 +1,6 @@
 use Rattle.std.proofs.Common.{◌-◌, true, false, List, ℕ, subst, ◌∙◌, arith}
 use Rattle.plain_trees.specs.Contents.{overwritten}
-use Rattle.plain_trees.specs.Trees.{bytes_at}
+use Rattle.plain_trees.specs.Trees.{bytes_of_file}
 use Rattle.node_format.specs.Headers.{body_header}
 use Rattle.block_trees.specs.Trees.{root_tree}
 use Rattle.directory.specs.declared.lookups.Found.TheVariants as found
@@ -52,7 +52,7 @@ returns-clause-applied g c =
     record {
       new_root =
           file_result capacity (g.N.Nodes.node old) (g.N.Nodes.node mid) (g.N.Nodes.node new) (g.N.Nodes.kept old) (g.N.Nodes.kept mid) (g.N.Nodes.kept new) c.args.root c.args.path.now (found.File c.args.body.head c.args.body.length) c.in_ok-new.new
-          (overwritten (bytes_at (root_tree capacity (g.N.Nodes.node old) c.args.root) c.args.path.now) c.args.offset c.args.bytes.now) c.put_body.result c.write_range.ensures.keeps c.put_body.ensures.keeps c.requires.held c.requires.rooted c.requires.lawful c.requires.found tt written
+          (overwritten (bytes_of_file (root_tree capacity (g.N.Nodes.node old) c.args.root) c.args.path.now) c.args.offset c.args.bytes.now) c.put_body.result c.write_range.ensures.keeps c.put_body.ensures.keeps c.requires.held c.requires.rooted c.requires.lawful c.requires.found tt written
           (from_file capacity (g.N.Nodes.node old) (g.N.Nodes.node mid) (g.N.Nodes.kept old) c.args.root c.args.path.now c.args.body c.in_ok-new.new (rooted_leads capacity (g.N.Nodes.node old) c.args.root c.requires.rooted) c.requires.found c.in_ok-new.ensures.reaches) c.put_body.ensures.rewritten c.put_body.ensures.reaches;
       why =
           IfErr-weaker c.put_body.result _ (λ (fault : Fault). g.N.Nodes.causes c.args.nodes.now c.put_body.new.nodes fault)

@@ -4,7 +4,7 @@ use Rattle.working_state.proofs.StoreReads.{on_flash, store_looked}
 use Rattle.flash_model.specs.Device.{Device}
 use Rattle.node_store.specs.NodePages.{node_of}
 use Rattle.directory.specs.Beside.{beside_nodes}
-use Rattle.working_state.specs.Looking.{Asks}
+use Rattle.working_state.specs.Looking.{AsksBlocks}
 use Rattle.working_state.proofs.Looks.{on_devices, store_asks}
 use Rattle.std.specs.Prelude.{IfOk}
 use Rattle.directory.specs.Lookups.{LeadsToDirectories}
@@ -19,7 +19,7 @@ returns-clause-looked g c =
 
 pub returns-clause-asks : goal.returns-clause-asks
 returns-clause-asks g c =
-    on_devices (λ d e. Asks d (beside_nodes (node_of d) c.args.root c.args.other.now c.args.other_trail.now c.args.path.now) e) _ (g.F.Flash.device c.new-store.result.flash.now) _ (g.F.Flash.device c.find_beside.new.nodes.flash.now)
+    on_devices (λ d e. AsksBlocks d (beside_nodes (node_of d) c.args.root c.args.other.now c.args.other_trail.now c.args.path.now) e) _ (g.F.Flash.device c.new-store.result.flash.now) _ (g.F.Flash.device c.find_beside.new.nodes.flash.now)
     (ap (λ b. g.F.Flash.device b.now) c.new-store.ensures.flash) (search rules)
     (store_asks g.F.Flash.device c.new-store.result c.find_beside.new.nodes (beside_nodes (node_of (g.F.Flash.device c.new-store.result.flash.now)) c.args.root c.args.other.now c.args.other_trail.now c.args.path.now) c.find_beside.ensures.looks.came c.find_beside.ensures.looks.same_writes c.find_beside.ensures.reads)
 

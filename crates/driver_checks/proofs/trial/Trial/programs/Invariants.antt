@@ -1,7 +1,7 @@
 use Rattle.std.proofs.Common.{◌+◌, ◌*◌}
-use Rattle.driver_checks.specs.Driver.{Works}
+use Rattle.driver_checks.specs.Driver.{AsksAtMost}
 use Rattle.driver_checks.proofs.trial.Trial.programs.Given as goal
 
 abbrev pub invariant-loop-moment : goal.invariant-loop-moment
 invariant-loop-moment g l =
-    Works (g.B.Bench.driver l.initial.bench) (g.B.Bench.driver l.bench) (l.moment * (3 * l.site.area.sizes.pages + 5))
+    AsksAtMost (g.B.Bench.driver l.initial.bench) (g.B.Bench.driver l.bench) (l.moment * (3 * l.site.area.sizes.pages + 5))

@@ -4,7 +4,11 @@ use Rattle.node_format.specs.Items.{Item}
 use Rattle.node_format.specs.Directories.{items_at, item_at}
 use Rattle.node_format.specs.Edits.{IsSplit}
 use Rattle.node_format.proofs.Passed.{pass_one, passed_front, split_found, split_beyond, one_left}
+use Rattle.node_format.proofs.Known.{known_left}
 use Rattle.node_format.proofs.entry_list.EntryList.split.Goals as goal
+
+pub known_entry-requires : goal.known_entry-requires
+known_entry-requires c = known_left _ _ _ _ _ _ c.loop-done-test.true c.loop-done.invariant
 
 pub unreachable-requires : goal.unreachable-requires
 unreachable-requires c = one_left _ _ _ _ _ _ c.loop-done-test.true c.in_default.ensures c.loop-done.invariant

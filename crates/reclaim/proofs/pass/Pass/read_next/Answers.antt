@@ -5,10 +5,9 @@ use Rattle.std.specs.Ordering.{nat_cmp}
 use Rattle.std.proofs.lemmas.Result.{err_from_is_err_and}
 use Rattle.std.proofs.lemmas.List.Elements.{Contains-get_or}
 use Rattle.fs_types.specs.declared.fault.Fault.TheVariants.{Damaged}
-use Rattle.block_trees.specs.Bodies.{Blocks}
-use Rattle.reclaim.specs.Kinds.{IsKnown, read_pages, mark_pages}
+use Rattle.reclaim.specs.Kinds.{IsKnownMarking, noted_of, read_pages, mark_pages}
 use Rattle.reclaim.specs.Passes.{Pass, IsMarked, IsMarkFault, IsPass, AreNoted}
-use Rattle.reclaim.proofs.KnownPasses.{front_body, knows_on, known_on, pages_as_marked}
+use Rattle.reclaim.proofs.KnownPasses.{front_body, knows_next, known_on, pages_as_marked}
 use Rattle.reclaim.proofs.Marking.{read_and_marked, at_next, no_node, is_stepped, IsStepped, stepped}
 use Rattle.reclaim.proofs.pass.Pass.read_next.Goals as goal
 
@@ -36,11 +35,11 @@ pub returns-clause-pass : goal.returns-clause-pass
 returns-clause-pass g c marking =
     let pass = c.args.self.now in
     let held : Pass = record { blocks = c.self-2.inside.marks.blocks; roots = c.self-2.inside.roots.items; order = c.self-2.inside.order.items; next = c.self-2.inside.next; bodies = c.self-2.inside.bodies.members } in
-    let is : IsStepped pass c.mark_all.new.self c.note_bodies.new.self held = is_stepped pass c.mark_all.new.self c.note_bodies.new.self held c.mark_all.ensures.same c.note_bodies.ensures.same c.self-2.view_is in
+    let is : IsStepped pass c.mark_all.new.self c.note.new.self held = is_stepped pass c.mark_all.new.self c.note.new.self held c.mark_all.ensures.same c.note.ensures.same c.self-2.view_is in
     let at = at_next _ pass _ c.self.view_is c.index-block.ensures c.requires.left in
     let marked = subst (λ (l : List ℕ). IsMarked pass.order l c.mark_all.new.self.order) c.deref.ensures.value c.in_ok-mark_all.ensures.marked in
-    read_and_marked (g.N.Nodes.node c.args.nodes.now) (g.N.Nodes.node c.read_named.new.nodes) pass c.mark_all.new.self c.note_bodies.new.self held c.index-block.result.now c.in_ok-named.named.blocks.items
-    marking c.requires.left c.read_named.ensures.looks.same_nodes at c.in_ok-named.ensures.blocks marked is
+    read_and_marked (g.N.Nodes.node c.args.nodes.now) (g.N.Nodes.node c.read_named.new.nodes) pass c.mark_all.new.self c.note.new.self held c.index-block.result.now c.in_ok-named.named.blocks.items
+    marking c.requires.left c.read_named.ensures.looks.same_nodes at c.in_ok-named.ensures.blocks marked is c.in_ok-named.ensures.own.0
 
 pub returns-clause-known : goal.returns-clause-known
 returns-clause-known g c =
@@ -49,27 +48,27 @@ returns-clause-known g c =
     let new = c.read_named.new.nodes in
     let looks = c.read_named.ensures.looks in
     let bodies = c.in_ok-named.named.bodies.items in
-    let n = c.note_bodies.new.self in
+    let n = c.note.new.self in
     let m = c.mark_all.new.self in
     let pass = c.args.self.now in
     let held : Pass = record { blocks = c.self-2.inside.marks.blocks; roots = c.self-2.inside.roots.items; order = c.self-2.inside.order.items; next = c.self-2.inside.next; bodies = c.self-2.inside.bodies.members } in
-    let is : IsStepped pass c.mark_all.new.self c.note_bodies.new.self held = is_stepped pass c.mark_all.new.self c.note_bodies.new.self held c.mark_all.ensures.same c.note_bodies.ensures.same c.self-2.view_is in
+    let is : IsStepped pass c.mark_all.new.self c.note.new.self held = is_stepped pass c.mark_all.new.self c.note.new.self held c.mark_all.ensures.same c.note.ensures.same c.self-2.view_is in
     let at = at_next _ pass _ c.self.view_is c.index-block.ensures c.requires.left in
     let marked = subst (λ (l : List ℕ). IsMarked pass.order l c.mark_all.new.self.order) c.deref.ensures.value c.in_ok-mark_all.ensures.marked in
-    let noted : AreNoted pass.bodies bodies pass.blocks (stepped held).bodies =
-    subst (λ (s : set.FinSet nat_cmp). AreNoted pass.bodies bodies pass.blocks s) (sym is.bodies)
-    (subst (λ (l : List ℕ). AreNoted pass.bodies l pass.blocks n.bodies) c.deref-2.ensures.value
-    (subst (λ (s : set.FinSet nat_cmp). AreNoted s c.deref-2.result.now pass.blocks n.bodies) (ap (λ (q : Pass). q.bodies) c.mark_all.ensures.same)
-    (subst (λ (k : ℕ). AreNoted m.bodies c.deref-2.result.now k n.bodies) (ap (λ (q : Pass). q.blocks) c.mark_all.ensures.same) c.note_bodies.ensures.noted))) in
-    knows_on c.args.reading limit (g.N.Nodes.limit new) f (g.N.Nodes.node new) pass (stepped held) c.requires.known
-    (λ (known : IsKnown limit f pass).
+    let names = noted_of c.args.reading c.index-block.result.now c.in_ok-named.named.is_body bodies in
+    let noted : AreNoted pass.bodies names pass.blocks (stepped held).bodies =
+    subst (λ (s : set.FinSet nat_cmp). AreNoted pass.bodies names pass.blocks s) (sym is.bodies)
+    (subst (λ (s : set.FinSet nat_cmp). AreNoted s names pass.blocks n.bodies) (ap (λ (q : Pass). q.bodies) c.mark_all.ensures.same)
+    (subst (λ (k : ℕ). AreNoted m.bodies names k n.bodies) (ap (λ (q : Pass). q.blocks) c.mark_all.ensures.same) c.note.ensures.noted)) in
+    knows_next c.args.reading limit (g.N.Nodes.limit new) f (g.N.Nodes.node new) pass (stepped held) c.index-block.result.now c.in_ok-named.named.is_body bodies looks.same_limit looks.same_nodes
+    c.in_ok-named.ensures.own.1 noted
+    (λ (noted : AreNoted pass.bodies bodies pass.blocks (stepped held).bodies) (known : IsKnownMarking limit f pass).
     let now : IsPass f (stepped held) =
-    read_and_marked f f pass m n held c.index-block.result.now c.in_ok-named.named.blocks.items known.pass c.requires.left refl at c.in_ok-named.ensures.blocks marked is in
-    let on : IsKnown limit f (stepped held) =
+    read_and_marked f f pass m n held c.index-block.result.now c.in_ok-named.named.blocks.items known.pass c.requires.left refl at c.in_ok-named.ensures.blocks marked is c.in_ok-named.ensures.own.0 in
     known_on limit f pass (stepped held) c.index-block.result.now c.in_ok-named.named.blocks.items bodies known c.requires.left at c.in_ok-named.ensures.blocks c.in_ok-named.ensures.bodies
     (subst (λ (l : List ℕ). IsMarked pass.order c.in_ok-named.named.blocks.items l) (sym is.order) marked) noted
-    (λ b high. g.met.N.Nodes.none_beyond c.args.nodes.now b (subst (λ (k : ℕ). k ≤ b) c.requires.blocks high)) is.roots now in
-    subst (λ (k : ℕ). IsKnown k (g.N.Nodes.node new) (stepped held)) (sym looks.same_limit) (subst (λ (h : Blocks). IsKnown limit h (stepped held)) (sym looks.same_nodes) on))
+    (λ b high. g.met.N.Nodes.none_beyond c.args.nodes.now b (subst (λ (k : ℕ). k ≤ b) c.requires.blocks high)) is.roots now)
+    c.requires.known
 
 pub returns-clause-next : goal.returns-clause-next
 returns-clause-next g c =
@@ -78,7 +77,7 @@ returns-clause-next g c =
     let block = c.index-block.result.now in
     let pass = c.args.self.now in
     let held : Pass = record { blocks = c.self-2.inside.marks.blocks; roots = c.self-2.inside.roots.items; order = c.self-2.inside.order.items; next = c.self-2.inside.next; bodies = c.self-2.inside.bodies.members } in
-    let is : IsStepped pass c.mark_all.new.self c.note_bodies.new.self held = is_stepped pass c.mark_all.new.self c.note_bodies.new.self held c.mark_all.ensures.same c.note_bodies.ensures.same c.self-2.view_is in
+    let is : IsStepped pass c.mark_all.new.self c.note.new.self held = is_stepped pass c.mark_all.new.self c.note.new.self held c.mark_all.ensures.same c.note.ensures.same c.self-2.view_is in
     let at = at_next _ pass _ c.self.view_is c.index-block.ensures c.requires.left in
     let has : Contains pass.order block = subst (Contains pass.order) (sym at) (Contains-get_or pass.order pass.next 0 c.requires.left) in
     let pages : read_pages c.has_front-is_body.result page (f block) ≡ mark_pages c.args.reading page (f (slice_index pass.order pass.next)) =

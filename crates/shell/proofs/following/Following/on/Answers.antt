@@ -1,7 +1,6 @@
-use Rattle.flash_model.specs.Simulation.{device_of, plan_of}
 use Rattle.shell.proofs.PlanLemmas.{goes_on_none}
 use Rattle.shell.proofs.following.Following.on.Goals as goal
 
 pub invariant_of-result-clause-goes_on : goal.invariant_of-result-clause-goes_on
 invariant_of-result-clause-goes_on g c =
-    goes_on_none g.S.Start.done (device_of c.args.flash.now).operations g.S.Start.plan (plan_of c.args.flash.now) c.requires.plan c.requires.done
+    goes_on_none g.S.Start.done (g.F.Flash.device c.args.flash.now).operations g.S.Start.plan (g.F.Planned.schedule c.args.flash.now) c.requires.plan c.requires.done

@@ -5,5 +5,7 @@ use Rattle.shell.proofs.following.FollowingFlash.power_on.Goals as goal
 
 pub invariant_of-self-clause-goes_on : goal.invariant_of-self-clause-goes_on
 invariant_of-self-clause-goes_on g c =
-    goes_on_same g.S.Start.done g.S.Start.plan c.args.self.now.flash.now c.power_on.new.self c.args.self.now.goes_on c.power_on.ensures.plan
-    (ap (λ (d : Device). d.operations) c.power_on.ensures.power)
+    let was = c.args.self.now.flash.now in
+    let now = c.power_on_as_planned.new.self in
+    goes_on_same g.S.Start.done (g.F.Flash.device was).operations (g.F.Flash.device now).operations g.S.Start.plan (g.F.Planned.schedule was) (g.F.Planned.schedule now)
+    c.args.self.now.goes_on c.power_on_as_planned.ensures.plan (ap (λ (d : Device). d.operations) c.power_on_as_planned.ensures.power)

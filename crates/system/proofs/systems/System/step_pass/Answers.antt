@@ -1,6 +1,6 @@
 use Rattle.std.proofs.Common.{Some, rules}
 use Rattle.std.proofs.lemmas.Result.{err_from_is_err_and}
-use Rattle.system.proofs.Passing.{known_of_new, is_stepped, must_be_data, noted_system, step_is_on, refused_system, refused_ends, untaken_asks, stepped_asks, goes_ends, goes_system, stepped_stays, all_system, all_stays, all_ends}
+use Rattle.system.proofs.Passing.{taken_up, is_stepped, must_be_data, noted_system, step_is_on, refused_system, refused_ends, untaken_asks, stepped_asks, goes_ends, goes_system, stepped_stays, all_system, all_stays, all_ends}
 use Rattle.system.proofs.systems.System.step_pass.Goals as goal
 
 pub take_pass-requires : goal.take_pass-requires
@@ -14,7 +14,7 @@ returns-in_err-pass-clause-asks g c = untaken_asks (g.F.Flash.device c.args.flas
 
 pub returns-in_err-step_on : goal.returns-in_err-step_on
 returns-in_err-step_on g c =
-    let t = is_stepped _ _ _ _ _ _ _ c.requires.system c.requires.is_on c.take_pass.ensures.same c.in_ok-pass.ensures.from c.in_ok-pass.ensures.begun c.step_on.ensures.on c.step_on.ensures.looked in
+    let t = is_stepped _ _ _ _ _ _ _ c.requires.system c.requires.is_on c.take_pass.ensures.same c.in_ok-pass.ensures.from c.in_ok-pass.ensures.begun c.in_ok-pass.ensures.first c.step_on.ensures.on c.step_on.ensures.looked in
     let p = err_from_is_err_and c.from_residual-in_err-step_on.result c.from_residual-in_err-step_on.ensures.1 in
     record {
       system = refused_system _ _ _ _ _ _ _ t;
@@ -26,9 +26,9 @@ returns-in_err-step_on g c =
 
 pub returns-then-not-branch : goal.returns-then-not-branch
 returns-then-not-branch g c =
-    let t = is_stepped _ _ _ _ _ _ _ c.requires.system c.requires.is_on c.take_pass.ensures.same c.in_ok-pass.ensures.from c.in_ok-pass.ensures.begun c.step_on.ensures.on c.step_on.ensures.looked in
+    let t = is_stepped _ _ _ _ _ _ _ c.requires.system c.requires.is_on c.take_pass.ensures.same c.in_ok-pass.ensures.from c.in_ok-pass.ensures.begun c.in_ok-pass.ensures.first c.step_on.ensures.on c.step_on.ensures.looked in
     record {
-      system = goes_system _ _ _ _ _ _ _ t c.in_ok-step_on.ensures.pass;
+      system = goes_system _ _ _ _ _ _ _ t c.in_ok-step_on.ensures.pass.1;
       is_on = step_is_on _ _ _ _ _ _ _ t;
       stays = stepped_stays _ _ _ _ _ _ _ t (Some c.step_on.new.pass);
       ends = goes_ends _ _ _ _ _ _ _ t c.args.budget (rw c.if-not-branch.true at c.in_ok-step_on.ensures.reads_on);
@@ -37,30 +37,29 @@ returns-then-not-branch g c =
 
 pub returns-clause-system : goal.returns-clause-system
 returns-clause-system g c =
-    let t = is_stepped _ _ _ _ _ _ _ c.requires.system c.requires.is_on c.take_pass.ensures.same c.in_ok-pass.ensures.from c.in_ok-pass.ensures.begun c.step_on.ensures.on c.step_on.ensures.looked in
-    all_system _ _ _ _ _ _ _ t c.finish.result c.install.new.self c.install.ensures c.blocks-blocks.ensures.used c.in_ok-step_on.ensures.pass c.finish.ensures.exact
+    let t = is_stepped _ _ _ _ _ _ _ c.requires.system c.requires.is_on c.take_pass.ensures.same c.in_ok-pass.ensures.from c.in_ok-pass.ensures.begun c.in_ok-pass.ensures.first c.step_on.ensures.on c.step_on.ensures.looked in
+    all_system _ _ _ _ _ _ _ t c.finish.result c.install.new.self c.install.ensures c.blocks-blocks.ensures.used c.in_ok-step_on.ensures.pass.0 c.finish.ensures.exact
 
 pub returns-clause-is_on : goal.returns-clause-is_on
 returns-clause-is_on g c =
-    let t = is_stepped _ _ _ _ _ _ _ c.requires.system c.requires.is_on c.take_pass.ensures.same c.in_ok-pass.ensures.from c.in_ok-pass.ensures.begun c.step_on.ensures.on c.step_on.ensures.looked in
+    let t = is_stepped _ _ _ _ _ _ _ c.requires.system c.requires.is_on c.take_pass.ensures.same c.in_ok-pass.ensures.from c.in_ok-pass.ensures.begun c.in_ok-pass.ensures.first c.step_on.ensures.on c.step_on.ensures.looked in
     step_is_on _ _ _ _ _ _ _ t
 
 pub returns-clause-stays : goal.returns-clause-stays
 returns-clause-stays g c =
-    let t = is_stepped _ _ _ _ _ _ _ c.requires.system c.requires.is_on c.take_pass.ensures.same c.in_ok-pass.ensures.from c.in_ok-pass.ensures.begun c.step_on.ensures.on c.step_on.ensures.looked in
-    all_stays _ _ _ _ _ _ _ t c.finish.result c.install.new.self c.install.ensures c.blocks-blocks.ensures.used c.in_ok-step_on.ensures.pass c.finish.ensures.exact
+    let t = is_stepped _ _ _ _ _ _ _ c.requires.system c.requires.is_on c.take_pass.ensures.same c.in_ok-pass.ensures.from c.in_ok-pass.ensures.begun c.in_ok-pass.ensures.first c.step_on.ensures.on c.step_on.ensures.looked in
+    all_stays _ _ _ _ _ _ _ t c.finish.result c.install.new.self c.install.ensures c.blocks-blocks.ensures.used c.in_ok-step_on.ensures.pass.0 c.finish.ensures.exact
 
 pub returns-clause-ends : goal.returns-clause-ends
 returns-clause-ends g c =
-    let t = is_stepped _ _ _ _ _ _ _ c.requires.system c.requires.is_on c.take_pass.ensures.same c.in_ok-pass.ensures.from c.in_ok-pass.ensures.begun c.step_on.ensures.on c.step_on.ensures.looked in
-    all_ends _ _ _ _ _ _ _ t c.finish.result c.install.new.self c.install.ensures c.blocks-blocks.ensures.used c.in_ok-step_on.ensures.pass c.finish.ensures.exact c.args.budget (rw c.if-not-branch.false at c.in_ok-step_on.ensures.reads_on)
+    let t = is_stepped _ _ _ _ _ _ _ c.requires.system c.requires.is_on c.take_pass.ensures.same c.in_ok-pass.ensures.from c.in_ok-pass.ensures.begun c.in_ok-pass.ensures.first c.step_on.ensures.on c.step_on.ensures.looked in
+    all_ends _ _ _ _ _ _ _ t c.finish.result c.install.new.self c.install.ensures c.blocks-blocks.ensures.used c.in_ok-step_on.ensures.pass.0 c.finish.ensures.exact c.args.budget (rw c.if-not-branch.false at c.in_ok-step_on.ensures.reads_on)
 
 pub returns-clause-asks : goal.returns-clause-asks
 returns-clause-asks g c =
-    let t = is_stepped _ _ _ _ _ _ _ c.requires.system c.requires.is_on c.take_pass.ensures.same c.in_ok-pass.ensures.from c.in_ok-pass.ensures.begun c.step_on.ensures.on c.step_on.ensures.looked in
+    let t = is_stepped _ _ _ _ _ _ _ c.requires.system c.requires.is_on c.take_pass.ensures.same c.in_ok-pass.ensures.from c.in_ok-pass.ensures.begun c.in_ok-pass.ensures.first c.step_on.ensures.on c.step_on.ensures.looked in
     stepped_asks _ _ _ _ _ _ _ t c.args.budget c.step_on.ensures.asks.0 c.step_on.ensures.asks.1
 
 pub step_on-requires-clause-known : goal.step_on-requires-clause-known
 step_on-requires-clause-known g c =
-    known_of_new (g.F.Flash.device c.args.flash.now) c.args.self.now c.requires.system c.requires.is_on c.in_ok-pass.pass c.take_pass.new.self.state.storage.ring.note c.way_to_read-reading.result c.way_to_read-reading.ensures
-    c.in_ok-pass.ensures.from c.in_ok-pass.ensures.begun c.in_ok-pass.ensures.first
+    (taken_up (g.F.Flash.device c.args.flash.now) c.args.self.now c.requires.system c.requires.is_on c.take_pass.new.self c.take_pass.ensures.same c.in_ok-pass.pass c.in_ok-pass.ensures.from c.in_ok-pass.ensures.begun c.in_ok-pass.ensures.first).known

@@ -2,7 +2,7 @@ use Rattle.std.proofs.Common.{subst, length, rules, ap}
 use Rattle.flash_model.specs.Device.{Device}
 use Rattle.node_store.specs.NodePages.{node_of}
 use Rattle.block_trees.specs.Chains.{chain}
-use Rattle.working_state.specs.Looking.{Asks}
+use Rattle.working_state.specs.Looking.{AsksBlocks}
 use Rattle.working_state.proofs.Looks.{on_devices, store_asks}
 use Rattle.std.specs.Prelude.{◌≡◌, List, Some, None, IfOk, IsErrOf}
 use Rattle.fs_types.specs.declared.fault.Fault.TheVariants.{Damaged}
@@ -12,7 +12,7 @@ use Rattle.working_state.proofs.state.State.names_in.Goals as goal
 
 pub returns-clause-asks : goal.returns-clause-asks
 returns-clause-asks g c =
-    on_devices (λ d e. Asks d (length (chain (node_of d) c.args.block)) e) _ (g.F.Flash.device c.new-store.result.flash.now) _ (g.F.Flash.device c.names.new.nodes.flash.now)
+    on_devices (λ d e. AsksBlocks d (length (chain (node_of d) c.args.block)) e) _ (g.F.Flash.device c.new-store.result.flash.now) _ (g.F.Flash.device c.names.new.nodes.flash.now)
     (ap (λ b. g.F.Flash.device b.now) c.new-store.ensures.flash) (search rules)
     (store_asks g.F.Flash.device c.new-store.result c.names.new.nodes (length (chain (node_of (g.F.Flash.device c.new-store.result.flash.now)) c.args.block)) c.names.ensures.looks.came c.names.ensures.looks.same_writes c.names.ensures.reads)
 

@@ -2,7 +2,7 @@ use Rattle.std.proofs.Common.{Err, refl, ap, ◌∙◌, sym, subst}
 use Rattle.std.proofs.lemmas.Result.{err_from_is_err_and}
 use Rattle.fs_types.specs.declared.call.Call.{Call}
 use Rattle.fs_types.specs.declared.call.Reply.{Reply}
-use Rattle.plain_trees.specs.Trees.{Tree, bytes_at}
+use Rattle.plain_trees.specs.Trees.{Tree, bytes_of_file}
 use Rattle.working_state.specs.Looking.{AsksForRange, look_nodes}
 use Rattle.working_state.specs.Moments.{Moment, moment}
 use Rattle.working_state.specs.Reading.{refuse_directory}
@@ -42,7 +42,7 @@ returns g c =
     let a : Moment = moment d c.args.self.now in
     let path = c.args.path.now in
     let looked = looked_at a (g.F.Flash.device c.read_below.new.flash) c.read_below.new.storage read.looked in
-    let asks = subst (λ (t : Tree). AsksForRange d (look_nodes t path) (bytes_at t path) c.args.offset c.args.count (g.F.Flash.device c.read_below.new.flash))
+    let asks = subst (λ (t : Tree). AsksForRange d (look_nodes t path) (bytes_of_file t path) c.args.offset c.args.count (g.F.Flash.device c.read_below.new.flash))
     (sym (view_tree_is a c.args.view.now c.in_ok-root.root (record { fine = shown.0; shown = shown.1 }))) read.asks in
     looked_answer _ _ _ _ c.requires refl looked asks
     (read_step _ _ _ _ _ _ _ c.read_below.result c.requires looked

@@ -1,13 +1,13 @@
 use Rattle.std.proofs.Common.{◌≡◌, ℕ, Ok, Err, inl, inr, refl, ap, subst, ◌∙◌}
 use Rattle.std.proofs.lemmas.Result.{err_from_is_err_and}
 use Rattle.plain_trees.specs.Contents.{Entry, resized}
-use Rattle.plain_trees.specs.Trees.{bytes_at}
+use Rattle.plain_trees.specs.Trees.{bytes_of_file}
 use Rattle.fs_types.specs.declared.call.Call.{Call}
 use Rattle.fs_types.specs.declared.call.Reply.{Reply}
 use Rattle.directory.specs.declared.lookups.Found.TheVariants as found
 use Rattle.directory.specs.Lookups.{look_up}
 use Rattle.directory.specs.Trails.{IsTrail}
-use Rattle.working_state.specs.Moments.{Moment, moment, machine_at, seen_at, nodes_at, tree_at}
+use Rattle.working_state.specs.Moments.{Moment, moment, machine_at, seen_at, nodes_at, version_tree}
 use Rattle.working_state.specs.Steps.{empty}
 use Rattle.working_state.proofs.LookNodes.{stands_lead}
 use Rattle.working_state.proofs.ChangedCalls.{looked_ready, looked_stands, same_root, change_by}
@@ -96,5 +96,5 @@ returns g c =
     let f = g.F.Flash.device c.change.new.flash in
     let by = changes.file_change a b call path (λ old. resized old c.args.size) Reply.Empty c.requires looked change (λ space. refl) in
     change_by a b f c.change.new.storage c.change.new.history c.change.new.group c.root-root.result call c.change.result c.change.ensures by
-    (changes.ftruncate_few a b c.root-root.result c.args.descriptor c.args.size path c.in_ok-body.trail c.in_ok-body.body.head c.in_ok-body.body.length (λ r. Entry.File (resized (bytes_at (tree_at b r) path) c.args.size)) Reply.Empty
+    (changes.ftruncate_few a b c.root-root.result c.args.descriptor c.args.size path c.in_ok-body.trail c.in_ok-body.body.head c.in_ok-body.body.length (λ r. Entry.File (resized (bytes_of_file (version_tree b r) path) c.args.size)) Reply.Empty
     c.requires c.root-root.ensures looked c.in_ok-path.ensures.path there by (c.in_ok-body.ensures.way (stands_lead a c.root-root.result c.requires c.root-root.ensures))) c.requires c.root-root.ensures looked refl (λ _. refl)

@@ -2,13 +2,13 @@ use Rattle.std.proofs.Common.{◌≡◌, ℕ, Ok, Err, length, inl, inr, refl, s
 use Rattle.std.proofs.lemmas.Bool.{eqb-true}
 use Rattle.std.proofs.lemmas.Result.{err_from_is_err_and}
 use Rattle.plain_trees.specs.Contents.{Entry, overwritten}
-use Rattle.plain_trees.specs.Trees.{bytes_at}
+use Rattle.plain_trees.specs.Trees.{bytes_of_file}
 use Rattle.fs_types.specs.declared.call.Call.{Call}
 use Rattle.fs_types.specs.declared.call.Reply.{Reply}
 use Rattle.directory.specs.declared.lookups.Found.TheVariants as found
 use Rattle.directory.specs.Lookups.{look_up}
 use Rattle.directory.specs.Trails.{IsTrail}
-use Rattle.working_state.specs.Moments.{Moment, moment, machine_at, seen_at, nodes_at, tree_at}
+use Rattle.working_state.specs.Moments.{Moment, moment, machine_at, seen_at, nodes_at, version_tree}
 use Rattle.working_state.proofs.LookNodes.{stands_lead}
 use Rattle.working_state.proofs.ChangedCalls.{looked_ready, looked_stands, same_root, refused_change, pushed_by}
 use Rattle.working_state.proofs.FileChanges as changes
@@ -91,7 +91,7 @@ returns-in_err-change g c =
     let by = changes.file_change a b call path (λ old. overwritten old c.args.offset c.args.bytes.now) (Reply.Count (length c.args.bytes.now)) c.requires looked change (λ space. refl) in
     let body = c.in_ok-body.body in
     let there = changes.later_body a b c.root-root.result path body.head body.length c.requires c.root-root.ensures (looked_worked a b looked) c.in_ok-body.ensures.found in
-    let few = changes.pwrite_few a b c.root-root.result c.args.descriptor c.args.offset c.args.bytes.now path c.in_ok-body.trail body.head body.length (λ r. Entry.File (overwritten (bytes_at (tree_at b r) path) c.args.offset c.args.bytes.now)) (Reply.Count (length c.args.bytes.now))
+    let few = changes.pwrite_few a b c.root-root.result c.args.descriptor c.args.offset c.args.bytes.now path c.in_ok-body.trail body.head body.length (λ r. Entry.File (overwritten (bytes_of_file (version_tree b r) path) c.args.offset c.args.bytes.now)) (Reply.Count (length c.args.bytes.now))
     c.requires c.root-root.ensures looked c.in_ok-path.ensures.path there by (c.in_ok-body.ensures.way (stands_lead a c.root-root.result c.requires c.root-root.ensures)) in
     at_answer Reply.Count a (moment f (record b.state { storage = c.change.new.storage; history = c.change.new.history; group = c.change.new.group })) call c.in_err-change.field-0.0 c.from_residual-in_err-change.result (p.1 ∙ ap Err p.2)
     (refused_change a b f c.change.new.storage c.change.new.history c.change.new.group c.root-root.result call _ (Reply.Count (length c.args.bytes.now)) c.in_err-change.field-0.0 c.requires c.root-root.ensures looked by few c.in_err-change.ensures.written c.in_err-change.ensures.ends)
@@ -109,6 +109,6 @@ returns g c =
     let by = changes.file_change a b call path (λ old. overwritten old c.args.offset c.args.bytes.now) (Reply.Count (length c.args.bytes.now)) c.requires looked change (λ space. refl) in
     let body = c.in_ok-body.body in
     let there = changes.later_body a b c.root-root.result path body.head body.length c.requires c.root-root.ensures (looked_worked a b looked) c.in_ok-body.ensures.found in
-    let few = changes.pwrite_few a b c.root-root.result c.args.descriptor c.args.offset c.args.bytes.now path c.in_ok-body.trail body.head body.length (λ r. Entry.File (overwritten (bytes_at (tree_at b r) path) c.args.offset c.args.bytes.now)) (Reply.Count (length c.args.bytes.now))
+    let few = changes.pwrite_few a b c.root-root.result c.args.descriptor c.args.offset c.args.bytes.now path c.in_ok-body.trail body.head body.length (λ r. Entry.File (overwritten (bytes_of_file (version_tree b r) path) c.args.offset c.args.bytes.now)) (Reply.Count (length c.args.bytes.now))
     c.requires c.root-root.ensures looked c.in_ok-path.ensures.path there by (c.in_ok-body.ensures.way (stands_lead a c.root-root.result c.requires c.root-root.ensures)) in
     pushed_by a b f c.change.new.storage c.change.new.history c.change.new.group b.state.files call (Reply.Count (length c.args.bytes.now)) c.in_ok-change.ensures.ends by few c.in_ok-change.ensures.written c.requires looked looked.rest.files (λ _. refl)

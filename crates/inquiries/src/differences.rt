@@ -1,0 +1,112 @@
+//! What differs between two trees.
+ghost use Rattle.std.specs.Prelude.{◌≡◌, ◌++◌, None, IfOk, OnOk, IfErr};
+ghost use Rattle.std.specs.FinMap.{get};
+ghost use Rattle.std.specs.Option.{option_or};
+ghost use Rattle.plain_trees.specs.Trees.{bytes_of_file};
+ghost use Rattle.history_machine.specs.History.{view_refusal};
+ghost use Rattle.history_machine.specs.Machine.{view_tree};
+ghost use Rattle.inquiries.specs.Differences.{line_beside, file_beside, lines_beside, difference_lines};
+ghost use Rattle.inquiries.specs.Items.{IsItemOf, IsFileOf};
+ghost use Rattle.inquiries.specs.Readings.{shown, IsUnchanged, Fails, Meets};
+
+use crate::counterpart::{Counterpart, find_counterpart};
+use crate::items::{Item, items_of};
+use crate::printing::{Side, print_change, print_marked};
+use crate::reading::{check_view, read_file};
+use flash_model::Flash;
+use fs_types::{Bytes, Fault, Path, View};
+use std::alloc::Global;
+use undofs::Fs;
+
+/// The lines of what differs between the trees of two views: first what went and what changed, then
+/// what came.
+pub(crate) fn tell_differences<F: Flash>(
+    alloc: Global,
+    fs: &mut Fs<'_, F>,
+    old: &View,
+    new: &View,
+) -> Result<Bytes, Fault>
+    ensures same { IsUnchanged fs.old fs.new }
+    ensures accepted { IfOk result (λ _. option_or (view_refusal (shown fs.old).history old.now) (view_refusal (shown fs.old).history new.now) ≡ None) }
+    ensures ok { IfOk result (λ bytes. bytes ≡ difference_lines (view_tree (shown fs.old) old.now) (view_tree (shown fs.old) new.now)) }
+    ensures err { IfErr result (Fails (option_or (view_refusal (shown fs.old).history old.now) (view_refusal (shown fs.old).history new.now)) fs.old fs.new) }
+{
+    check_view(alloc, fs, old)?;
+    check_view(alloc, fs, new)?;
+    let mut out = Vec::new(alloc);
+    add_lines(alloc, fs, Side::Old, old, new, &mut out)?;
+    add_lines(alloc, fs, Side::New, new, old, &mut out)?;
+    Ok(Bytes::from_vec(out))
+}
+
+/// Adds the lines of one of two trees, by what stands in the other.
+fn add_lines<F: Flash>(
+    alloc: Global,
+    fs: &mut Fs<'_, F>,
+    side: Side,
+    view: &View,
+    other: &View,
+    out: &mut Vec<u8>,
+) -> Result<(), Fault>
+    requires view { view_refusal (shown fs.old).history view.now ≡ None }
+    requires other { view_refusal (shown fs.old).history other.now ≡ None }
+    ensures same { IsUnchanged fs.old fs.new }
+    ensures ok { OnOk result (out.new.items ≡ out.old.items ++ lines_beside side (view_tree (shown fs.old) view.now) (view_tree (shown fs.old) other.now)) }
+    ensures err { IfErr result (Meets (F.device fs.old.flash.now) (F.device fs.new.flash.now)) }
+{
+    let items = items_of(alloc, fs, view)?;
+    for item in &items {
+        add_line(alloc, fs, side, view, other, item, out)?;
+    }
+    Ok(())
+}
+
+/// Adds the line of what stands in one of two trees, if it has one.
+fn add_line<F: Flash>(
+    alloc: Global,
+    fs: &mut Fs<'_, F>,
+    side: Side,
+    view: &View,
+    other: &View,
+    item: &Item,
+    out: &mut Vec<u8>,
+) -> Result<(), Fault>
+    requires view { view_refusal (shown fs.old).history view.now ≡ None }
+    requires other { view_refusal (shown fs.old).history other.now ≡ None }
+    requires there { IsItemOf (view_tree (shown fs.old) view.now) item.now }
+    ensures same { IsUnchanged fs.old fs.new }
+    ensures ok { OnOk result (out.new.items ≡ out.old.items ++ line_beside side item.now (get (view_tree (shown fs.old) view.now) item.now.path) (get (view_tree (shown fs.old) other.now) item.now.path)) }
+    ensures err { IfErr result (Meets (F.device fs.old.flash.now) (F.device fs.new.flash.now)) }
+{
+    match find_counterpart(fs, other, item)? {
+        Counterpart::Missing => Ok(print_marked(out, side, item)?),
+        Counterpart::Directory => Ok(()),
+        Counterpart::File => match side {
+            Side::Old => add_change(alloc, fs, view, other, &item.path, out),
+            Side::New => Ok(()),
+        },
+    }
+}
+
+/// Adds the line of a file of two trees, where it has other bytes in the second.
+fn add_change<F: Flash>(
+    alloc: Global,
+    fs: &mut Fs<'_, F>,
+    view: &View,
+    other: &View,
+    path: &Path,
+    out: &mut Vec<u8>,
+) -> Result<(), Fault>
+    requires view { IsFileOf (shown fs.old) view.now path.now }
+    requires other { IsFileOf (shown fs.old) other.now path.now }
+    ensures same { IsUnchanged fs.old fs.new }
+    ensures ok { OnOk result (out.new.items ≡ out.old.items ++ file_beside path.now (bytes_of_file (view_tree (shown fs.old) view.now) path.now) (bytes_of_file (view_tree (shown fs.old) other.now) path.now)) }
+    ensures err { IfErr result (Meets (F.device fs.old.flash.now) (F.device fs.new.flash.now)) }
+{
+    let bytes = read_file(alloc, fs, view, path)?;
+    let others = read_file(alloc, fs, other, path)?;
+    if bytes.as_slice() != others.as_slice() {
+        print_change(out, path)?;
+    }
+    Ok(())
+}

@@ -1,6 +1,0 @@
-use Rattle.std.proofs.Common.{arith, sym, ◌∙◌}
-use Rattle.node_format.proofs.DirectoryLaws.{are_spelled}
-use Rattle.node_format.proofs.entry_list.entries_of.Goals as goal
-
-pub invariant_of-result : goal.invariant_of-result
-invariant_of-result c = are_spelled c.args.count c.args.bytes.now (λ i. omega (arith, c.type_inv.bytes i)) (omega arith) (sym c.is_filled.ensures ∙ c.if-is_filled.true)

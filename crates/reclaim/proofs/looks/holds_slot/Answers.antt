@@ -1,0 +1,10 @@
+use Rattle.reclaim.proofs.FrontHeads.{brought, brought_slot}
+use Rattle.reclaim.proofs.looks.holds_slot.Goals as goal
+
+pub returns-clause-exact : goal.returns-clause-exact
+returns-clause-exact g c =
+    let s = c.args.nodes.now in
+    let b = brought (g.N.Nodes.page s) (g.N.Nodes.limit s) c.fronted.result.now _ (g.N.Nodes.node s c.args.block) (g.met.N.Nodes.least_page s c.requires.sound) c.requires.there
+    (λ bytes is. g.met.N.Nodes.whole s c.args.block bytes c.requires.sound is) c.in_ok-bring_front.ensures.begins c.fronted.ensures in
+    let same = brought_slot _ _ _ _ c.args.slot c.args.next b c.requires.slot in
+    (λ t. same.0 (c.slot_names.ensures.0 t), λ h. c.slot_names.ensures.1 (same.1 h))
